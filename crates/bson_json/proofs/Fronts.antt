@@ -18,8 +18,8 @@ use Rattle.raw_form.specs.Aheads as next
 use Rattle.raw_form.specs.Looking.{HoldsNone, IsValueOf, Looks}
 use Rattle.raw_form.specs.Waits.{Wait}
 use Rattle.raw_form.specs.Walks.{IsAlong}
-use Rattle.raw_form.specs.declared.level.Level as walk
-use Rattle.raw_form.specs.declared.walk.Walk.{Walk}
+use Rattle.raw_tree.specs.declared.walk.level.Level as walk
+use Rattle.raw_tree.specs.declared.walk.Walk.{Walk}
 use Rattle.bson_json.specs.Json.{before_scope}
 use Rattle.bson_json.specs.Levels.{Level, PutsOpening}
 use Rattle.bson_json.specs.declared.level.Sort.{Sort}

@@ -2,7 +2,7 @@
 use Rattle.std.proofs.Common.{◌≡◌, inl, inr, Bool, true, false, ℕ, List, Some, Result, Ok, Err, IfErr, IsErrAnd, refl, sym, ◌∙◌, subst}
 use Rattle.bson_model.specs.Tree.{Tree}
 use Rattle.raw_form.specs.Barriers.{TellsBarrier}
-use Rattle.raw_form.specs.declared.barrier.Barrier.{Barrier}
+use Rattle.raw_tree.specs.declared.walk.barrier.Barrier.{Barrier}
 use Rattle.raw_tree.specs.WithinLimits.{ReadsWithin}
 use Rattle.raw_tree.specs.declared.reader.limits.Limits.{Limits}
 use Rattle.bson_json.specs.Levels.{Level}

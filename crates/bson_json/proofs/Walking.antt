@@ -16,10 +16,10 @@ use Rattle.raw_tree.proofs.Face.{read_within}
 use Rattle.raw_form.specs.Barriers.{TellsBarrierWithin}
 use Rattle.raw_form.specs.Waits.{Wait}
 use Rattle.raw_form.specs.Walks.{BeginsWithin, IsAlong, LeavesOrEnds, TellsError}
-use Rattle.raw_form.specs.declared.level.Level as walk
-use Rattle.raw_form.specs.declared.walk.Walk.{Walk}
-use Rattle.raw_form.specs.declared.walk.WalkError.{WalkError}
-use Rattle.raw_form.specs.declared.walk.WalkError.TheVariants as error
+use Rattle.raw_tree.specs.declared.walk.level.Level as walk
+use Rattle.raw_tree.specs.declared.walk.Walk.{Walk}
+use Rattle.raw_tree.specs.declared.walk.WalkError.{WalkError}
+use Rattle.raw_tree.specs.declared.walk.WalkError.TheVariants as error
 use Rattle.raw_form.proofs.Face.{barrier_told}
 use Rattle.bson_json.specs.Json.{end_text, head_text}
 use Rattle.bson_json.specs.Levels.{Level, PutsOpening, PutsSingle, after, error_of, level_sort}

@@ -2,8 +2,8 @@
 use Rattle.std.specs.Prelude.{◌≡◌, ℕ, Bool, true, List, [], ◌++◌, codes, drop, Option, None, Some}
 use Rattle.std.specs.Io.KnownBytes.{Appends}
 use Rattle.bson_model.specs.Tree.{Tree}
-use Rattle.raw_form.specs.declared.walk.WalkError.{WalkError}
-use Rattle.raw_form.specs.declared.walk.WalkError.TheVariants as walk
+use Rattle.raw_tree.specs.declared.walk.WalkError.{WalkError}
+use Rattle.raw_tree.specs.declared.walk.WalkError.TheVariants as walk
 use Rattle.raw_tree.specs.Reading.{as_document, as_array, ReadsRest, ReadsUpTo}
 use Rattle.raw_tree.specs.Reading as reading
 use Rattle.raw_view.specs.Meaning.{RawValue}

@@ -2,7 +2,7 @@
 use Rattle.std.specs.Prelude.{◌≡◌, ◌⊎◌, ◌≤◌, ℕ, Bool, true, false, List, length, Some}
 use Rattle.bson_model.specs.Tree.{Tree}
 use Rattle.raw_form.specs.Barriers.{TellsBarrier}
-use Rattle.raw_form.specs.declared.barrier.Barrier.{Barrier}
+use Rattle.raw_tree.specs.declared.walk.barrier.Barrier.{Barrier}
 use Rattle.raw_tree.specs.WithinLimits.{ReadsWithin}
 use Rattle.raw_tree.specs.declared.reader.limits.Limits.{Limits}
 use Rattle.bson_json.specs.Written.{GrowsFront, HasFront}

@@ -3,7 +3,7 @@ use Rattle.std.proofs.Common.{arith, ◌≡◌, ◌+◌, ◌∙◌, ℕ, suc, ze
 use Rattle.std.specs.Option.{option_copied}
 use Rattle.raw_form.specs.Barriers.{step_of}
 use Rattle.raw_form.specs.Places.{Step}
-use Rattle.raw_form.specs.declared.place.PathStep.{PathStep}
+use Rattle.raw_tree.specs.declared.walk.place.PathStep.{PathStep}
 use Rattle.bsonraw_dump.specs.Find.{key_or, named_path}
 
 -- where the last step is put in place of another one of its number, with that one's key, or where there is none this one

@@ -14,7 +14,7 @@ use Rattle.raw_tree.specs.WithinLimits.{Barrier, too_many_bytes, too_deep, fault
 use Rattle.raw_tree.specs.declared.reader.limits.Limits.{Limits}
 use Rattle.raw_form.specs.Barriers.{steps_of}
 use Rattle.raw_form.specs.Places.{Step, FirstBarrierAt}
-use Rattle.raw_form.specs.declared.place.Place.{Place}
+use Rattle.raw_tree.specs.declared.walk.place.Place.{Place}
 use Rattle.raw_form.specs.Verdicts.{Verdict, breach_of, FirstVerdict, IsCanonicalWithin}
 use Rattle.raw_form.specs.Verdicts as verdict
 use Rattle.bsonraw_dump.specs.declared.command.Command.{Command}

@@ -1,5 +1,3 @@
--- The lemmas of this crate that crates above may cite; they cite no other.
+-- The lemmas that crates above may cite of what it passes on of raw_tree; they cite no other.
 
-pub use Rattle.raw_form.proofs.Bounds.{barrier_bound, verdict_bound}
-pub use Rattle.raw_form.proofs.faults.Within.{barrier_told}
-pub use Rattle.raw_form.proofs.NotCanonical.{breach_not_canonical, too_deep_not_canonical}
+pub use Rattle.raw_tree.proofs.Face.{barrier_bound, barrier_told, breach_not_canonical, too_deep_not_canonical, verdict_bound}

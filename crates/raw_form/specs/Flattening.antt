@@ -2,9 +2,9 @@
 use Rattle.std.specs.Prelude.{◌≡◌, ◌∷◌, [], ℕ, suc, List, length, zero, Result, Ok, Err, Some}
 use Rattle.bson_model.specs.Tree.{Tree}
 use Rattle.raw_tree.specs.Reading.{ReadsUpTo, as_document}
-use Rattle.raw_form.specs.Barriers.{TellsBarrierWithin, steps_of}
+use Rattle.raw_tree.specs.Barriers.{TellsBarrierWithin, steps_of}
 use Rattle.raw_form.specs.Tokens.{HasTokens, filled_from}
-use Rattle.raw_form.specs.declared.barrier.BarrierKind.{BarrierKind}
+use Rattle.raw_tree.specs.declared.walk.barrier.BarrierKind.{BarrierKind}
 use Rattle.raw_form.specs.declared.flatten.FlattenError.{FlattenError}
 use Rattle.raw_form.specs.declared.flatten.FlattenError.TheVariants as error
 use Rattle.raw_form.specs.declared.token.Token.{Token}

@@ -17,18 +17,13 @@ use Rattle.raw_view.specs.Frame.{Frame, HasNoFrame, IsFrame, IsWalk, Done}
 use Rattle.raw_view.specs.declared.element.RawElement.{RawElement}
 use Rattle.raw_view.specs.declared.element_type.ElementType.{ElementType}
 use Rattle.raw_tree.specs.Breaches.{keys_of_frames}
+use Rattle.raw_tree.specs.Canonical.{IsCanonicalUpTo}
 use Rattle.raw_tree.specs.Encoding.{kind_of_tree, tree_payload}
 use Rattle.raw_tree.specs.Members.{MemberKey, text, keyed}
-use Rattle.raw_tree.specs.Reading.{FrameStandsFor}
-use Rattle.raw_form.specs.Looking.{size_of}
-use Rattle.raw_form.specs.declared.faults.Start.{Start}
+use Rattle.raw_tree.specs.Reading.{FrameStandsFor, as_document}
+use Rattle.raw_tree.specs.Looking.{HasNoneBefore, size_of}
+use Rattle.raw_tree.specs.declared.walk.faults.Start.{Start}
 use Rattle.raw_form.specs.declared.last.LastPlaces.{LastPlaces}
-
--- no frame is in front of what is left; or the element is that frame, and this is left behind it
-abbrev pub TakesFrame : Option (List ℕ) → Option RawElement → Option (List ℕ) → Type 0
-TakesFrame None e new = e ≡ None
-TakesFrame (Some s) None new = HasNoFrame s
-TakesFrame (Some s) (Some e) new = (r : List ℕ) × IsFrame s (frame_of e) r × (new ≡ Some r)
 
 -- the keys of frames, each with where its frame begins, the first of them beginning here
 abbrev pub placed : ℕ → List Frame → List (List ℕ × ℕ)
@@ -73,6 +68,11 @@ AreOwnBefore known at (f ∷ fs) = (at < known → IsOwnForm f) × AreOwnBefore 
 pub record IsOwnUpTo (d : List ℕ) (start : Start) : Type 0 where
   pub next : AreNextOwn start.number (drop 4 d)
   pub before : (frames : List Frame) → IsWalk (drop 4 d) frames Done → AreOwnBefore start.offset 4 frames
+
+-- the document b is canonical; or no element before this one has a barrier, and what they stand for is written as they are
+abbrev pub TellsStart : ℕ → List ℕ → Option Start → Type 0
+TellsStart depth b None = IsCanonicalUpTo depth as_document b
+TellsStart depth b (Some start) = HasNoneBefore depth b start.number start.offset × IsOwnUpTo b start
 
 -- At the places of the document's bytes are frames that stand for the pairs, in this order. Those before an offset are written
 -- as they are.

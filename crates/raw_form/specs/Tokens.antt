@@ -1,6 +1,6 @@
 -- The elements of all levels of a document, depth first, as tokens. The bytes b of a document, or of an array, have an
 -- envelope.
-use Rattle.std.specs.Prelude.{◌≡◌, ◌+◌, ◌++◌, ◌∷◌, [], ℕ, suc, zero, List, drop, length, Option, None, Result, Ok, Err, ◌<◌, ◌≤◌, Some}
+use Rattle.std.specs.Prelude.{◌≡◌, ◌+◌, ◌++◌, ◌∷◌, [], ℕ, suc, zero, List, drop, length, Result, Ok, Err, ◌<◌, ◌≤◌, Some}
 use Rattle.bson_model.specs.Tree.{Tree}
 use Rattle.raw_view.specs.Frame.{Frame, IsWalk, Done}
 use Rattle.raw_view.specs.Frame.Kind.{tag_of}
@@ -8,9 +8,10 @@ use Rattle.raw_view.specs.Meaning.{RawValue, Means, value}
 use Rattle.raw_view.specs.Meaning as raw
 use Rattle.raw_tree.specs.WithinLimits.{ReadsWithin}
 use Rattle.raw_tree.specs.declared.reader.limits.Limits.{Limits}
-use Rattle.raw_form.specs.Barriers.{TellsBarrier}
-use Rattle.raw_form.specs.Looking.{size_of}
-use Rattle.raw_form.specs.Places.{Step}
+use Rattle.raw_tree.specs.Barriers.{TellsBarrier}
+use Rattle.raw_tree.specs.Looking.{size_of}
+pub use Rattle.raw_tree.specs.Places.{last_key}
+pub use Rattle.raw_tree.specs.Rooms.{filled_from}
 use Rattle.raw_form.specs.declared.flatten.FlattenError.{FlattenError}
 use Rattle.raw_form.specs.declared.flatten.FlattenError.TheVariants as error
 use Rattle.raw_form.specs.declared.token.Token.{Token}
@@ -55,19 +56,6 @@ module _ (Nested : ℕ → List ℕ → List Token → Type 0) where
 abbrev pub HasTokens : ℕ → ℕ → ℕ → List ℕ → List Token → Type 0
 HasTokens zero depth start b ts = ⊥
 HasTokens (suc n) depth start b ts = (frames : List Frame) × IsWalk (drop 4 b) frames Done × AreTokens (HasTokens n (suc depth)) depth (start + 4) frames ts
-
--- items in a room from this place on, as many as there is room for; the rest of the room is as it was
-abbrev pub filled_from : {X : Type 0} → ℕ → List X → List X → List X
-filled_from n [] items = []
-filled_from (suc n) (x ∷ room) items = x ∷ filled_from n room items
-filled_from zero (x ∷ room) [] = x ∷ room
-filled_from zero (x ∷ room) (i ∷ items) = i ∷ filled_from zero room items
-
--- the key of the last step, if there is a step and it has one
-abbrev pub last_key : List Step → Option (List ℕ)
-last_key [] = None
-last_key (step ∷ []) = step.key
-last_key (step ∷ next ∷ steps) = last_key (next ∷ steps)
 
 -- What is returned of the document b: how many tokens it has, of which as many as there is room for are in front of the
 -- room; or its first barrier, and where that is; memory is asked for only where the bytes aren't too many and a level may be

@@ -2,20 +2,17 @@
 #![tactic(auto)]
 
 ghost use Rattle.std.specs.Prelude.{IfOk, IfErr};
-ghost use Rattle.raw_form.specs.Barriers.{IsBarrier};
+ghost use Rattle.raw_tree.specs.Barriers.{IsBarrier};
 ghost use Rattle.raw_form.specs.FormsWithin.{IsFormWithin, RefusesFormWithin};
-ghost use Rattle.raw_form.specs.Judging.{TellsStart};
+ghost use Rattle.raw_form.specs.Staying.{TellsStart};
 ghost use Rattle.raw_tree.specs.CanonicalForm.{HaveOneForm};
 ghost use Rattle.raw_tree.specs.WithinLimits.{AllAreAnsweredOneWay, SaysBarrier};
 ghost use Rattle.raw_tree.specs.WithinLimits as within;
 ghost use Rattle.raw_view.specs.Document.{bytes_of};
 ghost use Rattle.raw_view.specs.Errors.{IsOutOfMemory};
 
-use crate::barrier::{Barrier, BarrierKind};
-use crate::faults::{FIRST, Start, first_behind};
 use crate::rewriting::rewrite;
-use crate::verdict::judge_to_depth;
-use raw_tree::{Cause, Limits};
+use raw_tree::{Barrier, BarrierKind, Cause, FIRST, Limits, Start, first_behind, judge_to_depth};
 use raw_view::{Error, RawDocument, Reason, Result};
 use std::alloc::Global;
 

@@ -2,17 +2,13 @@
 #![tactic(auto)]
 
 ghost use Rattle.raw_form.specs.Flattening.{FlattensTo, IsAtDocument};
-ghost use Rattle.raw_form.specs.Places.{AllAreBarredAtOnePlace};
+ghost use Rattle.raw_tree.specs.Places.{AllAreBarredAtOnePlace};
 ghost use Rattle.raw_form.specs.Tokens.{Flattens};
 ghost use Rattle.raw_tree.specs.WithinLimits.{AllAreAnsweredOneWay};
 ghost use Rattle.raw_view.specs.Document.{bytes_of};
 
-use crate::barrier::{Barrier, BarrierKind};
-use crate::faults::FIRST;
-use crate::place::Place;
-use crate::token::{Token, put_at, set_inside};
-use crate::walk::{Event, Walk, WalkError};
-use raw_tree::Limits;
+use crate::token::{Token, set_inside};
+use raw_tree::{Barrier, BarrierKind, Event, FIRST, Limits, Place, Walk, WalkError, put_at};
 use raw_view::RawDocument;
 use std::alloc::Global;
 

@@ -6,7 +6,8 @@ ghost use Rattle.std.specs.List.{IsDistinct};
 ghost use Rattle.std.specs.Option.{option_map};
 ghost use Rattle.std.specs.Str.{bytes_eq};
 ghost use Rattle.bson_model.specs.Tree.{Tree};
-ghost use Rattle.raw_form.specs.Staying.{HasLastPlaces, IsLeftAt, TakesFrame, TakesMember, last_places};
+ghost use Rattle.raw_form.specs.Staying.{HasLastPlaces, IsLeftAt, TakesMember, last_places};
+ghost use Rattle.raw_tree.specs.Looking.{TakesFrame};
 ghost use Rattle.raw_tree.specs.Breaches.{keys_of_frames};
 ghost use Rattle.raw_tree.specs.Members.{MemberKey};
 ghost use Rattle.raw_view.specs.Document.{bytes_of};
@@ -14,24 +15,11 @@ ghost use Rattle.raw_view.specs.Frame.ElementSteps.{frame_of};
 ghost use Rattle.raw_view.specs.Errors.{IsOutOfMemory};
 ghost use Rattle.raw_view.specs.Frame.{Done, Frame, IsFrame, IsWalk};
 
-use crate::level::behind;
 use crate::numbered::put_place;
-use raw_tree::KeysSoFar;
+use raw_tree::{KeysSoFar, behind, element_at, next_element};
 use raw_view::{Elements, RawDocument, RawElement, Result};
 use std::alloc::Global;
 use std::collections::BTreeMap;
-
-/// The next element, if one can be read.
-#[inline(always)]
-pub(crate) fn next_element<'a>(elements: &mut Elements<'a>) -> Option<RawElement<'a>>
-    ensures { TakesFrame elements.old result elements.new }
-{
-    match elements.next() {
-        None => None,
-        Some(Err(_)) => None,
-        Some(Ok(element)) => Some(element),
-    }
-}
 
 /// A document in which keys are repeated, and where the last element of each key begins, in the order in which the keys come
 /// first. So many of them have been passed. What begins before an offset is canonical.
@@ -115,23 +103,6 @@ pub(crate) fn places_of<'a>(
     }
     let places = list_places(alloc, document)?;
     Ok(Some(places))
-}
-
-/// The element that begins at this offset.
-pub(crate) fn element_at(document: RawDocument<'_>, offset: usize) -> RawElement<'_>
-    requires within { (4 ≤ offset) × (offset ≤ length (bytes_of document)) }
-    requires frame { (f : Frame) × (r : List ℕ) × IsFrame (drop offset (bytes_of document)) f r }
-    ensures { (f : Frame) (r : List ℕ)
-        → IsFrame (drop offset (bytes_of document.entry)) f r
-        → frame_of result ≡ f }
-{
-    let Some(mut elements) = Elements::from_offset(document, offset) else {
-        unreachable!()
-    };
-    let Some(element) = next_element(&mut elements) else {
-        unreachable!()
-    };
-    element
 }
 
 impl<'a> LastPlaces<'a> {

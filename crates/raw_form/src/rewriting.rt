@@ -8,10 +8,10 @@ ghost use Rattle.raw_form.specs.Staying.{IsOwnUpTo};
 ghost use Rattle.raw_tree.specs.Reading.{Reads};
 ghost use Rattle.raw_view.specs.Document.{bytes_of};
 
-use crate::faults::{FIRST, Start};
 use crate::held::{Held, is_plain, level_in, put_end, put_leaf, put_plain};
 use crate::rewritten::Rewritten;
 use itoa::Buffer;
+use raw_tree::{FIRST, Start};
 use raw_view::{Error, RawDocument, Result};
 use std::alloc::Global;
 use std::mem;

@@ -16,11 +16,10 @@ ghost use Rattle.raw_view.specs.Frame.{Done, Frame, IsWalk};
 ghost use Rattle.raw_view.specs.Frame.Number.{max_length};
 
 use crate::code_len::CodeLen;
-use crate::faults::Start;
 use crate::held::Held;
-use crate::last::{LastPlaces, next_element, places_of};
+use crate::last::{LastPlaces, places_of};
 use itoa::Buffer;
-use raw_tree::KeysSoFar;
+use raw_tree::{Start, next_element};
 use raw_view::{Elements, RawDocument, RawElement, Result};
 use std::alloc::Global;
 

@@ -49,16 +49,6 @@ impl Token {
     }
 }
 
-/// Puts an item into a room at this place, if the room has it.
-#[inline(always)]
-pub(crate) fn put_at<T: Copy>(room: &mut [T], place: usize, item: T)
-    ensures { room.new ≡ filled_from place room.old (item ∷ []) }
-{
-    if place < room.len() {
-        room[place] = item;
-    }
-}
-
 /// Says how many tokens are inside the one at this place, if the room has it.
 pub(crate) fn set_inside(tokens: &mut [Token], place: usize, inside: usize)
     requires { inside < 2 ^ 32 }

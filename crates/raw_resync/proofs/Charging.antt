@@ -10,7 +10,7 @@ use Rattle.raw_form.specs.Barriers.{TellsBarrier, steps_of}
 use Rattle.raw_form.specs.Barriers as barriers
 use Rattle.raw_form.specs.Places.{Step}
 use Rattle.raw_form.specs.Tokens.{last_key}
-use Rattle.raw_form.specs.declared.barrier.Barrier as told
+use Rattle.raw_tree.specs.declared.walk.barrier.Barrier as told
 use Rattle.raw_form.proofs.Face.{barrier_bound}
 use Rattle.raw_resync.specs.Pieces.{said_len}
 use Rattle.raw_resync.specs.Resync.{IsSound}

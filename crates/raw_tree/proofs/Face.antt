@@ -11,6 +11,13 @@ pub use Rattle.raw_tree.proofs.reader.Limited.{read_within, answered_one_way}
 pub use Rattle.raw_tree.proofs.CanonicalForms.{canonical_form, canonical_is_own_form, one_form}
 pub use Rattle.raw_tree.proofs.Forms.{document_reads, canonical_frames_read}
 pub use Rattle.raw_tree.proofs.writer.WrittenMembers.{IsWriting, begun_at, left_in, left_with, room_left, writing_begins, writing_leaf, writing_inside, writing_done, writing_ends}
--- the keys of a level that is judged
-pub use Rattle.raw_tree.proofs.validator.LevelKeys.{keys_front, key_nor_breach}
-pub use Rattle.raw_tree.proofs.validator.Judgement.{keys_on}
+-- walks over all levels, first barriers and verdicts
+pub use Rattle.raw_tree.proofs.walk.Bounds.{barrier_bound, verdict_bound}
+pub use Rattle.raw_tree.proofs.walk.Frames.{drop_frame, frame_size, item_at, walk_over, walk_step}
+pub use Rattle.raw_tree.proofs.walk.Levels.{IsWalking, at_within, told_there}
+pub use Rattle.raw_tree.proofs.walk.Offsets.{envelope_fits}
+pub use Rattle.raw_tree.proofs.walk.OneBarrier.{barred_at_one_place}
+pub use Rattle.raw_tree.proofs.walk.Rooms.{filled_more, filled_none}
+pub use Rattle.raw_tree.proofs.walk.Starts.{first_begins}
+pub use Rattle.raw_tree.proofs.walk.Within.{barrier_first, barrier_told}
+pub use Rattle.raw_tree.proofs.validator.NotCanonical.{breach_not_canonical, too_deep_not_canonical}

@@ -1,9 +1,13 @@
 pub mod EitherWay
-pub mod Judgement
+pub mod Filtering
+pub mod Fingerprinting
+pub mod JudgedAt
+pub mod JudgedLevels
 pub mod KeyOrder
 pub mod LevelKeys
-pub mod Fingerprinting
-pub mod Filtering
+pub mod NotCanonical
 pub mod OneBreach
+pub mod OneVerdict
 pub mod Passed
 pub mod References
+pub mod Unlimited

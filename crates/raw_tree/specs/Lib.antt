@@ -3,6 +3,7 @@ pub mod CanonicalForm
 pub mod put
 pub mod reader
 pub mod validator
+pub mod walk
 pub mod writer
 -- what crates above cite
 pub use Rattle.raw_tree.specs.put.Payload
@@ -15,3 +16,12 @@ pub use Rattle.raw_tree.specs.validator.Breaches
 pub use Rattle.raw_tree.specs.validator.OpenKeys
 pub use Rattle.raw_tree.specs.validator.References
 pub use Rattle.raw_tree.specs.validator.Validating
+pub use Rattle.raw_tree.specs.validator.Judging
+pub use Rattle.raw_tree.specs.validator.Verdicts
+pub use Rattle.raw_tree.specs.walk.Aheads
+pub use Rattle.raw_tree.specs.walk.Barriers
+pub use Rattle.raw_tree.specs.walk.Looking
+pub use Rattle.raw_tree.specs.walk.Places
+pub use Rattle.raw_tree.specs.walk.Rooms
+pub use Rattle.raw_tree.specs.walk.Waits
+pub use Rattle.raw_tree.specs.walk.Walks

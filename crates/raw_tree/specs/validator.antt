@@ -5,3 +5,5 @@ pub mod KeyFilter
 pub mod OpenKeys
 pub mod References
 pub mod Validating
+pub mod Judging
+pub mod Verdicts

@@ -1,9 +1,11 @@
-//! Trees of BSON values from bytes, and the bytes that values and trees are written as.
+//! Trees of BSON values from bytes, the bytes that values and trees are written as, and walks over all levels of a document: its first
+//! fault, and whether it is canonical.
 #![tactic(auto)]
 
 mod put;
 mod reader;
 mod validator;
+mod walk;
 mod writer;
 
 pub use put::payload::{is_nul_free, is_value_nul_free, payload_len};
@@ -22,4 +24,22 @@ pub use validator::breach::{Breach, Cause};
 #[doc(hidden)]
 pub use validator::keys_so_far::KeysSoFar;
 pub use validator::validate;
+pub use validator::verdict::{PlacedBreach, ValidateError, validate_within};
+// For `raw_form` alone, which goes on from where a validation ends.
+#[doc(hidden)]
+pub use validator::verdict::{Found, judge_to_depth};
+pub use walk::barrier::{Barrier, BarrierKind};
+#[doc(hidden)]
+pub use walk::element::{element_at, next_element};
+pub use walk::faults::first_fault_within;
+#[doc(hidden)]
+pub use walk::faults::{FIRST, Start, first_behind};
+// For `raw_form` and `bson_json`, which make something of what a walk comes to.
+#[doc(hidden)]
+pub use walk::level::{Level, Waiting, behind};
+pub use walk::place::{PathStep, Place};
+#[doc(hidden)]
+pub use walk::room::put_at;
+#[doc(hidden)]
+pub use walk::{Event, Walk, WalkError};
 pub use writer::{encode, encode_list};

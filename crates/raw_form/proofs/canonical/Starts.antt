@@ -1,27 +1,25 @@
 -- A search for the first barrier may begin at the element of the outermost level that breaches or holds what breaches, and what
 -- is before that is written as it is.
-use Rattle.std.proofs.Common.{◌≡◌, ◌≢◌, ◌∙◌, ◌≤◌, ◌-◌, ◌∷◌, [], ℕ, zero, suc, List, Option, None, Some, inl, inr, ◌⊎◌, ◌<◌, map, slice_index_or, length, drop, arith, ap, refl, sym, subst, length-drop}
-use Rattle.raw_view.specs.Frame.ElementSteps.{HasRead}
-use Rattle.raw_view.specs.Frame.Envelope.{IsEnvelope}
+use Rattle.std.proofs.Common.{◌≡◌, ◌≢◌, ◌∙◌, ◌≤◌, ◌∷◌, [], ℕ, zero, suc, List, None, Some, inl, inr, map, slice_index_or, length, drop, arith, ap, refl, sym, subst}
 use Rattle.raw_view.specs.Frame.{Frame, LeadsTo}
 use Rattle.raw_view.specs.Meaning.{Meaning, value, faulty}
 use Rattle.raw_view.specs.Meaning as raw
-use Rattle.raw_view.proofs.Face.{LeadsTo-bound, one_frame}
+use Rattle.raw_view.proofs.Face.{one_frame}
 use Rattle.raw_tree.specs.Canonical.{AreFramesCanonical, IsCanonicalUpTo}
 use Rattle.raw_tree.specs.Reading.{Sort, as_document}
 use Rattle.raw_tree.proofs.Face.{canonical_frames_read}
-use Rattle.raw_form.specs.Barriers.{step_of, steps_of}
-use Rattle.raw_form.specs.Judging.{TellsFound, TellsOutermost, TellsStart, first_number, verdict_of}
-use Rattle.raw_form.specs.Looking.{AreReadBefore, HasNoneBefore}
-use Rattle.raw_form.specs.Places.{Step, BeginsAt}
-use Rattle.raw_form.specs.Verdicts.{Verdict, JudgesMeaningAt, JudgesFrontAt, FirstVerdictTo}
-use Rattle.raw_form.specs.Waits.{Wait}
-use Rattle.raw_form.specs.declared.faults.Start.{Start}
-use Rattle.raw_form.specs.declared.place.PathStep.{PathStep}
-use Rattle.raw_form.specs.declared.verdict.Found.{Found}
+use Rattle.raw_tree.specs.Barriers.{step_of, steps_of}
+use Rattle.raw_tree.specs.Judging.{TellsFound, TellsOutermost, first_number, verdict_of}
+use Rattle.raw_form.specs.Staying.{TellsStart}
+use Rattle.raw_tree.specs.Looking.{AreReadBefore, HasNoneBefore}
+use Rattle.raw_tree.specs.Places.{Step, BeginsAt}
+use Rattle.raw_tree.specs.Verdicts.{Verdict, JudgesMeaningAt, JudgesFrontAt, FirstVerdictTo}
+use Rattle.raw_tree.specs.declared.walk.faults.Start.{Start}
+use Rattle.raw_tree.specs.declared.walk.place.PathStep.{PathStep}
+use Rattle.raw_tree.specs.declared.validator.verdict.Found.{Found}
 use Rattle.raw_form.proofs.rewritten.KnownFrames.{known_to, known_to_first}
-use Rattle.raw_form.specs.Walks.{IsAt, IsBehind}
-use Rattle.raw_form.proofs.walk.Offsets.{drop_both, leads_behind, whole_lies}
+use Rattle.raw_tree.specs.Walks.{IsBehind}
+use Rattle.raw_tree.proofs.Face.{first_begins}
 
 module _ (P : Sort → List ℕ → Type 0) (N : Sort → List ℕ → Verdict → List Step → ℕ → Type 0) where
   meaning_begins : (b s : List ℕ) (step here : Step) (more : List Step) (q : List ℕ) (m : Meaning) (x : Verdict) (offset : ℕ)
@@ -98,60 +96,6 @@ found_begins (suc n) b found (p ∷ path) start told outermost same some number 
     let left = led_same (drop 4 b) there.frames here.frames there.s here.s there.reaches here.reaches (omega (arith, there.number_is, here.number_is, number)) in
     found_known n (suc n) b start here refl enough (omega (arith, there.begins, ap length left, offset))
 
--- the first element is behind no other
-pub first_behind : (b : List ℕ) → 5 ≤ length b → IsBehind b 0 4
-first_behind b enough = record { frames = []; s = drop 4 b; reaches = refl; number_is = refl; begins = omega (arith, length-drop 4 b, enough) }
-
--- nor before the first element
-pub first_begins : (depth : ℕ) (b : List ℕ) → 5 ≤ length b → HasNoneBefore depth b 0 4
-first_begins depth b enough inside e = record {
-  frames = [];
-  pairs = [];
-  s = drop 4 b;
-  reaches = refl;
-  each = refl;
-  number_is = refl;
-  begins = omega (arith, length-drop 4 b, enough);
-}
-
--- so it is of the first
+-- so it is of the first element
 pub first_start : (depth : ℕ) (b : List ℕ) (start : Start) → 5 ≤ length b → start.number ≡ 0 → start.offset ≡ 4 → TellsStart depth b (Some start)
 first_start depth b start enough number offset = (rw (number, offset) (first_begins depth b enough), known_to_first b start number offset)
-
--- a start is within the document
-pub start_within : (inside : ℕ) (b : List ℕ) (number offset : ℕ) → 5 ≤ length b → AreReadBefore inside b number offset → (4 ≤ offset) × (offset ≤ length b)
-start_within inside b number offset enough is =
-    let bound = LeadsTo-bound (drop 4 b) is.frames is.s is.reaches in
-    (omega (arith, bound, length-drop 4 b, enough, is.begins), omega (arith, is.begins))
-
-pub not_outside : (offset n : ℕ) → (4 ≤ offset) × (offset ≤ n) → (offset < 4) ⊎ (n < offset) → ⊥
-not_outside offset n within (inl before) = omega (arith, within.0, before)
-not_outside offset n within (inr behind) = omega (arith, within.1, behind)
-
--- what the loop over levels keeps holds at a start
-pub at_start : (most depth : ℕ) (b : List ℕ) (ws : List Wait) (left : Option (List ℕ)) (number offset : ℕ) → IsEnvelope b → suc most ≡ depth → ws ≡ []
-    → left ≡ Some (drop offset b) → AreReadBefore most b number offset → IsAt depth b ws left number offset 0
-at_start most depth b ws left number offset envelope whole none e is =
-    let enough : 5 ≤ length b = envelope.enough in
-    let bound = LeadsTo-bound (drop 4 b) is.frames is.s is.reaches in
-    let behind : drop (length (drop 4 b) - length is.s) (drop 4 b) ≡ drop offset b = drop_both b offset (length (drop 4 b) - length is.s) (omega (arith, bound, length-drop 4 b, enough, is.begins)) in
-    let same : is.s ≡ drop offset b = leads_behind (drop 4 b) is.frames is.s is.reaches ∙ behind in
-    let size : length is.s ≡ length (drop offset b) = ap length same in
-    record {
-      inside = most;
-      sort = as_document;
-      d = b;
-      end = length b;
-      held = rw none (refl, refl, refl);
-      is = record {
-        frames = is.frames;
-        pairs = is.pairs;
-        passed = subst (λ (l : Option (List ℕ)). HasRead (drop 4 b) is.frames l) (ap Some same ∙ sym e) is.reaches;
-        each = is.each;
-        number_is = is.number_is;
-      };
-      levels = rw none (omega (arith, whole));
-      begins = rw e (omega (arith, is.begins, size));
-      lies = whole_lies b 0 envelope refl;
-      whole = omega arith;
-    }

@@ -10,16 +10,16 @@ use Rattle.raw_view.specs.declared.element.RawElement.{RawElement}
 use Rattle.raw_view.proofs.Face.{LeadsTo-walk, LeadsTo-more}
 use Rattle.raw_tree.specs.Reading.{Holds}
 use Rattle.raw_form.specs.Flattening.{with_inside}
-use Rattle.raw_form.specs.Looking.{HoldsNone, Looks, size_of}
+use Rattle.raw_tree.specs.Looking.{HoldsNone, Looks, size_of}
 use Rattle.raw_form.specs.Staying.{end_of}
 use Rattle.raw_form.specs.Tokens.{AreInside, AreTokens, AreTokensOf, HasTokens, IsTokenOf, NestedUpTo, filled_from}
-use Rattle.raw_form.specs.Waits.{Wait}
-use Rattle.raw_form.specs.Walks.{IsOpened, IsAtFinal}
-use Rattle.raw_form.specs.declared.level.Level.{Level}
-use Rattle.raw_form.specs.Aheads as next
+use Rattle.raw_tree.specs.Waits.{Wait}
+use Rattle.raw_tree.specs.Walks.{IsOpened, IsAtFinal}
+use Rattle.raw_tree.specs.declared.walk.level.Level.{Level}
+use Rattle.raw_tree.specs.Aheads as next
 use Rattle.raw_form.specs.declared.token.Token.{Token}
 use Rattle.raw_form.proofs.last.KeptPairs.{end_behind}
-use Rattle.raw_form.proofs.token.Rooms.{filled_more, filled_none}
+use Rattle.raw_tree.proofs.Face.{filled_more, filled_none}
 
 -- tokens of frames
 

@@ -5,7 +5,7 @@ use Rattle.std.proofs.lemmas.Slice.Eq.{bytes_eq-Decides}
 use Rattle.std.specs.Str.{bytes_eq}
 use Rattle.bson_model.specs.Pairs.{last_value_at, value_at}
 use Rattle.raw_view.specs.Frame.{Frame}
-use Rattle.raw_form.specs.Looking.{size_of}
+use Rattle.raw_tree.specs.Looking.{size_of}
 use Rattle.raw_form.specs.Staying.{end_of, placed}
 
 pub same_key : (k l : List ℕ) → bytes_eq k l ≡ true → k ≡ l

@@ -18,10 +18,11 @@ use Rattle.raw_tree.specs.Reading.{as_document}
 use Rattle.raw_tree.specs.References.{texts}
 use Rattle.raw_tree.specs.Validating.{left_of}
 use Rattle.raw_tree.specs.declared.validator.keys_so_far.KeysSoFar.{KeysSoFar}
-use Rattle.raw_form.specs.Looking.{size_of}
-use Rattle.raw_form.specs.Staying.{AreNumbered, TakesFrame, end_of, last_places, placed}
+use Rattle.raw_tree.specs.Looking.{size_of}
+use Rattle.raw_form.specs.Staying.{AreNumbered, end_of, last_places, placed}
+use Rattle.raw_tree.specs.Looking.{TakesFrame}
 use Rattle.raw_form.proofs.last.KeptPairs.{end_behind, placed_behind}
-use Rattle.raw_form.proofs.last.Places.{frame_size}
+use Rattle.raw_tree.proofs.Face.{frame_size}
 use Rattle.raw_form.proofs.numbered.Numbering.{numbered_begins}
 
 -- the frames passed are those of the walk, where no frame is in front of what is left

@@ -1,67 +1,25 @@
 -- A document with repeated keys: where the last frame of each key is, and what is left to be written.
-use Rattle.std.proofs.Common.{◌≡◌, ◌∙◌, ◌<◌, ◌≤◌, ◌+◌, ◌-◌, ◌++◌, ◌∷◌, [], ℕ, zero, suc, Bool, true, false, cond, List, Option, None, Some, Err, IsTrue, drop, length, map, option_map, ltb, slice_get, slice_index_or, arith, ap, refl, sym, subst, length-append, length-drop}
-use Rattle.std.proofs.Math.Seq.{drop-append-add}
+use Rattle.std.proofs.Common.{◌≡◌, ◌∙◌, ◌<◌, ◌≤◌, ◌+◌, ◌-◌, ◌∷◌, [], ℕ, zero, suc, Bool, true, false, cond, List, Option, None, Some, IsTrue, drop, length, map, option_map, ltb, slice_get, arith, ap, refl, sym, subst, length-drop}
 use Rattle.std.proofs.lemmas.Bool.Decides.{nat_tests}
 use Rattle.std.proofs.lemmas.List.{drop-drop}
-use Rattle.std.proofs.lemmas.Option.{slice_get-get_or}
 use Rattle.std.proofs.lemmas.Slice.Eq.{bytes_eq-Decides}
 use Rattle.std.specs.List.{filter_map}
-use Rattle.std.specs.Option.{option_copied}
 use Rattle.std.specs.Str.{bytes_eq}
 use Rattle.bson_model.specs.Pairs.{first_keys, keep, keys_of, last_value_at}
 use Rattle.bson_model.specs.Tree.{Tree, entries}
 use Rattle.raw_view.specs.Document.{bytes_of}
 use Rattle.raw_view.specs.Frame.ElementSteps.{frame_of}
-use Rattle.raw_view.specs.Frame.Format.{element_of}
-use Rattle.raw_view.specs.Frame.{Frame, HasNoFrame, IsFrame, IsWalk, Done, Malformed, Utf8}
-use Rattle.raw_view.specs.Frame.Front.{StepsFront, StopsWith}
+use Rattle.raw_view.specs.Frame.{Frame, IsFrame, IsWalk, Done}
 use Rattle.raw_view.specs.declared.element.RawElement.{RawElement}
-use Rattle.raw_view.specs.declared.error.BorrowedError.{BorrowedError}
-use Rattle.raw_view.specs.declared.error.ErrorKind.{ErrorKind}
-use Rattle.raw_view.specs.declared.error.ErrorKind.TheVariants as kind
-use Rattle.raw_view.proofs.Face.{front_and_rest, no_frame_at_final, no_frame_at_stop, one_frame}
 use Rattle.raw_tree.specs.Members.{MemberKey, keyed, text}
 use Rattle.raw_tree.specs.Reading.{StandForEach, ReadsAs, FrameStandsFor}
-use Rattle.raw_form.specs.Looking.{size_of}
-use Rattle.raw_form.specs.Staying.{AreFramesAt, AreOwnBefore, IsLeftAt, IsOwnForm, TakesFrame, TakesMember, last_places, placed}
+use Rattle.raw_tree.specs.Looking.{size_of}
+use Rattle.raw_tree.proofs.Face.{drop_frame, frame_size}
+use Rattle.raw_form.specs.Staying.{AreFramesAt, AreOwnBefore, IsLeftAt, IsOwnForm, TakesMember, last_places, placed}
 use Rattle.raw_form.specs.declared.last.LastPlaces.{LastPlaces}
 use Rattle.raw_form.proofs.last.KeptPairs.{first_or, here, last_front}
 
--- what is in front of a walk
-
--- the element in front is the first frame
-pub walk_step : (s : List ℕ) (frames : List Frame) (f : Frame) (r : List ℕ) → IsWalk s frames Done → IsFrame s f r → (fs : List Frame) × (frames ≡ f ∷ fs) × IsWalk r fs Done
-walk_step s [] f r w at = absurd (no_frame_at_final s w f r at)
-walk_step s (g ∷ fs) f r w at =
-    let one = one_frame s g f w.0 r w.1 at in
-    (fs, ap (λ (x : Frame). x ∷ fs) one.0, subst (λ (q : List ℕ). IsWalk q fs Done) one.1 w.2)
-
--- what a step over the elements takes
-
-stopped : (s : List ℕ) (k : ErrorKind) (key : Option (List ℕ)) → StopsWith k key s → HasNoFrame s
-stopped s (kind.MalformedValue reason) key h = no_frame_at_stop s (Malformed reason) key h
-stopped s (kind.Utf8EncodingError error) key h = no_frame_at_stop s Utf8 key h
-stopped s kind.OutOfMemory key h = absurd h
-
-pub taken_stop : (old new : Option (List ℕ)) (e : BorrowedError) → StepsFront old (Some (Err e)) new → TakesFrame old None new
-taken_stop None new e st = refl
-taken_stop (Some s) new e st = stopped s e.kind (option_copied e.key) st.0
-
--- where none is in front, a walk has no frame
-pub walk_over : (s : List ℕ) (frames : List Frame) → IsWalk s frames Done → HasNoFrame s → frames ≡ []
-walk_over s [] w none = refl
-walk_over s (f ∷ fs) w none = absurd (none f w.0 w.1)
-
 -- the last frame of a key
-
-pub drop_frame : (s : List ℕ) (f : Frame) (r : List ℕ) (m : ℕ) → IsFrame s f r → drop (size_of f + m) s ≡ drop m r
-drop_frame s f r m at =
-    let front : List ℕ = element_of f.kind f.key f.payload in
-    let len : size_of f + m ≡ length front + m = omega (arith, length-append f.key (0 ∷ f.payload)) in
-    ap (λ (n : ℕ). drop n s) len ∙ ap (λ (x : List ℕ). drop (length front + m) x) (front_and_rest s f r at) ∙ drop-append-add front r m
-
-pub frame_size : (s : List ℕ) (f : Frame) (r : List ℕ) → IsFrame s f r → size_of f + length r ≡ length s
-frame_size s f r b = omega (arith, ap length b.spelled, length-append f.key (0 ∷ (f.payload ++ r)), length-append f.payload r)
 
 -- the last frame of this key begins here, and stands for the tree that the key has last; that is written as it is, where it
 -- is before this offset
@@ -208,12 +166,6 @@ more_behind i xs x e =
 next_left : (last : LastPlaces) (o : ℕ) (ms : List (MemberKey × Tree)) (is : IsLeftAt last ms) → slice_get last.places.items last.passed ≡ Some o
     → AreFramesAt last.known (bytes_of last.document) (o ∷ drop (last.passed + 1) last.places.items) is.0
 next_left last o ms is some = subst (λ (places : List ℕ). AreFramesAt last.known (bytes_of last.document) places is.0) (more_behind last.passed last.places.items o some) is.1
-
--- an item that is lent is at its place
-pub item_at : (xs : List ℕ) (i x : ℕ) → true ≡ ltb i (length xs) → x ≡ slice_index_or xs i x → slice_get xs i ≡ Some x
-item_at xs i x h is =
-    let within : i < length xs = grind (arith, nat_tests) in
-    slice_get-get_or xs i x within ∙ ap (λ (n : ℕ). Some n) (sym is)
 
 is_before : (o known : ℕ) (told : Bool) → told ≡ ltb o known → IsTrue told → o < known
 is_before o known told is h = grind (arith, nat_tests)

@@ -5,12 +5,13 @@ use Rattle.raw_view.specs.Frame.{Frame, IsWalk, Done, LeadsTo}
 use Rattle.raw_view.specs.declared.element.RawElement.{RawElement}
 use Rattle.raw_view.proofs.Face.{one_frame}
 use Rattle.raw_tree.specs.Canonical.{AreFramesCanonical, IsCanonicalUpTo}
-use Rattle.raw_form.specs.Looking.{size_of}
-use Rattle.raw_form.specs.Places.{BeginsAt}
+use Rattle.raw_tree.specs.Looking.{size_of}
+use Rattle.raw_tree.specs.Places.{BeginsAt}
 use Rattle.raw_form.specs.Rewriting.{AreLeftOwn}
-use Rattle.raw_form.specs.Staying.{AreNextOwn, AreOwnBefore, IsOwnUpTo, IsOwnForm, TakesFrame}
-use Rattle.raw_form.specs.declared.faults.Start.{Start}
-use Rattle.raw_form.proofs.last.Places.{frame_size}
+use Rattle.raw_form.specs.Staying.{AreNextOwn, AreOwnBefore, IsOwnUpTo, IsOwnForm}
+use Rattle.raw_tree.specs.Looking.{TakesFrame}
+use Rattle.raw_tree.specs.declared.walk.faults.Start.{Start}
+use Rattle.raw_tree.proofs.Face.{frame_size}
 use Rattle.raw_form.proofs.rewritten.OwnForms.{frame_own}
 
 -- before a start

@@ -19,8 +19,9 @@ use Rattle.raw_tree.specs.Reading.{as_document, as_array, StandForEach, StandsFo
 use Rattle.raw_tree.specs.Validating.{left_of}
 use Rattle.raw_tree.proofs.Face.{each_read}
 use Rattle.raw_form.specs.Rewriting.{AreLeftOwn, HasCode, IsLeft, IsRest, ShowsHeld, TakesNext, TakesPair, held_value}
-use Rattle.raw_form.specs.Staying.{IsOwnUpTo, IsLeftAt, IsOwnForm, TakesFrame, last_places}
-use Rattle.raw_form.specs.declared.faults.Start.{Start}
+use Rattle.raw_form.specs.Staying.{IsOwnUpTo, IsLeftAt, IsOwnForm, last_places}
+use Rattle.raw_tree.specs.Looking.{TakesFrame}
+use Rattle.raw_tree.specs.declared.walk.faults.Start.{Start}
 use Rattle.raw_form.specs.declared.held.Held.{Held}
 use Rattle.raw_form.specs.declared.last.LastPlaces.{LastPlaces}
 use Rattle.raw_form.specs.declared.rewritten.Keys.{Keys}
@@ -28,7 +29,8 @@ use Rattle.raw_form.specs.declared.rewritten.Rewritten.{Rewritten}
 use Rattle.raw_form.specs.declared.rewritten.Keys.TheVariants as keys
 use Rattle.raw_form.proofs.rewritten.KnownFrames.{one_known}
 use Rattle.raw_form.proofs.rewritten.OwnForms.{keys_stand}
-use Rattle.raw_form.proofs.last.Places.{frames_at, walk_over, walk_step}
+use Rattle.raw_form.proofs.last.Places.{frames_at}
+use Rattle.raw_tree.proofs.Face.{walk_over, walk_step}
 
 -- pairs
 

@@ -255,3 +255,7 @@ module _ (old new : Box (List (List ℕ)) Global) (refs : List (Bor (List ℕ)))
 
   pub indexed_breach : InsertsKey old.value key false new.value → AddsKey (keys.Indexed old) refs number key (keys.Indexed new) refs (Some cause.RepeatedKey)
   indexed_breach put sort below own has canonical n = rw has.0 (rw has.2 at put.0, refl)
+
+-- the keys of a level depend on the texts alone
+pub keys_on : (k : Keys) (refs others : List (Bor (List ℕ))) (sort : Sort) (below own : List (List ℕ)) → HasKeys k refs sort below own → texts others ≡ texts refs → HasKeys k others sort below own
+keys_on k refs others sort below own h e = grind arith

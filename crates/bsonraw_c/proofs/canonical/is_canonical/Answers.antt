@@ -1,7 +1,7 @@
 use Rattle.std.proofs.Common.{Ok, Option, subst}
 use Rattle.raw_bson.specs.Document.{bytes_of}
 use Rattle.raw_form.specs.Verdicts.{TellsVerdict}
-use Rattle.raw_form.specs.declared.verdict.PlacedBreach.{PlacedBreach}
+use Rattle.raw_tree.specs.declared.validator.verdict.PlacedBreach.{PlacedBreach}
 use Rattle.bsonraw_c.proofs.Forming.{own_form}
 use Rattle.bsonraw_c.proofs.canonical.is_canonical.Goals as goal
 

@@ -3,8 +3,8 @@ use Rattle.raw_bson.specs.Document.{bytes_of}
 use Rattle.raw_form.proofs.Face.{verdict_bound}
 use Rattle.raw_form.specs.Barriers.{steps_of}
 use Rattle.raw_form.specs.Verdicts.{TellsVerdict, breach_of, too_deep}
-use Rattle.raw_form.specs.declared.verdict.PlacedBreach.{PlacedBreach}
-use Rattle.raw_form.specs.declared.verdict.ValidateError.{ValidateError}
+use Rattle.raw_tree.specs.declared.validator.verdict.PlacedBreach.{PlacedBreach}
+use Rattle.raw_tree.specs.declared.validator.verdict.ValidateError.{ValidateError}
 use Rattle.bsonraw_c.proofs.check.judge_in.Goals as goal
 
 pub at-requires : goal.at-requires

@@ -1,10 +1,10 @@
 use Rattle.std.proofs.Common.{◌∙◌, ◌≤◌, length, ap, arith, subst}
 use Rattle.raw_view.specs.Document.{bytes_of}
 use Rattle.raw_tree.proofs.Face.{read_within}
-use Rattle.raw_form.specs.Barriers.{TellsBarrierWithin}
-use Rattle.raw_form.specs.Judging.{TellsStart}
+use Rattle.raw_tree.specs.Barriers.{TellsBarrierWithin}
+use Rattle.raw_form.specs.Staying.{TellsStart}
 use Rattle.raw_form.proofs.canonical.Formed.{canonical_told, form_told, refusal_told, refused_barrier}
-use Rattle.raw_form.proofs.faults.Within.{barrier_first}
+use Rattle.raw_tree.proofs.Face.{barrier_first}
 use Rattle.raw_form.proofs.canonical.form_within.Goals as goal
 
 pub returns-in-Some-2-clause-refused : goal.returns-in-Some-2-clause-refused

@@ -1,6 +1,6 @@
 use Rattle.std.proofs.Common.{refl, subst}
 use Rattle.raw_view.specs.Document.{bytes_of}
-use Rattle.raw_form.specs.Judging.{TellsFound, TellsOutermost}
+use Rattle.raw_tree.specs.Judging.{TellsFound, TellsOutermost}
 use Rattle.raw_form.proofs.canonical.Starts.{first_start, found_begins}
 use Rattle.raw_form.proofs.canonical.start_of.Goals as goal
 

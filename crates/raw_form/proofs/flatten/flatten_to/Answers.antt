@@ -2,10 +2,9 @@ use Rattle.std.proofs.Common.{rules, ◌≡◌, ◌∙◌, ◌+◌, ◌-◌, ◌
 use Rattle.raw_view.specs.Document.{bytes_of}
 use Rattle.raw_view.specs.Frame.ElementSteps.{frame_of}
 use Rattle.raw_form.specs.Tokens.{IsTokenOf}
-use Rattle.raw_form.specs.Walks.{Comes}
+use Rattle.raw_tree.specs.Walks.{Comes}
 use Rattle.raw_form.proofs.flatten.Flattening.{IsFlattening, as_many_wait, few_wait, flat_begins, flattens_all, flattens_end, flattens_inside, flattens_whole, place_within}
-use Rattle.raw_form.proofs.walk.Levels.{at_within, told_there}
-use Rattle.raw_form.proofs.walk.Offsets.{envelope_fits}
+use Rattle.raw_tree.proofs.Face.{at_within, envelope_fits, told_there}
 use Rattle.raw_form.proofs.flatten.flatten_to.Goals as goal
 
 pub events-init : goal.events-init

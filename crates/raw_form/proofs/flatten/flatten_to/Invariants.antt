@@ -1,7 +1,7 @@
 use Rattle.std.proofs.Common.{◌-◌, length}
 use Rattle.raw_view.specs.Document.{bytes_of}
 use Rattle.raw_form.proofs.flatten.Flattening.{IsFlattening}
-use Rattle.raw_form.proofs.walk.Levels.{IsWalking}
+use Rattle.raw_tree.proofs.Face.{IsWalking}
 use Rattle.raw_form.proofs.flatten.flatten_to.Given as goal
 
 abbrev pub invariant-events : goal.invariant-events

@@ -1,8 +1,8 @@
 use Rattle.std.proofs.Common.{rules, ◌≡◌, ◌≤◌, suc, length, arith, ap}
 use Rattle.raw_view.specs.Document.{bytes_of}
 use Rattle.raw_tree.proofs.Face.{answered_one_way}
-use Rattle.raw_form.proofs.faults.OneBarrier.{barred_at_one_place}
-use Rattle.raw_form.proofs.faults.Within.{flattening_told}
+use Rattle.raw_tree.proofs.Face.{barred_at_one_place}
+use Rattle.raw_form.proofs.flatten.Within.{flattening_told}
 use Rattle.raw_form.proofs.flatten.flatten_within.Goals as goal
 
 pub returns-then-as_bytes-limits-clause-one_answer : goal.returns-then-as_bytes-limits-clause-one_answer

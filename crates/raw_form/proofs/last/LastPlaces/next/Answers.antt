@@ -1,5 +1,6 @@
 use Rattle.std.proofs.Common.{◌≡◌, Some, refl, slice_get}
-use Rattle.raw_form.proofs.last.Places.{item_at, member_taken}
+use Rattle.raw_tree.proofs.Face.{item_at}
+use Rattle.raw_form.proofs.last.Places.{member_taken}
 use Rattle.raw_form.proofs.last.LastPlaces.next.Goals as goal
 
 pub returns : goal.returns

@@ -1,3 +1,0 @@
-pub mod OneBarrier
-pub mod OnePlace
-pub mod Within

@@ -1,3 +1,0 @@
-pub mod JudgedAt
-pub mod JudgedLevels
-pub mod OneVerdict

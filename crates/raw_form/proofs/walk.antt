@@ -1,4 +1,0 @@
-pub mod Levels
-pub mod Offsets
-pub mod Outward
-pub mod Passed

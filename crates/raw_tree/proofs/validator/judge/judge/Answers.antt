@@ -1,0 +1,90 @@
+use Rattle.std.proofs.Common.{◌≡◌, ◌++◌, ◌∷◌, [], List, ℕ, Bor, Option, Result, None, Some, Ok, Err, length, refl, subst, inr}
+use Rattle.std.specs.Option.{option_copied}
+use Rattle.raw_view.specs.Frame.ElementSteps.{frame_of}
+use Rattle.raw_view.specs.Frame.{Fault, Malformed, Utf8, IsFrame, IsStop}
+use Rattle.raw_view.specs.Frame.Front.{StepsFront, StopsWith}
+use Rattle.raw_view.specs.Meaning.{RawValue, value, faulty}
+use Rattle.raw_view.specs.Meaning as raw
+use Rattle.raw_view.specs.Meaning.Value.{value_of}
+use Rattle.raw_view.specs.declared.element.RawElement.{RawElement}
+use Rattle.raw_view.specs.declared.error.BorrowedError.{BorrowedError}
+use Rattle.raw_view.specs.declared.error.ErrorKind.{ErrorKind}
+use Rattle.raw_view.specs.declared.error.ErrorKind.TheVariants as kind
+use Rattle.raw_tree.specs.Canonical.{AreKeysCanonical}
+use Rattle.raw_tree.specs.validator.OpenKeys.{HasKeysSoFar, TellsOpenKey}
+use Rattle.raw_tree.specs.reader.Reading.{Sort}
+use Rattle.raw_tree.specs.declared.validator.breach.Cause.{Cause}
+use Rattle.raw_tree.specs.declared.validator.breach.Cause.TheVariants as cause
+use Rattle.raw_tree.specs.declared.validator.keys_so_far.KeysSoFar.{KeysSoFar}
+use Rattle.raw_tree.specs.validator.Judging.{BreachesItself, HoldsAsTold, IsSingleWith, Judges, TellsJudged}
+use Rattle.raw_tree.specs.declared.validator.judge.Judged.{Judged}
+use Rattle.raw_tree.specs.declared.validator.judge.Judged.TheVariants as judged
+use Rattle.raw_tree.proofs.validator.judge.judge.Goals as goal
+
+-- a stop is one of some fault
+some_stop : (k : ErrorKind) (key : Option (List ℕ)) (s : List ℕ) → StopsWith k key s → (fault : Fault) × IsStop s fault key
+some_stop (kind.MalformedValue r) key s h = (Malformed r, h)
+some_stop (kind.Utf8EncodingError e) key s h = (Utf8, h)
+some_stop kind.OutOfMemory key s h = absurd h
+
+judges_stop : (old new : Option (List ℕ)) (e : BorrowedError) (ks k : KeysSoFar) (before after : List (Bor (List ℕ))) (number : ℕ)
+    → StepsFront old (Some (Err e)) new → Judges old ks before number new k after (judged.Breach None cause.Stop)
+judges_stop None new e ks k before after number st = tt
+judges_stop (Some s) new e ks k before after number st =
+    let stop = some_stop e.kind (option_copied e.key) s st.0 in
+    λ sort below own h canonical n. (stop.0, option_copied e.key, stop.1, refl)
+
+-- an element is next
+judges_next : (old new : Option (List ℕ)) (e : RawElement) (ks k : KeysSoFar) (before after : List (Bor (List ℕ))) (number : ℕ) (answer : Judged) → StepsFront old (Some (Ok e)) new
+    → ((s r : List ℕ) (sort : Sort) (below own : List (List ℕ)) → IsFrame s (frame_of e) r → HasKeysSoFar ks before sort below own → AreKeysCanonical sort own
+    → number ≡ length own → TellsJudged sort below own s new k after answer)
+    → Judges old ks before number new k after answer
+judges_next None new e ks k before after number answer st f = tt
+judges_next (Some s) new e ks k before after number answer st f = λ sort below own h canonical n. f s st.0 sort below own st.1 h canonical n
+
+element_steps : (old new : Option (List ℕ)) (e : RawElement) (item : Result RawElement BorrowedError) → item ≡ Ok e → StepsFront old (Some item) new → StepsFront old (Some (Ok e)) new
+element_steps old new e item is st = subst (λ (x : Result RawElement BorrowedError). StepsFront old (Some x) new) is st
+
+-- the key of the element is canonical
+key_more : (sort : Sort) (below own : List (List ℕ)) (key same : List ℕ) (k : KeysSoFar) (refs : List (Bor (List ℕ))) (answer : Option Cause) → key ≡ same
+    → answer ≡ None → TellsOpenKey sort below own key k refs answer → AreKeysCanonical sort (own ++ same ∷ [])
+key_more sort below own key same k refs answer e none h =
+    let told = subst (λ (x : Option Cause). TellsOpenKey sort below own key k refs x) none h in
+    subst (λ (x : List ℕ). AreKeysCanonical sort (own ++ x ∷ [])) e told.1
+
+descends : (v : RawValue) → IsSingleWith (λ A. ¬ A) v → BreachesItself (value v) cause.Options
+descends (raw.single l) h = (h, refl)
+descends (raw.document d) h = absurd h
+descends (raw.array d) h = absurd h
+descends (raw.scoped code d) h = absurd h
+
+pub returns-in-Some-Err-clause-judges : goal.returns-in-Some-Err-clause-judges
+returns-in-Some-Err-clause-judges c =
+    judges_stop c.args.elements.now c.next.new.self c.in-Some-Err.field-0-0 c.args.keys.now c.args.keys.now c.args.listed.now.items c.args.listed.now.items
+    c.args.number (subst (λ (x : Result RawElement BorrowedError). StepsFront c.args.elements.now (Some x) c.next.new.self) c.in-Some-Err.field-0-is
+    c.in-Some-Err.ensures.steps)
+
+pub returns-in_default-resolve-clause-judges : goal.returns-in_default-resolve-clause-judges
+returns-in_default-resolve-clause-judges c =
+    let e = c.in-Some-Ok.element in
+    let st = element_steps c.args.elements.now c.next.new.self e c.in-Some-Ok.field-0 c.in-Some-Ok.field-0-is c.in-Some-Ok.ensures.steps in
+    judges_next c.args.elements.now c.next.new.self e c.args.keys.now c.add.new.self c.args.listed.now.items c.add.new.listed.items c.args.number
+    (judged.Breach (Some c.key-key.result) cause.Value) st (λ s r sort below own frame h canonical n.
+    let more = key_more sort below own c.key-key.result.now
+    (frame_of e).key c.add.new.self c.add.new.listed.items c.in_ok-cause.field-0 c.key-key.ensures c.in_default.is
+    (c.in_ok-cause.ensures.adds sort below own h canonical n) in
+    let fault = c.in_default-resolve.ensures.fault in
+    (frame_of e, r, frame, c.key-key.ensures, inr (more, faulty fault.0, fault.1, refl)))
+
+pub returns-in-Descending-clause-judges : goal.returns-in-Descending-clause-judges
+returns-in-Descending-clause-judges c =
+    let e = c.in-Some-Ok.element in
+    let v = value_of c.in-Ok.value in
+    let st = element_steps c.args.elements.now c.next.new.self e c.in-Some-Ok.field-0 c.in-Some-Ok.field-0-is c.in-Some-Ok.ensures.steps in
+    let holds = subst (HoldsAsTold v) c.in-Descending.is c.held_by.ensures in
+    judges_next c.args.elements.now c.next.new.self e c.args.keys.now c.add.new.self c.args.listed.now.items c.add.new.listed.items c.args.number
+    (judged.Breach (Some c.key-key.result) cause.Options) st (λ s r sort below own frame h canonical n.
+    let more = key_more sort below own c.key-key.result.now
+    (frame_of e).key c.add.new.self c.add.new.listed.items c.in_ok-cause.field-0 c.key-key.ensures c.in_default.is
+    (c.in_ok-cause.ensures.adds sort below own h canonical n) in
+    (frame_of e, r, frame, c.key-key.ensures, inr (more, value v, c.in-Ok.ensures.value, descends v holds)))

@@ -1,0 +1,11 @@
+use Rattle.std.proofs.Common.{◌-◌, length}
+use Rattle.raw_view.specs.Document.{bytes_of}
+use Rattle.raw_tree.proofs.validator.JudgedAt.{IsJudgedAlong}
+use Rattle.raw_tree.proofs.validator.verdict.judge_to_depth.Given as goal
+
+abbrev pub invariant-elements : goal.invariant-elements
+invariant-elements l = IsJudgedAlong l.fn.document l.fn.depth l.walk l.level l.outer_keys.items l.listed.items l.keys
+
+-- the bytes behind the offset
+abbrev pub decreases-elements : goal.decreases-elements
+decreases-elements l = length (bytes_of l.fn.document) - l.level.offset

@@ -1,0 +1,12 @@
+pub mod Bounds
+pub mod Frames
+pub mod Fronts
+pub mod Levels
+pub mod Offsets
+pub mod OneBarrier
+pub mod OnePlace
+pub mod Outward
+pub mod Passed
+pub mod Rooms
+pub mod Starts
+pub mod Within

@@ -1,0 +1,76 @@
+-- Items in a room.
+use Rattle.std.proofs.Common.{rules, ◌≡◌, ◌<◌, ◌≤◌, ◌+◌, ◌-◌, ◌++◌, ◌∷◌, [], ℕ, zero, suc, List, Some, length, map, take, slice_get, slice_index_or, arith, ap, refl, sym, subst, set}
+use Rattle.std.specs.Option.{option_copied}
+use Rattle.raw_tree.specs.walk.Barriers.{step_of}
+use Rattle.raw_tree.specs.walk.Places.{Step}
+use Rattle.raw_tree.specs.walk.Rooms.{filled_from}
+use Rattle.raw_tree.specs.walk.Places.{last_key}
+use Rattle.raw_tree.specs.declared.walk.place.PathStep.{PathStep}
+
+pub filled_none : {X : Type 0} (n : ℕ) (room : List X) → filled_from n room [] ≡ room
+filled_none n [] = refl
+filled_none zero (x ∷ room) = refl
+filled_none (suc n) (x ∷ room) = ap (λ (r : List _). x ∷ r) (filled_none n room)
+
+-- one item
+pub filled_one : {X : Type 0} (n : ℕ) (room : List X) (item : X) → n < length room → set room n item ≡ filled_from n room (item ∷ [])
+filled_one n [] item h = absurd (omega (arith, h))
+filled_one zero (x ∷ []) item h = refl
+filled_one zero (x ∷ y ∷ room) item h = refl
+filled_one (suc n) (x ∷ room) item h = ap (λ (r : List _). x ∷ r) (filled_one n room item (omega (arith, h)))
+
+pub filled_past : {X : Type 0} (n : ℕ) (room : List X) (item : X) → length room ≤ n → room ≡ filled_from n room (item ∷ [])
+filled_past n [] item h = refl
+filled_past zero (x ∷ room) item h = absurd (omega (arith, h))
+filled_past (suc n) (x ∷ room) item h = ap (λ (r : List _). x ∷ r) (filled_past n room item (omega (arith, h)))
+
+-- items behind others
+filled_on : {X : Type 0} (n : ℕ) (room ts us : List X) → filled_from (length ts + n) (filled_from n room ts) us ≡ filled_from n room (ts ++ us)
+filled_on n [] ts us = refl
+filled_on zero (x ∷ room) [] us = refl
+filled_on zero (x ∷ room) (t ∷ ts) us =
+    let same : suc (length ts) + 0 ≡ suc (length ts + 0) = omega arith in
+    subst (λ (m : ℕ). filled_from m (t ∷ filled_from zero room ts) us ≡ t ∷ filled_from zero room (ts ++ us)) (sym same) (ap (λ (r : List _). t ∷ r) (filled_on zero room ts us))
+filled_on (suc n) (x ∷ room) ts us =
+    let same : length ts + suc n ≡ suc (length ts + n) = omega arith in
+    subst (λ (m : ℕ). filled_from m (x ∷ filled_from n room ts) us ≡ x ∷ filled_from n room (ts ++ us)) (sym same) (ap (λ (r : List _). x ∷ r) (filled_on n room ts us))
+
+pub filled_more : {X : Type 0} (n m : ℕ) (room ts us : List X) → m ≡ n + length ts → filled_from m (filled_from n room ts) us ≡ filled_from n room (ts ++ us)
+filled_more n m room ts us is =
+    let same : length ts + n ≡ m = omega (arith, is) in
+    subst (λ (k : ℕ). filled_from k (filled_from n room ts) us ≡ filled_from n room (ts ++ us)) same (filled_on n room ts us)
+
+-- steps of a path
+
+pub numbers_of : (path : List PathStep) → map (λ (step : PathStep). step.number) path ≡ map (λ (step : Step). step.number) (map step_of path)
+numbers_of [] = refl
+numbers_of (p ∷ path) = ap (λ (ns : List ℕ). p.number ∷ ns) (numbers_of path)
+
+pub number_at : (path : List PathStep) (index : ℕ) (none : PathStep) → index < length path
+    → map (λ (step : PathStep). step.number) (take (index + 1) path) ≡ map (λ (step : PathStep). step.number) (take index path)
+    ++ (slice_index_or path index none).number ∷ []
+number_at [] index none h = absurd (omega (arith, h))
+number_at (p ∷ path) zero none h = refl
+number_at (p ∷ path) (suc index) none h =
+    let same : suc (index + 1) ≡ suc index + 1 = omega arith in
+    subst (λ (n : ℕ). map (λ (step : PathStep). step.number) (take n (p ∷ path)) ≡ p.number
+    ∷ (map (λ (step : PathStep). step.number) (take index path) ++ (slice_index_or path index none).number ∷ [])) same
+    (ap (λ (ns : List ℕ). p.number ∷ ns) (number_at path index none (omega (arith, h))))
+
+pub numbers_len : (path : List PathStep) (index : ℕ) → index ≤ length path → length (map (λ (step : PathStep). step.number) (take index path)) ≡ index
+numbers_len path zero h = refl
+numbers_len [] (suc index) h = absurd (omega (arith, h))
+numbers_len (p ∷ path) (suc index) h = ap (λ (n : ℕ). suc n) (numbers_len path index (omega (arith, h)))
+
+pub numbers_all : (path : List PathStep) (index : ℕ) → length path ≤ index → take index path ≡ path
+numbers_all [] zero h = refl
+numbers_all [] (suc index) h = refl
+numbers_all (p ∷ path) zero h = absurd (omega (arith, h))
+numbers_all (p ∷ path) (suc index) h = ap (λ (rest : List PathStep). p ∷ rest) (numbers_all path index (omega (arith, h)))
+
+pub last_at : (path : List PathStep) (p : PathStep) → slice_get path (length path - 1) ≡ Some p → last_key (map step_of path) ≡ option_copied p.key
+last_at [] p is = search rules
+last_at (x ∷ []) p is = search rules
+last_at (x ∷ y ∷ path) p is =
+    let same : length (x ∷ y ∷ path) - 1 ≡ suc (length (y ∷ path) - 1) = omega arith in
+    last_at (y ∷ path) p (subst (λ (n : ℕ). slice_get (x ∷ y ∷ path) n ≡ Some p) same is)

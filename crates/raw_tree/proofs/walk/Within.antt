@@ -1,0 +1,31 @@
+-- What is told within a depth is told within limits.
+use Rattle.std.proofs.Common.{inl, inr, ◌≤◌, zero, suc, List, ℕ, Option, None, Some, Result, Ok, Err, IfOk, length}
+use Rattle.raw_view.specs.declared.error.Error.{Error}
+use Rattle.raw_tree.specs.reader.WithinLimits.{FirstBarrier, FirstFaultWithin}
+use Rattle.raw_tree.specs.reader.WithinLimits as within
+use Rattle.raw_tree.specs.declared.reader.limits.Limits.{Limits}
+use Rattle.raw_tree.proofs.reader.Limited.{read_within}
+use Rattle.raw_tree.specs.walk.Barriers.{IsBarrier, TellsBarrier, TellsBarrierWithin, steps_of}
+use Rattle.raw_tree.specs.walk.Places.{Step, FirstFaultAt}
+use Rattle.raw_tree.specs.declared.walk.barrier.Barrier.{Barrier}
+
+-- a first barrier that is somewhere is the first
+pub first_somewhere : (n : ℕ) (b : List ℕ) (x : within.Barrier) (path : List Step) (offset : ℕ) → FirstFaultAt n b x path offset → FirstFaultWithin n b x
+first_somewhere zero b x path offset h = h.0
+first_somewhere (suc n) b x path offset (passed, pairs, s, l, each, inl stop) = (passed, pairs, s, l, each, inl stop.0)
+first_somewhere (suc n) b x path offset (passed, pairs, s, l, each, inr (f, q, at, inl means)) = (passed, pairs, s, l, each, inr (f, q, at, inl means.0))
+first_somewhere (suc n) b x path offset (passed, pairs, s, l, each, inr (f, q, at, inr (v, d, steps, inside, means, holds, bars, path_is, offset_is))) =
+    (passed, pairs, s, l, each, inr (f, q, at, inr (v, d, means, holds, first_somewhere n d x steps inside bars)))
+
+pub barrier_told : (limits : Limits) (b : List ℕ) (result : Result (Option Barrier) Error) → length b ≤ limits.bytes
+    → IfOk result (TellsBarrierWithin limits.depth b) → IfOk result (TellsBarrier limits b)
+barrier_told limits b (Err e) few told = tt
+barrier_told limits b (Ok None) few told = (told.0, read_within limits b told.0 few told.1)
+barrier_told limits b (Ok (Some x)) few told =
+    (told.0, inr (few, first_somewhere limits.depth b told.0 (steps_of x.place) x.place.offset told.2), told.1, inr (few, told.2))
+
+-- one that is told is the first within limits
+pub barrier_first : (limits : Limits) (b : List ℕ) (answer : Barrier) → length b ≤ limits.bytes → TellsBarrierWithin limits.depth b (Some answer)
+    → (x : within.Barrier) × FirstBarrier limits b x × IsBarrier answer.kind x
+barrier_first limits b answer few told =
+    (told.0, inr (few, first_somewhere limits.depth b told.0 (steps_of answer.place) answer.place.offset told.2), told.1)

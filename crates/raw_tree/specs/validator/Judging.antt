@@ -1,0 +1,103 @@
+-- What a step of a validation tells. No public contract cites this file.
+use Rattle.std.specs.Prelude.{◌≡◌, ◌⊎◌, ◌++◌, ◌∷◌, [], ℕ, List, Bool, true, false, length, Option, None, Some}
+use Rattle.std.specs.Option.{option_copied}
+use denote.Ref.{Bor}
+use Rattle.bson_model.specs.Proper.{DoLeafOptionsAscend}
+use Rattle.raw_view.specs.Document.{bytes_of}
+use Rattle.raw_view.specs.Frame.ElementSteps.{frame_of}
+use Rattle.raw_view.specs.Frame.{Frame, Fault, IsFrame, IsStop}
+use Rattle.raw_view.specs.Meaning.{RawValue, Meaning, Means, value, faulty}
+use Rattle.raw_view.specs.Meaning as raw
+use Rattle.raw_tree.specs.validator.Breaches.{BreachesKeys}
+use Rattle.raw_tree.specs.Canonical.{AreKeysCanonical, IsCanonicalUpTo}
+use Rattle.raw_tree.specs.validator.OpenKeys.{HasKeysSoFar}
+use Rattle.raw_tree.specs.reader.Reading.{Sort, as_document, as_array}
+use Rattle.raw_tree.specs.validator.Validating.{HoldsAs}
+use Rattle.raw_tree.specs.declared.validator.breach.Cause.{Cause}
+use Rattle.raw_tree.specs.declared.validator.breach.Cause.TheVariants as cause
+use Rattle.raw_tree.specs.declared.validator.keys_so_far.KeysSoFar.{KeysSoFar}
+use Rattle.raw_tree.specs.walk.Barriers.{steps_of}
+use Rattle.raw_tree.specs.walk.Places.{Step}
+use Rattle.raw_tree.specs.validator.Verdicts.{Verdict, too_deep, breach_of, FirstVerdictTo}
+use Rattle.raw_tree.specs.walk.Walks.{IsBehind}
+use Rattle.raw_tree.specs.declared.validator.judge.Held.{Held}
+use Rattle.raw_tree.specs.declared.validator.judge.Held.TheVariants as held
+use Rattle.raw_tree.specs.declared.validator.judge.Judged.{Judged}
+use Rattle.raw_tree.specs.declared.validator.judge.Judged.TheVariants as judged
+use Rattle.raw_tree.specs.declared.validator.verdict.Found.{Found}
+use Rattle.raw_tree.specs.declared.walk.WalkError.{WalkError}
+use Rattle.raw_tree.specs.declared.walk.WalkError.TheVariants as error
+
+abbrev pub array_sort : Bool → Sort
+array_sort true = as_array
+array_sort false = as_document
+
+-- the value holds no nested bytes; options of it ascend, or descend
+abbrev pub IsSingleWith : (Type 0 → Type 0) → RawValue → Type 0
+IsSingleWith P (raw.single l) = P (DoLeafOptionsAscend l)
+IsSingleWith P (raw.document d) = ⊥
+IsSingleWith P (raw.array d) = ⊥
+IsSingleWith P (raw.scoped code d) = ⊥
+
+abbrev pub HoldsAsTold : RawValue → Held → Type 0
+HoldsAsTold v held.Nothing = IsSingleWith (λ A. A) v
+HoldsAsTold v held.Descending = IsSingleWith (λ A. ¬ A) v
+HoldsAsTold v (held.Level inner is_array) = HoldsAs v (array_sort is_array) (bytes_of inner)
+
+-- what a frame means breaches by itself: it is a fault, or its options descend
+abbrev pub BreachesItself : Meaning → Cause → Type 0
+BreachesItself (faulty fault) why = why ≡ cause.Value
+BreachesItself (value (raw.single l)) why = (¬ DoLeafOptionsAscend l) × (why ≡ cause.Options)
+BreachesItself (value (raw.document d)) why = ⊥
+BreachesItself (value (raw.array d)) why = ⊥
+BreachesItself (value (raw.scoped code d)) why = ⊥
+
+-- behind elements with these keys s stops; or the frame in front of it has this key, and breaches by it or by what it
+-- means, and not by what is inside
+abbrev pub BreachesHere : Sort → List (List ℕ) → List ℕ → Option (List ℕ) → Cause → Type 0
+BreachesHere sort own s None why = (fault : Fault) × (key : Option (List ℕ)) × IsStop s fault key × (why ≡ cause.Stop)
+BreachesHere sort own s (Some key) why =
+    (f : Frame) × (r : List ℕ) × IsFrame s f r × (key ≡ f.key)
+    × (BreachesKeys sort own f.key why ⊎ (AreKeysCanonical sort (own ++ f.key ∷ []) × (m : Meaning) × Means f m × BreachesItself m why))
+
+-- how k and the list go on is told where they are those of a level with its own keys so far
+abbrev pub TellsJudged : Sort → List (List ℕ) → List (List ℕ) → List ℕ → Option (List ℕ) → KeysSoFar → List (Bor (List ℕ)) → Judged → Type 0
+TellsJudged sort below own s new k listed judged.End = (s ≡ 0 ∷ []) × HasKeysSoFar k listed sort below own
+TellsJudged sort below own s new k listed (judged.Whole e) =
+    (r : List ℕ) × (v : RawValue) × IsFrame s (frame_of e) r × Means (frame_of e) (value v) × (new ≡ Some r)
+    × HasKeysSoFar k listed sort below (own ++ (frame_of e).key ∷ []) × AreKeysCanonical sort (own ++ (frame_of e).key ∷ []) × IsSingleWith (λ A. A) v
+TellsJudged sort below own s new k listed (judged.Inside e inner is_array) =
+    (r : List ℕ) × (v : RawValue) × IsFrame s (frame_of e) r × Means (frame_of e) (value v) × (new ≡ Some r)
+    × HasKeysSoFar k listed sort below (own ++ (frame_of e).key ∷ []) × AreKeysCanonical sort (own ++ (frame_of e).key ∷ []) × HoldsAs v (array_sort is_array) (bytes_of inner)
+TellsJudged sort below own s new k listed (judged.Breach key why) = BreachesHere sort own s (option_copied key) why
+
+-- so it is for the level, whichever it is
+abbrev pub Judges : Option (List ℕ) → KeysSoFar → List (Bor (List ℕ)) → ℕ → Option (List ℕ) → KeysSoFar → List (Bor (List ℕ)) → Judged → Type 0
+Judges None keys before number new k after answer = Unit {0}
+Judges (Some s) keys before number new k after answer =
+    (sort : Sort) (below own : List (List ℕ)) → HasKeysSoFar keys before sort below own → AreKeysCanonical sort own → number ≡ length own
+    → TellsJudged sort below own s new k after answer
+
+-- what was found within a depth
+abbrev pub verdict_of : Option Cause → Verdict
+verdict_of None = too_deep
+verdict_of (Some why) = breach_of why
+
+abbrev pub TellsFound : ℕ → List ℕ → Option Found → Type 0
+TellsFound depth b None = IsCanonicalUpTo depth as_document b
+TellsFound depth b (Some found) = FirstVerdictTo depth as_document b (verdict_of found.cause) (steps_of found.place) found.place.offset
+
+-- what is found is the level that was too deep, at its place, inside the element that begins here
+abbrev pub EndsTooDeep : (outermost : ℕ) → WalkError → Option Found → Type 0
+EndsTooDeep outermost (error.Barrier b) (Some found) = (found.cause ≡ None) × (found.place ≡ b.place) × (found.outermost ≡ outermost)
+EndsTooDeep outermost other found = ⊥
+
+-- the number of the first step; of no step that of the first element
+abbrev pub first_number : List Step → ℕ
+first_number [] = 0
+first_number (step ∷ steps) = step.number
+
+-- what was found is at or inside the element of the outermost level that begins here
+abbrev pub TellsOutermost : List ℕ → Option Found → Type 0
+TellsOutermost b None = Unit {0}
+TellsOutermost b (Some found) = IsBehind b (first_number (steps_of found.place)) found.outermost

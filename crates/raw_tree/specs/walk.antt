@@ -1,0 +1,7 @@
+pub mod Aheads
+pub mod Barriers
+pub mod Looking
+pub mod Places
+pub mod Rooms
+pub mod Waits
+pub mod Walks

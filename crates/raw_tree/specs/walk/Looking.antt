@@ -1,0 +1,97 @@
+-- What a look at a level tells. Public contracts go by `size_of` alone of what is here.
+use Rattle.std.specs.Prelude.{◌≡◌, ◌+◌, ℕ, suc, List, [], ◌∷◌, drop, length, Option, None, Some}
+use Rattle.std.specs.Option.{option_copied}
+use Rattle.raw_view.specs.Document.{bytes_of}
+use Rattle.raw_view.specs.Frame.ElementSteps.{frame_of}
+use Rattle.bson_model.specs.Tree.{Tree}
+use Rattle.raw_view.specs.Frame.{Frame, HasNoFrame, IsFrame, IsStop, LeadsTo}
+use Rattle.raw_view.specs.Frame.Front.{TellsBorrowed}
+use Rattle.raw_view.specs.Meaning.{RawValue, KeyedFault, Means, value, faulty}
+use Rattle.raw_view.specs.Meaning as raw
+use Rattle.raw_view.specs.Meaning.Value.{value_of}
+use Rattle.raw_view.specs.declared.bson_ref.RawBsonRef.{RawBsonRef}
+use Rattle.raw_view.specs.declared.document.RawDocument.{RawDocument}
+use Rattle.raw_view.specs.declared.element.RawElement.{RawElement}
+use Rattle.raw_tree.specs.reader.Reading.{Holds, StandForEach, ReadsUpTo}
+use Rattle.raw_tree.specs.walk.Places.{Step, BeginsAt}
+use Rattle.raw_tree.specs.walk.Waits.{Wait}
+use Rattle.raw_tree.specs.walk.Aheads.{Ahead}
+use Rattle.raw_tree.specs.walk.Aheads as next
+use Rattle.raw_tree.specs.declared.walk.level.Next.{Next}
+use Rattle.raw_tree.specs.declared.walk.level.Next.TheVariants as seen
+
+-- the step at which a level waits
+abbrev pub step_at : Wait → Step
+step_at w = record { number = w.number; key = Some w.key }
+
+-- how many bytes a frame takes: a tag, its key with a 0, and its payload
+abbrev pub size_of : Frame → ℕ
+size_of f = length f.key + length f.payload + 2
+
+-- the value holds no nested bytes, or these
+abbrev pub HoldsBytes : RawValue → Option RawDocument → Type 0
+HoldsBytes (raw.single l) inside = inside ≡ None
+HoldsBytes (raw.document d) None = ⊥
+HoldsBytes (raw.document d) (Some x) = bytes_of x ≡ d
+HoldsBytes (raw.array d) None = ⊥
+HoldsBytes (raw.array d) (Some x) = bytes_of x ≡ d
+HoldsBytes (raw.scoped code d) None = ⊥
+HoldsBytes (raw.scoped code d) (Some x) = bytes_of x ≡ d
+
+-- the value holds no nested bytes
+abbrev pub HoldsNone : RawValue → Type 0
+HoldsNone v = (d : List ℕ) → ¬ Holds v d
+
+-- s stops with this fault; or the frame in front of it has this key, and means the fault
+abbrev pub FailsAt : List ℕ → Option (List ℕ) → KeyedFault → Type 0
+FailsAt s None fault = IsStop s fault.fault fault.key
+FailsAt s (Some key) fault = (f : Frame) × (r : List ℕ) × IsFrame s f r × Means f (faulty fault) × (key ≡ f.key)
+
+-- what is next where s is left
+abbrev pub Looks : Option (List ℕ) → Option (List ℕ) → Ahead → Type 0
+Looks None new x = Unit {0}
+Looks (Some s) new next.End = s ≡ 0 ∷ []
+Looks (Some s) new (next.Whole e) = (r : List ℕ) × (v : RawValue) × IsFrame s (frame_of e) r × Means (frame_of e) (value v) × HoldsNone v × (new ≡ Some r)
+Looks (Some s) new (next.Inside e inner) =
+    (r : List ℕ) × (v : RawValue) × IsFrame s (frame_of e) r × Means (frame_of e) (value v) × Holds v (bytes_of inner) × (new ≡ Some r)
+Looks (Some s) new (next.Fault key e) = (fault : KeyedFault) × FailsAt s (option_copied key) fault × TellsBorrowed e fault
+
+-- a look without the element's value, and what it tells so
+abbrev pub without_value : Next → Ahead
+without_value seen.End = next.End
+without_value (seen.Whole e v) = next.Whole e
+without_value (seen.Inside e v inner) = next.Inside e inner
+without_value (seen.Fault key e) = next.Fault key e
+
+abbrev pub Sees : Option (List ℕ) → Option (List ℕ) → Next → Type 0
+Sees old new x = Looks old new (without_value x)
+
+-- the value is that of the element
+abbrev pub IsValueOf : RawBsonRef → RawElement → Type 0
+IsValueOf v e = Means (frame_of e) (value (value_of v))
+
+-- a look has the value of its element
+abbrev pub HasValue : Next → Type 0
+HasValue (seen.Whole e v) = IsValueOf v e
+HasValue (seen.Inside e v inner) = IsValueOf v e
+HasValue _ = Unit {0}
+
+-- no frame is in front of what is left; or the element is that frame, and this is left behind it
+abbrev pub TakesFrame : Option (List ℕ) → Option RawElement → Option (List ℕ) → Type 0
+TakesFrame None e new = e ≡ None
+TakesFrame (Some s) None new = HasNoFrame s
+TakesFrame (Some s) (Some e) new = (r : List ℕ) × IsFrame s (frame_of e) r × (new ≡ Some r)
+
+-- so many elements of the document b are before what begins at this offset, and stand for trees with at most so many levels
+pub record AreReadBefore (inside : ℕ) (b : List ℕ) (number offset : ℕ) : Type 0 where
+  pub frames : List Frame
+  pub pairs : List (List ℕ × Tree)
+  pub s : List ℕ
+  pub reaches : LeadsTo (drop 4 b) frames s
+  pub each : StandForEach (ReadsUpTo inside) frames pairs
+  pub number_is : number ≡ length frames
+  pub begins : BeginsAt b s offset
+
+-- so it is where there may be so many levels in all
+abbrev pub HasNoneBefore : ℕ → List ℕ → (number offset : ℕ) → Type 0
+HasNoneBefore depth b number offset = (inside : ℕ) → suc inside ≡ depth → AreReadBefore inside b number offset

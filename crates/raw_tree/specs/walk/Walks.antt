@@ -1,0 +1,198 @@
+-- What a walk over all levels of a document has passed, and what it comes to next. No contract of a call for users cites this file.
+use Rattle.std.specs.Prelude.{◌≡◌, ◌+◌, ◌++◌, ◌∷◌, ◌<◌, ◌≤◌, ℕ, suc, Bool, true, false, List, Option, Some, Result, Ok, Err, drop, length, map, []}
+use Rattle.bson_model.specs.Tree.{Tree}
+use Rattle.raw_view.specs.Document.{bytes_of}
+use Rattle.raw_view.specs.Frame.ElementSteps.{HasRead, frame_of}
+use Rattle.raw_view.specs.Frame.{Frame, IsFrame, LeadsTo}
+use Rattle.raw_view.specs.Meaning.{RawValue, Means, value}
+use Rattle.raw_view.specs.declared.document.RawDocument.{RawDocument}
+use Rattle.raw_view.specs.declared.element.RawElement.{RawElement}
+use Rattle.raw_tree.specs.reader.Reading.{Sort, as_document, tree_of_pairs, ReadsUpTo, StandForEach}
+use Rattle.raw_tree.specs.validator.Validating.{HoldsAs, left_of}
+use Rattle.raw_tree.specs.declared.reader.limits.Limits.{Limits}
+use Rattle.raw_tree.specs.walk.Aheads.{Ahead}
+use Rattle.raw_tree.specs.walk.Aheads as next
+use Rattle.raw_tree.specs.walk.Barriers.{TellsBarrier, TellsBarrierWithin, steps_of}
+use Rattle.raw_tree.specs.walk.Looking.{IsValueOf, Looks, size_of, step_at}
+use Rattle.raw_tree.specs.walk.Places.{BeginsAt, Step}
+use Rattle.raw_tree.specs.walk.Waits.{ResumesBehind, LiesAt, StoreEach, Wait}
+use Rattle.raw_tree.specs.declared.walk.barrier.BarrierKind.{BarrierKind}
+use Rattle.raw_tree.specs.declared.walk.barrier.BarrierKind.TheVariants as kind
+use Rattle.raw_tree.specs.declared.walk.level.Level.{Level}
+use Rattle.raw_tree.specs.declared.walk.Event.{Event}
+use Rattle.raw_tree.specs.declared.walk.Event.TheVariants as event
+use Rattle.raw_tree.specs.declared.walk.Walk.{Walk}
+use Rattle.raw_tree.specs.declared.walk.WalkError.{WalkError}
+use Rattle.raw_tree.specs.declared.walk.WalkError.TheVariants as error
+
+-- levels
+
+-- these bytes are read as the tree of some pairs
+abbrev pub AreReadTo : ℕ → Sort → List ℕ → Type 0
+AreReadTo n sort d = (pairs : List (List ℕ × Tree)) × ReadsUpTo n sort d (tree_of_pairs sort pairs)
+
+-- so many frames of b have been passed, and they stand for some trees, with at most so many levels inside
+pub record IsPassed (inside : ℕ) (b : List ℕ) (left : Option (List ℕ)) (number : ℕ) : Type 0 where
+  pub frames : List Frame
+  pub pairs : List (List ℕ × Tree)
+  pub passed : HasRead (drop 4 b) frames left
+  pub each : StandForEach (ReadsUpTo inside) frames pairs
+  pub number_is : number ≡ length frames
+
+-- and the value of the frame behind them, under this key, holds the bytes d
+pub record IsHeld (inside : ℕ) (b : List ℕ) (w : Wait) (sort : Sort) (d : List ℕ) : Type 0 where
+  pub frames : List Frame
+  pub pairs : List (List ℕ × Tree)
+  pub s : List ℕ
+  pub f : Frame
+  pub r : List ℕ
+  pub v : RawValue
+  pub passed : LeadsTo (drop 4 b) frames s
+  pub frame : IsFrame s f r
+  pub bytes_are : w.bytes ≡ b
+  pub left_is : w.elements ≡ Some r
+  pub element_is : w.element + size_of f ≡ w.offset
+  pub number_is : w.number ≡ length frames
+  pub key_is : w.key ≡ f.key
+  pub each : StandForEach (ReadsUpTo inside) frames pairs
+  pub means : Means f (value v)
+  pub holds : HoldsAs v sort d
+
+-- what is left of the level that waits
+abbrev pub left_behind : Wait → ℕ
+left_behind w = left_of w.elements
+
+-- levels that wait, the outermost first: from the bytes b, which end at this offset of the document, inward to the bytes d,
+-- which end at that one; at most so many levels may be inside d. Nested bytes end where what is left of their level begins.
+abbrev pub AreHeld : ℕ → Sort → List ℕ → ℕ → List Wait → Sort → List ℕ → ℕ → Type 0
+AreHeld inside outer b end [] sort d last = (outer ≡ sort) × (b ≡ d) × (end ≡ last)
+AreHeld inside outer b end (w ∷ ws) sort d last =
+    (s : Sort) × (c : List ℕ) × IsHeld (suc (length ws + inside)) b w s c × (w.offset + left_behind w ≡ end) × AreHeld inside s c w.offset ws sort d last
+
+-- what the loop keeps: the innermost level passes over some bytes, for which the others wait, and what is left of them begins
+-- at this offset of b; so many levels may be inside
+pub record IsAt (depth : ℕ) (b : List ℕ) (ws : List Wait) (left : Option (List ℕ)) (number offset start : ℕ) : Type 0 where
+  pub inside : ℕ
+  pub sort : Sort
+  pub d : List ℕ
+  pub end : ℕ
+  pub held : AreHeld inside as_document b (length b) ws sort d end
+  pub is : IsPassed inside d left number
+  pub levels : suc (length ws + inside) ≡ depth
+  pub begins : offset + left_of left ≡ end
+  pub lies : LiesAt b start d
+  pub whole : start + length d ≡ end
+
+-- so many elements of the document b are in front of what begins at this offset
+pub record IsBehind (b : List ℕ) (number offset : ℕ) : Type 0 where
+  pub frames : List Frame
+  pub s : List ℕ
+  pub reaches : LeadsTo (drop 4 b) frames s
+  pub number_is : number ≡ length frames
+  pub begins : BeginsAt b s offset
+
+-- where the element of the outermost level begins that holds the levels inside, or that is next, at this offset
+abbrev pub outermost_of : List Wait → ℕ → ℕ
+outermost_of [] offset = offset
+outermost_of (w ∷ ws) offset = w.element
+
+-- steps of the walk
+
+-- a level that is entered; it ends where what is left of the one around it begins
+pub record IsOpened (behind : ℕ) (inner : RawDocument) (level : Level) : Type 0 where
+  pub left_is : level.elements ≡ Some (drop 4 (bytes_of inner))
+  pub first_is : level.number ≡ 0
+  pub begins : level.offset + length (drop 4 (bytes_of inner)) ≡ behind
+  pub starts : level.start + length (bytes_of inner) ≡ behind
+
+-- the walk is within the document, and these levels wait for the innermost, the outermost first
+pub record IsAlong (walk : Walk) (level : Level) (ws : List Wait) : Type 0 where
+  pub are_stored : StoreEach (bytes_of walk.document) walk.waiting.items ws
+  pub at : IsAt (suc walk.most_waiting) (bytes_of walk.document) ws level.elements level.number level.offset level.start
+
+-- the level as it was when this was left of it
+abbrev pub with_left : Option (List ℕ) → Level → Level
+with_left left level = record { elements = left; number = level.number; offset = level.offset; start = level.start }
+
+-- so it was, before what is next in the level was looked at
+pub record IsLooked (walk : Walk) (level : Level) (left : Option (List ℕ)) (ws : List Wait) (seen : Ahead) : Type 0 where
+  pub along : IsAlong walk (with_left left level) ws
+  pub looks : Looks left level.elements seen
+
+-- it is so further on, and some bytes have been passed
+pub record IsFurther (from : Level) (walk : Walk) (to : Level) (ws : List Wait) : Type 0 where
+  pub along : IsAlong walk to ws
+  pub further : from.offset < to.offset
+  pub within : to.offset ≤ length (bytes_of walk.document)
+
+-- the final 0 of the level is in front of what is left
+abbrev pub IsAtFinal : Option (List ℕ) → Type 0
+IsAtFinal left = (s : List ℕ) → left ≡ Some s → s ≡ 0 ∷ []
+
+-- it has come to nothing, and what is left of the outermost level begins at this offset
+pub record IsBegun (document : RawDocument) (offset : ℕ) (walk : Walk) (level : Level) : Type 0 where
+  pub document_is : walk.document ≡ document
+  pub none_waits : walk.waiting.items ≡ []
+  pub left_is : level.elements ≡ Some (drop offset (bytes_of document))
+  pub offset_is : level.offset ≡ offset
+  pub start_is : level.start ≡ 0
+
+-- it begins at the first element, and the document keeps to the limits so far
+pub record BeginsWithin (limits : Limits) (document : RawDocument) (walk : Walk) (level : Level) : Type 0 where
+  pub few : length (bytes_of document) ≤ limits.bytes
+  pub levels : suc walk.most_waiting ≡ limits.depth
+  pub along : IsAlong walk level []
+  pub begun : IsBegun document 4 walk level
+  pub none_before : level.number ≡ 0
+
+-- the error is the first barrier of the document within the limits; or memory ran out, where it has few enough bytes
+abbrev pub TellsErrorWithin : Limits → List ℕ → WalkError → Type 0
+TellsErrorWithin limits b (error.Barrier answer) = TellsBarrier limits b (Some answer)
+TellsErrorWithin limits b error.OutOfMemory = length b ≤ limits.bytes
+
+-- the error is a barrier of this kind, at this step and offset in the level for which these wait; or memory ran out
+abbrev pub IsBarrierAt : List Wait → Step → (offset : ℕ) → BarrierKind → WalkError → Type 0
+IsBarrierAt ws step offset k (error.Barrier b) = (b.kind ≡ k) × (steps_of b.place ≡ map step_at ws ++ step ∷ []) × (b.place.offset ≡ offset)
+IsBarrierAt ws step offset k error.OutOfMemory = Unit {0}
+
+-- the error is the first barrier of the document; or memory ran out
+abbrev pub TellsError : Walk → WalkError → Type 0
+TellsError walk (error.Barrier answer) = TellsBarrierWithin (suc walk.most_waiting) (bytes_of walk.document) (Some answer)
+TellsError walk error.OutOfMemory = Unit {0}
+
+-- an element is passed whose value holds no level
+abbrev pub Passes : Walk → (from : Level) → List Wait → (to : Level) → RawElement → Type 0
+Passes walk from ws to e =
+    IsFurther from walk to ws × Looks from.elements to.elements (next.Whole e) × (to.offset ≡ from.offset + size_of (frame_of e)) × (to.start ≡ from.start)
+    × (to.number ≡ from.number + 1)
+
+-- a level with the bytes d that waits, behind the element of this number and key that begins at this offset
+abbrev pub wait_behind : (start : ℕ) (d : List ℕ) (new : Option (List ℕ)) (number offset behind : ℕ) (key : List ℕ) → Wait
+wait_behind start d new number offset behind key = record { start = start; bytes = d; element = offset; elements = new; number = number; offset = behind; key = key }
+
+-- the level that an element holds is entered; this one waits for it
+abbrev pub Enters : (from : Level) → List Wait → Wait → Walk → (to : Level) → RawElement → RawDocument → Type 0
+Enters from ws w new to e inner =
+    IsFurther from new to (ws ++ w ∷ []) × Looks from.elements w.elements (next.Inside e inner) × (w.offset ≡ from.offset + size_of (frame_of e))
+    × IsOpened w.offset inner to
+
+-- the level that an element holds is too deep, which is told with its place; or memory ran out
+abbrev pub IsTooDeep : Walk → (from : Level) → List Wait → RawElement → WalkError → Type 0
+IsTooDeep walk from ws e (error.Barrier answer) =
+    (walk.most_waiting ≤ length ws) × IsBarrierAt ws (record { number = from.number; key = Some (frame_of e).key }) from.offset kind.TooDeep (error.Barrier answer)
+IsTooDeep walk from ws e error.OutOfMemory = Unit {0}
+
+-- at the end of a level the walk goes back to the one around it; where there is none, the document has been read
+abbrev pub LeavesOrEnds : Walk → (from : Level) → List Wait → Walk → (to : Level) → Bool → Type 0
+LeavesOrEnds old from ws new to true =
+    (outer : List Wait) × (w : Wait) × (ws ≡ outer ++ w ∷ []) × IsFurther from new to outer × IsAtFinal from.elements
+    × ResumesBehind w to.elements to.number to.offset to.start
+LeavesOrEnds old from ws new to false = (t : Tree) × ReadsUpTo (suc old.most_waiting) as_document (bytes_of old.document) t × (ws ≡ []) × IsAtFinal from.elements
+
+-- what a walk comes to behind the level `from`, for which these wait: it is then at the level `to`
+abbrev pub Comes : Walk → (from : Level) → List Wait → Walk → (to : Level) → Result Event WalkError → Type 0
+Comes old from ws new to (Ok (event.Whole e v)) = Passes new from ws to e × IsValueOf v e
+Comes old from ws new to (Ok (event.Enter e v)) = (w : Wait) × (inner : RawDocument) × Enters from ws w new to e inner × IsValueOf v e
+Comes old from ws new to (Ok event.Leave) = LeavesOrEnds old from ws new to true
+Comes old from ws new to (Ok event.End) = LeavesOrEnds old from ws new to false
+Comes old from ws new to (Err e) = TellsError old e

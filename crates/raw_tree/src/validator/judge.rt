@@ -1,0 +1,104 @@
+//! A step of a validation: what is next in a level, and whether it breaches.
+#![tactic(auto)]
+
+ghost use Rattle.std.specs.Prelude.{[], IfOk, IfErr};
+ghost use Rattle.raw_tree.specs.validator.Judging.{HoldsAsTold, Judges, array_sort};
+ghost use Rattle.raw_tree.specs.validator.OpenKeys.{AreOpenKeys, HasKeysSoFar};
+ghost use Rattle.raw_tree.specs.validator.References.{texts};
+ghost use Rattle.raw_view.specs.Errors.{IsOutOfMemory};
+ghost use Rattle.raw_view.specs.Meaning.Value.{value_of};
+
+use crate::validator::breach::Cause;
+use crate::validator::keys_so_far::KeysSoFar;
+use bson_model::do_options_ascend;
+use raw_view::{Elements, RawBsonRef, RawDocument, RawElement, Result};
+use std::alloc::Global;
+
+/// What is next in a level that is judged.
+#[derive(Drop)]
+pub(crate) enum Judged<'a> {
+    /// the final 0
+    End,
+    /// an element that is canonical
+    Whole(RawElement<'a>),
+    /// an element whose key is canonical, the level that its value holds, and whether that is an array
+    Inside(RawElement<'a>, RawDocument<'a>, bool),
+    /// the key of an element that breaches, and why; or a stop
+    Breach(Option<&'a str>, Cause),
+}
+
+/// What a value holds.
+#[derive(Drop)]
+pub(crate) enum Held<'a> {
+    /// no level, and no options that descend
+    Nothing,
+    /// options that descend
+    Descending,
+    /// a level, and whether it is an array
+    Level(RawDocument<'a>, bool),
+}
+
+/// What the value holds.
+#[inline(always)]
+pub(crate) fn held_by(value: RawBsonRef<'_>) -> Held<'_>
+    ensures { HoldsAsTold (value_of value.entry) result }
+{
+    match value {
+        RawBsonRef::Document(document) => Held::Level(document, false),
+        RawBsonRef::Array(array) => Held::Level(array.as_doc(), true),
+        RawBsonRef::JavaScriptCodeWithScope(code) => Held::Level(code.scope, false),
+        RawBsonRef::RegularExpression(regex) => {
+            if do_options_ascend(regex.options) {
+                Held::Nothing
+            } else {
+                Held::Descending
+            }
+        }
+        _ => Held::Nothing,
+    }
+}
+
+/// The keys of a level of which no element is judged.
+pub(crate) fn keys_of<'a>(is_array: bool, listed: &[&'a str]) -> KeysSoFar<'a>
+    ensures { HasKeysSoFar result listed.now (array_sort is_array) (texts listed.now) [] }
+{
+    if is_array {
+        KeysSoFar::of_array(listed)
+    } else {
+        KeysSoFar::of_document(listed)
+    }
+}
+
+/// Judges what is next in a level in front of which so many elements are: a key, then its value. The only error is out of
+/// memory.
+#[inline(always)]
+pub(crate) fn judge<'a>(
+    alloc: Global,
+    elements: &mut Elements<'a>,
+    keys: &mut KeysSoFar<'a>,
+    listed: &mut Vec<&'a str>,
+    number: usize,
+) -> Result<Judged<'a>>
+    requires { AreOpenKeys keys.old listed.old.items }
+    ensures judges { IfOk result
+        (Judges elements.old keys.old listed.old.items number elements.new keys.new listed.new.items) }
+    ensures err { IfErr result IsOutOfMemory }
+{
+    let element = match elements.next() {
+        None => return Ok(Judged::End),
+        Some(Err(_)) => return Ok(Judged::Breach(None, Cause::Stop)),
+        Some(Ok(element)) => element,
+    };
+    let key = element.key();
+    if let Some(cause) = keys.add(alloc, listed, number, key)? {
+        return Ok(Judged::Breach(Some(key), cause));
+    }
+    let Ok(value) = element.resolve() else {
+        return Ok(Judged::Breach(Some(key), Cause::Value));
+    };
+    match held_by(value) {
+        Held::Nothing => Ok(Judged::Whole(element)),
+        Held::Descending => Ok(Judged::Breach(Some(key), Cause::Options)),
+        Held::Level(inner, is_array) => Ok(Judged::Inside(element, inner, is_array)),
+    }
+}

@@ -1,0 +1,174 @@
+//! Whether a document is canonical within limits, and where it first fails to be.
+#![tactic(auto)]
+
+ghost use Rattle.std.specs.Prelude.{◌<◌, IfOk, IfErr};
+ghost use Rattle.raw_tree.specs.validator.Judging.{EndsTooDeep, TellsFound, TellsOutermost};
+ghost use Rattle.raw_tree.specs.validator.Verdicts.{AllAreJudgedOneWayWithin, TellsVerdict};
+ghost use Rattle.raw_view.specs.Document.{bytes_of};
+ghost use Rattle.raw_view.specs.Errors.{IsOutOfMemory};
+
+use crate::reader::limits::Limits;
+use crate::validator::breach::Cause;
+use crate::validator::judge::{Judged, judge, keys_of};
+use crate::validator::keys_so_far::KeysSoFar;
+use crate::walk::faults::FIRST;
+use crate::walk::place::{Place, place_in};
+use crate::walk::{Walk, WalkError};
+use raw_view::{Error, RawDocument, Result};
+use std::alloc::Global;
+use std::mem;
+
+/// The first breach of a document, and where it is. The path borrows from the document.
+/// ```
+/// let document = RawDocument::from_bytes(b"\x13\0\0\0\x10a\0\x01\0\0\0\x10a\0\x02\0\0\0\0")?;
+/// let breach = validate_within(alloc, document, Limits { bytes: 1000, depth: 10 })?;
+/// assert!(rt; matches!(breach, Some(PlacedBreach { cause: Cause::RepeatedKey, .. })));
+/// ```
+#[derive(Debug, PartialEq, Eq, Drop)]
+pub struct PlacedBreach<'a> {
+    /// why it is one
+    pub cause: Cause,
+    /// where: at the element that breaches, or at the stop
+    pub place: Place<'a>,
+}
+
+/// Why a document isn't judged within limits.
+/// ```
+/// let document = RawDocument::from_bytes(b"\x0C\0\0\0\x10a\0\x01\0\0\0\0")?;
+/// let few = Limits { bytes: 5, depth: 10 };
+/// assert!(rt; matches!(validate_within(alloc, document, few), Err(ValidateError::TooManyBytes)));
+/// ```
+#[derive(Debug, PartialEq, Eq, Drop)]
+pub enum ValidateError<'a> {
+    /// The document has more bytes than allowed.
+    TooManyBytes,
+    /// A level is deeper than allowed: the one that the element at this place holds, or the document as a whole.
+    TooDeep(Place<'a>),
+    /// Memory ran out.
+    OutOfMemory,
+}
+
+/// What ends a validation to a depth.
+#[derive(Drop)]
+pub struct Found<'a> {
+    /// why it is a breach; `None` where a level is too deep
+    pub cause: Option<Cause>,
+    /// where it is
+    pub place: Place<'a>,
+    /// where the element of the outermost level begins that it is at, or that holds it; the first, where it is the document
+    /// as a whole
+    pub outermost: usize,
+}
+
+/// The first breach or level that is too deep. The only error is out of memory.
+pub fn judge_to_depth<'a>(
+    alloc: Global,
+    document: RawDocument<'a>,
+    depth: usize,
+) -> Result<Option<Found<'a>>>
+    ensures found { IfOk result (TellsFound depth (bytes_of document.entry)) }
+    ensures outermost { IfOk result (TellsOutermost (bytes_of document.entry)) }
+    ensures err { IfErr result IsOutOfMemory }
+    ensures entered { IfErr result (λ _. 0 < depth) }
+{
+    let Some(most_waiting) = depth.checked_sub(1) else {
+        return Ok(Some(Found {
+            cause: None,
+            place: Place::whole(alloc),
+            outermost: FIRST.offset,
+        }));
+    };
+    let mut listed: Vec<&'a str> = Vec::new(alloc);
+    let mut outer_keys: Vec<KeysSoFar<'a>> = Vec::new(alloc);
+    let (mut walk, mut level) = Walk::new(alloc, document, FIRST, most_waiting);
+    let mut keys = KeysSoFar::of_document(&listed);
+    'elements: loop {
+        let number = level.number;
+        match judge(alloc, &mut level.elements, &mut keys, &mut listed, number)? {
+            Judged::Whole(element) => walk.pass(&mut level, element),
+            Judged::Inside(element, inner, is_array) => {
+                let outermost = walk.outermost(level.offset);
+                if let Err(error) = walk.enter(alloc, &mut level, element, inner) {
+                    return too_deep(error, outermost);
+                }
+                let keys = mem::replace(&mut keys, keys_of(is_array, &listed));
+                if outer_keys.push(keys).is_err() {
+                    return Err(Error::out_of_memory());
+                }
+            }
+            Judged::Breach(key, cause) => {
+                // the path may take the memory of the keys
+                drop(listed);
+                drop(outer_keys);
+                let place = place_in(alloc, document, &walk.waiting, number, key, level.offset)?;
+                return Ok(Some(Found {
+                    cause: Some(cause),
+                    place,
+                    outermost: walk.outermost(level.offset),
+                }));
+            }
+            Judged::End => {
+                let Some(outer_key) = outer_keys.pop() else {
+                    return Ok(None);
+                };
+                if !walk.leave(&mut level) {
+                    return Ok(None);
+                }
+                keys.leave(&mut listed);
+                keys = outer_key;
+            }
+        }
+    }
+}
+
+/// What ends a validation at a level that is too deep, which an element of the outermost level holds that begins there.
+fn too_deep(error: WalkError<'_>, outermost: usize) -> Result<Option<Found<'_>>>
+    ensures found { IfOk result (EndsTooDeep outermost error.entry) }
+    ensures err { IfErr result IsOutOfMemory }
+{
+    match error {
+        WalkError::Barrier(barrier) => Ok(Some(Found {
+            cause: None,
+            place: barrier.place,
+            outermost,
+        })),
+        WalkError::OutOfMemory => Err(Error::out_of_memory()),
+    }
+}
+
+/// Whether a document is canonical within limits: `None` exactly where it is, has no more bytes than allowed and no deeper
+/// level. More bytes than allowed are an error before all others. Else it is the first, depth first in byte order, of a
+/// breach and of the entry into a level that is too deep, which is an error: at each element its key is judged first, then
+/// the value, then what is inside. Both are told with their place. BSON 1.1, `document`.
+///
+/// No clause says so: no tree is built, no key is copied, and no depth fills the stack. Memory is taken for the keys of the
+/// levels that are open, for the levels that wait and for the path.
+/// ```
+/// let document = RawDocument::from_bytes(b"\x13\0\0\0\x10a\0\x01\0\0\0\x10a\0\x02\0\0\0\0")?;
+/// let limits = Limits { bytes: 1000, depth: 10 };
+/// let Some(breach) = validate_within(alloc, document, limits)? else { unreachable!() };
+/// assert_eq!(rt; (breach.cause, breach.place.offset), (Cause::RepeatedKey, 11));
+/// ```
+pub fn validate_within<'a>(
+    alloc: Global,
+    document: RawDocument<'a>,
+    limits: Limits,
+) -> std::result::Result<Option<PlacedBreach<'a>>, ValidateError<'a>>
+    ensures verdict { TellsVerdict limits (bytes_of document.entry) result }
+    ensures one_verdict { AllAreJudgedOneWayWithin limits }
+{
+    if document.as_bytes().len() > limits.bytes {
+        return Err(ValidateError::TooManyBytes);
+    }
+    match judge_to_depth(alloc, document, limits.depth) {
+        Ok(None) => Ok(None),
+        Ok(Some(found)) => match found.cause {
+            Some(cause) => Ok(Some(PlacedBreach {
+                cause,
+                place: found.place,
+            })),
+            None => Err(ValidateError::TooDeep(found.place)),
+        },
+        Err(_) => Err(ValidateError::OutOfMemory),
+    }
+}

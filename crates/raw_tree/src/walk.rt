@@ -1,0 +1,255 @@
+//! A walk over all levels of a document.
+#![tactic(auto)]
+
+ghost use Rattle.std.specs.Option.{option_copied};
+ghost use Rattle.std.specs.Prelude.{◌≡◌, ◌+◌, [], ℕ, suc, List, Option, IfErr, IfOk, OnOk};
+ghost use Rattle.raw_tree.specs.walk.Looking.{HasNoneBefore, size_of};
+ghost use Rattle.raw_tree.specs.walk.Waits.{StoreEach, Wait};
+ghost use Rattle.raw_tree.specs.walk.Walks.{BeginsWithin, Comes, Enters, IsAlong, IsBarrierAt, IsBegun, IsLooked, IsTooDeep, LeavesOrEnds, Passes, TellsErrorWithin, outermost_of, wait_behind, with_left};
+ghost use Rattle.raw_tree.specs.walk.Aheads as next;
+ghost use Rattle.raw_view.specs.Document.{bytes_of};
+ghost use Rattle.raw_view.specs.Frame.ElementSteps.{frame_of};
+
+pub(crate) mod barrier;
+pub(crate) mod element;
+pub(crate) mod faults;
+pub(crate) mod level;
+pub(crate) mod place;
+pub(crate) mod room;
+
+use crate::reader::limits::Limits;
+use crate::walk::barrier::{Barrier, BarrierKind};
+use crate::walk::faults::{FIRST, Start};
+use crate::walk::level::{Level, Next, Waiting, behind, look};
+use crate::walk::place::{Place, place_in};
+use raw_view::{Elements, RawBsonRef, RawDocument, RawElement};
+use std::alloc::Global;
+
+/// A walk over all levels of a document, depth first in byte order. It takes memory for the levels that wait, and no stack.
+/// The innermost level is beside it, so that its fields can stay in registers.
+#[derive(Drop)]
+pub struct Walk<'a> {
+    pub document: RawDocument<'a>,
+    /// how many levels may wait
+    pub most_waiting: usize,
+    /// the levels that wait for the innermost, the outermost first
+    pub waiting: Vec<Waiting>,
+}
+
+/// What a walk comes to.
+#[derive(Drop)]
+pub enum Event<'a> {
+    /// an element, and its value, which holds no level
+    Whole(RawElement<'a>, RawBsonRef<'a>),
+    /// an element, and its value, which holds a level: that is entered
+    Enter(RawElement<'a>, RawBsonRef<'a>),
+    /// the end of a level that was entered
+    Leave,
+    /// the end of the document
+    End,
+}
+
+/// Why a walk can't go on.
+#[derive(Drop)]
+pub enum WalkError<'a> {
+    /// a fault, or a level that is too deep, which isn't entered
+    Barrier(Barrier<'a>),
+    /// memory ran out
+    OutOfMemory,
+}
+
+impl<'a> Walk<'a> {
+    /// A walk for whose innermost level so many may wait, and the outermost level from this element on.
+    #[inline(always)]
+    pub fn new(
+        alloc: Global,
+        document: RawDocument<'a>,
+        start: Start,
+        most_waiting: usize,
+    ) -> (Walk<'a>, Level<'a>)
+        requires { HasNoneBefore (suc most_waiting) (bytes_of document) start.number start.offset }
+        ensures along { IsAlong result.0 result.1 [] }
+        ensures level { IsBegun document.entry start.offset result.0 result.1 }
+        ensures number { result.1.number ≡ start.number }
+        ensures most { result.0.most_waiting ≡ most_waiting }
+    {
+        let Some(elements) = Elements::from_offset(document, start.offset) else {
+            unreachable!()
+        };
+        let walk = Walk {
+            document,
+            most_waiting,
+            waiting: Vec::new(alloc),
+        };
+        let level = Level {
+            elements,
+            number: start.number,
+            offset: start.offset,
+            start: 0,
+        };
+        (walk, level)
+    }
+
+    /// A walk over a document within limits, and its outermost level; or the limit that it is past as a whole. The depth may
+    /// still end the walk.
+    #[inline(always)]
+    pub fn within(
+        alloc: Global,
+        document: RawDocument<'a>,
+        limits: Limits,
+    ) -> Result<(Walk<'a>, Level<'a>), WalkError<'a>>
+        ensures begins { IfOk result (λ begun. BeginsWithin limits document.entry begun.0 begun.1) }
+        ensures ends { IfErr result (TellsErrorWithin limits (bytes_of document.entry)) }
+    {
+        let kind = if document.as_bytes().len() > limits.bytes {
+            BarrierKind::TooManyBytes
+        } else if let Some(most_waiting) = limits.depth.checked_sub(1) {
+            return Ok(Walk::new(alloc, document, FIRST, most_waiting));
+        } else {
+            BarrierKind::TooDeep
+        };
+        let place = Place::whole(alloc);
+        Err(WalkError::Barrier(Barrier { kind, place }))
+    }
+
+    /// What comes next, where this is the innermost level.
+    #[inline(always)]
+    pub fn next(&mut self, alloc: Global, level: &mut Level<'a>) -> Result<Event<'a>, WalkError<'a>>
+        requires { (ws : List Wait) × IsAlong self.old level.old ws }
+        ensures event { (ws : List Wait)
+            → IsAlong self.old level.old ws
+            → Comes self.old level.old ws self.new level.new result }
+        ensures document { self.new.document ≡ self.old.document }
+        ensures most { self.new.most_waiting ≡ self.old.most_waiting }
+    {
+        match look(&mut level.elements) {
+            Next::Whole(element, value) => {
+                self.pass(level, element);
+                Ok(Event::Whole(element, value))
+            }
+            Next::Inside(element, value, inner) => {
+                self.enter(alloc, level, element, inner)?;
+                Ok(Event::Enter(element, value))
+            }
+            Next::Fault(key, error) => {
+                let kind = BarrierKind::Fault(error);
+                Err(self.barrier(alloc, level.number, level.offset, key, kind))
+            }
+            Next::End => {
+                if self.leave(level) {
+                    Ok(Event::Leave)
+                } else {
+                    Ok(Event::End)
+                }
+            }
+        }
+    }
+
+    /// Passes over an element that was just looked at.
+    #[inline(always)]
+    pub(crate) fn pass(&self, level: &mut Level<'a>, element: RawElement<'a>)
+        requires { (ws : List Wait) × (left : Option (List ℕ)) × IsLooked self.now level.old left ws
+            (next.Whole element) }
+        ensures passed { (ws : List Wait)
+            → (left : Option (List ℕ))
+            → IsLooked self.now level.old left ws (next.Whole element.entry)
+            → Passes self.now (with_left left level.old) ws level.new element.entry }
+        ensures elements { level.new.elements ≡ level.old.elements }
+        ensures number { level.new.number ≡ level.old.number + 1 }
+    {
+        level.offset = behind(level.offset, element);
+        level.number += 1;
+    }
+
+    /// Enters the level that an element holds which was just looked at.
+    #[inline(always)]
+    pub(crate) fn enter(
+        &mut self,
+        alloc: Global,
+        level: &mut Level<'a>,
+        element: RawElement<'a>,
+        inner: RawDocument<'a>,
+    ) -> Result<(), WalkError<'a>>
+        requires { (ws : List Wait) × (left : Option (List ℕ)) × IsLooked self.old level.old left ws
+            (next.Inside element inner) }
+        ensures entered { (ws : List Wait)
+            → (left : Option (List ℕ))
+            → (is : IsLooked self.old level.old left ws (next.Inside element.entry inner.entry))
+            → let w : Wait = wait_behind level.old.start is.along.at.d level.old.elements level.old.number
+            level.old.offset (level.old.offset + size_of (frame_of element.entry)) (frame_of element.entry).key in
+            OnOk result (Enters (with_left left level.old) ws w self.new level.new element.entry inner.entry) }
+        ensures ends { (ws : List Wait)
+            → StoreEach (bytes_of self.old.document) self.old.waiting.items ws
+            → IfErr result (IsTooDeep self.old level.old ws element.entry) }
+        ensures document { self.new.document ≡ self.old.document }
+        ensures most { self.new.most_waiting ≡ self.old.most_waiting }
+    {
+        let offset = level.offset;
+        if self.waiting.len() >= self.most_waiting {
+            let key = Some(element.key());
+            return Err(self.barrier(alloc, level.number, offset, key, BarrierKind::TooDeep));
+        }
+        let outer = Waiting {
+            start: level.start as u32,
+            element: offset as u32,
+            number: level.number as u32,
+        };
+        if self.waiting.push(outer).is_err() {
+            return Err(WalkError::OutOfMemory);
+        }
+        *level = Level::new(inner, behind(offset, element));
+        Ok(())
+    }
+
+    /// Goes back to the level around the one that was just seen to be at its end, if there is one.
+    #[inline(always)]
+    pub(crate) fn leave(&mut self, level: &mut Level<'a>) -> bool
+        requires { (ws : List Wait) × (left : Option (List ℕ)) × IsLooked self.old level.old left ws
+            next.End }
+        ensures left { (ws : List Wait)
+            → (left : Option (List ℕ))
+            → IsLooked self.old level.old left ws next.End
+            → LeavesOrEnds self.old (with_left left level.old) ws self.new level.new result }
+        ensures document { self.new.document ≡ self.old.document }
+        ensures most { self.new.most_waiting ≡ self.old.most_waiting }
+    {
+        let Some(outer) = self.waiting.pop() else {
+            return false;
+        };
+        *level = Level::behind(self.document, outer, level.offset + 1);
+        true
+    }
+
+    /// Where the element of the outermost level begins that holds the innermost level; in the outermost level itself what
+    /// begins at this offset.
+    pub(crate) fn outermost(&self, offset: usize) -> usize
+        ensures { (ws : List Wait)
+            → StoreEach (bytes_of self.now.document) self.now.waiting.items ws
+            → result ≡ outermost_of ws offset }
+    {
+        match self.waiting.first() {
+            None => offset,
+            Some(outer) => outer.element as usize,
+        }
+    }
+
+    /// The barrier of this kind at the element with this number and key in the innermost level, and where it is.
+    pub(crate) fn barrier(
+        &self,
+        alloc: Global,
+        number: usize,
+        offset: usize,
+        key: Option<&'a str>,
+        kind: BarrierKind<'a>,
+    ) -> WalkError<'a>
+        requires { (ws : List Wait) × StoreEach (bytes_of self.now.document) self.now.waiting.items ws }
+        ensures { (ws : List Wait)
+            → StoreEach (bytes_of self.now.document) self.now.waiting.items ws
+            → IsBarrierAt ws (record { number = number; key = option_copied key.entry }) offset kind.entry result }
+    {
+        match place_in(alloc, self.document, &self.waiting, number, key, offset) {
+            Ok(place) => WalkError::Barrier(Barrier { kind, place }),
+            Err(_) => WalkError::OutOfMemory,
+        }
+    }
+}

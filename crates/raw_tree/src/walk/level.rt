@@ -1,0 +1,142 @@
+//! A level that is looked through: what is next in it.
+#![tactic(auto)]
+
+ghost use Rattle.std.specs.Prelude.{◌≡◌, ◌≤◌, ◌<◌, ◌+◌, ◌^◌, ℕ, List, Some, drop, length};
+ghost use Rattle.raw_tree.specs.walk.Looking.{HasValue, HoldsBytes, Sees, size_of};
+ghost use Rattle.raw_tree.specs.walk.Waits.{ResumesBehind, LiesAt, Stores, Wait};
+ghost use Rattle.raw_view.specs.Document.{bytes_of};
+ghost use Rattle.raw_view.specs.Frame.ElementSteps.{frame_of};
+ghost use Rattle.raw_view.specs.Meaning.Value.{value_of};
+
+use raw_view::{BorrowedError, Elements, RawBsonRef, RawDocument, RawElement};
+
+/// A level that is looked through.
+#[derive(Drop)]
+pub struct Level<'a> {
+    /// what is left of it
+    pub elements: Elements<'a>,
+    /// how many elements are before that
+    pub number: usize,
+    /// where that begins, counted from the document's first byte
+    pub offset: usize,
+    /// where the level begins
+    pub start: usize,
+}
+
+impl<'a> Level<'a> {
+    /// The level of these bytes, which end there.
+    pub(crate) fn new(document: RawDocument<'a>, end: usize) -> Level<'a>
+        requires { length (bytes_of document) ≤ end }
+        ensures elements { result.elements ≡ Some (drop 4 (bytes_of document.entry)) }
+        ensures number { result.number ≡ 0 }
+        ensures offset { result.offset + length (drop 4 (bytes_of document.entry)) ≡ end }
+        ensures start { result.start + length (bytes_of document.entry) ≡ end }
+    {
+        let start = end - document.as_bytes().len();
+        Level {
+            elements: Elements::new(document),
+            number: 0,
+            offset: start + 4,
+            start,
+        }
+    }
+
+    /// The level that waits, behind its element, which ends at this offset of the document.
+    pub(crate) fn behind(document: RawDocument<'a>, waiting: Waiting, offset: usize) -> Level<'a>
+        requires { (x : Wait) × Stores (bytes_of document) waiting x × (offset ≡ x.offset) }
+        ensures { (x : Wait)
+            → Stores (bytes_of document.entry) waiting x
+            → offset ≡ x.offset
+            → ResumesBehind x result.elements result.number result.offset result.start }
+    {
+        let start = waiting.start as usize;
+        let Some(elements) = Elements::from_offset(document_at(document, start), offset - start)
+        else {
+            unreachable!()
+        };
+        Level {
+            elements,
+            number: waiting.number as usize + 1,
+            offset,
+            start,
+        }
+    }
+}
+
+/// The document or the array that begins at this offset.
+fn document_at(document: RawDocument<'_>, start: usize) -> RawDocument<'_>
+    requires { (d : List ℕ) × LiesAt (bytes_of document) start d }
+    ensures { (d : List ℕ) → LiesAt (bytes_of document.entry) start d → bytes_of result ≡ d }
+{
+    let Ok((level, _)) = RawDocument::split_first(document.as_bytes().split_at(start).1) else {
+        unreachable!()
+    };
+    level
+}
+
+/// A level that waits for the one that an element of it holds, by offsets, counted from the document's first byte.
+#[derive(Clone, Copy)]
+pub struct Waiting {
+    /// where the level begins
+    pub start: u32,
+    /// where that element begins
+    pub element: u32,
+    /// how many elements are before it
+    pub number: u32,
+}
+
+/// What is next in a level.
+#[derive(Drop)]
+pub(crate) enum Next<'a> {
+    /// the final 0
+    End,
+    /// an element, and its value, which holds no other level
+    Whole(RawElement<'a>, RawBsonRef<'a>),
+    /// an element, its value, and the level that this holds
+    Inside(RawElement<'a>, RawBsonRef<'a>, RawDocument<'a>),
+    /// the key of an element and the fault that it means; or a stop
+    Fault(Option<&'a str>, BorrowedError<'a>),
+}
+
+/// The bytes of the level that the value holds.
+#[inline(always)]
+fn inside(value: RawBsonRef<'_>) -> Option<RawDocument<'_>>
+    ensures { HoldsBytes (value_of value.entry) result }
+{
+    match value {
+        RawBsonRef::Document(document) => Some(document),
+        RawBsonRef::Array(array) => Some(array.as_doc()),
+        RawBsonRef::JavaScriptCodeWithScope(code) => Some(code.scope),
+        _ => None,
+    }
+}
+
+/// Looks at what is next in a level.
+#[inline(always)]
+pub(crate) fn look<'a>(elements: &mut Elements<'a>) -> Next<'a>
+    ensures sees { Sees elements.old elements.new result }
+    ensures value { HasValue result }
+{
+    let element = match elements.next() {
+        None => return Next::End,
+        Some(Err(error)) => return Next::Fault(None, error),
+        Some(Ok(element)) => element,
+    };
+    let value = match element.resolve() {
+        Err(error) => return Next::Fault(Some(element.key()), error),
+        Ok(value) => value,
+    };
+    match inside(value) {
+        None => Next::Whole(element, value),
+        Some(document) => Next::Inside(element, value, document),
+    }
+}
+
+/// Where what is behind an element begins that begins there.
+#[inline(always)]
+pub fn behind(offset: usize, element: RawElement<'_>) -> usize
+    requires { offset + size_of (frame_of element) < 2 ^ 64 }
+    ensures { result ≡ offset + size_of (frame_of element.entry) }
+{
+    offset + (element.key().len() + element.len() + 2)
+}

@@ -1,0 +1,133 @@
+//! Places in documents.
+#![tactic(auto)]
+
+ghost use Rattle.std.specs.Prelude.{◌≡◌, ◌++◌, ◌∷◌, [], List, map, IfOk, IfErr, OnOk};
+ghost use Rattle.std.specs.Option.{option_copied};
+ghost use Rattle.raw_tree.specs.walk.Barriers.{step_of, steps_of};
+ghost use Rattle.raw_tree.specs.walk.Looking.{step_at};
+ghost use Rattle.raw_tree.specs.walk.Rooms.{filled_from};
+ghost use Rattle.raw_tree.specs.walk.Places.{last_key};
+ghost use Rattle.raw_tree.specs.walk.Waits.{StoreEach, Wait};
+ghost use Rattle.raw_view.specs.Document.{bytes_of};
+ghost use Rattle.raw_view.specs.Errors.{IsOutOfMemory};
+
+use crate::walk::element::element_at;
+use crate::walk::level::Waiting;
+use crate::walk::room::put_at;
+use raw_view::{Error, RawDocument, Result};
+use std::alloc::Global;
+
+/// A step of a path: which element of its level it is.
+#[derive(Clone, Copy, Debug, PartialEq, Eq)]
+pub struct PathStep<'a> {
+    /// the number of the element in its level, counted from 0; of a stop, how many elements are before it
+    pub number: usize,
+    /// the key of the element; a stop has none
+    pub key: Option<&'a str>,
+}
+
+/// A place in a document: an element, a stop, or the document as a whole.
+/// ```
+/// let document = RawDocument::from_bytes(b"\x13\0\0\0\x10a\0\x01\0\0\0\x10a\0\x02\0\0\0\0")?;
+/// let breach = validate_within(alloc, document, Limits { bytes: 1000, depth: 10 })?;
+/// let place = breach.map(|breach| breach.place);
+/// let Some(Place { path, offset: 11 }) = place else { unreachable!() };
+/// assert_eq!(rt; path.as_slice(), [PathStep { number: 1, key: Some("a") }].as_slice());
+/// ```
+#[derive(Debug, PartialEq, Eq, Drop)]
+pub struct Place<'a> {
+    /// for each level, from the outermost on, the element that holds the next one, and at last the element or the stop
+    /// itself; empty where it is the document as a whole
+    pub path: Vec<PathStep<'a>>,
+    /// where the element or the stop begins, counted from the document's first byte
+    pub offset: usize,
+}
+
+impl<'a> Place<'a> {
+    /// The document as a whole; no memory is taken.
+    #[doc(hidden)]
+    pub fn whole(alloc: Global) -> Place<'a>
+        ensures path { steps_of result ≡ [] }
+        ensures offset { result.offset ≡ 0 }
+    {
+        Place {
+            path: Vec::new(alloc),
+            offset: 0,
+        }
+    }
+
+    /// The key of the element; none of a stop, and of the document as a whole.
+    pub fn key(&self) -> Option<&'a str>
+        ensures { option_copied result ≡ last_key (steps_of self.now) }
+    {
+        self.path.last()?.key
+    }
+
+    /// Puts the numbers of the path to the front of a room, as many as there is room for.
+    pub fn put_path(&self, room: &mut [usize])
+        ensures { room.new ≡ filled_from 0 room.old (map (λ step. step.number) (steps_of self.now)) }
+    {
+        for (index, step) in self.path.iter().enumerate() {
+            put_at(room, index, step.number);
+        }
+    }
+}
+
+fn put_step<'a>(path: &mut Vec<PathStep<'a>>, step: PathStep<'a>) -> Result<()>
+    ensures put { OnOk result (path.new.items ≡ path.old.items ++ step.entry ∷ []) }
+    ensures err { IfErr result IsOutOfMemory }
+{
+    match path.push(step) {
+        Ok(()) => Ok(()),
+        Err(_) => Err(Error::out_of_memory()),
+    }
+}
+
+/// The steps at which these levels of a document wait, from the outermost on, and this one behind them. The only error is
+/// out of memory.
+fn path_to<'a>(
+    alloc: Global,
+    document: RawDocument<'a>,
+    waiting: &[Waiting],
+    last: PathStep<'a>,
+) -> Result<Vec<PathStep<'a>>>
+    requires { (xs : List Wait) × StoreEach (bytes_of document) waiting.now xs }
+    ensures path { (xs : List Wait)
+        → StoreEach (bytes_of document.entry) waiting.now xs
+        → IfOk result (λ path. map step_of path.items ≡ map step_at xs ++ step_of last.entry ∷ []) }
+    ensures err { IfErr result IsOutOfMemory }
+{
+    let mut path = Vec::with_capacity(alloc, waiting.len() + 1)?;
+    for outer in waiting {
+        let step = PathStep {
+            number: outer.number as usize,
+            key: Some(element_at(document, outer.element as usize).key()),
+        };
+        put_step(&mut path, step)?;
+    }
+    put_step(&mut path, last)?;
+    Ok(path)
+}
+
+/// The place of this number and this key, if it has one, in the level for which these wait, at this offset. The only error
+/// is out of memory.
+pub(crate) fn place_in<'a>(
+    alloc: Global,
+    document: RawDocument<'a>,
+    waiting: &[Waiting],
+    number: usize,
+    key: Option<&'a str>,
+    offset: usize,
+) -> Result<Place<'a>>
+    requires { (xs : List Wait) × StoreEach (bytes_of document) waiting.now xs }
+    ensures path { (xs : List Wait)
+        → StoreEach (bytes_of document.entry) waiting.now xs
+        → IfOk result
+        (λ place. steps_of place
+        ≡ map step_at xs ++ record { number = number; key = option_copied key.entry } ∷ []) }
+    ensures offset { IfOk result (λ place. place.offset ≡ offset) }
+    ensures err { IfErr result IsOutOfMemory }
+{
+    let path = path_to(alloc, document, waiting, PathStep { number, key })?;
+    Ok(Place { path, offset })
+}
