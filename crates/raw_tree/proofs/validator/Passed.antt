@@ -1,9 +1,9 @@
 -- Canonical frames that are passed: the end, one frame more, or a breach is behind them.
-use Rattle.std.proofs.Common.{◌<◌, length-drop, ◌≡◌, inr, ◌++◌, ◌∷◌, [], ℕ, suc, List, length, drop, arith, refl}
+use Rattle.std.proofs.Common.{◌≡◌, ◌++◌, ◌∷◌, [], ℕ, suc, List, length, drop, arith, refl}
 use Rattle.std.specs.List.{IsDistinct}
-use Rattle.raw_tree.proofs.Common.{IsEnvelope, max_length, map-append, Frame, IsFrame, Done, RawValue, Meaning, Means, value, keys_of_frames, BreachesFront, BreachesMeaning, HasBreachUpTo, HasBreachAs, HasPassed}
+use Rattle.raw_tree.proofs.Common.{map-append, Frame, IsFrame, Done, RawValue, Means, value, keys_of_frames, BreachesFront, HasBreachUpTo, HasBreachAs, HasPassed}
 use Rattle.raw_tree.proofs.Common.{AreKeysCanonical, IsValueCanonical, AreFramesCanonical, IsCanonicalAs, Sort, Cause}
-use Rattle.raw_view.proofs.Face.{LeadsTo-bound, LeadsTo-more, LeadsTo-walk}
+use Rattle.raw_view.proofs.Face.{LeadsTo-more, LeadsTo-walk}
 use Rattle.raw_tree.proofs.Returns.{canonical_of}
 
 -- before any frame the keys are canonical
@@ -22,10 +22,6 @@ frames_more : (fs : List Frame) (f : Frame) (v : RawValue) → AreFramesCanonica
 frames_more [] f v h m c = (v, m, c, tt)
 frames_more (g ∷ fs) f v h m c = (h.0, h.1, h.2, frames_more fs f v h.3 m c)
 
--- a breach is within some levels
-within_levels : (m : Meaning) (path : List ℕ) (why : Cause) → BreachesMeaning HasBreachAs m path why → (n : ℕ) × BreachesMeaning (HasBreachUpTo n) m path why
-within_levels m path why b = grind arith
-
 module _ {sort : Sort} {b : List ℕ} {passed : List Frame} {s : List ℕ} (has : HasPassed sort b passed s) where
   pub all_passed : s ≡ 0 ∷ [] → IsCanonicalAs sort b
   all_passed final = canonical_of sort b passed (LeadsTo-walk (drop 4 b) passed s Done has.reaches final) has.keys has.values
@@ -33,17 +29,8 @@ module _ {sort : Sort} {b : List ℕ} {passed : List Frame} {s : List ℕ} (has 
   pub breach_behind : (n : ℕ) (inside : List ℕ) (why : Cause) → BreachesFront (HasBreachUpTo n) sort (keys_of_frames passed) s inside why → HasBreachAs sort b (length passed ∷ inside) why
   breach_behind n inside why front = (suc n, (passed, s, inside, has.reaches, has.keys, has.values, front, refl))
 
-  -- they are so few that one more can be counted
-  pub few_passed : IsEnvelope b → length passed < max_length
-  few_passed env = omega (arith, LeadsTo-bound (drop 4 b) passed s has.reaches, length-drop 4 b, env.header.fits, env.enough)
-
   -- behind them is a frame, whose key is canonical
   module _ {f : Frame} {r : List ℕ} (stands : IsFrame s f r) (more : AreKeysCanonical sort (keys_of_frames passed ++ f.key ∷ [])) where
-    pub meaning_breaches : (m : Meaning) (path : List ℕ) (why : Cause) → Means f m → BreachesMeaning HasBreachAs m path why → HasBreachAs sort b (length passed ∷ path) why
-    meaning_breaches m path why means breach =
-        let within = within_levels m path why breach in
-        breach_behind within.0 path why (inr (f, r, stands, inr (more, m, means, within.1)))
-
     pub one_passed : (v : RawValue) → Means f (value v) → IsValueCanonical IsCanonicalAs v → HasPassed sort b (passed ++ f ∷ []) r
     one_passed v means c = record {
       reaches = LeadsTo-more (drop 4 b) passed s f r has.reaches stands;
