@@ -1,31 +1,23 @@
 -- Bytes piece by piece, and their base64.
-use Rattle.std.proofs.Common.{◌≡◌, ◌+◌, ◌-◌, ◌%◌, ◌≤◌, ℕ, zero, suc, List, [], ◌∷◌, ◌++◌, length, take, drop, refl, sym, ap, ◌∙◌, arith, length-drop}
-use Rattle.std.proofs.Math.Seq.{take-add}
+use Rattle.std.proofs.Common.{◌≡◌, ◌+◌, ◌-◌, ◌%◌, ◌≤◌, ℕ, List, ◌++◌, length, take, drop, refl, sym, ap, ◌∙◌, arith, length-drop}
+use Rattle.std.proofs.Math.Seq.{take-add, take-length}
+use Rattle.std.proofs.lemmas.List.{length-take-le}
 use Rattle.base64.specs.Engines.{standard}
 use Rattle.base64.specs.GeneralPurpose.{encode_of}
 use Rattle.base64.proofs.EngineFacts.{encode_of-append}
 
-pub take_length : (b : List ℕ) → take (length b) b ≡ b
-take_length [] = refl
-take_length (x ∷ b) = ap (λ (l : List ℕ). x ∷ l) (take_length b)
-
 -- what is left behind a place
 pub rest_whole : (b : List ℕ) (i : ℕ) → take (length b - i) (drop i b) ≡ drop i b
-rest_whole b i = ap (λ (k : ℕ). take k (drop i b)) (sym (length-drop i b)) ∙ take_length (drop i b)
-
-length_taken : (i : ℕ) (b : List ℕ) → i ≤ length b → length (take i b) ≡ i
-length_taken zero b h = refl
-length_taken (suc i) [] h = absurd (omega arith)
-length_taken (suc i) (x ∷ b) h = ap suc (length_taken i b (omega arith))
+rest_whole b i = ap (λ (k : ℕ). take k (drop i b)) (sym (length-drop i b)) ∙ take-length (drop i b)
 
 -- a piece behind groups of three
 pub chunk_put : (b : List ℕ) (i n m : ℕ) → i ≤ length b → i % 3 ≡ 0 → m ≡ n → encode_of standard (take i b) ++ encode_of standard (take m (drop i b)) ≡ encode_of standard (take (i + n) b)
 chunk_put b i n m le groups e =
-    let whole : length (take i b) % 3 ≡ 0 = ap (λ (k : ℕ). k % 3) (length_taken i b le) ∙ groups in
+    let whole : length (take i b) % 3 ≡ 0 = ap (λ (k : ℕ). k % 3) (length-take-le i b le) ∙ groups in
     ap (λ (k : ℕ). encode_of standard (take i b) ++ encode_of standard (take k (drop i b))) e
     ∙ sym (encode_of-append standard (take i b) (take n (drop i b)) whole) ∙ ap (encode_of standard) (sym (take-add i n b))
 
 pub last_chunk : (b : List ℕ) (i : ℕ) → i ≤ length b → i % 3 ≡ 0 → encode_of standard (take i b) ++ encode_of standard (take (length b - i) (drop i b)) ≡ encode_of standard b
 last_chunk b i le groups =
     let whole : i + (length b - i) ≡ length b = omega arith in
-    chunk_put b i (length b - i) (length b - i) le groups refl ∙ ap (λ (k : ℕ). encode_of standard (take k b)) whole ∙ ap (encode_of standard) (take_length b)
+    chunk_put b i (length b - i) (length b - i) le groups refl ∙ ap (λ (k : ℕ). encode_of standard (take k b)) whole ∙ ap (encode_of standard) (take-length b)

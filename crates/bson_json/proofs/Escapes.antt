@@ -1,8 +1,7 @@
 -- Escapes of texts, run by run.
 use Rattle.std.proofs.Common.{◌≡◌, ◌+◌, ◌<◌, ℕ, List, [], ◌∷◌, ◌++◌, length, take, drop, get_or, refl, sym, ap, ◌∙◌, append_assoc, append-nil}
-use Rattle.std.proofs.Math.Seq.{take-add}
+use Rattle.std.proofs.Math.Seq.{take-add, take-length}
 use Rattle.std.proofs.lemmas.List.{take_more}
-use Rattle.bson_json.proofs.Chunks.{take_length}
 use Rattle.json.specs.Print.{escape, escape_byte}
 
 pub escape-append : (xs ys : List ℕ) → escape (xs ++ ys) ≡ escape xs ++ escape ys
@@ -24,7 +23,7 @@ run_put b i n m e plain =
     ∙ sym (escape-append (take i b) (take n (drop i b))) ∙ ap escape (sym (take-add i n b))
 
 pub whole_run : (b : List ℕ) (n : ℕ) → n ≡ length b → escape (take n b) ≡ escape b
-whole_run b n e = ap escape (ap (λ (k : ℕ). take k b) e ∙ take_length b)
+whole_run b n e = ap escape (ap (λ (k : ℕ). take k b) e ∙ take-length b)
 
 -- and the byte behind it
 pub byte_put : (b : List ℕ) (i : ℕ) → i < length b → escape (take i b) ++ escape_byte (get_or b i 0) ≡ escape (take (i + 1) b)

@@ -20,6 +20,11 @@ on_any (Err e) P h = h
 pub whole_put : (a b c : Option (List ℕ)) (x y z : List ℕ) → Appends a b x → Appends b c y → x ++ y ≡ z → Appends a c z
 whole_put a b c x y z first second e = subst (Appends a c) e (Appends-trans a b c x y first second)
 
+-- and so where the second may fail
+pub last_put : {A E : Type 0} (r : Result A E) (a b c : Option (List ℕ)) (x y z : List ℕ) → Appends a b x → x ++ y ≡ z → OnOk r (Appends b c y) → OnOk r (Appends a c z)
+last_put (Ok v) a b c x y z first e second = whole_put a b c x y z first second e
+last_put (Err v) a b c x y z first e second = second
+
 -- a piece and what is between two others, as they group
 pub joined : (a q b x : List ℕ) → (a ++ (q ++ b)) ++ x ≡ a ++ (q ++ (b ++ x))
 joined a q b x = append_assoc a (q ++ b) x ∙ ap (λ (y : List ℕ). a ++ y) (append_assoc q b x)

@@ -1,5 +1,5 @@
 -- A walk over a document whose levels are printed.
-use Rattle.std.proofs.Common.{◌≡◌, ◌≤◌, ◌<◌, ◌+◌, ℕ, suc, Bool, true, false, nat_eq, List, [], ◌∷◌, ◌++◌, Option, Some, Ok, codes, length, length-append, drop, refl, sym, ap, ◌∙◌, subst, arith, append_assoc}
+use Rattle.std.proofs.Common.{◌≡◌, ◌≤◌, ◌<◌, ◌+◌, ◌-◌, ℕ, suc, Bool, true, false, nat_eq, List, [], ◌∷◌, ◌++◌, Option, Some, Ok, codes, length, length-append, drop, refl, sym, ap, ◌∙◌, subst, arith, append_assoc}
 use Rattle.std.specs.Io.KnownBytes.{Appends}
 use Rattle.bson_model.specs.Tree.{Tree}
 use Rattle.raw_view.specs.Document.{bytes_of}
@@ -15,14 +15,16 @@ use Rattle.raw_tree.specs.declared.reader.limits.Limits.{Limits}
 use Rattle.raw_tree.proofs.Face.{read_within}
 use Rattle.raw_form.specs.Barriers.{TellsBarrierWithin}
 use Rattle.raw_form.specs.Waits.{Wait}
-use Rattle.raw_form.specs.Walks.{BeginsWithin, IsAlong, LeavesOrEnds, TellsError}
+use Rattle.raw_form.specs.Walks.{BeginsWithin, Comes, IsAlong, IsFurther, LeavesOrEnds, TellsError}
 use Rattle.raw_tree.specs.declared.walk.level.Level as walk
+use Rattle.raw_tree.specs.declared.walk.Event.{Event}
+use Rattle.raw_tree.specs.declared.walk.Event.TheVariants as event
 use Rattle.raw_tree.specs.declared.walk.Walk.{Walk}
 use Rattle.raw_tree.specs.declared.walk.WalkError.{WalkError}
 use Rattle.raw_tree.specs.declared.walk.WalkError.TheVariants as error
 use Rattle.raw_form.proofs.Face.{barrier_told}
 use Rattle.bson_json.specs.Json.{end_text, head_text}
-use Rattle.bson_json.specs.Levels.{Level, PutsOpening, PutsSingle, after, error_of, level_sort}
+use Rattle.bson_json.specs.Levels.{Level, PutsEvent, PutsOpening, PutsSingle, Suits, after, error_of, level_sort}
 use Rattle.bson_json.specs.Passing.{Guards, TellsBriefly, TellsPassError, TellsPrintError}
 use Rattle.bson_json.specs.Written.{Moves}
 use Rattle.bson_json.specs.declared.level.Sort.{Sort}
@@ -30,10 +32,9 @@ use Rattle.bson_json.specs.declared.level.Sort.TheVariants as sort
 use Rattle.bson_json.specs.declared.print.Failure.TheVariants as failure
 use Rattle.bson_json.specs.declared.print.PrintError.{PrintError}
 use Rattle.bson_json.specs.declared.print.PrintError.TheVariants as print
-use Rattle.bson_json.specs.declared.style.Layout.{Layout}
 use Rattle.bson_json.specs.declared.style.Style.{Style}
 use Rattle.bson_json.proofs.Blocks.{IsHalfway, IsPrinted, halfway_begins, halfway_closes, halfway_ends, halfway_grows, halfway_moves}
-use Rattle.bson_json.proofs.Fronts.{IsInside, IsWhole, along_left, as_many_shown, not_none, opens_from, shown, shown_each, shown_more}
+use Rattle.bson_json.proofs.Fronts.{IsInside, IsWhole, along_left, as_many_shown, inside_next, not_none, opens_from, shown, shown_each, shown_more, whole_next}
 use Rattle.bson_json.proofs.Passing.{wrote_before, wrote_none, wrote_stopped}
 use Rattle.bson_json.proofs.Printing.{behind, opened, printing_leaf, printing_opens, reads_leaf, reads_opens}
 
@@ -70,16 +71,6 @@ going_begins has style {limits} {document} {w} {l} old sorts block begins none i
       halfway = subst (λ (x : Level). IsHalfway has style limits.depth b [] x old old block) (sym same) (halfway_begins has style limits.depth b old block is);
     }
 
--- what was put before a member's value
-pub head_put : (layout : Layout) (o : Sort) (block mid : List ℕ) {key known : List ℕ} {depth n : ℕ} (first : Bool) → depth ≡ n → key ≡ known
-    → Appends (Some block) (Some mid) (head_text layout (depth + 1) (level_sort o) first key) → mid ≡ block ++ head_text layout (n + 1) (level_sort o) first known
-head_put layout o block mid first d k put = put ∙ (λ i. block ++ head_text layout (d i + 1) (level_sort o) first (k i))
-
--- and behind the last
-pub end_put : (layout : Layout) (o : Sort) (block mid : List ℕ) {depth n : ℕ} (first : Bool) → depth ≡ n
-    → Appends (Some block) (Some mid) (end_text layout depth (level_sort o) first ++ after o) → mid ≡ block ++ (end_text layout n (level_sort o) first ++ after o)
-end_put layout o block mid first d put = put ∙ (λ i. block ++ (end_text layout (d i) (level_sort o) first ++ after o))
-
 -- the walk over the same document, with as many levels that may wait
 pub record IsSameWalk (w new : Walk) : Type 0 where
   pub document : new.document ≡ w.document
@@ -104,22 +95,25 @@ module _ {S : Type 0} {has : S → ℕ → List ℕ → Type 0} {style : Style} 
   low : length (shown_each is.waits sorts) < limits.depth
   low = omega (arith, as_many_shown is.waits sorts is.as_many, is.along.at.levels, is.levels)
 
-  -- what is before the value of a member with this key
-  abbrev head_of : List ℕ → ℕ → List ℕ
-  head_of key depth = head_text style.layout (depth + 1) (level_sort o) (nat_eq l.number 0) key
+  -- what is before the value of a member with this key, and behind the last
+  abbrev head : List ℕ → ℕ → List ℕ
+  head key depth = head_text style.layout (depth + 1) (level_sort o) (nat_eq l.number 0) key
 
-  headed : (mid key : List ℕ) → mid ≡ block ++ head_of key (length sorts) → mid ≡ block ++ head_of key (length (shown_each is.waits sorts))
-  headed mid key e = e ∙ ap (λ (n : ℕ). block ++ head_of key n) (sym size)
+  abbrev end : ℕ → List ℕ
+  end depth = end_text style.layout depth (level_sort o) (nat_eq l.number 0) ++ after o
+
+  -- a piece is put behind the head
+  headed : (key text : List ℕ) {more : List ℕ} → Appends (Some (block ++ head key (length sorts))) (Some more) text
+      → more ≡ block ++ (head key (length (shown_each is.waits sorts)) ++ text)
+  headed key text put = put ∙ (ap (λ (n : ℕ). (block ++ head key n) ++ text) (sym size) ∙ append_assoc block (head key (length (shown_each is.waits sorts))) text)
 
   module _ {new : Walk} (same : IsSameWalk w new) where
-    pub going_whole : {to : walk.Level} {e : RawElement} {v : RawBsonRef} (mid more : List ℕ) → IsAlong new to is.waits → to.number ≡ l.number + 1
-        → IsWhole l.elements to.elements e v → mid ≡ block ++ head_of (frame_of e).key (length sorts) → PutsSingle style.format (value_of v) (Some mid) (Some more)
+    going_whole : {to : walk.Level} {e : RawElement} {v : RawBsonRef} (more : List ℕ) → IsAlong new to is.waits → to.number ≡ l.number + 1
+        → IsWhole l.elements to.elements e v → PutsSingle style.format (value_of v) (Some (block ++ head (frame_of e).key (length sorts))) (Some more)
         → IsGoing has style limits document new to sorts o old now more
-    going_whole {to} {e} {v} mid more along number whole head_is puts =
-        let (text, json, put) = subst (λ (x : RawValue). PutsSingle style.format x (Some mid) (Some more)) whole.is_single puts in
-        let head = head_of (frame_of e).key (length (shown_each is.waits sorts)) in
-        let grown : more ≡ block ++ (head ++ text) = put ∙ (ap (λ (x : List ℕ). x ++ text) (headed mid (frame_of e).key head_is) ∙ append_assoc block head text) in
-        let halfway = halfway_grows is.halfway (shown_each is.waits sorts) (behind (shown l o) to.elements) more (head ++ text) grown
+    going_whole {to} {e} {v} more along number whole puts =
+        let (text, json, put) = subst (λ (x : RawValue). PutsSingle style.format x (Some (block ++ head (frame_of e).key (length sorts))) (Some more)) whole.is_single puts in
+        let halfway = halfway_grows is.halfway (shown_each is.waits sorts) (behind (shown l o) to.elements) more _ (headed (frame_of e).key text put)
         (λ n enough told printing. printing_leaf printing text whole.next json) (λ n. reads_leaf (shown l o) n (shown_each is.waits sorts) whole.next) in
         record {
           waits = is.waits;
@@ -132,15 +126,13 @@ module _ {S : Type 0} {has : S → ℕ → List ℕ → Type 0} {style : Style} 
               (sym (shown_behind to o to.elements l.number refl number)) halfway;
         }
 
-    pub going_inside : {to : walk.Level} {e : RawElement} {v : RawBsonRef} {d : List ℕ} (x : Wait) (p : Sort) (mid more : List ℕ) → IsAlong new to (is.waits ++ x ∷ [])
-        → IsInside l.elements x.elements e v d → shown to p ≡ opened d p → mid ≡ block ++ head_of (frame_of e).key (length sorts)
-        → PutsOpening (value_of v) (Some mid) (Some more) p → IsGoing has style limits document new to (sorts ++ o ∷ []) p old now more
-    going_inside {to} {e} {v} {d} x p mid more along inside level head_is puts =
-        let (piece, opens, put) = opens_from (value_of v) d (Some mid) (Some more) p inside.holds puts in
-        let head = head_of (frame_of e).key (length (shown_each is.waits sorts)) in
-        let grown : more ≡ block ++ (head ++ piece) = put ∙ (ap (λ (y : List ℕ). y ++ piece) (headed mid (frame_of e).key head_is) ∙ append_assoc block head piece) in
+    going_inside : {to : walk.Level} {e : RawElement} {v : RawBsonRef} {d : List ℕ} (x : Wait) (p : Sort) (more : List ℕ) → IsAlong new to (is.waits ++ x ∷ [])
+        → IsInside l.elements x.elements e v d → shown to p ≡ opened d p
+        → PutsOpening (value_of v) (Some (block ++ head (frame_of e).key (length sorts))) (Some more) p → IsGoing has style limits document new to (sorts ++ o ∷ []) p old now more
+    going_inside {to} {e} {v} {d} x p more along inside level puts =
+        let (piece, opens, put) = opens_from (value_of v) d _ (Some more) p inside.holds puts in
         let around = behind (shown l o) x.elements in
-        let halfway = halfway_grows is.halfway (shown_each is.waits sorts ++ around ∷ []) (opened d p) more (head ++ piece) grown
+        let halfway = halfway_grows is.halfway (shown_each is.waits sorts ++ around ∷ []) (opened d p) more _ (headed (frame_of e).key piece put)
         (λ n enough told printing. printing_opens printing d p piece inside.next opens) (λ n. reads_opens (shown l o) n (shown_each is.waits sorts) d p piece inside.next opens) in
         record {
           waits = is.waits ++ x ∷ [];
@@ -153,8 +145,8 @@ module _ {S : Type 0} {has : S → ℕ → List ℕ → Type 0} {style : Style} 
               (subst (λ (y : Level). IsHalfway has style limits.depth (bytes_of document) (shown_each is.waits sorts ++ around ∷ []) y old now more) (sym level) halfway);
         }
 
-    pub going_outside : {to : walk.Level} (p : Sort) (more : List ℕ) (outer_sorts : List Sort) → LeavesOrEnds w l is.waits new to true → sorts ≡ outer_sorts ++ p ∷ []
-        → more ≡ block ++ (end_text style.layout (length sorts) (level_sort o) (nat_eq l.number 0) ++ after o) → IsGoing has style limits document new to outer_sorts p old now more
+    going_outside : {to : walk.Level} (p : Sort) (more : List ℕ) (outer_sorts : List Sort) → LeavesOrEnds w l is.waits new to true → sorts ≡ outer_sorts ++ p ∷ []
+        → more ≡ block ++ end (length sorts) → IsGoing has style limits document new to outer_sorts p old now more
     going_outside {to} p more outer_sorts (outer, x, waits_are, further, over, goes) sorts_are put =
         let (s, left) = along_left is.along in
         let fewer : length outer ≡ length outer_sorts =
@@ -166,7 +158,7 @@ module _ {S : Type 0} {has : S → ℕ → List ℕ → Type 0} {style : Style} 
         let halfway = subst (λ (ls : List Level). IsHalfway has style limits.depth (bytes_of document) ls (shown l o) old now block) waiting is.halfway in
         let deep_enough = subst (λ (ls : List Level). length ls < limits.depth) waiting low in
         let depth : length sorts ≡ length (shown_each outer outer_sorts ++ around ∷ []) = sym size ∙ ap length waiting in
-        let grown = put ∙ ap (λ (n : ℕ). block ++ (end_text style.layout n (level_sort o) (nat_eq l.number 0) ++ after o)) depth in
+        let grown = put ∙ ap (λ (n : ℕ). block ++ end n) depth in
         record {
           waits = outer;
           along = further.along;
@@ -180,24 +172,55 @@ module _ {S : Type 0} {has : S → ℕ → List ℕ → Type 0} {style : Style} 
         }
 
   -- the sorts that wait, where the walk leaves a level
-  pub going_some : (new : Walk) (to : walk.Level) → LeavesOrEnds w l is.waits new to true → sorts ≡ [] → ⊥
+  going_some : (new : Walk) (to : walk.Level) → LeavesOrEnds w l is.waits new to true → sorts ≡ [] → ⊥
   going_some new to (outer, x, waits_are, further, over, goes) none = omega (arith, is.as_many, ap length waits_are, ap length none, length-append outer (x ∷ []))
 
-  pub going_read : (new : Walk) (to : walk.Level) → LeavesOrEnds w l is.waits new to false → (t : Tree) × ReadsWithin limits (bytes_of document) t
+  going_read : (new : Walk) (to : walk.Level) → LeavesOrEnds w l is.waits new to false → (t : Tree) × ReadsWithin limits (bytes_of document) t
   going_read new to (t, reads, none, over) =
       let here : ReadsUpTo (suc w.most_waiting) as_document (bytes_of document) t =
       subst (λ (d : RawDocument). ReadsUpTo (suc w.most_waiting) as_document (bytes_of d) t) is.document_is reads in
       (t, read_within limits (bytes_of document) t is.few (subst (λ (n : ℕ). ReadsUpTo n as_document (bytes_of document) t) is.levels here))
 
-  pub going_ends : (new : Walk) (to : walk.Level) (more : List ℕ) → LeavesOrEnds w l is.waits new to false
-      → more ≡ block ++ (end_text style.layout (length sorts) (level_sort o) (nat_eq l.number 0) ++ after o) → IsPrinted has style (bytes_of document) old now more
+  going_ends : (new : Walk) (to : walk.Level) (more : List ℕ) → LeavesOrEnds w l is.waits new to false
+      → more ≡ block ++ end (length sorts) → IsPrinted has style (bytes_of document) old now more
   going_ends new to more (t, reads, none, over) put =
       let (s, left) = along_left is.along in
       let waiting : shown_each is.waits sorts ≡ [] = ap (λ (ws : List Wait). shown_each ws sorts) none in
       let halfway = subst (λ (ls : List Level). IsHalfway has style limits.depth (bytes_of document) ls (shown l o) old now block) waiting is.halfway in
       let depth : length sorts ≡ 0 = sym is.as_many ∙ ap length none in
-      let grown = put ∙ ap (λ (n : ℕ). block ++ (end_text style.layout n (level_sort o) (nat_eq l.number 0) ++ after o)) depth in
+      let grown = put ∙ ap (λ (n : ℕ). block ++ end n) depth in
       halfway_ends s more halfway (omega (arith, is.levels)) left (over s left) grown
+
+  -- behind an event the walk is further on, or the text is at its end
+  abbrev pub GoesOn : Walk → walk.Level → List Sort → Sort → List ℕ → Bool → Type 0
+  GoesOn new to ps p more false = IsGoing has style limits document new to ps p old now more × (length (bytes_of document) - to.offset < length (bytes_of document) - l.offset)
+  GoesOn new to ps p more true = IsPrinted has style (bytes_of document) old now more × ((t : Tree) × ReadsWithin limits (bytes_of document) t)
+
+  further : {new : Walk} {to : walk.Level} {ws : List Wait} → IsSameWalk w new → IsFurther l new to ws → length (bytes_of document) - to.offset < length (bytes_of document) - l.offset
+  further same f = let b = ap (λ (d : RawDocument). length (bytes_of d)) (same.document ∙ is.document_is) in omega (arith, b, f.further, f.within)
+
+  pub going_on : {new : Walk} (to : walk.Level) (ps : List Sort) (p : Sort) (more : List ℕ) (ended : Bool) (e : Event) → IsSameWalk w new → Comes w l is.waits new to (Ok e)
+      → PutsEvent style (nat_eq l.number 0) e sorts o block ps p more ended → GoesOn new to ps p more ended
+  going_on {new} to ps p more ended (event.Whole e v) same (passed, value) (going, ps_are, p_is, puts) =
+      let (s, left) = along_left is.along in
+      let here = going_whole same more passed.0.along passed.4 (whole_next l.elements to.elements e v s left passed.1 value) puts in
+      rw (going, ps_are, p_is) (here, further same passed.0)
+  going_on {new} to ps p more ended (event.Enter e v) same (x, inner, entered, value) (going, ps_are, puts) =
+      let (s, left) = along_left is.along in
+      let here = going_inside same x p more entered.0.along (inside_next l.elements x.elements e v inner s left entered.1 value)
+      (shown_opened to p (bytes_of inner) entered.3.left_is entered.3.first_is) puts in
+      rw (going, ps_are) (here, further same entered.0)
+  going_on {new} to ps p more ended event.Leave same came (going, sorts_are, put) =
+      rw going (going_outside same p more ps came sorts_are put, further same came.3)
+  going_on {new} to ps p more ended event.End same came (going, put) = rw going (going_ends new to more came put, going_read new to came)
+
+  -- what the walk comes to suits the levels
+  pub going_suits : (new : Walk) (to : walk.Level) (e : Event) → Comes w l is.waits new to (Ok e) → Suits e sorts
+  going_suits new to (event.Whole e v) came = tt
+  going_suits new to (event.Enter e v) (x, inner, entered, value) =
+      let (s, left) = along_left is.along in (bytes_of inner, (inside_next l.elements x.elements e v inner s left entered.1 value).holds)
+  going_suits new to event.Leave came = going_some new to came
+  going_suits new to event.End came = tt
 
   brief_pass : (unseen : Bool) (new : S) (e : PrintError) → TellsPassError has limits (bytes_of document) unseen now new block e → TellsBriefly limits (bytes_of document) e
   brief_pass unseen new (print.Barrier answer) told = told.0
@@ -225,10 +248,3 @@ module _ {S : Type 0} {has : S → ℕ → List ℕ → Type 0} {style : Style} 
       let first = barrier_told limits b (Ok (Some answer)) is.few (subst (λ (n : ℕ). TellsBarrierWithin n b (Some answer)) is.levels here) in
       (first, λ safe. wrote_none limits (bytes_of document) old now unseen answer (guard safe) first)
   going_barred careful unseen error.OutOfMemory guard told = going_fails careful unseen guard
-
--- memory ran out behind a block that was passed on
-pub moved_fails : {S : Type 0} {has : S → ℕ → List ℕ → Type 0} {style : Style} {limits : Limits} {document : RawDocument} {w : Walk} {l : walk.Level} {sorts : List Sort} {o : Sort}
-    {old now new : S} {block left : List ℕ} (careful unseen : Bool) → IsGoing has style limits document w l sorts o old now block → Moves has now new block left
-    → (careful ≡ true → Guards limits (bytes_of document) unseen old new)
-    → TellsPrintError has style limits (bytes_of document) careful old new (print.Failure failure.OutOfMemory)
-moved_fails {new = new} {left = left} careful unseen is moves = going_fails (going_moves is new left moves) careful unseen

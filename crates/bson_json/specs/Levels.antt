@@ -1,14 +1,18 @@
 -- What is printed level by level. No public contract cites this file.
-use Rattle.std.specs.Prelude.{◌≡◌, ℕ, Bool, true, List, [], ◌++◌, codes, drop, Option, None, Some}
+use Rattle.std.specs.Prelude.{◌≡◌, ◌+◌, ℕ, Bool, true, false, List, [], ◌∷◌, ◌++◌, codes, drop, length, Option, None, Some}
 use Rattle.std.specs.Io.KnownBytes.{Appends}
 use Rattle.bson_model.specs.Tree.{Tree}
+use Rattle.raw_tree.specs.declared.walk.Event.{Event}
+use Rattle.raw_tree.specs.declared.walk.Event.TheVariants as event
 use Rattle.raw_tree.specs.declared.walk.WalkError.{WalkError}
 use Rattle.raw_tree.specs.declared.walk.WalkError.TheVariants as walk
-use Rattle.raw_tree.specs.Reading.{as_document, as_array, ReadsRest, ReadsUpTo}
+use Rattle.raw_tree.specs.Reading.{as_document, as_array, Holds, ReadsRest, ReadsUpTo}
 use Rattle.raw_tree.specs.Reading as reading
+use Rattle.raw_view.specs.Frame.ElementSteps.{frame_of}
 use Rattle.raw_view.specs.Meaning.{RawValue}
 use Rattle.raw_view.specs.Meaning as raw
-use Rattle.bson_json.specs.Json.{before_scope}
+use Rattle.raw_view.specs.Meaning.Value.{value_of}
+use Rattle.bson_json.specs.Json.{before_scope, end_text, head_text}
 use Rattle.bson_json.specs.Leaves.{IsLeafJson}
 use Rattle.bson_json.specs.declared.level.Sort.{Sort}
 use Rattle.bson_json.specs.declared.level.Sort.TheVariants as sort
@@ -16,6 +20,7 @@ use Rattle.bson_json.specs.declared.print.Failure.TheVariants as failure
 use Rattle.bson_json.specs.declared.print.PrintError.{PrintError}
 use Rattle.bson_json.specs.declared.print.PrintError.TheVariants as print
 use Rattle.bson_json.specs.declared.style.Format.{Format}
+use Rattle.bson_json.specs.declared.style.Style.{Style}
 
 -- a level: what is left of it, what it is, and whether nothing of it is printed yet
 pub record Level : Type 0 where
@@ -61,3 +66,27 @@ PutsSingle format _ old new = Unit {0}
 abbrev pub error_of : WalkError → PrintError
 error_of (walk.Barrier barrier) = print.Barrier barrier
 error_of walk.OutOfMemory = print.Failure failure.OutOfMemory
+
+-- what is written before the value of a member with this key, where levels of these sorts wait
+abbrev pub head_of : Style → (first : Bool) → List Sort → Sort → List ℕ → List ℕ
+head_of style first os o key = head_text style.layout (length os + 1) (level_sort o) first key
+
+-- and behind the last member
+abbrev pub end_of : Style → (first : Bool) → List Sort → Sort → List ℕ
+end_of style first os o = end_text style.layout (length os) (level_sort o) first ++ after o
+
+-- an event can be where levels of these sorts wait: a value that is entered holds a level, and one that waits is around a level that is left
+abbrev pub Suits : Event → List Sort → Type 0
+Suits (event.Enter e v) os = (d : List ℕ) × Holds (value_of v) d
+Suits event.Leave os = os ≡ [] → ⊥
+Suits _ os = Unit {0}
+
+-- What is written of an event at a level of the sort o, for which levels of the sorts os wait. It is then at one of the sort p, for which those
+-- of the sorts ps wait; or the text is at its end.
+abbrev pub PutsEvent : Style → (first : Bool) → Event → List Sort → Sort → (old : List ℕ) → List Sort → Sort → (new : List ℕ) → (ended : Bool) → Type 0
+PutsEvent style first (event.Whole e v) os o old ps p new ended =
+    (ended ≡ false) × (ps ≡ os) × (p ≡ o) × PutsSingle style.format (value_of v) (Some (old ++ head_of style first os o (frame_of e).key)) (Some new)
+PutsEvent style first (event.Enter e v) os o old ps p new ended =
+    (ended ≡ false) × (ps ≡ os ++ o ∷ []) × PutsOpening (value_of v) (Some (old ++ head_of style first os o (frame_of e).key)) (Some new) p
+PutsEvent style first event.Leave os o old ps p new ended = (ended ≡ false) × (os ≡ ps ++ p ∷ []) × (new ≡ old ++ end_of style first os o)
+PutsEvent style first event.End os o old ps p new ended = (ended ≡ true) × (new ≡ old ++ end_of style first os o)

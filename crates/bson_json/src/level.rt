@@ -41,6 +41,7 @@ fn put_spaces<W: Write>(out: &mut W, depth: usize) -> io::Result<()>
 }
 
 /// Writes a new line, where there are lines, with two spaces for each level around it.
+#[inline(always)]
 fn put_line<W: Write>(out: &mut W, layout: Layout, depth: usize) -> io::Result<()>
     ensures { OnOk result
         (Appends (W.contents out.old) (W.contents out.new) (line layout depth)) }

@@ -6,8 +6,11 @@ ghost use Rattle.bson_model.specs.Tree.{Tree};
 ghost use Rattle.raw_tree.specs.WithinLimits.{ReadsWithin};
 ghost use Rattle.raw_view.specs.Document.{bytes_of};
 ghost use Rattle.bson_json.specs.Json.{IsJson};
+ghost use Rattle.bson_json.specs.Levels.{PutsEvent, Suits};
 ghost use Rattle.bson_json.specs.Passing.{Guards, IsSeen, TellsLookError, TellsPassError, TellsPrintError};
 ghost use Rattle.bson_json.specs.Written.{Grows, Moves};
+ghost use Rattle.bson_json.specs.declared.print.Failure.TheVariants as failure;
+ghost use Rattle.bson_json.specs.declared.print.PrintError.TheVariants as print;
 
 use crate::level::{Sort, put_end, put_head, put_opening, put_single};
 use crate::put::put;
@@ -130,6 +133,49 @@ fn pass_on<'a, S: Sink>(
     Ok(false)
 }
 
+/// Writes what an event adds to the text of a level of this sort, for which levels of the other sorts wait; and they become those
+/// behind the event. Returns whether the text is at its end.
+#[inline(always)]
+fn put_event<'a>(
+    block: &mut Vec<u8>,
+    style: Style,
+    sorts: &mut Vec<Sort>,
+    sort: &mut Sort,
+    first: bool,
+    event: Event<'a>,
+) -> Result<bool, PrintError<'a>>
+    requires { Suits event sorts.old.items }
+    ensures put { IfOk result (PutsEvent style first event.entry sorts.old.items sort.old block.old.items sorts.new.items sort.new block.new.items) }
+    ensures failed { IfErr result (λ error. error ≡ print.Failure failure.OutOfMemory) }
+{
+    let depth = sorts.len();
+    match event {
+        Event::Whole(element, value) => {
+            put_head(block, style.layout, depth + 1, *sort, first, element.key())?;
+            put_single(block, style.format, value)?;
+            Ok(false)
+        }
+        Event::Enter(element, value) => {
+            put_head(block, style.layout, depth + 1, *sort, first, element.key())?;
+            let inner = put_opening(block, value)?;
+            sorts.push(mem::replace(sort, inner))?;
+            Ok(false)
+        }
+        Event::Leave => {
+            put_end(block, style.layout, depth, *sort, first)?;
+            let Some(outer) = sorts.pop() else {
+                unreachable!()
+            };
+            *sort = outer;
+            Ok(false)
+        }
+        Event::End => {
+            put_end(block, style.layout, depth, *sort, first)?;
+            Ok(true)
+        }
+    }
+}
+
 /// Writes a document within limits, by blocks of whole values. If it is to be `careful`, nothing is written of a document that
 /// has a barrier; else a front of no text may be.
 pub(crate) fn print<'a, S: Sink>(
@@ -154,43 +200,11 @@ pub(crate) fn print<'a, S: Sink>(
     put(&mut block, b"{")?;
     'events: loop {
         unseen = pass_on(alloc, document, limits, unseen, out, &mut block)?;
-        let depth = sorts.len();
         let first = level.number == 0;
-        match walk.next(alloc, &mut level)? {
-            Event::Whole(element, value) => {
-                put_head(
-                    &mut block,
-                    style.layout,
-                    depth + 1,
-                    sort,
-                    first,
-                    element.key(),
-                )?;
-                put_single(&mut block, style.format, value)?;
-            }
-            Event::Enter(element, value) => {
-                put_head(
-                    &mut block,
-                    style.layout,
-                    depth + 1,
-                    sort,
-                    first,
-                    element.key(),
-                )?;
-                let inner = put_opening(&mut block, value)?;
-                sorts.push(mem::replace(&mut sort, inner))?;
-            }
-            Event::Leave => {
-                put_end(&mut block, style.layout, depth, sort, first)?;
-                let Some(outer) = sorts.pop() else {
-                    unreachable!()
-                };
-                sort = outer;
-            }
-            Event::End => {
-                put_end(&mut block, style.layout, depth, sort, first)?;
-                return Ok(out.accept(&block)?);
-            }
+        let event = walk.next(alloc, &mut level)?;
+        let ended = put_event(&mut block, style, &mut sorts, &mut sort, first, event)?;
+        if ended {
+            return Ok(out.accept(&block)?);
         }
     }
 }

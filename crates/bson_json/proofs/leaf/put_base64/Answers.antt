@@ -5,7 +5,7 @@ use Rattle.base64.specs.Engines.{standard}
 use Rattle.base64.specs.GeneralPurpose.{encode_of}
 use Rattle.base64.proofs.EngineFacts.{encode_of-nil}
 use Rattle.bson_json.proofs.Chunks.{chunk_put, last_chunk}
-use Rattle.bson_json.proofs.Puts.{on_ok, whole_put}
+use Rattle.bson_json.proofs.Puts.{last_put, whole_put}
 use Rattle.bson_json.proofs.leaf.put_base64.Goals as goal
 
 pub chunks-init : goal.chunks-init
@@ -32,6 +32,5 @@ returns g c =
     let b = c.args.bytes.now in
     let at = c.chunks.at in
     let last : List ℕ = encode_of standard (take (length b - at) (drop at b)) in
-    on_ok c.put_chunk-2.result _ _ (λ (p : Appends (g.W.Write.contents c.chunks.out) (g.W.Write.contents c.put_chunk-2.new.out) last). whole_put
-    (g.W.Write.contents c.args.out.now) (g.W.Write.contents c.chunks.out) (g.W.Write.contents c.put_chunk-2.new.out) (encode_of standard (take at b)) last
-    (encode_of standard b) c.chunks.invariant.2 p (last_chunk b at c.chunks.invariant.0 c.chunks.invariant.1)) c.put_chunk-2.ensures
+    last_put c.put_chunk-2.result (g.W.Write.contents c.args.out.now) (g.W.Write.contents c.chunks.out) (g.W.Write.contents c.put_chunk-2.new.out)
+    (encode_of standard (take at b)) last _ c.chunks.invariant.2 (last_chunk b at c.chunks.invariant.0 c.chunks.invariant.1) c.put_chunk-2.ensures

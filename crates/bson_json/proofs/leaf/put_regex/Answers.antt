@@ -1,8 +1,7 @@
 use Rattle.std.proofs.Common.{◌≡◌, ◌++◌, codes}
-use Rattle.std.specs.Io.KnownBytes.{Appends}
 use Rattle.json.specs.Print.{quoted}
 use Rattle.bson_json.specs.Leaves.{regex_json}
-use Rattle.bson_json.proofs.Puts.{on_ok, joined, whole_put}
+use Rattle.bson_json.proofs.Puts.{joined, last_put}
 use Rattle.bson_json.proofs.leaf.put_regex.Goals as goal
 
 pub returns : goal.returns
@@ -12,6 +11,5 @@ returns g c =
     let p = c.args.regex.pattern.now in
     let Y = quoted c.args.regex.options.now ++ codes "}}" in
     let e : (A ++ (quoted p ++ B)) ++ Y ≡ regex_json p c.args.regex.options.now = joined A (quoted p) B Y in
-    on_ok c.put_text-2.result _ _ (λ (h : Appends (g.W.Write.contents c.put_text.new.out) (g.W.Write.contents c.put_text-2.new.out) Y). whole_put
-    (g.W.Write.contents c.args.out.now) (g.W.Write.contents c.put_text.new.out) (g.W.Write.contents c.put_text-2.new.out)
-    (A ++ (quoted p ++ B)) Y _ c.in_ok-put_text.ensures h e) c.put_text-2.ensures
+    last_put c.put_text-2.result (g.W.Write.contents c.args.out.now) (g.W.Write.contents c.put_text.new.out) (g.W.Write.contents c.put_text-2.new.out)
+    (A ++ (quoted p ++ B)) Y _ c.in_ok-put_text.ensures e c.put_text-2.ensures

@@ -1,7 +1,6 @@
 use Rattle.std.proofs.Common.{◌≡◌, ◌++◌, ℕ, List, codes, ap, ◌∙◌, decimal}
-use Rattle.std.specs.Io.KnownBytes.{Appends}
 use Rattle.bson_json.specs.Leaves.{timestamp_json}
-use Rattle.bson_json.proofs.Puts.{on_ok, joined, whole_put}
+use Rattle.bson_json.proofs.Puts.{joined, last_put}
 use Rattle.bson_json.proofs.leaf.put_timestamp.Goals as goal
 
 pub returns : goal.returns
@@ -14,6 +13,5 @@ returns g c =
     let Y = i ++ codes "}}" in
     let e : (A ++ (t ++ B)) ++ Y ≡ timestamp_json c.args.time.time c.args.time.increment =
     joined A t B Y ∙ ap (λ (x : List ℕ). whole x i) c.format.ensures.text ∙ ap (λ (x : List ℕ). whole (decimal c.args.time.time) x) c.format-2.ensures.text in
-    on_ok c.put_between-2.result _ _ (λ (p : Appends (g.W.Write.contents c.put_between.new.out) (g.W.Write.contents c.put_between-2.new.out) Y). whole_put
-    (g.W.Write.contents c.args.out.now) (g.W.Write.contents c.put_between.new.out) (g.W.Write.contents c.put_between-2.new.out)
-    (A ++ (t ++ B)) Y _ c.in_ok-put_between.ensures p e) c.put_between-2.ensures
+    last_put c.put_between-2.result (g.W.Write.contents c.args.out.now) (g.W.Write.contents c.put_between.new.out) (g.W.Write.contents c.put_between-2.new.out)
+    (A ++ (t ++ B)) Y _ c.in_ok-put_between.ensures e c.put_between-2.ensures

@@ -1,7 +1,6 @@
 use Rattle.std.proofs.Common.{◌≡◌, ◌≤◌, ◌-◌, ◌++◌, ℕ, List, replicate, take, arith, ap, ◌∙◌}
-use Rattle.std.specs.Io.KnownBytes.{Appends}
 use Rattle.std.proofs.lemmas.List.{take-replicate}
-use Rattle.bson_json.proofs.Puts.{on_ok, repeated_more, whole_put}
+use Rattle.bson_json.proofs.Puts.{last_put, repeated_more, whole_put}
 use Rattle.bson_json.proofs.put.put_repeated.Goals as goal
 
 pub writing-preserved : goal.writing-preserved
@@ -24,7 +23,5 @@ returns g c =
     let more : replicate (count - left) c.args.byte ++ take left (replicate 64 c.args.byte) ≡ replicate count c.args.byte =
     ap (λ (x : List ℕ). replicate (count - left) c.args.byte ++ x) last
     ∙ repeated_more (count - left) left count c.args.byte (omega (arith, c.writing.invariant.0)) in
-    on_ok c.put-2.result _ _ (λ (p : Appends (g.W.Write.contents c.writing.out) (g.W.Write.contents c.put-2.new.out) (take left (replicate 64 c.args.byte))).
-    whole_put (g.W.Write.contents c.args.out.now) (g.W.Write.contents c.writing.out) (g.W.Write.contents c.put-2.new.out)
-    (replicate (count - left) c.args.byte) (take left (replicate 64 c.args.byte)) (replicate count c.args.byte) c.writing.invariant.1 p more)
-    c.put-2.ensures
+    last_put c.put-2.result (g.W.Write.contents c.args.out.now) (g.W.Write.contents c.writing.out) (g.W.Write.contents c.put-2.new.out)
+    (replicate (count - left) c.args.byte) _ _ c.writing.invariant.1 more c.put-2.ensures
