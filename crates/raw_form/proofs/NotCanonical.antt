@@ -1,8 +1,6 @@
 -- What a caller knows where a validation within limits returned no `Ok(None)`: the document isn't canonical within them.
-use Rattle.std.proofs.Common.{◌≡◌, ℕ, List, Option, Some, Ok, Err, subst}
-use Rattle.raw_tree.specs.declared.reader.limits.Limits.{Limits}
-use Rattle.raw_form.specs.Barriers.{steps_of}
-use Rattle.raw_form.specs.Verdicts.{AllAreJudgedOneWayWithin, IsCanonicalWithin, TellsVerdict, breach_of, too_deep}
+use Rattle.std.proofs.Common.{◌≡◌, ℕ, List, Option, Some, Ok, Err}
+use Rattle.raw_form.proofs.canonical.Common.{AllAreJudgedOneWayWithin, IsCanonicalWithin, Limits, TellsVerdict, breach_of, steps_of, too_deep}
 use Rattle.raw_form.specs.declared.place.Place.{Place}
 use Rattle.raw_form.specs.declared.verdict.PlacedBreach.{PlacedBreach}
 use Rattle.raw_form.specs.declared.verdict.ValidateError.{ValidateError}
@@ -13,11 +11,10 @@ module _ {limits : Limits} (b : List ℕ) where
   pub breach_not_canonical : {o : Option PlacedBreach} {breach : PlacedBreach} → AllAreJudgedOneWayWithin limits → TellsVerdict limits b (Ok o) → o ≡ Some breach
       → ¬ IsCanonicalWithin limits b
   breach_not_canonical {breach = breach} one told is =
-      (one b).not_both (breach_of breach.cause) (steps_of breach.place) breach.place.offset
-      (subst (λ (x : Option PlacedBreach). TellsVerdict limits b (Ok x)) is told)
+      (one b).not_both (breach_of breach.cause) (steps_of breach.place) breach.place.offset (rw is at told)
 
   -- by a level that is too deep
   pub too_deep_not_canonical : {e : ValidateError} {place : Place} → AllAreJudgedOneWayWithin limits → TellsVerdict limits b (Err e) → e ≡ error.TooDeep place
       → ¬ IsCanonicalWithin limits b
   too_deep_not_canonical {place = place} one told is =
-      (one b).not_both too_deep (steps_of place) place.offset (subst (λ (x : ValidateError). TellsVerdict limits b (Err x)) is told)
+      (one b).not_both too_deep (steps_of place) place.offset (rw is at told)

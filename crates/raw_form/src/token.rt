@@ -50,6 +50,7 @@ impl Token {
 }
 
 /// Puts an item into a room at this place, if the room has it.
+#[tactic(auto, using(crate::proofs::token::Rooms::filled_one, crate::proofs::token::Rooms::filled_past))]
 #[inline(always)]
 pub(crate) fn put_at<T: Copy>(room: &mut [T], place: usize, item: T)
     ensures { room.new ≡ filled_from place room.old (item ∷ []) }
@@ -60,6 +61,7 @@ pub(crate) fn put_at<T: Copy>(room: &mut [T], place: usize, item: T)
 }
 
 /// Says how many tokens are inside the one at this place, if the room has it.
+#[tactic(auto, using(crate::proofs::flatten::Flattening::inside_one, crate::proofs::flatten::Flattening::inside_past))]
 pub(crate) fn set_inside(tokens: &mut [Token], place: usize, inside: usize)
     requires { inside < 2 ^ 32 }
     ensures { tokens.new ≡ with_inside place inside tokens.old }

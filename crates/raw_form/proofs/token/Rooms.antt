@@ -1,10 +1,6 @@
 -- Items in a room.
-use Rattle.std.proofs.Common.{rules, ◌≡◌, ◌<◌, ◌≤◌, ◌+◌, ◌-◌, ◌++◌, ◌∷◌, [], ℕ, zero, suc, List, Some, length, map, take, slice_get, slice_index_or, arith, ap, refl, sym, subst, set}
-use Rattle.std.specs.Option.{option_copied}
-use Rattle.raw_form.specs.Barriers.{step_of}
-use Rattle.raw_form.specs.Places.{Step}
-use Rattle.raw_form.specs.Tokens.{filled_from, last_key}
-use Rattle.raw_form.specs.declared.place.PathStep.{PathStep}
+use Rattle.std.proofs.Common.{rules, ◌≡◌, ◌<◌, ◌≤◌, ◌+◌, ◌-◌, ◌++◌, ◌∷◌, [], ℕ, zero, suc, List, Some, length, map, take, slice_get, slice_index_or, arith, ap, refl, subst, set}
+use Rattle.raw_form.proofs.canonical.Common.{PathStep, Step, filled_from, last_key, option_copied, step_of}
 
 pub filled_none : {X : Type 0} (n : ℕ) (room : List X) → filled_from n room [] ≡ room
 filled_none n [] = refl
@@ -24,20 +20,15 @@ filled_past zero (x ∷ room) item h = absurd (omega (arith, h))
 filled_past (suc n) (x ∷ room) item h = ap (λ (r : List _). x ∷ r) (filled_past n room item (omega (arith, h)))
 
 -- items behind others
-filled_on : {X : Type 0} (n : ℕ) (room ts us : List X) → filled_from (length ts + n) (filled_from n room ts) us ≡ filled_from n room (ts ++ us)
-filled_on n [] ts us = refl
-filled_on zero (x ∷ room) [] us = refl
-filled_on zero (x ∷ room) (t ∷ ts) us =
-    let same : suc (length ts) + 0 ≡ suc (length ts + 0) = omega arith in
-    subst (λ (m : ℕ). filled_from m (t ∷ filled_from zero room ts) us ≡ t ∷ filled_from zero room (ts ++ us)) (sym same) (ap (λ (r : List _). t ∷ r) (filled_on zero room ts us))
-filled_on (suc n) (x ∷ room) ts us =
-    let same : length ts + suc n ≡ suc (length ts + n) = omega arith in
-    subst (λ (m : ℕ). filled_from m (x ∷ filled_from n room ts) us ≡ x ∷ filled_from n room (ts ++ us)) (sym same) (ap (λ (r : List _). x ∷ r) (filled_on n room ts us))
-
 pub filled_more : {X : Type 0} (n m : ℕ) (room ts us : List X) → m ≡ n + length ts → filled_from m (filled_from n room ts) us ≡ filled_from n room (ts ++ us)
-filled_more n m room ts us is =
-    let same : length ts + n ≡ m = omega (arith, is) in
-    subst (λ (k : ℕ). filled_from k (filled_from n room ts) us ≡ filled_from n room (ts ++ us)) same (filled_on n room ts us)
+filled_more n m [] ts us is = refl
+filled_more zero m (x ∷ room) [] us is = rw is refl
+filled_more zero m (x ∷ room) (t ∷ ts) us is =
+    let same : m ≡ suc (length ts) = omega (arith, is) in
+    rw same (ap (λ (r : List _). t ∷ r) (filled_more zero (length ts) room ts us (omega arith)))
+filled_more (suc n) m (x ∷ room) ts us is =
+    let same : m ≡ suc (n + length ts) = omega (arith, is) in
+    rw same (ap (λ (r : List _). x ∷ r) (filled_more n (n + length ts) room ts us refl))
 
 -- steps of a path
 

@@ -1,21 +1,7 @@
 use Rattle.std.proofs.Common.{rules, ◌≡◌, ◌≤◌, suc, length, arith, ap}
-use Rattle.raw_view.specs.Document.{bytes_of}
-use Rattle.raw_tree.proofs.Face.{answered_one_way}
-use Rattle.raw_form.proofs.faults.OneBarrier.{barred_at_one_place}
+use Rattle.raw_form.proofs.canonical.Common.{answered_one_way, bytes_of}
 use Rattle.raw_form.proofs.faults.Within.{flattening_told}
 use Rattle.raw_form.proofs.flatten.flatten_within.Goals as goal
-
-pub returns-then-as_bytes-limits-clause-one_answer : goal.returns-then-as_bytes-limits-clause-one_answer
-returns-then-as_bytes-limits-clause-one_answer c = answered_one_way c.args.limits
-
-pub returns-then-as_bytes-limits-clause-one_place : goal.returns-then-as_bytes-limits-clause-one_place
-returns-then-as_bytes-limits-clause-one_place c = barred_at_one_place c.args.limits
-
-pub returns-in_default-clause-one_answer : goal.returns-in_default-clause-one_answer
-returns-in_default-clause-one_answer c = answered_one_way c.args.limits
-
-pub returns-in_default-clause-one_place : goal.returns-in_default-clause-one_place
-returns-in_default-clause-one_place c = barred_at_one_place c.args.limits
 
 pub returns-clause-flat : goal.returns-clause-flat
 returns-clause-flat c =
@@ -24,8 +10,11 @@ returns-clause-flat c =
     let levels : suc c.in-Some.most_waiting ≡ c.args.limits.depth = search rules in
     flattening_told c.args.limits b c.in-Some.most_waiting c.args.tokens.now c.flatten_to.new.tokens c.flatten_to.result few levels c.flatten_to.ensures
 
+pub returns-then-as_bytes-limits-clause-one_answer : goal.returns-then-as_bytes-limits-clause-one_answer
+returns-then-as_bytes-limits-clause-one_answer c = answered_one_way c.args.limits
+
+pub returns-in_default-clause-one_answer : goal.returns-in_default-clause-one_answer
+returns-in_default-clause-one_answer c = answered_one_way c.args.limits
+
 pub returns-clause-one_answer : goal.returns-clause-one_answer
 returns-clause-one_answer c = answered_one_way c.args.limits
-
-pub returns-clause-one_place : goal.returns-clause-one_place
-returns-clause-one_place c = barred_at_one_place c.args.limits
