@@ -20,7 +20,6 @@ fn hash_of(key: &str) -> u64
 }
 
 /// The number of a key, which is the next where it has none. The only error is out of memory.
-#[tactic(auto, using(std::proofs::lemmas::Bool::Decides::nat_tests))]
 fn number_of<'a>(
     numbers: &mut BTreeMap<(u64, &'a str), u32>,
     hash: u64,

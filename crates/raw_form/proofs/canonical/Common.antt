@@ -40,7 +40,7 @@ pub use Rattle.raw_view.specs.Frame.Number.{max_length}
 pub use Rattle.raw_view.specs.Meaning.{Meaning, Means, MeansValue, RawValue, faulty, kind_of_raw, value}
 pub use Rattle.raw_view.specs.declared.element.RawElement.{RawElement}
 pub use Rattle.raw_view.specs.declared.error.Error.{Error}
-pub use Rattle.std.proofs.lemmas.List.{length-map, map-append, reverse-append, same_from_push}
+pub use Rattle.std.proofs.lemmas.List.{length-map, map-append, nil_from_length, reverse-append, same_from_push}
 pub use Rattle.std.proofs.lemmas.Slice.Eq.{bytes_eq-Decides}
 pub use Rattle.std.specs.BTreeMap.{BTreeMap, IsEmpty, get}
 pub use Rattle.std.specs.Option.{option_copied, unwrap_or}

@@ -29,13 +29,9 @@ record AreCanonicalBefore (inside : ℕ) (b : List ℕ) (number : ℕ) : Type 0 
 -- those before the element of the outermost level that has the verdict, or holds what has it
 verdict_begins : (n : ℕ) (b : List ℕ) (here : Step) (more : List Step) (x : Verdict) (offset : ℕ) → FirstVerdictTo (suc n) as_document b x (here ∷ more) offset
     → AreCanonicalBefore n b here.number
-verdict_begins n b here more x offset (passed, s, reaches, keys, canonical, front) = record {
-  frames = passed;
-  s = s;
-  reaches = reaches;
-  each = canonical;
-  number_is = front_begins (IsCanonicalUpTo n) (FirstVerdictTo n) as_document _ b s (length passed) here more x offset front;
-}
+verdict_begins n b here more x offset (passed, s, reaches, keys, canonical, front) =
+    let number = front_begins (IsCanonicalUpTo n) (FirstVerdictTo n) as_document _ b s (length passed) here more x offset front in
+    record { frames = passed; s = s; reaches = reaches; each = canonical; number_is = number }
 
 -- no barrier is before that element, and what is before it is written as it is
 found_known : (n : ℕ) (b : List ℕ) (start : Start) (is : AreCanonicalBefore n b start.number) → 5 ≤ length b → BeginsAt b is.s start.offset → TellsStart (suc n) b (Some start)

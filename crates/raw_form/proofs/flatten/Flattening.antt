@@ -1,7 +1,7 @@
 -- What a flattening keeps, and what it tells where it ends.
 use Rattle.std.proofs.Common.{◌-◌, ◌≡◌, ◌∙◌, ◌≤◌, ◌<◌, ◌+◌, ◌++◌, ◌∷◌, [], ℕ, suc, List, Option, None, Some, length, drop, arith, ap, refl, sym, length-append, length-drop, append_assoc, append-nil, zero, set, slice_index_or}
 use Rattle.raw_form.proofs.canonical.Common.{AreInside, AreTokens, AreTokensOf, Done, Frame, HasRead, HasTokens, Holds, HoldsNone, IsAtFinal, IsFrame, IsOpened, IsTokenOf, LeadsTo-more, LeadsTo-walk}
-use Rattle.raw_form.proofs.canonical.Common.{Looks, NestedUpTo, RawElement, RawValue, Wait, bytes_of, end_of, filled_from, frame_of, same_from_push, size_of}
+use Rattle.raw_form.proofs.canonical.Common.{Looks, NestedUpTo, RawElement, RawValue, Wait, bytes_of, end_of, filled_from, frame_of, nil_from_length, same_from_push, size_of}
 use Rattle.raw_view.specs.declared.document.RawDocument.{RawDocument}
 use Rattle.raw_form.specs.Flattening.{with_inside}
 use Rattle.raw_form.specs.declared.level.Level.{Level}
@@ -121,13 +121,10 @@ open_levels most b (o ∷ os) ws inside start d (outer, w, same, is, are) =
     let out = open_levels most b os outer (suc inside) o.start o.bytes are in
     (omega (arith, out.0), omega (arith, out.1, ap length same, length-append outer (w ∷ [])))
 
-places_len : (os : List Open) → length (places os) ≡ length os
-places_len [] = refl
-places_len (o ∷ os) = omega (arith, places_len os, length-append (places os) (length (tokens_before os ++ o.tokens) ∷ []))
-
-tokens_many : (os : List Open) → length os ≤ length (tokens_before os)
-tokens_many [] = omega arith
-tokens_many (o ∷ os) = omega (arith, tokens_many os, length-append (tokens_before os) (o.tokens ++ o.token ∷ []), length-append o.tokens (o.token ∷ []))
+-- there are as many places, and at least as many tokens
+open_many : (os : List Open) → (length (places os) ≡ length os) × (length os ≤ length (tokens_before os))
+open_many [] = (refl, omega arith)
+open_many (o ∷ os) = (omega (arith, open_many os, length-append {A = ℕ}), omega (arith, open_many os, length-append {A = Token}))
 
 -- the token at a place says how many are inside
 filled_inside : (size : ℕ) (front rest : List Token) (t : Token) (room : List Token)
@@ -147,11 +144,6 @@ pub inside_past : (n size : ℕ) (room : List Token) → length room ≤ n → r
 inside_past n size [] h = refl
 inside_past zero size (x ∷ room) h = absurd (omega (arith, h))
 inside_past (suc n) size (x ∷ room) h = ap (λ (r : List Token). x ∷ r) (inside_past n size room (omega (arith, h)))
-
-none_open : (most : ℕ) (b : List ℕ) (os : List Open) (inside start : ℕ) (d : List ℕ) → AreOpen most b os [] inside start d
-    → (os ≡ []) × (inside ≡ most) × (start ≡ 0) × (d ≡ b)
-none_open most b [] inside start d are = (refl, are.1, are.2, are.3)
-none_open most b (o ∷ os) inside start d (outer, w, same, is, are) = absurd (omega (arith, ap length same, length-append outer (w ∷ [])))
 
 -- all levels
 
@@ -180,10 +172,10 @@ module _ {most : ℕ} {b : List ℕ} {before : List Token} {ws : List Wait} {lef
     (is : IsFlattening most b before ws left offset list count room) where
   -- how many levels wait
   pub depth_is : length list ≡ length is.os
-  depth_is = ap length is.list_is ∙ places_len is.os
+  depth_is = ap length is.list_is ∙ (open_many is.os).0
 
   pub few_wait : length list ≤ offset
-  few_wait = omega (arith, depth_is, is.count_is, is.few, tokens_many is.os, length-append (tokens_before is.os) is.tokens)
+  few_wait = omega (arith, depth_is, is.count_is, is.few, (open_many is.os).1, length-append (tokens_before is.os) is.tokens)
 
   pub as_many_wait : length list ≡ length ws
   as_many_wait = depth_is ∙ (open_levels most b is.os ws is.inside is.start is.d is.are_open).1
@@ -279,6 +271,8 @@ module _ {most : ℕ} {b : List ℕ} {before : List Token} {ws : List Wait} {lef
   -- the end of the document
   pub flattens_all : ws ≡ [] → IsAtFinal left → (ts : List Token) × HasTokens (suc most) 0 0 b ts × (count ≡ length ts) × (room ≡ filled_from 0 before ts)
   flattens_all none over =
-      let level = none_open most b is.os is.inside is.start is.d (rw none at is.are_open) in
-      let flat : IsFlat most 0 0 b left offset is.tokens = rw (level.0, level.1, level.2, level.3) at is.flat in
-      (is.tokens, flat_over most 0 0 b left offset is.tokens flat over, rw level.0 at is.count_is, rw level.0 at is.filled)
+      let levels = open_levels most b is.os ws is.inside is.start is.d is.are_open in
+      let no : is.os ≡ [] = nil_from_length is.os (omega (arith, levels.1, ap length none)) in
+      let level = rw no at is.are_open in
+      let flat : IsFlat most 0 0 b left offset is.tokens = rw (no, level.1, level.2, level.3) at is.flat in
+      (is.tokens, flat_over most 0 0 b left offset is.tokens flat over, rw no at is.count_is, rw no at is.filled)

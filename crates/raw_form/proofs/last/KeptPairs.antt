@@ -5,9 +5,6 @@ use Rattle.raw_form.proofs.canonical.Common.{Frame, bytes_eq, bytes_eq-Decides, 
 pub same_key : (k l : List ℕ) → bytes_eq k l ≡ true → k ≡ l
 same_key k l e = (bytes_eq-Decides k l).0 e
 
-pub itself : (k : List ℕ) → bytes_eq k k ≡ true
-itself k = (bytes_eq-Decides k k).1 refl
-
 pub flipped : (k l : List ℕ) → bytes_eq k l ≡ bytes_eq l k
 flipped k l = grind (arith, bytes_eq-Decides)
 

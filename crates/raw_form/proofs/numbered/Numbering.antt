@@ -1,6 +1,7 @@
 -- Keys that are numbered in the order in which they come first, and their places.
 use Rattle.std.proofs.Common.{◌≡◌, ◌≢◌, ◌∙◌, ◌<◌, ◌++◌, ◌∷◌, [], ℕ, suc, Bool, true, false, cond, List, Option, None, Some, option_map, length, map, slice_set, arith, ap, refl, sym}
 use Rattle.raw_form.proofs.canonical.Common.{AreNumbered, BTreeMap, Bor, GivesNumber, IsEmpty, bytes_eq, get, hash_of, key_cmp, keys_of, length-map, map-append, number_in, unwrap_or, with_pair}
+use Rattle.std.proofs.lemmas.Bool.{false_from_ne_true}
 use Rattle.std.proofs.lemmas.Cmp.{tied_itself, nat_cmp_total}
 use Rattle.std.proofs.lemmas.Map.Text.{is_eq-slice_cmp}
 use Rattle.std.specs.Ordering.{is_eq, nat_cmp}
@@ -9,13 +10,9 @@ use Rattle.raw_form.proofs.last.KeptPairs.{first_or, flipped, same_key}
 -- keys that compare equal are one
 
 differs : (k q : List ℕ) → is_eq (nat_cmp (hash_of k) (hash_of q)) ≡ false → bytes_eq q k ≡ false
-differs k q e =
-    elim (bytes_eq q k) as (λ b. bytes_eq q k ≡ b → b ≡ false) [
-      | true ↦ λ h.
-          let equal : is_eq (nat_cmp (hash_of k) (hash_of q)) ≡ true = rw (same_key q k h) (ap is_eq (tied_itself nat_cmp_total (hash_of k))) in
-          cc
-      | false ↦ λ h. refl
-    ] refl
+differs k q e = false_from_ne_true (bytes_eq q k) (λ h.
+    let equal : is_eq (nat_cmp (hash_of k) (hash_of q)) ≡ true = rw (same_key q k h) (ap is_eq (tied_itself nat_cmp_total (hash_of k))) in
+    cc)
 
 key_same : (k q : Bor (List ℕ)) → is_eq (key_cmp (hash_of k.now, k) (hash_of q.now, q)) ≡ bytes_eq q.now k.now
 key_same k q = grind (arith, differs, is_eq-slice_cmp, flipped)

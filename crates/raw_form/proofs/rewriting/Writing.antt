@@ -110,15 +110,8 @@ module _ {b : List ℕ} {ws : List Rewritten} {level : Rewritten} {out : List �
 
         pub rewriting_put : (more : List ℕ) → more ≡ out ++ element_of k key p → IsRewriting b ws new more
         rewriting_put more e =
-            record {
-              tree = is.tree;
-              read = is.read;
-              outer = is.outer;
-              here = left_with is.here next.1;
-              waits = is.waits;
-              begun = passed_on next.1 next.4;
-              writing = writing_leaf is.tree is.outer is.here out is.writing (member_key m, next.0) next.1 next.2 more (rw (written.0, written.1, ← member.key_is) e);
-            }
+            let writing = writing_leaf is.tree is.outer is.here out is.writing (member_key m, next.0) next.1 next.2 more (rw (written.0, written.1, ← member.key_is) e) in
+            record { tree = is.tree; read = is.read; outer = is.outer; here = left_with is.here next.1; waits = is.waits; begun = passed_on next.1 next.4; writing = writing }
 
       -- or it holds a level
       module _ (h : Held) (means : Means (frame_of m.element) (value (held_value h))) where
@@ -163,12 +156,5 @@ module _ {b : List ℕ} {ws : List Rewritten} {level : Rewritten} {out : List �
       pub rewriting_ends : (less : List Rewritten) (w : Rewritten) → ws ≡ less ++ w ∷ [] → IsRewriting b less w more
       rewriting_ends less w ws_are =
           let outer = begun_less less w is.outer (rw ws_are at is.waits) in
-          record {
-            tree = is.tree;
-            read = is.read;
-            outer = outer.0;
-            here = outer.1;
-            waits = outer.3;
-            begun = outer.4;
-            writing = writing_ends is.tree is.outer is.here out is.writing none more ended_is outer.0 outer.1 outer.2;
-          }
+          let writing = writing_ends is.tree is.outer is.here out is.writing none more ended_is outer.0 outer.1 outer.2 in
+          record { tree = is.tree; read = is.read; outer = outer.0; here = outer.1; waits = outer.3; begun = outer.4; writing = writing }

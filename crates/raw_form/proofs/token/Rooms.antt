@@ -1,6 +1,6 @@
 -- Items in a room.
-use Rattle.std.proofs.Common.{rules, ◌≡◌, ◌<◌, ◌≤◌, ◌+◌, ◌-◌, ◌++◌, ◌∷◌, [], ℕ, zero, suc, List, Some, length, map, take, slice_get, slice_index_or, arith, ap, refl, subst, set}
-use Rattle.raw_form.proofs.canonical.Common.{PathStep, Step, filled_from, last_key, option_copied, step_of}
+use Rattle.std.proofs.Common.{length-take, rules, ◌≡◌, ◌<◌, ◌≤◌, ◌+◌, ◌-◌, ◌++◌, ◌∷◌, [], ℕ, zero, suc, List, Some, length, map, take, slice_get, slice_index_or, arith, ap, refl, subst, set}
+use Rattle.raw_form.proofs.canonical.Common.{PathStep, Step, filled_from, last_key, length-map, option_copied, step_of}
 
 pub filled_none : {X : Type 0} (n : ℕ) (room : List X) → filled_from n room [] ≡ room
 filled_none n [] = refl
@@ -42,15 +42,11 @@ pub number_at : (path : List PathStep) (index : ℕ) (none : PathStep) → index
 number_at [] index none h = absurd (omega (arith, h))
 number_at (p ∷ path) zero none h = refl
 number_at (p ∷ path) (suc index) none h =
-    let same : suc (index + 1) ≡ suc index + 1 = omega arith in
-    subst (λ (n : ℕ). map (λ (step : PathStep). step.number) (take n (p ∷ path)) ≡ p.number
-    ∷ (map (λ (step : PathStep). step.number) (take index path) ++ (slice_index_or path index none).number ∷ [])) same
-    (ap (λ (ns : List ℕ). p.number ∷ ns) (number_at path index none (omega (arith, h))))
+    let same : suc index + 1 ≡ suc (index + 1) = omega arith in
+    rw same (ap (λ (ns : List ℕ). p.number ∷ ns) (number_at path index none (omega (arith, h))))
 
 pub numbers_len : (path : List PathStep) (index : ℕ) → index ≤ length path → length (map (λ (step : PathStep). step.number) (take index path)) ≡ index
-numbers_len path zero h = refl
-numbers_len [] (suc index) h = absurd (omega (arith, h))
-numbers_len (p ∷ path) (suc index) h = ap (λ (n : ℕ). suc n) (numbers_len path index (omega (arith, h)))
+numbers_len path index h = omega (arith, length-map (take index path) (λ (step : PathStep). step.number), length-take index path)
 
 pub numbers_all : (path : List PathStep) (index : ℕ) → length path ≤ index → take index path ≡ path
 numbers_all [] zero h = refl

@@ -5,12 +5,9 @@ use Rattle.raw_form.specs.declared.held.Held.TheVariants as held
 use Rattle.raw_form.proofs.rewritten.KnownFrames.{known_to_first}
 use Rattle.raw_form.proofs.rewritten.Members.{shows_held, shows_leaf}
 use Rattle.raw_form.proofs.rewriting.Plain.{plain_own}
-use Rattle.raw_form.proofs.rewriting.Writing.{IsMember, held_tree, head_fits, header_put, inside_fits, leaf_written, put_fits, refused, rewriting_done, rewriting_ends, rewriting_inside, rewriting_put, room, stands}
-use Rattle.raw_form.proofs.rewriting.rewrite.Goals.{In-Some, In-Some-level_in, In_default}
+use Rattle.raw_form.proofs.rewriting.Writing.{IsBegun, IsMember, held_tree, head_fits, header_put, inside_fits, leaf_written, put_fits, refused, rewriting_done, rewriting_ends, rewriting_inside, rewriting_put, room, stands}
+use Rattle.raw_form.proofs.rewriting.rewrite.Goals.{In-Some, In-Some-level_in}
 use Rattle.raw_form.proofs.rewriting.rewrite.Goals as goal
-
-none_left : (c : In_default) → c.levels.invariant.here.left ≡ []
-none_left c = c.in_default.ensures.next c.levels.invariant.here.left c.levels.invariant.begun.left
 
 -- the next member, and the key under which it is written
 next_of : {key : List ℕ} (c : In-Some) → key ≡ key_bytes (member_key c.in-Some.member) → IsMember c.levels.invariant.here.left c.next.new.self c.in-Some.member key
@@ -31,15 +28,9 @@ levels-init c =
     let t = c.requires.read.0 in
     let made = held_tree (held.Document c.args.document) t c.requires.read.1 in
     let left = c.in_ok-level.ensures.left t c.requires.read.1 in
-    record {
-      tree = t;
-      read = c.requires.read.1;
-      outer = [];
-      here = begun_at t 0;
-      waits = rw c.new-waiting.ensures.items refl;
-      begun = record { start_is = c.in_ok-level.ensures.start; code = left.0; left = left.1 };
-      writing = writing_begins t c.put_opening.new.out.items made.0 (rw (made.1, c.in_ok-put_opening.ensures.items, c.in_ok-out.ensures.items) refl);
-    }
+    let writing = writing_begins t c.put_opening.new.out.items made.0 (rw (made.1, c.in_ok-put_opening.ensures.items, c.in_ok-out.ensures.items) refl) in
+    let begun : IsBegun c.in_ok-level.level (begun_at t 0) = record { start_is = c.in_ok-level.ensures.start; code = left.0; left = left.1 } in
+    record { tree = t; read = c.requires.read.1; outer = []; here = begun_at t 0; waits = rw c.new-waiting.ensures.items refl; begun = begun; writing = writing }
 
 pub next-requires : goal.next-requires
 next-requires c = (c.levels.invariant.here.left, c.levels.invariant.begun.left)
@@ -54,12 +45,12 @@ returns-in_err-put_end-clause-err c =
 
 pub returns-in_default-pop-clause-form : goal.returns-in_default-pop-clause-form
 returns-in_default-pop-clause-form c =
-    rewriting_done c.levels.invariant c.next.ensures.later (none_left (goal.at.returns-in_default-pop-clause-form c).In_default) c.put_end.new.out.items
+    rewriting_done c.levels.invariant c.next.ensures.later (c.in_default.ensures.next c.levels.invariant.here.left c.levels.invariant.begun.left) c.put_end.new.out.items
     c.in_ok-put_end.ensures.items (search rules) (omega (arith, c.in_ok-put_end.ensures.fits, c.put_end.new.out.ok.0))
 
 pub levels-preserved-in_default : goal.levels-preserved-in_default
 levels-preserved-in_default c =
-    rewriting_ends c.levels.invariant c.next.ensures.later (none_left (goal.at.levels-preserved-in_default c).In_default) c.put_end.new.out.items
+    rewriting_ends c.levels.invariant c.next.ensures.later (c.in_default.ensures.next c.levels.invariant.here.left c.levels.invariant.begun.left) c.put_end.new.out.items
     c.in_ok-put_end.ensures.items c.pop.new.self.items c.in-Some-pop.outer c.in-Some-pop.ensures.items
 
 pub unreachable-requires : goal.unreachable-requires
