@@ -42,7 +42,7 @@ pub use Rattle.raw_view.specs.declared.element.RawElement.{RawElement}
 pub use Rattle.raw_view.specs.declared.error.Error.{Error}
 pub use Rattle.std.proofs.lemmas.List.{length-map, map-append, nil_from_length, reverse-append, same_from_push}
 pub use Rattle.std.proofs.lemmas.Slice.Eq.{bytes_eq-Decides}
-pub use Rattle.std.specs.BTreeMap.{BTreeMap, IsEmpty, get}
+pub use Rattle.std.specs.BTreeMap.{BTreeMap, get}
 pub use Rattle.std.specs.Option.{option_copied, unwrap_or}
 pub use Rattle.std.specs.Str.{bytes_eq}
 pub use denote.Ref.{Bor}

@@ -101,13 +101,7 @@ at_start most depth b ws left number offset envelope whole none e is =
       d = b;
       end = length b;
       held = rw none (refl, refl, refl);
-      is = record {
-        frames = is.frames;
-        pairs = is.pairs;
-        passed = rw (e, ← same) is.reaches;
-        each = is.each;
-        number_is = is.number_is;
-      };
+      is = record { frames = is.frames; pairs = is.pairs; passed = rw (e, ← same) is.reaches; each = is.each; number_is = is.number_is };
       levels = rw none (omega (arith, whole));
       begins = rw e (omega (arith, is.begins, ap length same));
       lies = whole_lies b 0 envelope refl;

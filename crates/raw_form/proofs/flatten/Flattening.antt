@@ -45,12 +45,10 @@ pub record IsFlat (inside depth start : ℕ) (d : List ℕ) (left : Option (List
 flat_more : {inside depth start : ℕ} {d s : List ℕ} {offset : ℕ} {tokens : List Token} (is : IsFlat inside depth start d (Some s) offset tokens)
     (f : Frame) (r : List ℕ) (left : Option (List ℕ)) (behind : ℕ) (more : List Token) → IsFrame s f r → left ≡ Some r → behind ≡ offset + size_of f
     → AreTokensOf (HasTokens inside (suc depth)) depth offset f more → IsFlat inside depth start d left behind (tokens ++ more)
-flat_more {inside} {depth} {start} {d} {s} {offset} {tokens} is f r left behind more at left_is far one = record {
-  frames = is.frames ++ f ∷ [];
-  passed = rw left_is (LeadsTo-more (drop 4 d) is.frames s f r is.passed at);
-  has = tokens_more (HasTokens inside (suc depth)) depth (start + 4) is.frames tokens f more is.has (rw (← is.far) one);
-  far = rw (far, is.far, end_behind (start + 4) is.frames f) refl;
-}
+flat_more {inside} {depth} {start} {d} {s} {offset} {tokens} is f r left behind more at left_is far one =
+    let passed : HasRead (drop 4 d) (is.frames ++ f ∷ []) left = rw left_is (LeadsTo-more (drop 4 d) is.frames s f r is.passed at) in
+    let has = tokens_more (HasTokens inside (suc depth)) depth (start + 4) is.frames tokens f more is.has (rw (← is.far) one) in
+    record { frames = is.frames ++ f ∷ []; passed = passed; has = has; far = rw (far, is.far, end_behind (start + 4) is.frames f) refl }
 
 flat_whole : {inside depth start : ℕ} {d : List ℕ} {old : Option (List ℕ)} {offset : ℕ} {tokens : List Token} (new : Option (List ℕ)) (behind : ℕ) (e : RawElement)
     (t : Token) → IsFlat inside depth start d old offset tokens → Looks old new (next.Whole e) → behind ≡ offset + size_of (frame_of e)

@@ -1,6 +1,6 @@
 -- Keys that are numbered in the order in which they come first, and their places.
 use Rattle.std.proofs.Common.{◌≡◌, ◌≢◌, ◌∙◌, ◌<◌, ◌++◌, ◌∷◌, [], ℕ, suc, Bool, true, false, cond, List, Option, None, Some, option_map, length, map, slice_set, arith, ap, refl, sym}
-use Rattle.raw_form.proofs.canonical.Common.{AreNumbered, BTreeMap, Bor, GivesNumber, IsEmpty, bytes_eq, get, hash_of, key_cmp, keys_of, length-map, map-append, number_in, unwrap_or, with_pair}
+use Rattle.raw_form.proofs.canonical.Common.{AreNumbered, BTreeMap, Bor, GivesNumber, bytes_eq, get, hash_of, key_cmp, keys_of, length-map, map-append, number_in, unwrap_or, with_pair}
 use Rattle.std.proofs.lemmas.Bool.{false_from_ne_true}
 use Rattle.std.proofs.lemmas.Cmp.{tied_itself, nat_cmp_total}
 use Rattle.std.proofs.lemmas.Map.Text.{is_eq-slice_cmp}
@@ -52,9 +52,6 @@ put_last : (q k : List ℕ) (n : ℕ) (keys : List (List ℕ)) → number_in key
 put_last q k n keys none = grind (arith, same_key)
 
 -- one place more
-
-pub numbered_begins : (numbers : BTreeMap (ℕ × Bor (List ℕ)) ℕ) → IsEmpty numbers → AreNumbered numbers [] []
-numbered_begins numbers e = record { number = λ q. rw e refl; place = refl }
 
 module _ {old : BTreeMap (ℕ × Bor (List ℕ)) ℕ} {places : List ℕ} {pairs : List (List ℕ × ℕ)} (are : AreNumbered old places pairs) (k : Bor (List ℕ)) where
   pub number_within : (i : ℕ) → get key_cmp old (hash_of k.now, k) ≡ Some i → i < length places

@@ -37,10 +37,7 @@ known_to n d start passed s enough reaches canonical number begins = record {
 
 -- and none where it is the first
 pub known_to_first : (d : List ℕ) (start : Start) → start.number ≡ 0 → start.offset ≡ 4 → IsOwnUpTo d start
-known_to_first d start number offset = record {
-  next = rw number tt;
-  before = λ frames w. none_before start.offset 4 frames (omega (arith, offset));
-}
+known_to_first d start number offset = record { next = rw number tt; before = λ frames w. none_before start.offset 4 frames (omega (arith, offset)) }
 
 -- one less is left
 pub one_known : (n less : ℕ) (old new : Option (List ℕ)) (e : RawElement) → less ≡ n - 1 → AreLeftOwn n old → TakesFrame old (Some e) new

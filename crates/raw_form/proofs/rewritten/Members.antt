@@ -1,9 +1,8 @@
 -- What is left of a level that is rewritten.
 use Rattle.std.proofs.Common.{eqb, not, ◌≡◌, ◌≢◌, ◌<◌, ◌-◌, ◌^◌, ◌∷◌, [], zero, suc, ℕ, Bool, List, Option, None, Some, IsTrue, drop, length, arith, ap, refl}
 use Rattle.raw_form.proofs.canonical.Common.{Done, Frame, HasCode, Held, IsFrame-shorter, IsLeft, IsLeftAt, IsOwnUpTo, IsRest, IsWalk, LastPlaces, Leaf, RawElement, RawValue, ReadsAs, ShowsHeld}
-use Rattle.raw_form.proofs.canonical.Common.{StandForEach, StandsFor, Start, TakesFrame, TakesPair, Tree, as_array, as_document, bytes_eq, bytes_of, document, each_read, frame_of, held_value, keep}
+use Rattle.raw_form.proofs.canonical.Common.{StandForEach, Start, TakesFrame, TakesPair, Tree, as_array, as_document, bytes_eq, bytes_of, document, each_read, frame_of, held_value, keep}
 use Rattle.raw_form.proofs.canonical.Common.{keep-distinct, keys_of, keys_of_frames, last_places, members}
-use Rattle.raw_form.specs.declared.rewritten.Keys.{Keys}
 use Rattle.std.specs.List.{IsDistinct}
 use Rattle.std.proofs.lemmas.Bool.Decides.{nat_tests}
 use Rattle.raw_view.specs.Meaning as raw
@@ -58,9 +57,3 @@ shows_leaf v h = grind arith
 
 pub shows_held : (v : RawValue) (h : Held) → ShowsHeld v (Some h) → v ≡ held_value h
 shows_held v h e = grind arith
-
--- a scope has the members of its code
-pub scope_left : (k : Keys) (left : Option (List ℕ)) (code d : List ℕ) (t : Tree) → StandsFor ReadsAs (raw.scoped code d) t
-    → ((u : Tree) → ReadsAs as_document d u → IsLeft k left (members u)) → HasCode t (Some (length code)) × IsLeft k left (members t)
-scope_left k left code d t (es, read, is) kept =
-    rw is (refl, kept (document es) read)

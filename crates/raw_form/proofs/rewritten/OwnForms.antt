@@ -40,10 +40,8 @@ all_apart m n (k ∷ keys) less small h =
 decimals_distinct : (n : ℕ) (keys : List (List ℕ)) → n + length keys < 2 ^ 64 → AreDecimalsFrom n keys → IsDistinct bytes_eq keys
 unfolding IsDistinct
 decimals_distinct n [] small h = tt
-decimals_distinct n (k ∷ keys) small h = (
-  rw h.0 (all_apart n (n + 1) keys (omega arith) (omega (arith, small)) h.1),
-  decimals_distinct (n + 1) keys (omega (arith, small)) h.1,
-)
+decimals_distinct n (k ∷ keys) small h =
+    (rw h.0 (all_apart n (n + 1) keys (omega arith) (omega (arith, small)) h.1), decimals_distinct (n + 1) keys (omega (arith, small)) h.1)
 
 items_are_entries : (n : ℕ) (pairs : List (List ℕ × Tree)) → AreDecimalsFrom n (keys_of pairs) → items_bytes n (trees (map (λ p. p.1) pairs)) ≡ entries_bytes (entries pairs)
 items_are_entries n [] h = refl
@@ -62,8 +60,7 @@ few_frames s (f ∷ frames) w = omega (arith, IsFrame-shorter s f w.0 w.1, few_f
 document_own : (d : List ℕ) (t : Tree) → IsEnvelope d → IsCanonical d → Reads d t → encoding t ≡ d
 document_own d t env c read =
     let own = canonical_is_own_form d env c in
-    let same : own.tree ≡ t = (bytes_one_way as_document d env).one_tree t own.tree read own.read in
-    ap encoding (sym same) ∙ own.spelled.1
+    rw ((bytes_one_way as_document d env).one_tree t own.tree read own.read) at own.spelled.1
 
 document_kind : (d : List ℕ) (t : Tree) → Reads d t → kind_of_tree t ≡ kind.EmbeddedDocument
 document_kind d t (zero, h) = absurd h

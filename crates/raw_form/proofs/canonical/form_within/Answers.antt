@@ -1,7 +1,7 @@
-use Rattle.std.proofs.Common.{inl, inr, ◌∙◌, ◌≤◌, length, ap, arith}
-use Rattle.raw_form.proofs.canonical.Common.{ReadsWithin, Tree, bytes_of, canonical_form, read_within}
+use Rattle.std.proofs.Common.{inl, inr, ◌≤◌, length, ap, arith}
+use Rattle.raw_form.proofs.canonical.Common.{ReadsWithin, Tree, bytes_of, canonical_form, canonical_is_own_form, document, document_reads, read_within}
 use Rattle.std.proofs.lemmas.Result.{IfErr-weaker, IfOk-weaker}
-use Rattle.raw_form.proofs.canonical.Formed.{canonical_told, refused_form}
+use Rattle.raw_form.proofs.canonical.Formed.{refused_form}
 use Rattle.raw_form.proofs.faults.Within.{barrier_first}
 use Rattle.raw_form.proofs.canonical.form_within.Goals.{In_default-2}
 use Rattle.raw_form.proofs.canonical.form_within.Goals as goal
@@ -18,8 +18,13 @@ pub returns-in_default-clause-form : goal.returns-in_default-clause-form
 returns-in_default-clause-form c =
     let b = bytes_of c.args.document in
     let few : length b ≤ c.args.limits.bytes = omega (arith, ap length c.as_bytes-bytes.ensures.bytes, c.if-bytes-limits.false) in
-    canonical_told c.args.limits b c.in_ok-from_slice.field-0.items c.args.document.envelope few
-    (rw c.in_default.is at c.in_ok-start.ensures.start) (c.in_ok-from_slice.ensures.items ∙ c.as_bytes-bytes.ensures.bytes)
+    let canonical = rw c.in_default.is at c.in_ok-start.ensures.start in
+    let read = document_reads c.args.limits.depth b canonical in
+    rw (c.in_ok-from_slice.ensures.items, c.as_bytes-bytes.ensures.bytes)
+    (record {
+      form = canonical_is_own_form b c.args.document.envelope (c.args.limits.depth, canonical);
+      within = (document read.0, read_within c.args.limits b (document read.0) few read.1);
+    })
 
 -- the document is within the limits
 read_in : (c : In_default-2) → (t : Tree) × ReadsWithin c.args.limits (bytes_of c.args.document) t

@@ -2,7 +2,6 @@ use Rattle.std.proofs.Common.{rules, ◌++◌, ◌∷◌, [], length-drop, arith
 use Rattle.raw_form.proofs.canonical.Common.{bytes_of, end_of, frame_of, keep, keep-last, placed}
 use Rattle.raw_form.proofs.last.KeptPairs.{end_behind, placed_behind}
 use Rattle.raw_form.proofs.last.Listed.{passed_more, passed_over}
-use Rattle.raw_form.proofs.numbered.Numbering.{numbered_begins}
 use Rattle.raw_form.proofs.last.list_places.Goals as goal
 
 pub elements-init : goal.elements-init
@@ -10,7 +9,7 @@ elements-init c =
     let empty : c.new-places.result.items ≡ [] = search rules in
     record {
       passed = record { frames = []; read = rw c.new-elements.ensures refl };
-      numbered = rw empty (numbered_begins c.new-numbers.result c.new-numbers.ensures.empty);
+      numbered = rw empty (record { number = λ q. rw c.new-numbers.ensures.empty refl; place = refl });
       offset_is = refl;
       begins = rw c.new-elements.ensures refl;
       few = rw empty (omega arith);

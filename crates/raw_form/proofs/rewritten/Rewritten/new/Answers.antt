@@ -1,7 +1,7 @@
-use Rattle.std.proofs.Common.{◌≡◌, rules, ◌<◌, ◌^◌, Some, drop, length, length-drop, arith}
-use Rattle.raw_form.proofs.canonical.Common.{bytes_of}
+use Rattle.std.proofs.Common.{◌≡◌, rules, ◌<◌, ◌^◌, Some, drop, length, length-drop, arith, refl}
+use Rattle.raw_form.proofs.canonical.Common.{bytes_of, document}
 use Rattle.raw_form.specs.declared.rewritten.Keys.TheVariants as keys
-use Rattle.raw_form.proofs.rewritten.Members.{array_begins, scope_left}
+use Rattle.raw_form.proofs.rewritten.Members.{array_begins}
 use Rattle.raw_form.proofs.rewritten.Rewritten.new.Goals as goal
 
 pub returns-in-Array-clause-left : goal.returns-in-Array-clause-left
@@ -13,7 +13,6 @@ returns-in-Array-clause-left c t stands =
 
 pub returns-in_ok-keys-in-Code-clause-left : goal.returns-in_ok-keys-in-Code-clause-left
 returns-in_ok-keys-in-Code-clause-left c t stands =
-    let d = bytes_of c.in-Code.document in
     let len : c.level-in-Code.result.code_len ≡ Some (length c.in-Code.code.now) = search rules in
-    rw (c.level-in-Code.ensures.keys, c.level-in-Code.ensures.elements, len)
-    (scope_left c.in_ok-keys-in-Code.keys (Some (drop 4 d)) c.in-Code.code.now d t (rw c.in-Code.is at stands) c.in_ok-keys-in-Code.ensures.left)
+    let scope = rw c.in-Code.is at stands in
+    rw (c.level-in-Code.ensures.keys, c.level-in-Code.ensures.elements, len, scope.2) (refl, c.in_ok-keys-in-Code.ensures.left (document scope.0) scope.1)
