@@ -129,16 +129,11 @@ module _ {b : List ℕ} {ws : List Rewritten} {level : Rewritten} {out : List �
               → HasCode next.0 inner.code_len × IsLeft inner.keys inner.elements (members next.0) → IsRewriting b (ws ++ new ∷ []) inner more
           rewriting_inside inner more start_is more_is left =
               let made = held_tree h next.0 (stands (held_value h) means) in
-              record {
-                tree = is.tree;
-                read = is.read;
-                outer = is.outer ++ left_with is.here next.1 ∷ [];
-                here = begun_at next.0 inner.start;
-                waits = begun_more ws new is.outer (left_with is.here next.1) is.waits (passed_on next.1 next.4);
-                begun = record { start_is = refl; code = left.0; left = left.1 };
-                writing = writing_inside is.writing (member_key m, next.0) next.1 next.2 inner.start head more made.0 start_is
-                    (rw (made.2, ← member.key_is) head_is) (rw made.1 more_is);
-              }
+              let waits = begun_more ws new is.outer (left_with is.here next.1) is.waits (passed_on next.1 next.4) in
+              let begun : IsBegun inner (begun_at next.0 inner.start) = record { start_is = refl; code = left.0; left = left.1 } in
+              let writing = writing_inside is.writing (member_key m, next.0) next.1 next.2 inner.start head more made.0 start_is (rw (made.2, ← member.key_is) head_is)
+              (rw made.1 more_is) in
+              record { tree = is.tree; read = is.read; outer = is.outer ++ left_with is.here next.1 ∷ []; here = begun_at next.0 inner.start; waits = waits; begun = begun; writing = writing }
 
     -- no member is left
     pub header_put : new.start + header_len new.code_len ≤ length out

@@ -1,7 +1,8 @@
-use Rattle.std.proofs.Common.{inl, inr, ◌≤◌, length, ap, arith}
-use Rattle.raw_form.proofs.canonical.Common.{ReadsWithin, Tree, bytes_of, canonical_form, canonical_is_own_form, document, document_reads, read_within}
+use Rattle.std.proofs.Common.{inl, inr, ◌≤◌, length, ap, arith, List, ℕ}
+use Rattle.raw_form.proofs.canonical.Common.{Error, IsEnvelope, Limits, ReadsWithin, RefusesFormOf, Tree, as_document, bytes_of, bytes_one_way, canonical_form, canonical_is_own_form, document}
+use Rattle.raw_form.proofs.canonical.Common.{document_reads, read_within}
 use Rattle.std.proofs.lemmas.Result.{IfErr-weaker, IfOk-weaker}
-use Rattle.raw_form.proofs.canonical.Formed.{refused_form}
+use Rattle.raw_form.specs.FormsWithin.{RefusesFormWithin}
 use Rattle.raw_form.proofs.faults.Within.{barrier_first}
 use Rattle.raw_form.proofs.canonical.form_within.Goals.{In_default-2}
 use Rattle.raw_form.proofs.canonical.form_within.Goals as goal
@@ -20,11 +21,15 @@ returns-in_default-clause-form c =
     let few : length b ≤ c.args.limits.bytes = omega (arith, ap length c.as_bytes-bytes.ensures.bytes, c.if-bytes-limits.false) in
     let canonical = rw c.in_default.is at c.in_ok-start.ensures.start in
     let read = document_reads c.args.limits.depth b canonical in
+    let within = read_within c.args.limits b (document read.0) few read.1 in
     rw (c.in_ok-from_slice.ensures.items, c.as_bytes-bytes.ensures.bytes)
-    (record {
-      form = canonical_is_own_form b c.args.document.envelope (c.args.limits.depth, canonical);
-      within = (document read.0, read_within c.args.limits b (document read.0) few read.1);
-    })
+    (record { form = canonical_is_own_form b c.args.document.envelope (c.args.limits.depth, canonical); within = (document read.0, within) })
+
+-- why there is no encoding
+refused_form : (limits : Limits) (b : List ℕ) (t : Tree) (e : Error) → IsEnvelope b → ReadsWithin limits b t → RefusesFormOf b e → RefusesFormWithin limits b e
+refused_form limits b t e env read (inl memory) = inr (env, inl (inl (read.few_bytes, memory)))
+refused_form limits b t e env read (inr (u, reads, long)) =
+    inr (env, inr (t, read, rw ((bytes_one_way as_document b env).one_tree t u read.read reads) at long))
 
 -- the document is within the limits
 read_in : (c : In_default-2) → (t : Tree) × ReadsWithin c.args.limits (bytes_of c.args.document) t
