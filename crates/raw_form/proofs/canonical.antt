@@ -1,2 +1,2 @@
-pub mod Formed
+pub mod Common
 pub mod Starts

@@ -24,6 +24,7 @@ use Rattle.raw_form.specs.declared.held.Held.TheVariants as held
 use Rattle.raw_form.specs.declared.rewritten.Keys.{Keys}
 use Rattle.raw_form.specs.declared.rewritten.Keys.TheVariants as keys
 use Rattle.raw_form.specs.declared.rewritten.Member.{Member}
+use Rattle.raw_form.specs.declared.rewritten.Rewritten.{Rewritten}
 
 -- out of memory; or so many bytes are too many for a document
 abbrev pub FailsFor : ℕ → Error → Type 0
@@ -118,3 +119,8 @@ TakesNext ms None k left = ms ≡ []
 TakesNext ms (Some m) k left =
     (t : Tree) × (rest : List (MemberKey × Tree)) × (ms ≡ (member_key m, t) ∷ rest) × FrameStandsFor (frame_of m.element) t × IsLeft k left rest
     × (IsTrue m.is_known → IsOwnForm (frame_of m.element))
+
+-- the same level, behind its next member
+pub record IsLater (level new : Rewritten) : Type 0 where
+  pub start_is : new.start ≡ level.start
+  pub code_is : new.code_len ≡ level.code_len

@@ -90,6 +90,7 @@ fn flatten_to<'a>(
 /// assert!(rt; matches!(flatten_within(alloc, document, limits, &mut tokens), Ok(2)));
 /// assert_eq!(rt; (tokens[1].tag, tokens[1].key_at, tokens[1].payload_len), (16, 12, 4));
 /// ```
+#[tactic(auto, using(raw_tree::proofs::Face::barred_at_one_place))]
 pub fn flatten_within<'a>(
     alloc: Global,
     document: RawDocument<'a>,

@@ -1,7 +1,7 @@
 //! Values that hold a level, and how their payloads are begun and ended.
 #![tactic(auto)]
 
-ghost use Rattle.std.specs.Prelude.{◌≡◌, ◌≤◌, ◌+◌, ◌++◌, ◌∷◌, [], length, vec_capacity, vec_len, IfErr, IsTrue, OnOk};
+ghost use Rattle.std.specs.Prelude.{◌≡◌, ◌<◌, ◌≤◌, ◌+◌, ◌++◌, ◌∷◌, [], length, vec_capacity, vec_len, IfErr, IsTrue, OnOk};
 ghost use Rattle.bson_model.specs.Leaf.{Leaf};
 ghost use Rattle.raw_form.specs.Rewriting.{FailsFor, IsPlain, ShowsHeld, ended_by, header_len, held_opening, held_value};
 ghost use Rattle.raw_tree.specs.Payload.{element_bytes};
@@ -79,6 +79,7 @@ pub(crate) fn put_plain(out: &mut Vec<u8>, key: &str, element: RawElement<'_>) -
         (out.new.items
         ≡ out.old.items
         ++ element_of (frame_of element.entry).kind key.now (frame_of element.entry).payload) }
+    ensures grows { OnOk result (vec_len out.old < vec_len out.new) }
     ensures fits { OnOk result (vec_len out.new ≤ max_length) }
     ensures err { IfErr result
         (FailsFor (vec_len out.old + (2 + length key.now + length (frame_of element.entry).payload))) }
@@ -95,6 +96,7 @@ pub(crate) fn put_plain(out: &mut Vec<u8>, key: &str, element: RawElement<'_>) -
 fn put_value(out: &mut Vec<u8>, key: &str, value: RawBsonRef<'_>) -> Result<()>
     ensures items { OnOk result
         (out.new.items ≡ out.old.items ++ element_bytes key.now (value_of value.entry)) }
+    ensures grows { OnOk result (vec_len out.old < vec_len out.new) }
     ensures fits { OnOk result (vec_len out.new ≤ max_length) }
     ensures err { IfErr result
         (FailsFor (vec_len out.old + length (element_bytes key.now (value_of value.entry)))) }
@@ -120,6 +122,7 @@ pub(crate) fn put_leaf(
         (out.new.items
         ≡ out.old.items
         ++ element_of (kind_of_leaf (leaf_in_order l)) key.now (leaf_payload (leaf_in_order l))) }
+    ensures grows { OnOk result (vec_len out.old < vec_len out.new) }
     ensures fits { OnOk result (vec_len out.new ≤ max_length) }
     ensures err { (l : Leaf)
         → value_of value.entry ≡ single l
@@ -154,6 +157,7 @@ impl<'a> Held<'a> {
     /// Puts what the payload begins with at the end; its lengths aren't set.
     pub(crate) fn put_opening(self, out: &mut Vec<u8>) -> Result<()>
         ensures items { OnOk result (out.new.items ≡ out.old.items ++ held_opening self.entry) }
+        ensures grows { OnOk result (vec_len out.old < vec_len out.new) }
         ensures fits { OnOk result (vec_len out.new ≤ max_length) }
         ensures err { IfErr result (FailsFor (vec_len out.old + length (held_opening self.entry))) }
     {
@@ -177,6 +181,7 @@ impl<'a> Held<'a> {
         ensures items { OnOk result
             (out.new.items
             ≡ out.old.items ++ tagged (tag_of (kind_of_raw (held_value self.entry))) key.now []) }
+        ensures grows { OnOk result (vec_len out.old < vec_len out.new) }
         ensures fits { OnOk result (vec_len out.new ≤ max_length) }
         ensures err { IfErr result (FailsFor (vec_len out.old + (2 + length key.now))) }
     {

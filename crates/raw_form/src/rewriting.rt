@@ -8,7 +8,7 @@ ghost use Rattle.raw_form.specs.Staying.{IsOwnUpTo};
 ghost use Rattle.raw_tree.specs.Reading.{Reads};
 ghost use Rattle.raw_view.specs.Document.{bytes_of};
 
-use crate::held::{Held, is_plain, level_in, put_end, put_leaf, put_plain};
+use crate::held::{Held, level_in, put_end, put_leaf, put_plain};
 use crate::rewritten::Rewritten;
 use itoa::Buffer;
 use raw_tree::{FIRST, Start};
@@ -41,7 +41,7 @@ pub(crate) fn rewrite(alloc: Global, document: RawDocument<'_>, known: Start) ->
         };
         let mut buffer = Buffer::new();
         let key = member.key(&mut buffer);
-        if member.is_known || is_plain(member.element.element_type()) {
+        if member.is_own() {
             put_plain(&mut out, key, member.element)?;
             continue 'levels;
         }

@@ -1,22 +1,23 @@
 //! A level that is rewritten: which of its elements stay, and under which keys.
 #![tactic(auto)]
 
-ghost use Rattle.std.specs.Prelude.{◌≡◌, ◌≤◌, ℕ, List, Some, drop, length, IfErr, IfOk, IsTrue};
+ghost use Rattle.std.specs.Prelude.{◌≡◌, ◌⊎◌, ◌≤◌, ℕ, List, Some, drop, length, IfErr, IfOk, IsTrue};
 ghost use Rattle.std.specs.List.{IsDistinct};
 ghost use Rattle.std.specs.Str.{bytes_eq};
 ghost use Rattle.bson_model.specs.Tree.{Tree};
-ghost use Rattle.raw_form.specs.Rewriting.{HasCode, IsLeft, TakesNext, held_bytes, held_opening, held_value, member_key};
+ghost use Rattle.raw_form.specs.Rewriting.{HasCode, IsLater, IsLeft, IsPlain, TakesNext, held_bytes, held_opening, held_value, member_key};
 ghost use Rattle.raw_form.specs.Staying.{IsOwnUpTo};
 ghost use Rattle.raw_tree.specs.Breaches.{keys_of_frames};
 ghost use Rattle.raw_tree.specs.Members.{MemberKey, key_bytes, members};
 ghost use Rattle.raw_tree.specs.Reading.{ReadsAs, StandsFor, as_document};
 ghost use Rattle.raw_view.specs.Document.{bytes_of};
 ghost use Rattle.raw_view.specs.Errors.{IsOutOfMemory};
+ghost use Rattle.raw_view.specs.Frame.ElementSteps.{frame_of};
 ghost use Rattle.raw_view.specs.Frame.{Done, Frame, IsWalk};
 ghost use Rattle.raw_view.specs.Frame.Number.{max_length};
 
 use crate::code_len::CodeLen;
-use crate::held::Held;
+use crate::held::{Held, is_plain};
 use crate::last::{LastPlaces, places_of};
 use itoa::Buffer;
 use raw_tree::{Start, next_element};
@@ -64,6 +65,14 @@ impl<'a> Member<'a> {
             None => self.element.key(),
             Some(number) => buffer.format(number),
         }
+    }
+
+    /// Whether it is written as it is, since it is known to be canonical, or its value holds no level and no options.
+    #[inline(always)]
+    pub(crate) fn is_own(self) -> bool
+        ensures { IsTrue result → IsTrue self.entry.is_known ⊎ IsPlain (frame_of self.entry.element).kind }
+    {
+        self.is_known || is_plain(self.element.element_type())
     }
 }
 
@@ -153,8 +162,7 @@ impl<'a> Rewritten<'a> {
         ensures next { (ms : List (MemberKey × Tree))
             → IsLeft self.old.keys self.old.elements ms
             → TakesNext ms result self.new.keys self.new.elements }
-        ensures start { self.new.start ≡ self.old.start }
-        ensures code_len { self.new.code_len ≡ self.old.code_len }
+        ensures later { IsLater self.old self.new }
     {
         match &mut self.keys {
             Keys::Numbers(number) => {

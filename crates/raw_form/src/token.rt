@@ -50,6 +50,7 @@ impl Token {
 }
 
 /// Says how many tokens are inside the one at this place, if the room has it.
+#[tactic(auto, using(crate::proofs::flatten::Flattening::inside_one, crate::proofs::flatten::Flattening::inside_past))]
 pub(crate) fn set_inside(tokens: &mut [Token], place: usize, inside: usize)
     requires { inside < 2 ^ 32 }
     ensures { tokens.new ≡ with_inside place inside tokens.old }

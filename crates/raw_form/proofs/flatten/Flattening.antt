@@ -1,25 +1,15 @@
 -- What a flattening keeps, and what it tells where it ends.
-use Rattle.std.proofs.Common.{◌≡◌, ◌∙◌, ◌≤◌, ◌<◌, ◌+◌, ◌++◌, ◌∷◌, [], ℕ, suc, List, Option, None, Some, length, drop, arith, ap, refl, sym, subst, length-append, length-drop, append_assoc, append-nil, zero, set, slice_index_or}
-use Rattle.raw_view.specs.Document.{bytes_of}
-use Rattle.raw_view.specs.Frame.ElementSteps.{frame_of, HasRead}
-use Rattle.raw_view.specs.Frame.{Frame, IsFrame, Done}
-use Rattle.raw_view.specs.Meaning.{RawValue, Means, value}
-use Rattle.raw_view.specs.Meaning as raw
+use Rattle.std.proofs.Common.{◌-◌, ◌≡◌, ◌∙◌, ◌≤◌, ◌<◌, ◌+◌, ◌++◌, ◌∷◌, [], ℕ, suc, List, Option, None, Some, length, drop, arith, ap, refl, sym, length-append, length-drop, append_assoc, append-nil, zero, set, slice_index_or}
+use Rattle.raw_form.proofs.canonical.Common.{AreInside, AreTokens, AreTokensOf, Done, Frame, HasRead, HasTokens, Holds, HoldsNone, IsAtFinal, IsFrame, IsOpened, IsTokenOf, LeadsTo-more, LeadsTo-walk}
+use Rattle.raw_form.proofs.canonical.Common.{Looks, NestedUpTo, RawElement, RawValue, Wait, bytes_of, end_of, filled_from, frame_of, nil_from_length, same_from_push, size_of}
 use Rattle.raw_view.specs.declared.document.RawDocument.{RawDocument}
-use Rattle.raw_view.specs.declared.element.RawElement.{RawElement}
-use Rattle.raw_view.proofs.Face.{LeadsTo-walk, LeadsTo-more}
-use Rattle.raw_tree.specs.Reading.{Holds}
 use Rattle.raw_form.specs.Flattening.{with_inside}
-use Rattle.raw_tree.specs.Looking.{HoldsNone, Looks, size_of}
-use Rattle.raw_form.specs.Staying.{end_of}
-use Rattle.raw_form.specs.Tokens.{AreInside, AreTokens, AreTokensOf, HasTokens, IsTokenOf, NestedUpTo, filled_from}
-use Rattle.raw_tree.specs.Waits.{Wait}
-use Rattle.raw_tree.specs.Walks.{IsOpened, IsAtFinal}
 use Rattle.raw_tree.specs.declared.walk.level.Level.{Level}
-use Rattle.raw_tree.specs.Aheads as next
 use Rattle.raw_form.specs.declared.token.Token.{Token}
+use Rattle.raw_view.specs.Meaning as raw
+use Rattle.raw_tree.specs.Aheads as next
 use Rattle.raw_form.proofs.last.KeptPairs.{end_behind}
-use Rattle.raw_tree.proofs.Face.{filled_more, filled_none}
+use Rattle.raw_tree.proofs.Face.{filled_more}
 
 -- tokens of frames
 
@@ -38,9 +28,9 @@ module _ (Nested : ℕ → List ℕ → List Token → Type 0) where
 
   inside_held : (v : RawValue) (d : List ℕ) (end : ℕ) (ts : List Token) → Holds v d → NestedUpTo Nested end d ts → AreInside Nested v end ts
   inside_held (raw.single l) d end ts h nested = absurd h
-  inside_held (raw.document e) d end ts h nested = subst (λ (x : List ℕ). NestedUpTo Nested end x ts) h nested
-  inside_held (raw.array e) d end ts h nested = subst (λ (x : List ℕ). NestedUpTo Nested end x ts) h nested
-  inside_held (raw.scoped code e) d end ts h nested = subst (λ (x : List ℕ). NestedUpTo Nested end x ts) h nested
+  inside_held (raw.document e) d end ts h nested = rw (← h) nested
+  inside_held (raw.array e) d end ts h nested = rw (← h) nested
+  inside_held (raw.scoped code e) d end ts h nested = rw (← h) nested
 
 -- one level
 
@@ -55,13 +45,10 @@ pub record IsFlat (inside depth start : ℕ) (d : List ℕ) (left : Option (List
 flat_more : {inside depth start : ℕ} {d s : List ℕ} {offset : ℕ} {tokens : List Token} (is : IsFlat inside depth start d (Some s) offset tokens)
     (f : Frame) (r : List ℕ) (left : Option (List ℕ)) (behind : ℕ) (more : List Token) → IsFrame s f r → left ≡ Some r → behind ≡ offset + size_of f
     → AreTokensOf (HasTokens inside (suc depth)) depth offset f more → IsFlat inside depth start d left behind (tokens ++ more)
-flat_more {inside} {depth} {start} {d} {s} {offset} {tokens} is f r left behind more at left_is far one = record {
-  frames = is.frames ++ f ∷ [];
-  passed = rw left_is (LeadsTo-more (drop 4 d) is.frames s f r is.passed at);
-  has = tokens_more (HasTokens inside (suc depth)) depth (start + 4) is.frames tokens f more is.has
-      (subst (λ (n : ℕ). AreTokensOf (HasTokens inside (suc depth)) depth n f more) is.far one);
-  far = far ∙ (ap (λ (n : ℕ). n + size_of f) is.far ∙ sym (end_behind (start + 4) is.frames f));
-}
+flat_more {inside} {depth} {start} {d} {s} {offset} {tokens} is f r left behind more at left_is far one =
+    let passed : HasRead (drop 4 d) (is.frames ++ f ∷ []) left = rw left_is (LeadsTo-more (drop 4 d) is.frames s f r is.passed at) in
+    let has = tokens_more (HasTokens inside (suc depth)) depth (start + 4) is.frames tokens f more is.has (rw (← is.far) one) in
+    record { frames = is.frames ++ f ∷ []; passed = passed; has = has; far = rw (far, is.far, end_behind (start + 4) is.frames f) refl }
 
 flat_whole : {inside depth start : ℕ} {d : List ℕ} {old : Option (List ℕ)} {offset : ℕ} {tokens : List Token} (new : Option (List ℕ)) (behind : ℕ) (e : RawElement)
     (t : Token) → IsFlat inside depth start d old offset tokens → Looks old new (next.Whole e) → behind ≡ offset + size_of (frame_of e)
@@ -86,21 +73,14 @@ pub record Open : Type 0 where
   pub tokens : List Token
   pub token : Token
 
--- it waits for the bytes d, which begin there
+-- the token of an element in which so many are
+abbrev with : Token → ℕ → Token
+with t size = record t { inside = size }
+
+-- it waits for the bytes d, which begin there: it goes on behind them, whose tokens are behind that of the element
 pub record IsOpen (inside depth : ℕ) (o : Open) (w : Wait) (start : ℕ) (d : List ℕ) : Type 0 where
-  pub s : List ℕ
-  pub f : Frame
-  pub r : List ℕ
-  pub v : RawValue
-  pub offset : ℕ
-  pub flat : IsFlat (suc inside) depth o.start o.bytes (Some s) offset o.tokens
-  pub frame : IsFrame s f r
-  pub means : Means f (value v)
-  pub holds : Holds v d
-  pub token : IsTokenOf depth offset f 0 o.token
-  pub left_is : w.elements ≡ Some r
-  pub far : w.offset ≡ offset + size_of f
-  pub ends : start + length d ≡ w.offset
+  pub closes : (tokens : List Token) → HasTokens (suc inside) (suc depth) start d tokens
+      → IsFlat (suc inside) depth o.start o.bytes w.elements w.offset (o.tokens ++ with o.token (length tokens) ∷ tokens)
 
 opens : {inside depth start : ℕ} {d : List ℕ} {old : Option (List ℕ)} {offset : ℕ} {tokens : List Token} (first : ℕ) (w : Wait) (e : RawElement) (inner : RawDocument)
     (t : Token)
@@ -108,44 +88,13 @@ opens : {inside depth start : ℕ} {d : List ℕ} {old : Option (List ℕ)} {off
     → IsTokenOf depth offset (frame_of e) 0 t → first + length (bytes_of inner) ≡ w.offset
     → IsOpen inside depth (record { start = start; bytes = d; tokens = tokens; token = t }) w first (bytes_of inner)
 opens {old = None} first w e inner t is looks far token ends = absurd is.passed
-opens {old = Some s} {offset} first w e inner t is (r, v, at, m, holds, left_is) far token ends = record {
-  s = s;
-  f = frame_of e;
-  r = r;
-  v = v;
-  offset = offset;
-  flat = is;
-  frame = at;
-  means = m;
-  holds = holds;
-  token = token;
-  left_is = left_is;
-  far = far;
-  ends = ends;
+opens {inside} {depth} {old = Some s} {offset} first w e inner t is (r, v, at, m, holds, left_is) far token ends = record {
+  closes = λ ts has.
+      let own : IsTokenOf depth offset (frame_of e) (length ts) (with t (length ts)) =
+      record { tag = token.tag; depth_is = token.depth_is; key_at = token.key_at; key_len = token.key_len; payload_at = token.payload_at; payload_len = token.payload_len; inside_is = refl } in
+      flat_more is (frame_of e) r w.elements w.offset (with t (length ts) ∷ ts) at left_is far
+      (v, with t (length ts), ts, m, inside_held (HasTokens (suc inside) (suc depth)) v (bytes_of inner) (offset + size_of (frame_of e)) ts holds (first, ends ∙ far, has), own, refl);
 }
-
--- the token of an element in which so many are
-abbrev with : Token → ℕ → Token
-with t size = record t { inside = size }
-
--- the level goes on behind the one inside, which has these tokens
-closes : {inside depth : ℕ} {o : Open} {w : Wait} {start : ℕ} {d : List ℕ} (tokens : List Token) → IsOpen inside depth o w start d
-    → HasTokens (suc inside) (suc depth) start d tokens
-    → IsFlat (suc inside) depth o.start o.bytes w.elements w.offset (o.tokens ++ with o.token (length tokens) ∷ tokens)
-closes {inside} {depth} {o} {w} {start} {d} tokens is has =
-    let t : Token = with o.token (length tokens) in
-    let nested : NestedUpTo (HasTokens (suc inside) (suc depth)) (is.offset + size_of is.f) d tokens = (start, is.ends ∙ is.far, has) in
-    let token : IsTokenOf depth is.offset is.f (length tokens) t = record {
-      tag = is.token.tag;
-      depth_is = is.token.depth_is;
-      key_at = is.token.key_at;
-      key_len = is.token.key_len;
-      payload_at = is.token.payload_at;
-      payload_len = is.token.payload_len;
-      inside_is = refl;
-    } in
-    flat_more is.flat is.f is.r w.elements w.offset (t ∷ tokens) is.frame is.left_is is.far
-    (is.v, t, tokens, is.means, inside_held (HasTokens (suc inside) (suc depth)) is.v d (is.offset + size_of is.f) tokens is.holds nested, token, refl)
 
 -- the tokens before those of the innermost level; of levels that wait, the innermost first
 abbrev pub tokens_before : List Open → List Token
@@ -170,13 +119,10 @@ open_levels most b (o ∷ os) ws inside start d (outer, w, same, is, are) =
     let out = open_levels most b os outer (suc inside) o.start o.bytes are in
     (omega (arith, out.0), omega (arith, out.1, ap length same, length-append outer (w ∷ [])))
 
-places_len : (os : List Open) → length (places os) ≡ length os
-places_len [] = refl
-places_len (o ∷ os) = omega (arith, places_len os, length-append (places os) (length (tokens_before os ++ o.tokens) ∷ []))
-
-tokens_many : (os : List Open) → length os ≤ length (tokens_before os)
-tokens_many [] = omega arith
-tokens_many (o ∷ os) = omega (arith, tokens_many os, length-append (tokens_before os) (o.tokens ++ o.token ∷ []), length-append o.tokens (o.token ∷ []))
+-- there are as many places, and at least as many tokens
+open_many : (os : List Open) → (length (places os) ≡ length os) × (length os ≤ length (tokens_before os))
+open_many [] = (refl, omega arith)
+open_many (o ∷ os) = (omega (arith, open_many os, length-append {A = ℕ}), omega (arith, open_many os, length-append {A = Token}))
 
 -- the token at a place says how many are inside
 filled_inside : (size : ℕ) (front rest : List Token) (t : Token) (room : List Token)
@@ -197,18 +143,13 @@ inside_past n size [] h = refl
 inside_past zero size (x ∷ room) h = absurd (omega (arith, h))
 inside_past (suc n) size (x ∷ room) h = ap (λ (r : List Token). x ∷ r) (inside_past n size room (omega (arith, h)))
 
--- the last of a list
-last_same : {X : Type 0} (xs ys : List X) (x y : X) → xs ++ x ∷ [] ≡ ys ++ y ∷ [] → (xs ≡ ys) × (x ≡ y)
-last_same [] [] x y e = (refl, cc)
-last_same [] (b ∷ ys) x y e = absurd (omega (arith, ap length e, length-append ys (y ∷ [])))
-last_same (a ∷ xs) [] x y e = absurd (omega (arith, ap length e, length-append xs (x ∷ [])))
-last_same (a ∷ xs) (b ∷ ys) x y e =
-    let first : a ≡ b = cc in
-    let rest : xs ++ x ∷ [] ≡ ys ++ y ∷ [] = cc in
-    let both = last_same xs ys x y rest in
-    ((λ i. first i ∷ both.0 i), both.1)
-
 -- all levels
+
+-- of the levels that wait the innermost has the last of the places
+last_place : (os : List Open) (shorter : List ℕ) (place : ℕ) → places os ≡ shorter ++ place ∷ []
+    → (o : Open) × (rest : List Open) × (os ≡ o ∷ rest) × (shorter ≡ places rest) × (place ≡ length (tokens_before rest ++ o.tokens))
+last_place [] shorter place e = absurd (omega (arith, ap length e, length-append shorter (place ∷ [])))
+last_place (o ∷ os) shorter place e = let both = same_from_push shorter (places os) place _ (sym e) in (o, os, refl, both.0, both.1)
 
 -- What a flattening keeps where these levels wait: so many tokens are in front of the room, as many as it has room for, and the
 -- list has the places of those of the elements that hold the levels.
@@ -225,52 +166,24 @@ pub record IsFlattening (most : ℕ) (b : List ℕ) (before : List Token) (ws : 
   pub few : count ≤ offset
   pub filled : room ≡ filled_from 0 before (tokens_before os ++ tokens)
 
-pub flat_begins : (most : ℕ) (b : List ℕ) (room : List Token) (left : Option (List ℕ)) (list : List ℕ) → left ≡ Some (drop 4 b) → list ≡ []
-    → IsFlattening most b room [] left 4 list 0 room
-flat_begins most b room left list left_is none = record {
-  os = [];
-  inside = most;
-  start = 0;
-  d = b;
-  tokens = [];
-  are_open = (refl, refl, refl, refl);
-  flat = record { frames = []; passed = rw left_is refl; has = refl; far = refl };
-  list_is = none;
-  count_is = refl;
-  few = omega arith;
-  filled = sym (filled_none 0 room);
-}
-
 module _ {most : ℕ} {b : List ℕ} {before : List Token} {ws : List Wait} {left : Option (List ℕ)} {offset : ℕ} {list : List ℕ} {count : ℕ} {room : List Token}
     (is : IsFlattening most b before ws left offset list count room) where
   -- how many levels wait
   pub depth_is : length list ≡ length is.os
-  depth_is = ap length is.list_is ∙ places_len is.os
+  depth_is = ap length is.list_is ∙ (open_many is.os).0
 
-  pub few_wait : length list ≤ count
-  few_wait = omega (arith, depth_is, is.count_is, tokens_many is.os, length-append (tokens_before is.os) is.tokens)
+  pub few_wait : length list ≤ offset
+  few_wait = omega (arith, depth_is, is.count_is, is.few, (open_many is.os).1, length-append (tokens_before is.os) is.tokens)
 
   pub as_many_wait : length list ≡ length ws
   as_many_wait = depth_is ∙ (open_levels most b is.os ws is.inside is.start is.d is.are_open).1
 
   -- the token of an element that holds a level is there
   pub place_within : (shorter : List ℕ) (place : ℕ) → list ≡ shorter ++ place ∷ [] → place + 1 ≤ count
-  place_within shorter place popped = within is.os is.list_is is.count_is
-    where
-      within : (os : List Open) → list ≡ places os → count ≡ length (tokens_before os ++ is.tokens) → place + 1 ≤ count
-      within [] list_is count_is = absurd (omega (arith, ap length (sym popped ∙ list_is), length-append shorter (place ∷ [])))
-      within (o ∷ os) list_is count_is =
-          let front : List Token = tokens_before os ++ o.tokens in
-          let at = last_same shorter (places os) place (length front) (sym popped ∙ list_is) in
-          omega (
-            arith,
-            at.1,
-            count_is,
-            length-append (tokens_before os) o.tokens,
-            length-append (tokens_before os) (o.tokens ++ o.token ∷ []),
-            length-append o.tokens (o.token ∷ []),
-            length-append (tokens_before (o ∷ os)) is.tokens,
-          )
+  place_within shorter place popped =
+      let last = last_place is.os shorter place (sym is.list_is ∙ popped) in
+      let many = is.count_is ∙ ap (λ (os : List Open). length (tokens_before os ++ is.tokens)) last.2 in
+      omega (arith, many, last.4, length-append {A = Token})
 
   -- one token more
   one_more : (t : Token) (after : List Token) → after ≡ filled_from count room (t ∷ []) → after ≡ filled_from 0 before (tokens_before is.os ++ is.tokens ++ t ∷ [])
@@ -283,7 +196,6 @@ module _ {most : ℕ} {b : List ℕ} {before : List Token} {ws : List Wait} {lef
       → behind ≡ offset + size_of (frame_of e) → IsTokenOf (length list) offset (frame_of e) 0 t → after ≡ filled_from count room (t ∷ [])
       → IsFlattening most b before ws new behind list (count + 1) after
   flattens_whole new behind e t after looks far token put =
-      let here : IsTokenOf (length is.os) offset (frame_of e) 0 t = subst (λ (n : ℕ). IsTokenOf n offset (frame_of e) 0 t) depth_is token in
       let whole : (tokens_before is.os ++ is.tokens) ++ t ∷ [] ≡ tokens_before is.os ++ (is.tokens ++ t ∷ []) = append_assoc (tokens_before is.os) is.tokens (t ∷ []) in
       record {
         os = is.os;
@@ -292,7 +204,7 @@ module _ {most : ℕ} {b : List ℕ} {before : List Token} {ws : List Wait} {lef
         d = is.d;
         tokens = is.tokens ++ t ∷ [];
         are_open = is.are_open;
-        flat = flat_whole new behind e t is.flat looks far here;
+        flat = flat_whole new behind e t is.flat looks far (rw depth_is at token);
         list_is = is.list_is;
         count_is = omega (arith, is.count_is, ap length whole, length-append (tokens_before is.os ++ is.tokens) (t ∷ []));
         few = omega (arith, is.few, far);
@@ -305,85 +217,60 @@ module _ {most : ℕ} {b : List ℕ} {before : List Token} {ws : List Wait} {lef
       → IsOpened w.offset inner level → offset < level.offset
       → IsFlattening most b before (ws ++ w ∷ []) level.elements level.offset (list ++ count ∷ []) (count + 1) (filled_from count room (t ∷ []))
   flattens_inside {inner} {level} w e t few looks far token opened further =
-      enters is.inside is.are_open is.flat
-    where
-      o : Open
-      o = record { start = is.start; bytes = is.d; tokens = is.tokens; token = t }
-
-      enters : (inside : ℕ) → AreOpen most b is.os ws inside is.start is.d → IsFlat inside (length is.os) is.start is.d left offset is.tokens
-          → IsFlattening most b before (ws ++ w ∷ []) level.elements level.offset (list ++ count ∷ []) (count + 1) (filled_from count room (t ∷ []))
-      enters zero are flat = absurd (omega (arith, few, open_levels most b is.os ws 0 is.start is.d are))
-      enters (suc inside) are flat =
-          let here : IsTokenOf (length is.os) offset (frame_of e) 0 t = subst (λ (n : ℕ). IsTokenOf n offset (frame_of e) 0 t) depth_is token in
-          let whole : (tokens_before is.os ++ is.tokens) ++ t ∷ [] ≡ (tokens_before is.os ++ (is.tokens ++ t ∷ [])) ++ [] =
-          append_assoc (tokens_before is.os) is.tokens (t ∷ []) ∙ sym (append-nil (tokens_before is.os ++ (is.tokens ++ t ∷ []))) in
-          record {
-            os = o ∷ is.os;
-            inside = inside;
-            start = level.start;
-            d = bytes_of inner;
-            tokens = [];
-            are_open = (ws, w, refl, opens level.start w e inner t flat looks far here opened.starts, are);
-            flat = record { frames = []; passed = rw (opened.left_is) refl; has = refl; far = omega (arith, opened.begins, opened.starts, length-drop 4 (bytes_of inner), inner.envelope.enough) };
-            list_is = λ i. is.list_is i ++ is.count_is i ∷ [];
-            count_is = omega (arith, is.count_is, ap length whole, length-append (tokens_before is.os ++ is.tokens) (t ∷ []));
-            few = omega (arith, is.few, further);
-            filled = one_more t (filled_from count room (t ∷ [])) refl ∙ ap (filled_from 0 before) whole;
-          }
+      let levels = open_levels most b is.os ws is.inside is.start is.d is.are_open in
+      let more : is.inside ≡ suc (is.inside - 1) = omega (arith, few, levels.0, levels.1) in
+      let whole : (tokens_before is.os ++ is.tokens) ++ t ∷ [] ≡ (tokens_before is.os ++ (is.tokens ++ t ∷ [])) ++ [] = simp (append_assoc, append-nil) in
+      record {
+        os = record { start = is.start; bytes = is.d; tokens = is.tokens; token = t } ∷ is.os;
+        inside = is.inside - 1;
+        start = level.start;
+        d = bytes_of inner;
+        tokens = [];
+        are_open = (ws, w, refl, opens level.start w e inner t (rw more at is.flat) looks far (rw depth_is at token) opened.starts, rw more at is.are_open);
+        flat = record { frames = []; passed = rw (opened.left_is) refl; has = refl; far = omega (arith, opened.begins, opened.starts, length-drop 4 (bytes_of inner), inner.envelope.enough) };
+        list_is = λ i. is.list_is i ++ is.count_is i ∷ [];
+        count_is = omega (arith, is.count_is, ap length whole, length-append (tokens_before is.os ++ is.tokens) (t ∷ []));
+        few = omega (arith, is.few, further);
+        filled = one_more t (filled_from count room (t ∷ [])) refl ∙ ap (filled_from 0 before) whole;
+      }
 
   -- the end of a level for which another waits
-  pub flattens_end : (outer : List Wait) (w : Wait) (shorter : List ℕ) (place size : ℕ) → ws ≡ outer ++ w ∷ [] → IsAtFinal left → list ≡ shorter ++ place ∷ []
-      → size + (place + 1) ≡ count → offset < w.offset → IsFlattening most b before outer w.elements w.offset shorter count (with_inside place size room)
-  flattens_end outer w shorter place size same over popped size_is further = leaves is.os is.are_open is.flat is.list_is is.count_is is.filled
+  pub flattens_end : (outer : List Wait) (w : Wait) (shorter : List ℕ) (place : ℕ) → ws ≡ outer ++ w ∷ [] → IsAtFinal left → list ≡ shorter ++ place ∷ []
+      → offset < w.offset → IsFlattening most b before outer w.elements w.offset shorter count (with_inside place (count - (place + 1)) room)
+  flattens_end outer w shorter place same over popped further =
+      let last = last_place is.os shorter place (sym is.list_is ∙ popped) in
+      leaves last.0 last.1 last.2 last.3 last.4
     where
-      leaves : (os : List Open) → AreOpen most b os ws is.inside is.start is.d → IsFlat is.inside (length os) is.start is.d left offset is.tokens → list ≡ places os
-          → count ≡ length (tokens_before os ++ is.tokens) → room ≡ filled_from 0 before (tokens_before os ++ is.tokens)
-          → IsFlattening most b before outer w.elements w.offset shorter count (with_inside place size room)
-      leaves [] (none, inside_is, start_is, d_is) flat list_is count_is filled =
-          let left_over : outer ++ w ∷ [] ≡ [] = sym same ∙ none in
-          absurd (omega (arith, ap length left_over, length-append outer (w ∷ [])))
-      leaves (o ∷ os) (far_outer, v, end, is_open, are) flat list_is count_is filled =
-          let waits = last_same far_outer outer v w (sym end ∙ same) in
-          let front : List Token = tokens_before os ++ o.tokens in
-          let at = last_same shorter (places os) place (length front) (sym popped ∙ list_is) in
-          let whole : tokens_before (o ∷ os) ++ is.tokens ≡ front ++ o.token ∷ is.tokens =
-          ap (λ (x : List Token). x ++ is.tokens) (sym (append_assoc (tokens_before os) o.tokens (o.token ∷ []))) ∙ append_assoc front (o.token ∷ []) is.tokens in
-          let many : size ≡ length is.tokens = omega (arith, size_is, count_is, at.1, ap length whole, length-append front (o.token ∷ is.tokens)) in
+      leaves : (o : Open) (os : List Open) → is.os ≡ o ∷ os → shorter ≡ places os → place ≡ length (tokens_before os ++ o.tokens)
+          → IsFlattening most b before outer w.elements w.offset shorter count (with_inside place (count - (place + 1)) room)
+      leaves o os os_are shorter_is place_is =
+          let waits = rw (os_are, same) at is.are_open in
+          let both = same_from_push outer waits.0 w waits.1 waits.2 in
+          let is_open : IsOpen is.inside (length os) o w is.start is.d = rw both.1 waits.3 in
           let t : Token = with o.token (length is.tokens) in
-          let tokens : List Token = o.tokens ++ t ∷ is.tokens in
-          let here : front ++ t ∷ is.tokens ≡ tokens_before os ++ tokens = append_assoc (tokens_before os) o.tokens (t ∷ is.tokens) in
-          let set : with_inside place size room ≡ filled_from 0 before (front ++ t ∷ is.tokens) =
-          (λ i. with_inside (at.1 i) (many i) (filled i)) ∙ ap (λ (x : List Token). with_inside (length front) (length is.tokens) (filled_from 0 before x)) whole
-          ∙ filled_inside (length is.tokens) front is.tokens o.token before in
-          let next : IsFlat (suc is.inside) (length os) o.start o.bytes w.elements w.offset tokens =
-          subst (λ (x : Wait). IsFlat (suc is.inside) (length os) o.start o.bytes x.elements x.offset tokens) waits.1
-          (closes is.tokens is_open (flat_over is.inside (suc (length os)) is.start is.d left offset is.tokens flat over)) in
+          let front : List Token = tokens_before os ++ o.tokens in
+          let whole : tokens_before is.os ++ is.tokens ≡ front ++ o.token ∷ is.tokens = rw os_are (simp append_assoc) in
+          let many : count - (place + 1) ≡ length is.tokens = omega (arith, is.count_is, place_is, ap length whole, length-append front (o.token ∷ is.tokens)) in
+          let here : front ++ t ∷ is.tokens ≡ tokens_before os ++ (o.tokens ++ t ∷ is.tokens) = append_assoc (tokens_before os) o.tokens (t ∷ is.tokens) in
           record {
             os = os;
             inside = suc is.inside;
             start = o.start;
             d = o.bytes;
-            tokens = tokens;
-            are_open = subst (λ (x : List Wait). AreOpen most b os x (suc is.inside) o.start o.bytes) waits.0 are;
-            flat = next;
-            list_is = at.0;
-            count_is = omega (arith, count_is, ap length whole, ap length here, length-append front (o.token ∷ is.tokens), length-append front (t ∷ is.tokens));
+            tokens = o.tokens ++ t ∷ is.tokens;
+            are_open = rw both.0 waits.4;
+            flat = is_open.closes is.tokens (flat_over is.inside (suc (length os)) is.start is.d left offset is.tokens (rw os_are at is.flat) over);
+            list_is = shorter_is;
+            count_is = omega (arith, is.count_is, ap length whole, ap length here, length-append front (o.token ∷ is.tokens), length-append front (t ∷ is.tokens));
             few = omega (arith, is.few, further);
-            filled = set ∙ ap (filled_from 0 before) here;
+            filled = rw (many, place_is, is.filled, whole, ← here) (filled_inside (length is.tokens) front is.tokens o.token before);
           }
 
   -- the end of the document
   pub flattens_all : ws ≡ [] → IsAtFinal left → (ts : List Token) × HasTokens (suc most) 0 0 b ts × (count ≡ length ts) × (room ≡ filled_from 0 before ts)
-  flattens_all none over = ends is.os is.are_open is.flat is.count_is is.filled
-    where
-      ends : (os : List Open) → AreOpen most b os ws is.inside is.start is.d → IsFlat is.inside (length os) is.start is.d left offset is.tokens
-          → count ≡ length (tokens_before os ++ is.tokens) → room ≡ filled_from 0 before (tokens_before os ++ is.tokens)
-          → (ts : List Token) × HasTokens (suc most) 0 0 b ts × (count ≡ length ts) × (room ≡ filled_from 0 before ts)
-      ends [] (e, inside_is, start_is, d_is) flat count_is filled =
-          let ts = is.tokens in
-          let has : HasTokens (suc is.inside) 0 is.start is.d ts = flat_over is.inside 0 is.start is.d left offset ts flat over in
-          let here : HasTokens (suc is.inside) 0 0 b ts = subst (λ (n : ℕ). HasTokens (suc is.inside) 0 n b ts) start_is (subst (λ (x : List ℕ). HasTokens (suc is.inside) 0 is.start x ts) d_is has) in
-          (ts, subst (λ (n : ℕ). HasTokens (suc n) 0 0 b ts) inside_is here, count_is, filled)
-      ends (o ∷ os) (outer, w, same, is_open, are) flat count_is filled =
-          let left_over : outer ++ w ∷ [] ≡ [] = sym same ∙ none in
-          absurd (omega (arith, ap length left_over, length-append outer (w ∷ [])))
+  flattens_all none over =
+      let levels = open_levels most b is.os ws is.inside is.start is.d is.are_open in
+      let no : is.os ≡ [] = nil_from_length is.os (omega (arith, levels.1, ap length none)) in
+      let level = rw no at is.are_open in
+      let flat : IsFlat most 0 0 b left offset is.tokens = rw (no, level.1, level.2, level.3) at is.flat in
+      (is.tokens, flat_over most 0 0 b left offset is.tokens flat over, rw no at is.count_is, rw no at is.filled)

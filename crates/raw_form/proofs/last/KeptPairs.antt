@@ -1,28 +1,12 @@
 -- The last value of a key, and pairs that are kept one after the other.
-use Rattle.std.proofs.Common.{◌≡◌, ◌∙◌, ◌+◌, ◌++◌, ◌∷◌, [], ℕ, true, false, cond, List, Option, None, Some, reverse, ap, refl, sym}
-use Rattle.std.proofs.lemmas.List.{reverse-append}
-use Rattle.std.proofs.lemmas.Slice.Eq.{bytes_eq-Decides}
-use Rattle.std.specs.Str.{bytes_eq}
-use Rattle.bson_model.specs.Pairs.{last_value_at, value_at}
-use Rattle.raw_view.specs.Frame.{Frame}
-use Rattle.raw_tree.specs.Looking.{size_of}
-use Rattle.raw_form.specs.Staying.{end_of, placed}
+use Rattle.std.proofs.Common.{◌≡◌, ◌∙◌, ◌+◌, ◌++◌, ◌∷◌, [], ℕ, true, cond, List, Option, None, Some, reverse, ap, refl, arith}
+use Rattle.raw_form.proofs.canonical.Common.{Frame, bytes_eq, bytes_eq-Decides, end_of, last_value_at, placed, reverse-append, size_of, value_at}
 
 pub same_key : (k l : List ℕ) → bytes_eq k l ≡ true → k ≡ l
 same_key k l e = (bytes_eq-Decides k l).0 e
 
-pub itself : (k : List ℕ) → bytes_eq k k ≡ true
-itself k = (bytes_eq-Decides k k).1 refl
-
 pub flipped : (k l : List ℕ) → bytes_eq k l ≡ bytes_eq l k
-flipped k l =
-    elim (bytes_eq k l) as (λ b. bytes_eq k l ≡ b → b ≡ bytes_eq l k) [
-      | true ↦ λ e. let at : bytes_eq l k ≡ true = (bytes_eq-Decides l k).1 (sym (same_key k l e)) in sym at
-      | false ↦ λ e. elim (bytes_eq l k) as (λ b. bytes_eq l k ≡ b → false ≡ b) [
-        | true ↦ λ h. let at : bytes_eq k l ≡ true = (bytes_eq-Decides k l).1 (sym (same_key l k h)) in cc
-        | false ↦ λ h. refl
-      ] refl
-    ] refl
+flipped k l = grind (arith, bytes_eq-Decides)
 
 -- the last value of a key
 
@@ -35,11 +19,7 @@ here key p = cond (bytes_eq key p.0) (Some p.1) None
 
 value_at-behind : {T : Type 0} (key : List ℕ) (ps : List (List ℕ × T)) (x : List ℕ × T) → value_at key (ps ++ x ∷ []) ≡ first_or (value_at key ps) (here key x)
 value_at-behind key [] x = refl
-value_at-behind {T} key (p ∷ ps) x =
-    elim (bytes_eq key p.0) as (λ b. cond b (Some p.1) (value_at key (ps ++ x ∷ [])) ≡ first_or {T = T} (cond b (Some p.1) (value_at key ps)) (here key x)) [
-      | true ↦ refl
-      | false ↦ value_at-behind key ps x
-    ]
+value_at-behind key (p ∷ ps) x = grind (arith, value_at-behind key ps)
 
 pub last_front : {T : Type 0} (key : List ℕ) (x : List ℕ × T) (ps : List (List ℕ × T)) → last_value_at key (x ∷ ps) ≡ first_or (last_value_at key ps) (here key x)
 last_front key x ps = ap (λ rs. value_at key rs) (reverse-append (x ∷ []) ps) ∙ value_at-behind key (reverse ps) x

@@ -1,30 +1,15 @@
 -- What a canonical frame stands for is written as the frame is.
-use Rattle.std.proofs.Common.{◌≡◌, ◌∙◌, ◌<◌, ◌≤◌, ◌+◌, ◌^◌, ◌++◌, ◌∷◌, [], inl, inr, zero, suc, true, false, ℕ, List, drop, length, map, decimal, arith, ap, refl, sym, subst, length-drop}
+use Rattle.std.proofs.Common.{◌≡◌, ◌∙◌, ◌<◌, ◌≤◌, ◌+◌, ◌^◌, ◌∷◌, [], zero, suc, false, ℕ, List, drop, length, map, decimal, arith, ap, refl, sym, subst, length-drop}
+use Rattle.raw_form.proofs.canonical.Common.{AreDecimalsFrom, Done, Frame, HasShape, IsCanonical, IsCanonicalUpTo, IsEnvelope, IsFrame, IsFrame-shorter, IsOwnForm, IsValueCanonical, IsWalk}
+use Rattle.raw_form.proofs.canonical.Common.{IsWrittenAs, Means, MeansValue, RawValue, Reads, ReadsAs, ReadsUpTo, StandForEach, StandsFor, Tree, as_array, as_document, bytes_eq, bytes_eq-Decides}
+use Rattle.raw_form.proofs.canonical.Common.{bytes_one_way, canonical_is_own_form, document, each_read, encoding, entries, entries_bytes, framed, items_bytes, keep, keep-distinct, keys_of}
+use Rattle.raw_form.proofs.canonical.Common.{keys_of_frames, kind_of_raw, kind_of_tree, leaf, leaf_in_order, length-map, one_value_of, one_walk, payload_of, regular_expression, scoped_payload}
+use Rattle.raw_form.proofs.canonical.Common.{sorted_options-same, tree_payload, trees, value, value_spelled}
 use Rattle.std.proofs.lemmas.Fmt.{decimal_injective}
-use Rattle.std.proofs.lemmas.List.{length-map}
-use Rattle.std.proofs.lemmas.Slice.Eq.{bytes_eq-Decides}
 use Rattle.std.specs.List.{AllByRecursion, IsDistinct}
-use Rattle.std.specs.Str.{bytes_eq}
-use Rattle.bson_model.specs.Leaf.{regular_expression}
-use Rattle.bson_model.specs.Pairs.{keep, keys_of}
 use Rattle.bson_model.specs.Proper.{DoLeafOptionsAscend}
-use Rattle.bson_model.specs.Tree.{Tree, leaf, document, entries, trees}
-use Rattle.bson_model.proofs.Face.{keep-distinct, sorted_options-same}
-use Rattle.raw_view.specs.Frame.Envelope.{IsEnvelope}
-use Rattle.raw_view.specs.Frame.Format.{element_of, framed, scoped_payload}
-use Rattle.raw_view.specs.Frame.{Frame, HasShape, IsFrame, IsWalk, Done}
-use Rattle.raw_view.specs.Meaning.{RawValue, Means, MeansValue, kind_of_raw, value}
 use Rattle.raw_view.specs.Meaning as raw
-use Rattle.raw_view.specs.declared.element_type.ElementType.{ElementType}
 use Rattle.raw_view.specs.declared.element_type.ElementType.TheVariants as kind
-use Rattle.raw_view.proofs.Face.{IsFrame-shorter, one_walk}
-use Rattle.raw_tree.specs.Breaches.{keys_of_frames}
-use Rattle.raw_tree.specs.Canonical.{AreDecimalsFrom, IsCanonical, IsCanonicalUpTo, IsValueCanonical}
-use Rattle.raw_tree.specs.Encoding.{encoding, entries_bytes, items_bytes, kind_of_tree, tree_payload}
-use Rattle.raw_tree.specs.Payload.{payload_of}
-use Rattle.raw_tree.specs.Reading.{Reads, ReadsAs, ReadsUpTo, StandForEach, StandsFor, as_array, as_document, leaf_in_order}
-use Rattle.raw_tree.proofs.Face.{bytes_one_way, canonical_is_own_form, each_read, one_value_of, value_spelled}
-use Rattle.raw_form.specs.Staying.{IsOwnForm, IsWrittenAs}
 
 -- values
 
@@ -35,38 +20,17 @@ IsSound (raw.document d) = IsEnvelope d
 IsSound (raw.array d) = IsEnvelope d
 IsSound (raw.scoped code d) = IsEnvelope d
 
-sound : (k : ElementType) (p r : List ℕ) (v : RawValue) → HasShape k p r → MeansValue k p v → IsSound v
-sound kind.EmbeddedDocument p r v x m = subst IsSound (sym m) x
-sound kind.Array p r v x m = subst IsSound (sym m) x
-sound kind.JavaScriptCodeWithScope p r v x m = subst IsSound (sym m.5) m.4
-sound kind.RegularExpression p r v x m = subst IsSound (sym m.3) (λ a. ap (λ o. regular_expression m.0 o) (sorted_options-same m.1 m.2.options_text a))
-sound kind.Binary p r v x m =
-    elim m.3 [
-      | inl a ↦ subst IsSound (sym a.1) (λ _. refl)
-      | inr b ↦ subst IsSound (sym b.3) (λ _. refl)
-    ]
-sound kind.Double p r v x m = subst IsSound (sym m.2) (λ _. refl)
-sound kind.String p r v x m = subst IsSound (sym m.2) (λ _. refl)
-sound kind.Boolean p r v x m = subst IsSound (sym m.2) (λ _. refl)
-sound kind.DateTime p r v x m = subst IsSound (sym m.2) (λ _. refl)
-sound kind.DbPointer p r v x m = subst IsSound (sym m.4) (λ _. refl)
-sound kind.JavaScriptCode p r v x m = subst IsSound (sym m.2) (λ _. refl)
-sound kind.Symbol p r v x m = subst IsSound (sym m.2) (λ _. refl)
-sound kind.Int32 p r v x m = subst IsSound (sym m.2) (λ _. refl)
-sound kind.Timestamp p r v x m = subst IsSound (sym m.3) (λ _. refl)
-sound kind.Int64 p r v x m = subst IsSound (sym m.2) (λ _. refl)
-sound _ p r v x m = subst IsSound (sym m) (λ _. refl)
+sound : (v : RawValue) (p r : List ℕ) → HasShape (kind_of_raw v) p r → MeansValue (kind_of_raw v) p v → IsSound v
+sound (raw.single (regular_expression pattern options)) p r x m = subst IsSound (sym m.3) (λ a. ap (λ o. regular_expression m.0 o) (sorted_options-same m.1 m.2.options_text a))
+sound (raw.single _) p r x m = λ _. refl
+sound (raw.document d) p r x m = subst IsSound (sym m) x
+sound (raw.array d) p r x m = subst IsSound (sym m) x
+sound (raw.scoped code d) p r x m = subst IsSound (sym m.5) m.4
 
 -- decimals
 
 apart : (m n : ℕ) (key : List ℕ) → m < n → n < 2 ^ 64 → key ≡ decimal n → bytes_eq (decimal m) key ≡ false
-apart m n key less small is =
-    elim (bytes_eq (decimal m) key) as (λ b. bytes_eq (decimal m) key ≡ b → b ≡ false) [
-      | true ↦ λ e.
-          let same : m ≡ n = decimal_injective m n (omega (arith, less, small)) small ((bytes_eq-Decides (decimal m) key).0 e ∙ is) in
-          absurd (omega (arith, less, same))
-      | false ↦ λ e. refl
-    ] refl
+apart m n key less small is = grind (arith, decimal_injective m n, (bytes_eq-Decides (decimal m) key).0)
 
 all_apart : (m n : ℕ) (keys : List (List ℕ)) → m < n → n + length keys < 2 ^ 64 → AreDecimalsFrom n keys → AllByRecursion (λ y. bytes_eq (decimal m) y ≡ false) keys
 all_apart m n [] less small h = tt
@@ -76,16 +40,12 @@ all_apart m n (k ∷ keys) less small h =
 decimals_distinct : (n : ℕ) (keys : List (List ℕ)) → n + length keys < 2 ^ 64 → AreDecimalsFrom n keys → IsDistinct bytes_eq keys
 unfolding IsDistinct
 decimals_distinct n [] small h = tt
-decimals_distinct n (k ∷ keys) small h = (
-  subst (λ (x : List ℕ). AllByRecursion (λ y. bytes_eq x y ≡ false) keys) (sym h.0) (all_apart n (n + 1) keys (omega arith) (omega (arith, small)) h.1),
-  decimals_distinct (n + 1) keys (omega (arith, small)) h.1,
-)
+decimals_distinct n (k ∷ keys) small h =
+    (rw h.0 (all_apart n (n + 1) keys (omega arith) (omega (arith, small)) h.1), decimals_distinct (n + 1) keys (omega (arith, small)) h.1)
 
 items_are_entries : (n : ℕ) (pairs : List (List ℕ × Tree)) → AreDecimalsFrom n (keys_of pairs) → items_bytes n (trees (map (λ p. p.1) pairs)) ≡ entries_bytes (entries pairs)
 items_are_entries n [] h = refl
-items_are_entries n (p ∷ pairs) h =
-    ap (λ (key : List ℕ). element_of (kind_of_tree p.1) key (tree_payload p.1) ++ items_bytes (n + 1) (trees (map (λ q. q.1) pairs))) (sym h.0)
-    ∙ ap (λ (x : List ℕ). element_of (kind_of_tree p.1) p.0 (tree_payload p.1) ++ x) (items_are_entries (n + 1) pairs h.1)
+items_are_entries n (p ∷ pairs) h = rw (h.0, items_are_entries (n + 1) pairs h.1) refl
 
 pub keys_stand : (frames : List Frame) (pairs : List (List ℕ × Tree)) → StandForEach ReadsAs frames pairs → keys_of_frames frames ≡ keys_of pairs
 keys_stand [] pairs h = ap (λ ps. keys_of {T = Tree} ps) (sym h)
@@ -100,8 +60,7 @@ few_frames s (f ∷ frames) w = omega (arith, IsFrame-shorter s f w.0 w.1, few_f
 document_own : (d : List ℕ) (t : Tree) → IsEnvelope d → IsCanonical d → Reads d t → encoding t ≡ d
 document_own d t env c read =
     let own = canonical_is_own_form d env c in
-    let same : own.tree ≡ t = (bytes_one_way as_document d env).one_tree t own.tree read own.read in
-    ap encoding (sym same) ∙ own.spelled.1
+    rw ((bytes_one_way as_document d env).one_tree t own.tree read own.read) at own.spelled.1
 
 document_kind : (d : List ℕ) (t : Tree) → Reads d t → kind_of_tree t ≡ kind.EmbeddedDocument
 document_kind d t (zero, h) = absurd h
@@ -119,13 +78,10 @@ array_own (suc n) (suc m) d t env (frames, walk, keys, canonical) (pairs, (passe
     let small : 0 + length (keys_of_frames frames) < 2 ^ 64 = omega (arith, length-map frames (λ (f : Frame). f.key), few_frames (drop 4 d) frames walk, length-drop 4 d, env.header.fits) in
     let distinct : IsDistinct bytes_eq (keys_of_frames frames) = decimals_distinct 0 (keys_of_frames frames) small keys in
     let same : keys_of_frames frames ≡ keys_of pairs = ap keys_of_frames (one_walk (drop 4 d) frames passed Done Done walk reads).0 ∙ keys_stand passed pairs (each_read m passed pairs stand) in
-    let kept : keep pairs ≡ pairs = keep-distinct pairs (subst (λ (ks : List (List ℕ)). IsDistinct bytes_eq ks) same distinct) in
+    let kept : keep pairs ≡ pairs = keep-distinct pairs (rw same at distinct) in
     let whole : encoding (document (entries (keep pairs))) ≡ d =
     document_own d (document (entries (keep pairs))) env (suc n, (frames, walk, distinct, canonical)) (suc m, (pairs, (passed, reads, stand), refl)) in
-    ap encoding is
-    ∙ ap framed (items_are_entries 0 pairs (subst (λ (ks : List (List ℕ)). AreDecimalsFrom 0 ks) same keys))
-    ∙ ap (λ (ps : List (List ℕ × Tree)). framed (entries_bytes (entries ps))) (sym kept)
-    ∙ whole
+    ap encoding is ∙ ap framed (items_are_entries 0 pairs (rw same at keys) ∙ ap (λ (ps : List (List ℕ × Tree)). entries_bytes (entries ps)) (sym kept)) ∙ whole
 
 -- frames
 
@@ -138,7 +94,7 @@ value_own n (raw.scoped code d) t x c h =
 
 pub frame_own : (n : ℕ) (s : List ℕ) (f : Frame) (r : List ℕ) (v : RawValue) → IsFrame s f r → Means f (value v) → IsValueCanonical (IsCanonicalUpTo n) v → IsOwnForm f
 frame_own n s f r v at means canonical t stands =
-    let same : stands.0 ≡ v = one_value_of f stands.0 v stands.1 means in
     let spelled = value_spelled f.kind f.payload r v at.payload_is means in
-    let own = value_own n v t (sound f.kind f.payload r v at.payload_is means) canonical (subst (λ (x : RawValue). StandsFor ReadsAs x t) same stands.2) in
+    let own = value_own n v t (sound v f.payload r (rw spelled.1 at.payload_is) (rw spelled.1 means)) canonical
+    (rw (one_value_of f stands.0 v stands.1 means) at stands.2) in
     (own.0 ∙ spelled.1, own.1 ∙ spelled.0)

@@ -1,4 +1,4 @@
-use Rattle.raw_tree.proofs.Face.{answered_one_way, one_form}
+use Rattle.raw_form.proofs.canonical.Common.{answered_one_way, one_form}
 use Rattle.raw_form.proofs.canonical.canonical_within.Goals as goal
 
 pub returns-in_err-document-clause-one_answer : goal.returns-in_err-document-clause-one_answer

@@ -1,38 +1,48 @@
-use Rattle.std.proofs.Common.{◌∙◌, ◌≤◌, length, ap, arith, subst}
-use Rattle.raw_view.specs.Document.{bytes_of}
-use Rattle.raw_tree.proofs.Face.{read_within}
-use Rattle.raw_tree.specs.Barriers.{TellsBarrierWithin}
-use Rattle.raw_form.specs.Staying.{TellsStart}
-use Rattle.raw_form.proofs.canonical.Formed.{canonical_told, form_told, refusal_told, refused_barrier}
+use Rattle.std.proofs.Common.{inl, inr, ◌≤◌, length, ap, arith, List, ℕ}
+use Rattle.raw_form.proofs.canonical.Common.{Error, IsEnvelope, Limits, ReadsWithin, RefusesFormOf, Tree, as_document, bytes_of, bytes_one_way, canonical_form, canonical_is_own_form, document}
+use Rattle.raw_form.proofs.canonical.Common.{document_reads, read_within}
+use Rattle.std.proofs.lemmas.Result.{IfErr-weaker, IfOk-weaker}
+use Rattle.raw_form.specs.FormsWithin.{RefusesFormWithin}
 use Rattle.raw_tree.proofs.Face.{barrier_first}
+use Rattle.raw_form.proofs.canonical.form_within.Goals.{In_default-2}
 use Rattle.raw_form.proofs.canonical.form_within.Goals as goal
 
 pub returns-in-Some-2-clause-refused : goal.returns-in-Some-2-clause-refused
 returns-in-Some-2-clause-refused c =
     let b = bytes_of c.args.document in
     let few : length b ≤ c.args.limits.bytes = omega (arith, ap length c.as_bytes-bytes.ensures.bytes, c.if-bytes-limits.false) in
-    let told = subst (TellsBarrierWithin c.args.limits.depth b) c.in-Some-2.is c.in_ok-barrier.ensures.told in
+    let told = rw c.in-Some-2.is at c.in_ok-barrier.ensures.told in
     let first = barrier_first c.args.limits b c.in-Some-2.barrier few told in
-    refused_barrier c.args.limits b c.error_of.result first.0 c.args.document.envelope first.1 (c.error_of.ensures first.0 first.2)
+    inr (c.args.document.envelope, inl (inr (first.0, first.1, c.error_of.ensures first.0 first.2)))
 
 pub returns-in_default-clause-form : goal.returns-in_default-clause-form
 returns-in_default-clause-form c =
     let b = bytes_of c.args.document in
     let few : length b ≤ c.args.limits.bytes = omega (arith, ap length c.as_bytes-bytes.ensures.bytes, c.if-bytes-limits.false) in
-    canonical_told c.args.limits b c.in_ok-from_slice.field-0.items c.args.document.envelope few
-    (subst (TellsStart c.args.limits.depth b) c.in_default.is c.in_ok-start.ensures.start)
-    (c.in_ok-from_slice.ensures.items ∙ c.as_bytes-bytes.ensures.bytes)
+    let canonical = rw c.in_default.is at c.in_ok-start.ensures.start in
+    let read = document_reads c.args.limits.depth b canonical in
+    let within = read_within c.args.limits b (document read.0) few read.1 in
+    rw (c.in_ok-from_slice.ensures.items, c.as_bytes-bytes.ensures.bytes)
+    (record { form = canonical_is_own_form b c.args.document.envelope (c.args.limits.depth, canonical); within = (document read.0, within) })
+
+-- why there is no encoding
+refused_form : (limits : Limits) (b : List ℕ) (t : Tree) (e : Error) → IsEnvelope b → ReadsWithin limits b t → RefusesFormOf b e → RefusesFormWithin limits b e
+refused_form limits b t e env read (inl memory) = inr (env, inl (inl (read.few_bytes, memory)))
+refused_form limits b t e env read (inr (u, reads, long)) =
+    inr (env, inr (t, read, rw ((bytes_one_way as_document b env).one_tree t u read.read reads) at long))
+
+-- the document is within the limits
+read_in : (c : In_default-2) → (t : Tree) × ReadsWithin c.args.limits (bytes_of c.args.document) t
+read_in c =
+    let told = rw c.in_default-2.is at c.in_ok-barrier.ensures.told in
+    (told.0, read_within c.args.limits (bytes_of c.args.document) told.0 (omega (arith, ap length c.as_bytes-bytes.ensures.bytes, c.if-bytes-limits.false)) told.1)
 
 pub returns-clause-form : goal.returns-clause-form
 returns-clause-form c =
-    let b = bytes_of c.args.document in
-    let few : length b ≤ c.args.limits.bytes = omega (arith, ap length c.as_bytes-bytes.ensures.bytes, c.if-bytes-limits.false) in
-    let told = subst (TellsBarrierWithin c.args.limits.depth b) c.in_default-2.is c.in_ok-barrier.ensures.told in
-    form_told c.args.limits b told.0 c.rewrite.result c.args.document.envelope (read_within c.args.limits b told.0 few told.1) c.rewrite.ensures.form
+    let read = read_in (goal.at.returns-clause-form c).In_default-2 in
+    IfOk-weaker c.rewrite.result _ _ (λ form is. record { form = canonical_form _ form.items is.0 c.args.document.envelope is.1 is.2; within = read }) c.rewrite.ensures.form
 
 pub returns-clause-refused : goal.returns-clause-refused
 returns-clause-refused c =
-    let b = bytes_of c.args.document in
-    let few : length b ≤ c.args.limits.bytes = omega (arith, ap length c.as_bytes-bytes.ensures.bytes, c.if-bytes-limits.false) in
-    let told = subst (TellsBarrierWithin c.args.limits.depth b) c.in_default-2.is c.in_ok-barrier.ensures.told in
-    refusal_told c.args.limits b told.0 c.rewrite.result c.args.document.envelope (read_within c.args.limits b told.0 few told.1) c.rewrite.ensures.err
+    let read = read_in (goal.at.returns-clause-refused c).In_default-2 in
+    IfErr-weaker c.rewrite.result _ _ (λ e is. refused_form c.args.limits _ read.0 e c.args.document.envelope read.1 is) c.rewrite.ensures.err

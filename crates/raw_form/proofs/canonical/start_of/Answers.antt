@@ -1,6 +1,5 @@
-use Rattle.std.proofs.Common.{refl, subst}
-use Rattle.raw_view.specs.Document.{bytes_of}
-use Rattle.raw_tree.specs.Judging.{TellsFound, TellsOutermost}
+use Rattle.std.proofs.Common.{refl}
+use Rattle.raw_form.proofs.canonical.Common.{bytes_of}
 use Rattle.raw_form.proofs.canonical.Starts.{first_start, found_begins}
 use Rattle.raw_form.proofs.canonical.start_of.Goals as goal
 
@@ -9,8 +8,5 @@ returns-then-path-eq0-clause-start c = first_start c.args.depth (bytes_of c.args
 
 pub returns-clause-start : goal.returns-clause-start
 returns-clause-start c =
-    let b = bytes_of c.args.document in
-    let told = subst (TellsFound c.args.depth b) c.in-Some.is c.in_ok-found.ensures.found in
-    let outermost = subst (TellsOutermost b) c.in-Some.is c.in_ok-found.ensures.outermost in
-    found_begins c.args.depth b c.in-Some.found c.as_slice-path.result.now _ told outermost c.as_slice-path.ensures.value c.if-path-eq0.false refl refl
-    c.args.document.envelope.enough
+    found_begins c.args.depth (bytes_of c.args.document) c.in-Some.found c.as_slice-path.result.now _ (rw c.in-Some.is at c.in_ok-found.ensures.found)
+    (rw c.in-Some.is at c.in_ok-found.ensures.outermost) c.as_slice-path.ensures.value c.if-path-eq0.false refl refl c.args.document.envelope.enough

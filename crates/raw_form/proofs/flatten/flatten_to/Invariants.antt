@@ -1,5 +1,5 @@
 use Rattle.std.proofs.Common.{◌-◌, length}
-use Rattle.raw_view.specs.Document.{bytes_of}
+use Rattle.raw_form.proofs.canonical.Common.{bytes_of}
 use Rattle.raw_form.proofs.flatten.Flattening.{IsFlattening}
 use Rattle.raw_tree.proofs.Face.{IsWalking}
 use Rattle.raw_form.proofs.flatten.flatten_to.Given as goal

@@ -1,37 +1,46 @@
-use Rattle.std.proofs.Common.{List, ℕ, Option, None, [], subst, ◌≡◌}
-use denote.Ref.{Bor}
-use Rattle.raw_view.specs.Document.{bytes_of}
-use Rattle.raw_tree.specs.Breaches.{keys_of_frames}
-use Rattle.raw_tree.specs.OpenKeys.{HasKeysSoFar, TellsOpenKey}
-use Rattle.raw_tree.specs.Reading.{as_document}
+use Rattle.std.proofs.Common.{◌≡◌, ◌++◌, ◌∷◌, None, Bool, Option, [], false, is_some, length, length-append, arith, ap, refl}
+use Rattle.raw_form.proofs.canonical.Common.{Frame, as_document, frame_of, keys_of_frames, map-append}
 use Rattle.raw_tree.specs.References.{texts}
-use Rattle.raw_tree.specs.declared.validator.breach.Cause.{Cause}
-use Rattle.raw_form.proofs.last.Listed.{apart_begins, apart_more, apart_over, none_added, taken_smaller}
+use Rattle.std.specs.List.{IsDistinct}
+use Rattle.raw_form.proofs.last.Listed.{passed_more, passed_over}
 use Rattle.raw_form.proofs.last.are_keys_distinct.Goals as goal
 
 pub elements-init : goal.elements-init
-elements-init c =
-    let listed = c.truncate.new.self.items in
-    let keys : HasKeysSoFar c.of_document-keys.result listed as_document (texts listed) [] =
-    subst (λ (xs : List (Bor (List ℕ))). HasKeysSoFar c.of_document-keys.result xs as_document (texts xs) []) c.deref.ensures.value
-    c.of_document-keys.ensures in
-    apart_begins (bytes_of c.args.document) c.new-elements.result c.of_document-keys.result listed c.new-elements.ensures keys
+unfolding IsDistinct
+elements-init c = record {
+  passed = record { frames = []; read = rw c.new-elements.ensures refl };
+  apart = tt;
+  below = texts c.truncate.new.self.items;
+  keys = rw c.deref.ensures.value at c.of_document-keys.ensures;
+  count = refl;
+  fits = rw c.new-elements.ensures (omega arith);
+}
 
 pub returns-in_default-clause-distinct : goal.returns-in_default-clause-distinct
-returns-in_default-clause-distinct c frames w =
-    let all = apart_over (bytes_of c.args.document) c.elements.elements c.next_element.new.elements c.elements.keys c.elements.listed.items c.elements.number
-    c.elements.invariant c.in_default.ensures frames w in
-    λ _. all
+returns-in_default-clause-distinct c frames w = λ _.
+    rw (passed_over c.elements.invariant.passed c.next_element.new.elements c.in_default.ensures frames w) c.elements.invariant.apart
 
 pub elements-smaller : goal.elements-smaller
-elements-smaller c = taken_smaller c.elements.elements c.next_element.new.elements c.in-Some.element c.in-Some.ensures
+elements-smaller c = omega (arith, (passed_more c.elements.invariant.passed c.next_element.new.elements c.in-Some.element c.in-Some.ensures).1)
+
+-- a key that breaches nothing
+none_added : {T : Type 0} (o : Option T) (some : Bool) → some ≡ is_some o → some ≡ false → o ≡ None
+none_added o some e is_false = grind arith
 
 pub elements-preserved : goal.elements-preserved
 elements-preserved c =
     let is = c.elements.invariant in
-    let none : c.in_ok-add.field-0 ≡ None = none_added c.in_ok-add.field-0 c.is_some.result c.is_some.ensures c.if-is_some.false in
-    let told = c.in_ok-add.ensures.adds as_document is.below (keys_of_frames is.passed) is.keys is.apart is.count in
-    let more : TellsOpenKey as_document is.below (keys_of_frames is.passed) c.key.result.now c.add.new.self c.add.new.listed.items None =
-    subst (λ (x : Option Cause). TellsOpenKey as_document is.below
-    (keys_of_frames is.passed) c.key.result.now c.add.new.self c.add.new.listed.items x) none told in
-    apart_more c.next_element.new.elements c.add.new.self c.add.new.listed.items c.in-Some.element c.key.result.now is c.in-Some.ensures c.key.ensures more
+    let frames = is.passed.frames in
+    let more = passed_more is.passed c.next_element.new.elements c.in-Some.element c.in-Some.ensures in
+    let none = none_added c.in_ok-add.field-0 c.is_some.result c.is_some.ensures c.if-is_some.false in
+    let told = rw none at (c.in_ok-add.ensures.adds as_document is.below (keys_of_frames frames) is.keys is.apart is.count) in
+    let grown : keys_of_frames (frames ++ frame_of c.in-Some.element ∷ []) ≡ keys_of_frames frames ++ c.key.result.now ∷ [] =
+    rw (map-append (λ (x : Frame). x.key) frames (frame_of c.in-Some.element ∷ []), c.key.ensures) refl in
+    record {
+      passed = record { frames = frames ++ frame_of c.in-Some.element ∷ []; read = more.0 };
+      apart = rw grown told.1;
+      below = is.below;
+      keys = rw grown told.0;
+      count = omega (arith, is.count, ap length grown, length-append (keys_of_frames frames) (c.key.result.now ∷ []));
+      fits = omega (arith, is.fits, more.1);
+    }

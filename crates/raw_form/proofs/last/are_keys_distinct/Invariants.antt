@@ -1,5 +1,4 @@
-use Rattle.raw_view.specs.Document.{bytes_of}
-use Rattle.raw_tree.specs.Validating.{left_of}
+use Rattle.raw_form.proofs.canonical.Common.{bytes_of, left_of}
 use Rattle.raw_form.proofs.last.Listed.{AreApart}
 use Rattle.raw_form.proofs.last.are_keys_distinct.Given as goal
 

@@ -1,6 +1,5 @@
-use Rattle.std.proofs.Common.{◌-◌, length}
-use Rattle.raw_view.specs.Document.{bytes_of}
-use Rattle.raw_view.specs.Frame.Number.{max_length}
+use Rattle.std.proofs.Common.{◌-◌, vec_len}
+use Rattle.raw_form.proofs.canonical.Common.{bytes_of, max_length}
 use Rattle.raw_form.proofs.rewriting.Writing.{IsRewriting}
 use Rattle.raw_form.proofs.rewriting.rewrite.Given as goal
 
@@ -9,4 +8,4 @@ invariant-levels l = IsRewriting (bytes_of l.fn.document) l.waiting.items l.leve
 
 -- each step writes, and no document is longer than this
 abbrev pub decreases-levels : goal.decreases-levels
-decreases-levels l = max_length - length l.out.items
+decreases-levels l = max_length - vec_len l.out

@@ -1,34 +1,44 @@
-use Rattle.std.proofs.Common.{subst}
-use Rattle.raw_form.specs.Rewriting.{IsLeft}
-use Rattle.raw_form.specs.declared.rewritten.Keys.{Keys}
-use Rattle.raw_form.proofs.rewritten.KnownFrames.{some_left}
-use Rattle.raw_form.proofs.rewritten.Members.{distinct_over, next_distinct, next_number, number_over}
+use Rattle.std.proofs.Common.{List, ℕ, map, refl, arith, ap, ◌∙◌, ◌+◌}
+use Rattle.raw_form.proofs.canonical.Common.{Tree, entries, keyed, numbered, trees}
+use Rattle.raw_form.proofs.rewritten.KnownFrames.{one_known}
+use Rattle.raw_form.proofs.rewritten.Members.{pair_over, pair_taken, some_left}
 use Rattle.raw_form.proofs.rewritten.Rewritten.next.Goals as goal
 
 pub returns-in_err-element-in-Numbers-clause-next : goal.returns-in_err-element-in-Numbers-clause-next
 returns-in_err-element-in-Numbers-clause-next c ms left =
-    rw c.from_residual.ensures (number_over c.args.self.now.keys c.in-Numbers.number c.args.self.now.elements c.next_element.new.elements ms c.in-Numbers.is left c.in_err-element-in-Numbers.ensures)
+    let here = rw c.in-Numbers.is at left in
+    rw (c.from_residual.ensures, here.3, pair_over c.args.self.now.elements c.next_element.new.elements here.1 here.2 c.in_err-element-in-Numbers.ensures) refl
 
 pub returns-in_err-element-in-Distinct-clause-next : goal.returns-in_err-element-in-Distinct-clause-next
 returns-in_err-element-in-Distinct-clause-next c ms left =
-    rw c.from_residual-in_err-element-in-Distinct.ensures
-    (distinct_over c.args.self.now.keys c.in-Distinct.known c.args.self.now.elements c.next_element-in-Distinct.new.elements ms c.in-Distinct.is left c.in_err-element-in-Distinct.ensures)
+    let here = rw c.in-Distinct.is at left in
+    let over = pair_over c.args.self.now.elements c.next_element-in-Distinct.new.elements here.0 here.1 c.in_err-element-in-Distinct.ensures in
+    rw (c.from_residual-in_err-element-in-Distinct.ensures, here.2, over) refl
 
 pub returns-in_ok-element-in-Numbers-clause-next : goal.returns-in_ok-element-in-Numbers-clause-next
 returns-in_ok-element-in-Numbers-clause-next c ms left =
-    next_number c.args.self.now.keys c.in-Numbers.number c.args.self.now.elements c.next_element.new.elements ms c.in_ok-element-in-Numbers.element
-    c.in-Numbers.is left c.in_ok-element-in-Numbers.ensures
+    let n = c.in-Numbers.number in
+    let here = rw c.in-Numbers.is at left in
+    let next = pair_taken c.args.self.now.elements c.next_element.new.elements here.1 c.in_ok-element-in-Numbers.element here.2 c.in_ok-element-in-Numbers.ensures in
+    let same = here.3 ∙ ap (λ (ps : List (List ℕ × Tree)). numbered n (trees (map (λ p. p.1) ps))) next.2 in
+    (next.0, numbered (n + 1) (trees (map (λ p. p.1) next.1)), same, next.3, (omega (arith, here.0, next.5), next.1, next.4, refl), (λ told. cc))
 
 pub returns-in_ok-element-in-Distinct-clause-next : goal.returns-in_ok-element-in-Distinct-clause-next
 returns-in_ok-element-in-Distinct-clause-next c ms left =
-    next_distinct _ _ c.args.self.now.elements c.next_element-in-Distinct.new.elements ms
-    c.in_ok-element-in-Distinct.element c.in-Distinct.is left c.in_ok-element-in-Distinct.ensures c.saturating_sub.ensures (some_left c.in-Distinct.known)
+    let old = c.args.self.now.elements in
+    let new = c.next_element-in-Distinct.new.elements in
+    let e = c.in_ok-element-in-Distinct.element in
+    let here = rw c.in-Distinct.is at left in
+    let next = pair_taken old new here.0 e here.1 c.in_ok-element-in-Distinct.ensures in
+    let own = one_known c.in-Distinct.known _ old new e c.saturating_sub.ensures here.3 c.in_ok-element-in-Distinct.ensures in
+    let same = here.2 ∙ ap (λ (ps : List (List ℕ × Tree)). keyed (entries ps)) next.2 in
+    (next.0, keyed (entries next.1), same, next.3, (next.1, next.4, refl, own.1), (λ told. own.0 (some_left c.in-Distinct.known _ refl told)))
 
 pub returns-in_err-element-in-Repeated-clause-next : goal.returns-in_err-element-in-Repeated-clause-next
 returns-in_err-element-in-Repeated-clause-next c ms left =
     rw c.from_residual-in_err-element-in-Repeated.ensures
-    (c.in_err-element-in-Repeated.ensures ms (rw (c.deref_mut.ensures.value) (subst (λ (k : Keys). IsLeft k c.args.self.now.elements ms) c.in-Repeated.is left)))
+    (c.in_err-element-in-Repeated.ensures ms (rw (c.deref_mut.ensures.value) (rw c.in-Repeated.is at left)))
 
 pub returns-in_ok-element-in-Repeated-clause-next : goal.returns-in_ok-element-in-Repeated-clause-next
 returns-in_ok-element-in-Repeated-clause-next c ms left =
-    c.in_ok-element-in-Repeated.ensures ms (rw (c.deref_mut.ensures.value) (subst (λ (k : Keys). IsLeft k c.args.self.now.elements ms) c.in-Repeated.is left))
+    c.in_ok-element-in-Repeated.ensures ms (rw (c.deref_mut.ensures.value) (rw c.in-Repeated.is at left))
