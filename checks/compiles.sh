@@ -5,33 +5,29 @@
 # misuse. What must not: the misuses, each line of the file a case (checks/must-not-compile.txt says how they are written).
 # A misuse fails for just the error that its case names, so for the reason that it is meant to.
 #
-# For the first three a crate of tests that lists what a user names, made in a copy of the tracked files, is compiled: once
-# with all that has to compile, and once with all misuses. A block that has a `main` is a program of its
-# own, which is run on the greeting, and the page says what it prints.
+# For the first three a crate of tests that lists what a user names, made in a copy of the tracked files, is compiled: once with all
+# that has to compile, and once, over raw_bson alone, with all misuses. A block that has a `main` is a program: it is that of the crate
+# `reader`, which `rt ci` proves and runs on the greeting, and the page says what it prints there.
 set -u
 list=$(realpath "$1")
 cd "$(dirname "$(realpath "$0")")/.." || exit 1
 work=$(mktemp -d) || exit 1
 trap 'rm -rf "$work"' EXIT
 crate=$work/copy/crates/shown
-mkdir -p "$crate" || exit 1
+mkdir -p "$crate" "$work/programs" || exit 1
 git ls-files -z crates crates.txt HANDLES | xargs -0 cp --parents -t "$work/copy" || exit 1
-mkdir -p "$work/programs" || exit 1
-printf 'shown: raw_bson raw_form raw_shelf bson_json bson_from_json json_round_trip\n' >>"$work/copy/crates.txt"
+cp crates.txt "$work/crates.txt" || exit 1
 pages='README.md CONTRIBUTING.md docs/*.md examples/*.md'
 documented=$(git ls-files crates/bson_model/src crates/raw_view/src crates/raw_tree/src crates/raw_form/src crates/raw_bson/src crates/raw_shelf/src crates/bson_json/src crates/bson_from_json/src crates/json_round_trip/src)
 sed '/^#/d; /^$/d' "$list" >"$work/cases"
 count=$(wc -l <"$work/cases")
 failed=0
 
-# blocks FOLDER: writes each block of Rust of the pages into a file of its own; one with a main into a folder of its own
+# blocks FOLDER: writes each block of Rust of the pages into a file of its own
 blocks() {
-    for page in $pages; do
-        mkdir -p "$work/blocks" "$work/programs/$page" && python3 -B checks/pages.py blocks rust "$work/blocks" "$page" || return 1
-        for block in "$work/blocks"/*.rt; do
-            [ -e "$block" ] || continue
-            if grep -q '^fn main(' "$block"; then mv "$block" "$work/programs/$page"; else mv "$block" "$1"; fi || return 1
-        done
+    # shellcheck disable=SC2086 # a list of pages
+    python3 -B checks/pages.py blocks rust "$1" $pages && for block in $(grep -l '^fn main(' "$1"/*.rt); do
+        cp "$block" "$work/programs" && sed -i '/^#!\[/d' "$block" || return 1
     done
 }
 
@@ -47,8 +43,10 @@ snippets() {
     done <"$work/cases"
 }
 
-# compile FILL..: compiles the crate of the modules that FILL puts into its folder; leaves what rt said in $work/said
+# compile LIBRARIES FILL..: compiles the crate of the modules that FILL puts into its folder, over these; leaves what rt said in $work/said
 compile() {
+    { cat "$work/crates.txt" && echo "shown: $1"; } >"$work/copy/crates.txt" || return 2
+    shift
     rm -rf "$crate/src" && mkdir "$crate/src" || return 2
     for fill in "$@"; do
         $fill "$crate/src" || return 2
@@ -60,7 +58,7 @@ compile() {
     (cd "$crate" && rt try --test) >"$work/said" 2>&1 </dev/null
 }
 
-if ! compile blocks examples "snippets twin"; then
+if ! compile "raw_bson raw_form raw_shelf bson_json bson_from_json json_round_trip" blocks examples "snippets twin"; then
     cat "$work/said" >&2
     echo "a block of a page or a twin doesn't compile, or an example of a doc comment goes wrong" >&2
     failed=1
@@ -68,28 +66,19 @@ fi
 echo "$(wc -l <"$work/modules") modules of blocks, examples and twins were compiled, $(cat "$work/examples") examples of doc comments run"
 grep -q "test result: ok. $(($(cat "$work/examples") + 1)) passed" "$work/said" || failed=1
 
-# The programs that pages show, of which README has one.
-programs=0
-for page in $pages; do
-    for program in "$work/programs/$page"/*.rt; do
-        [ -e "$program" ] || continue
-        programs=$((programs + 1))
-        if [ "$page" = README.md ] && ! cmp -s "$program" crates/reader/src/main.rt; then
-            echo "README.md: its program isn't crates/reader/src/main.rt" >&2
-            failed=1
-        fi
-        cp "$program" "$crate/../reader/src/main.rt" || exit 1
-        said=$(printf '\23\0\0\0\2hi\0\6\0\0\0y\47all\0\0' | (cd "$crate/../reader" && rt try) 2>"$work/said")
-        [ -n "$said" ] && grep -qF "prints \`$said\`" "$page" && continue
-        cat "$work/said" >&2
-        echo "$page: it doesn't say that its program prints this of the greeting: $said" >&2
-        failed=1
-    done
-done
-echo "$programs programs were run"
-[ "$programs" -gt 0 ] || failed=1
+# is_reader PROGRAM PAGE: whether this is the program of `reader`, and the page says what that prints of the greeting
+is_reader() {
+    cmp -s "$1" crates/reader/src/main.rt && printf '\23\0\0\0\2hi\0\6\0\0\0y\47all\0\0' | cmp -s - crates/reader/stdin &&
+        grep -qF "prints \`$(cat crates/reader/stdout)\`" "$2"
+}
 
-if compile "snippets misuse" || [ "$(grep -c ': error' "$work/said")" != "$count" ]; then
+for program in "$work/programs"/*; do
+    [ "$program" = "$work/programs/readme_1.rt" ] && is_reader "$program" README.md && continue
+    echo "$(basename "$program"): README has one program, that of crates/reader, and says what it prints of the greeting" >&2
+    failed=1
+done
+
+if compile raw_bson "snippets misuse" || [ "$(grep -c ': error' "$work/said")" != "$count" ]; then
     cat "$work/said" >&2
     echo "the misuses have another number of errors than $count" >&2
     failed=1

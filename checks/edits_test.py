@@ -1,5 +1,5 @@
-"""Tests of edits.py, on a crate of two functions of which one calls the other. Each check takes some ten seconds, so the tests run at
-once, but for those that are named."""
+"""Tests of edits.py, on a crate of a few functions of which some call another. Each check takes some ten seconds, so the tests run at
+once, but for those that are named, and what is done with the verdicts of many checks is tried on what such checks said."""
 
 import concurrent.futures
 import os
@@ -34,9 +34,33 @@ pub fn after_next(x: u8) -> u16
 {
     next(x) + 1
 }
+
+/// This number, as wide.
+pub fn widened(x: u8) -> u16
+    ensures { result ≡ x }
+{
+    x as u16
+}
+
+/// The number behind this one, by another way.
+pub fn next_of_widened(x: u8) -> u16
+    ensures { result ≡ x + 1 }
+{
+    widened(x) + 1
+}
 """
 
 NEXT_IS_WRONG = ("x as u16 + 1", "x as u16 + 2")
+
+# what a check said of a file in which `next` is wrong, and of one that is no Rattle
+NEXT_IS_REFUSED = """checked tiny::next, 1 of 2
+checked tiny::after_next, 2 of 2
+note: src/lib.rt:8:1: it is not proved that what the function ensures holds when it returns (`returns`); the facts known there allow values
+fn tiny::next: no proof: expected answers in ./proofs/next/Answers.antt; `search` did not prove `returns`
+fn tiny::after_next: no proof: it calls `tiny::next`, which is not proved
+logic=not-proved
+"""
+NO_RATTLE = "src/lib.rt:19:1: error[unexpected-token]: expected expression, found `}`\n"
 
 # what a run of `rt ci` notes of the crates
 PROVED = "tiny\n.\n"
@@ -135,15 +159,15 @@ class Edits(unittest.TestCase):
         return status, printed
 
     def test_wrong_bodies_are_refused_beside_a_run(self):
-        # (the first has to be tried without the last; the second is tried over a hole for the proof of `next`)
+        # (the first has to be tried without the last; the second, and then the first, over a hole for the proof of what it calls)
         status, printed = self.beside(PROVED, {
             "after_next_is_the_same": edit(("next(x) + 1", "1 + next(x)"), functions="after_next"),
-            "after_next_is_wrong": edit(("next(x) + 1", "next(x) + 2"), functions="after_next"),
+            "next_of_widened_is_wrong": edit(("widened(x) + 1", "widened(x) + 2"), functions="next_of_widened"),
             "next_is_wrong": edit(NEXT_IS_WRONG, functions="next"),
         })
         self.assertEqual(status, 1, printed)
         self.assertIn("tiny/after_next_is_the_same: NOT REFUSED", printed)
-        self.assertIn("edits: 2 of 3 are refused", printed)
+        self.assertIn("edits: 2 of 3 are refused; 2 checks", printed)
 
     def test_functions_are_told_by_the_source(self):
         for name, text in NAMES.items():
@@ -158,17 +182,13 @@ class Edits(unittest.TestCase):
         self.assertEqual(status, 0, printed)
         self.assertIn("edits: 1 of 1 are refused", printed)
 
-    def test_a_crate_over_one_that_the_run_beside_did_not_prove_is_proved_here(self):
+    def test_a_crate_over_one_that_the_run_beside_did_not_prove_waits_for_a_proof_here(self):
         (self.top / "crates/low/src").mkdir(parents=True)
-        (self.top / "crates/low/src/lib.rt").write_text(SOURCE)
+        (self.top / "crates/low/src/lib.rt").write_text(SOURCE.replace("x + 2 }", "x + 3 }"))
         (self.top / "crates.txt").write_text("low:\ntiny: low\n")
-        status, printed = self.leaving(".\n", {
-            "next_is_wrong": edit(NEXT_IS_WRONG, functions="next"),
-            "after_next_is_wrong": edit(("next(x) + 1", "next(x) + 2"), functions="after_next"),
-            "the_file_is_wrong": edit(NEXT_IS_WRONG),
-        })
-        self.assertEqual(status, 0, printed)
-        self.assertIn("edits: 3 of 3 are refused", printed)
+        status, printed = self.beside(".\n", {"next_is_wrong": edit(NEXT_IS_WRONG, functions="next")})
+        self.assertEqual(status, 1)
+        self.assertIn("tiny/next_is_wrong: BAD: low isn't proved as it is", printed)
 
     def test_borrows_that_wait_for_a_callee_are_no_verdict(self):
         line = (
@@ -177,24 +197,38 @@ class Edits(unittest.TestCase):
         )
         self.assertEqual(script.Said("tiny", line).waited_for({"tiny::after_next"}), {"tiny::next"})
 
-    def test_what_proves_nothing_fails(self):
+    def test_a_crate_is_proved_here_before_its_edits(self):
+        kept = self.top / "kept"
         status, printed = self.tried({
             # a wrong callee says nothing of the caller, which is as it was
             "next_is_wrong": edit(NEXT_IS_WRONG, functions="next"),
             "after_next_is_the_same": edit(("next(x) + 1", "1 + next(x)"), functions="after_next"),
             "the_file_is_the_same": edit(("x as u16 + 1", "1 + x as u16")),
-            "it_is_another_function's": edit(("x as u16 + 1", "x as u16 + 3"), functions="after_next"),
-            "there_is_no_such_function": edit(("x as u16 + 1", "x as u16 + 4"), functions="nothing"),
             "there_is_no_such_text": edit(("x as u32", "x as u64"), functions="next"),
-            "it_is_no_rattle": edit(("next(x) + 1", "next(x) +"), functions="after_next"),
-        })
+        }, "--leave", "tiny", str(kept))
         self.assertEqual(status, 1, printed)
         self.assertIn("tiny/after_next_is_the_same: NOT REFUSED: ", printed)
         self.assertIn("tiny/the_file_is_the_same: NOT REFUSED: ", printed)
-        for name in ("it_is_another_function's", "there_is_no_such_function", "there_is_no_such_text", "it_is_no_rattle"):
-            self.assertIn(f"tiny/{name}: BAD: ", printed)
+        self.assertIn("tiny/there_is_no_such_text: BAD: ", printed)
         self.assertNotIn("tiny/next_is_wrong: ", printed)
-        self.assertIn("edits: 1 of 7 are refused", printed)
+        self.assertIn("edits: 1 of 4 are refused", printed)
+        self.assertTrue(any(kept.iterdir()), printed)
+
+    def test_what_a_check_says_of_other_functions_is_no_verdict(self):
+        for name, text in {
+            "it_is_another_function's": edit(("x as u16 + 1", "x as u16 + 3"), functions="after_next"),
+            "it_is_no_rattle": edit(("next(x) + 1", "next(x) +"), functions="after_next"),
+            "it_is_refused": edit(NEXT_IS_WRONG, functions="next"),
+            "the_file_is_wrong": edit(NEXT_IS_WRONG),
+            "there_is_no_such_function": edit(NEXT_IS_WRONG, functions="nothing"),
+        }.items():
+            (self.top / f"crates/tiny/edits/{name}.edit").write_text(text)
+        tried = script.edits_of(self.top, ["tiny"])
+        script.try_crate(Recorded(self.top), "tiny", tried)
+        self.assertEqual({it.name: it.verdict for it in tried}, {
+            "it_is_another_function's": script.BAD, "it_is_no_rattle": script.BAD, "it_is_refused": script.REFUSED,
+            "the_file_is_wrong": script.REFUSED, "there_is_no_such_function": script.BAD,
+        })
 
     def test_each_edit_applies(self):
         status, printed = self.tried({"next_is_wrong": edit(NEXT_IS_WRONG, functions="next")}, "--applies")
@@ -205,21 +239,32 @@ class Edits(unittest.TestCase):
 
     def test_each_edit_compiles(self):
         status, printed = self.tried({
-            "next_is_wrong": edit(NEXT_IS_WRONG, functions="next"),
             "after_next_is_wrong": edit(("next(x) + 1", "next(x) + 2"), functions="after_next"),
             "the_type_is_wrong": edit(("x as u16 + 1", "x + 1")),
-            "it_is_no_rattle": edit(("next(x) + 1", "next(x) +"), functions="after_next"),
         }, "--compiles")
         self.assertEqual(status, 1)
-        for name in ("the_type_is_wrong", "it_is_no_rattle"):
-            self.assertIn(f"tiny/{name}: BAD: ", printed)
-        self.assertIn("edits: 2 of 4 compile", printed)
+        self.assertIn("tiny/the_type_is_wrong: BAD: ", printed)
+        self.assertIn("edits: 1 of 2 compile", printed)
 
-    def test_a_crate_that_is_not_proved_settles_nothing(self):
-        (self.top / "crates/tiny/src/lib.rt").write_text(SOURCE.replace("x + 2 }", "x + 3 }"))
-        status, printed = self.tried({"next_is_wrong": edit(NEXT_IS_WRONG, functions="next")})
-        self.assertEqual(status, 1)
-        self.assertIn("tiny/next_is_wrong: BAD: tiny isn't proved as it is", printed)
+
+class Recorded:
+    """A prover that says of an edited text what one said."""
+
+    def __init__(self, top):
+        self.top, self.over, self.leave = top, {}, None
+
+    def check_edited(self, crate, texts, *flags):
+        text = texts["src/lib.rt"]
+        return script.Checked(1, NO_RATTLE if text.count("next(x) +\n") else NEXT_IS_REFUSED, {}, 0)
+
+    def only(self, crate, now):
+        return []
+
+    def keep(self, edit):
+        pass
+
+    def forget(self, crate):
+        pass
 
 
 def test_at_once():

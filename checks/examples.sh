@@ -32,9 +32,9 @@ done
 printf '13000000 02686900 06000000 792761 6C6C00 00' >"$work/hex"
 add greeting-with-blanks list "$work/hex" examples/greeting.list
 
-# One compilation for all runs; rt compares the output, and says each status in a line of its own.
+# One compilation for all runs, as `bin/bsonraw --unproved` has it compiled; rt compares the output, and says each status in a line of its own.
 run_unproved() {
-    (cd crates/bsonraw && rt try --cases "$cases") >"$work/output" 2>"$work/said"
+    (cd crates/bsonraw && rt try --steps 1 --cases "$cases") >"$work/output" 2>"$work/said"
     if ! grep -q '^cases=' "$work/said"; then
         cat "$work/output" "$work/said" >&2
         return 1

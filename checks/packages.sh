@@ -228,16 +228,22 @@ prepare() {
     mkdir -p "$1" && cp -r examples c/tests/greeting.c c/tests/print.c checks/try-release.sh "$1" || exit 1
 }
 
-# finds_changes FOLDER PROVED: whether release/verify has nothing against the files below the folder, and finds each that is changed
+# finds_changes FOLDER PROVED: whether release/verify has nothing against the files below the folder, fails where one is changed, and names
+# each that is
 finds_changes() {
     release/verify "$2" "$1" >&2 || fails "verify has something against $2 as it was made"
     sed '1,/^sha256 of what is shipped:$/d; s/^[^ ]*  //' "$2" >"$work/shipped"
     [ -s "$work/shipped" ] || fails "$2 lists no file"
+    rm -rf "$work/changed" && mkdir "$work/changed" && (cd "$1" && xargs -d '\n' cp -a --parents -t "$work/changed") <"$work/shipped" || exit 1
+    count=0
     while IFS= read -r file; do
-        cp -p "$1/$file" "$work/kept" && printf x | dd of="$1/$file" bs=1 seek=3 conv=notrunc 2>/dev/null
-        ! release/verify "$2" "$1" >/dev/null 2>&1 || fails "verify doesn't see that $file is changed"
-        cp -p "$work/kept" "$1/$file"
+        printf x | dd of="$work/changed/$file" bs=1 seek=3 conv=notrunc 2>/dev/null
+        count=$((count + 1))
+        [ "$count" -gt 1 ] || ! release/verify "$2" "$work/changed" >/dev/null 2>&1 || fails "verify doesn't fail where $file is changed"
     done <"$work/shipped"
+    ! release/verify "$2" "$work/changed" >"$work/told" 2>/dev/null || fails "verify doesn't fail where all of $2 is changed"
+    sed -n 's/: FAILED$//p' "$work/told" | diff "$work/shipped" - >&2 || fails "verify doesn't name each file of $2 that is changed"
+    rm -r "$work/changed"
 }
 
 # has_licences FILE CRATE..: whether each part that is compiled into these crates is named there, with the whole text of its licence

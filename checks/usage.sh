@@ -1,7 +1,8 @@
 #!/bin/sh
 # bin/test refuses a name that is no crate's, and words that it doesn't know, before it tries anything: it prints the
 # usage line on standard error, nothing on standard output, and ends with status 2. In a folder where scripts that do nothing take the
-# place of its parts, it passes; where one of them fails, it fails; and where it is ended, all that it started ends.
+# place of its parts, it passes; where one of them fails, it fails, and doesn't wait for `rt ci` if it is one that runs beside that; and
+# where it is ended, all that it started ends.
 set -u
 cd "$(dirname "$(realpath "$0")")/.." || exit 1
 work=$(mktemp -d) || exit 1
@@ -59,8 +60,12 @@ for part in $(grep / "$work/parts") checks/edits.sh rt; do
     echo "$part" >"$work/failing"
     ! tried || fails "bin/test passes though $part fails"
 done
+echo checks/from_json.sh >"$work/failing"
+echo rt >"$work/slow"
+begun=$(date +%s)
+! tried && [ $(($(date +%s) - begun)) -lt 60 ] || fails "bin/test goes on with rt ci though checks/from_json.sh failed beside it"
 rm "$work/failing"
-for part in checks/from_json.sh checks/edits.sh checks/c.sh checks/recovery.sh; do
+for part in checks/from_json.sh checks/edits.sh rt checks/c.sh checks/recovery.sh; do
     echo "$part" >"$work/slow"
     (cd "$work/copy" && PATH=$work/tools:$PATH exec setsid bin/test) >"$work/output" 2>&1 &
     group=$!
