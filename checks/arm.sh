@@ -47,7 +47,7 @@ run() {
 
 # The documents that tests in Rattle share, and the examples: a name and hex digits a line.
 documents() {
-    LC_ALL=C awk -f c/tests/documents.awk crates/test_fixtures/src/documents.rt crates/bson_tests/src/views/reasons.rt
+    LC_ALL=C awk -f c/tests/documents.awk crates/bson_tests/src/fixtures/documents.rt crates/bson_tests/src/views/reasons.rt
     for document in examples/*.hex; do
         echo "$(basename "$document") $(tr -d ' \r\n' <"$document" | tr '[:upper:]' '[:lower:]')"
     done

@@ -232,7 +232,7 @@ documents() {
     levels 40
     levels 500
     levels 501
-    LC_ALL=C awk -f c/tests/documents.awk crates/test_fixtures/src/documents.rt crates/bson_tests/src/views/reasons.rt
+    LC_ALL=C awk -f c/tests/documents.awk crates/bson_tests/src/fixtures/documents.rt crates/bson_tests/src/views/reasons.rt
     for document in examples/*.hex; do
         echo "$(basename "$document") $(tr -d ' \r\n' <"$document" | tr '[:upper:]' '[:lower:]')"
     done

@@ -164,19 +164,14 @@ run_scenario() {
     esac
 }
 
-# to_be_refused CRATE: the tests that are there to be refused, of the crate as it was built last: of memory_tests all outside of
-# the module `json`, and of that module and of each other crate those of a module `memory` or `read_memory`; a line of its own
-# where the crate's tests can't be listed
+# to_be_refused CRATE: the tests that are there to be refused, of the crate as it was built last: those of a module `memory`; a line of
+# its own where the crate's tests can't be listed
 to_be_refused() {
     if ! "crates/$1/out/$1_tests" --list 3>/dev/null >"$folder/$1.list"; then
         echo "(the tests of this crate can't be listed)"
         return
     fi
-    sed -n 's/: [a-z]*$//p' "$folder/$1.list" |
-        case $1 in
-        memory_tests) awk '!/^json::/ || /::(read_)?memory::/' ;;
-        *) grep -E '(^|::)(read_)?memory::' ;;
-        esac
+    sed -n 's/: [a-z]*$//p' "$folder/$1.list" | grep -E '(^|::)memory::'
 }
 
 # unlisted FILE: the tests that are there to be refused, and have no line in this file
@@ -212,16 +207,15 @@ sed '/^#/d; /^$/d' "$list" |
     awk -v crates=" $crates " 'crates == "  " || index(crates, $1 == "program" ? " bsonraw " : $1 == "dump" ? " bsonraw_dump " : " " $2 " ")' >"$folder/scenarios"
 [ -s "$folder/scenarios" ] || exit 1
 
-# No test that is there to be refused is left out. First: one that is left out is seen, of each sort of crate.
-for sort in 'memory_tests [^ ]*' '[^ ]* memory::[^ ]*'; do
-    [ -z "$crates" ] || break
-    gone=$(sed -n "s/^test \($sort\).*/\1/p" "$folder/scenarios" | head -n 1)
+# No test that is there to be refused is left out. First: one that is left out is seen.
+if [ -z "$crates" ]; then
+    gone=$(sed -n 's/^test \([^ ]* memory::[^ ]*\).*/\1/p' "$folder/scenarios" | head -n 1)
     grep -v "^test $gone\( \|\$\)" "$folder/scenarios" >"$folder/shortened"
     if [ -z "$gone" ] || ! unlisted "$folder/shortened" | grep -qx "$gone"; then
         echo "refusals.sh: it isn't seen that $gone is left out" >&2
         exit 1
     fi
-done
+fi
 missing=$(unlisted "$folder/scenarios")
 if [ -n "$missing" ]; then
     echo "refusals.sh: not in the list: $missing" >&2

@@ -82,6 +82,34 @@ SAME = [
     (0x09, long(-(1 << 63)), '{"$date":{"$numberLong":"-9223372036854775808"}}'),
     (0x09, long(253402300800000), '{"$date":{"$numberLong":"253402300800000"}}'),
     (0x09, long((1 << 63) - 1), '{"$date":{"$numberLong":"9223372036854775807"}}'),
+    (0x01, bytes.fromhex("000000000000f87f"), '{"$numberDouble":"NaN"}'),
+    (0x02, bytes.fromhex("060000006122625c6300"), '"a\\"b\\\\c"'),
+    (0x02, bytes.fromhex("05000000011f7f2f00"), '"\\u0001\\u001f\x7f/"'),
+    (0x02, bytes.fromhex("020000000000"), '"\\u0000"'),
+    (0x02, bytes.fromhex("0a000000c3a9e282acf09f988000"), '"é€😀"'),
+    (0x05, bytes.fromhex("0200000005fffe"), '{"$binary":{"base64":"//4=","subType":"05"}}'),
+    (0x08, bytes.fromhex("01"), "true"),
+    (0x0B, bytes.fromhex("0000"), '{"$regularExpression":{"pattern":"","options":""}}'),
+    (0x0F, bytes.fromhex("0f0000000200000066000500000000"), '{"$code":"f","$scope":{}}'),
+    (0x04, bytes.fromhex("0c0000000a30000837000100"), "[null,true]"),
+    (0x13, bytes.fromhex("000000000000000000000000000040b0"), '{"$numberDecimal":"-0"}'),
+    (0x13, bytes.fromhex("01000000000000000000000000004030"), '{"$numberDecimal":"1"}'),
+    (0x13, bytes.fromhex("010000000000000000000000000040b0"), '{"$numberDecimal":"-1"}'),
+    (0x13, bytes.fromhex("0c000000000000000000000000003030"), '{"$numberDecimal":"1.2E-7"}'),
+    (0x13, bytes.fromhex("7b000000000000000000000000003030"), '{"$numberDecimal":"0.00000123"}'),
+    (0x13, bytes.fromhex("01000000000000000000000000004630"), '{"$numberDecimal":"1E+3"}'),
+    (0x13, bytes.fromhex("00000000000000000000000000004630"), '{"$numberDecimal":"0E+3"}'),
+    (0x13, bytes.fromhex("00000000000000000000000000003a30"), '{"$numberDecimal":"0.000"}'),
+    (0x13, bytes.fromhex("00000000000000000000000000003230"), '{"$numberDecimal":"0E-7"}'),
+    (0x13, bytes.fromhex("ffffffff638e8d37c087adbe09ed4130"), '{"$numberDecimal":"9999999999999999999999999999999999"}'),
+    (0x13, bytes.fromhex("0100000000000000000000000000fe5f"), '{"$numberDecimal":"1E+6111"}'),
+    (0x13, bytes.fromhex("ffffffff638e8d37c087adbe09ed0100"), '{"$numberDecimal":"9.999999999999999999999999999999999E-6143"}'),
+    (0x13, bytes.fromhex("00000000000000000000000000000000"), '{"$numberDecimal":"0E-6176"}'),
+    (0x13, bytes.fromhex("ffffffff638e8d37c087adbe09edfd2f"), '{"$numberDecimal":"0.9999999999999999999999999999999999"}'),
+    (0x13, bytes.fromhex("0000000000000000000000000000007c"), '{"$numberDecimal":"NaN"}'),
+    (0x13, bytes.fromhex("050000000000000012000000000000fc"), '{"$numberDecimal":"NaN"}'),
+    (0x13, bytes.fromhex("0500000000000000000000000000106c"), '{"$numberDecimal":"0"}'),
+    (0x13, bytes.fromhex("050000000000000000000000008011ec"), '{"$numberDecimal":"-0E+3"}'),
 ]
 
 # A tag, a payload, its text when relaxed, and when canonical.
@@ -107,6 +135,20 @@ EACH = [
         '{"$code":"f","$scope":{"x":1}}',
         '{"$code":"f","$scope":{"x":{"$numberInt":"1"}}}',
     ),
+    (0x01, bytes.fromhex("0000000000000000"), "0.0", '{"$numberDouble":"0.0"}'),
+    (0x01, bytes.fromhex("000000000000f8bf"), "-1.5", '{"$numberDouble":"-1.5"}'),
+    (0x01, bytes.fromhex("00003426f56b0c43"), "1000000000000000.0", '{"$numberDouble":"1000000000000000.0"}'),
+    (0x01, bytes.fromhex("0080e03779c34143"), "1e16", '{"$numberDouble":"1e16"}'),
+    (0x01, bytes.fromhex("f168e388b5f8e43e"), "0.00001", '{"$numberDouble":"0.00001"}'),
+    (0x01, bytes.fromhex("8dedb5a0f7c6b03e"), "1e-6", '{"$numberDouble":"1e-6"}'),
+    (0x01, bytes.fromhex("ea8ca039593e2946"), "1e30", '{"$numberDouble":"1e30"}'),
+    (0x01, bytes.fromhex("c976be9f0c24fe40"), "123456.789", '{"$numberDouble":"123456.789"}'),
+    (0x09, bytes.fromhex("0100000000000000"), '{"$date":"1970-01-01T00:00:00.001Z"}', '{"$date":{"$numberLong":"1"}}'),
+    (0x09, bytes.fromhex("ffdfa69add000000"), '{"$date":"2000-02-28T23:59:59.999Z"}', '{"$date":{"$numberLong":"951782399999"}}'),
+    (0x09, bytes.fromhex("000c9b5cbc030000"), '{"$date":"2100-03-01T00:00:00Z"}', '{"$date":{"$numberLong":"4107542400000"}}'),
+    (0x10, bytes.fromhex("00000000"), "0", '{"$numberInt":"0"}'),
+    (0x10, bytes.fromhex("ffffffff"), "-1", '{"$numberInt":"-1"}'),
+    (0x12, bytes.fromhex("ffffffffffffffff"), "-1", '{"$numberLong":"-1"}'),
 ]
 
 # One of each thing that a line may begin with: an empty array, documents in an array, a null, a scope, an empty document.
@@ -175,9 +217,9 @@ class Texts(unittest.TestCase):
         with self.assertRaises(BsonError) as caught:
             bsonraw.to_json(data)
         self.assertEqual((caught.exception.reason, caught.exception.path), (Reason.TOO_DEEP, (0,) * 500))
-        for _ in range(3_000):
+        for _ in range(11_500):
             data = framed(b"\3k\0" + data)
-        self.assertEqual(bsonraw.to_json(data, max_depth=3_501), '{"k":' * 3_500 + "{}" + "}" * 3_500)
+        self.assertEqual(bsonraw.to_json(data, max_depth=12_001), '{"k":' * 12_000 + "{}" + "}" * 12_000)
 
     def test_large_texts(self) -> None:
         """Each longer than the room that is first made for it, and the next one short again."""

@@ -1,20 +1,16 @@
-use raw_bson::{AnyError, NoMemory, RawDocument, Reason, ValueAccessErrorKind};
-use std::alloc::Global;
-use std::test::Fail;
-use test_fixtures::*;
+use crate::fixtures::*;
+use raw_bson::{AnyError, NoMemory, RawDocument};
+use std::alloc::{AllocError, Global};
+use std::process::Abort;
 
-/// The number under `a`, at the end of a list: a view, a getter and a push, each with an error of its own.
-fn listed(alloc: Global, bytes: &[u8]) -> Result<Vec<i32>, AnyError> {
-    let document = RawDocument::from_bytes(bytes)?;
-    let mut list = Vec::new(alloc);
-    list.push(document.get_i32(alloc, "a")?)?;
-    Ok(list)
+/// The number under `a`: a view and a getter, each with an error of its own.
+fn number(alloc: Global, bytes: &[u8]) -> Result<i32, AnyError> {
+    Ok(RawDocument::from_bytes(bytes)?.get_i32(alloc, "a")?)
 }
 
-#[test]
-fn a_view_a_getter_and_a_push(rt: HostRuntime) -> Result<(), Fail> {
-    let list = listed(rt.alloc(), REPEATED_KEY)?;
-    holds(list.len() == 1 && list.first() == Some(&1), "a list of one")
+/// Whether this is the number.
+fn is_number(answer: &Result<i32, AnyError>, wanted: i32) -> bool {
+    matches!(answer, Ok(found) if *found == wanted)
 }
 
 /// Whether the error has a copy that is equal.
@@ -30,50 +26,47 @@ fn says(alloc: Global, error: &AnyError, text: &str, key: Option<&str>) -> bool 
     has_display_text(alloc, error, text) && error.key() == key && is_copied(error)
 }
 
-/// Whether the error is that of reading a document that is too short, and says so.
-fn is_too_short(alloc: Global, error: &AnyError) -> bool {
-    let text = "malformed value: \"document too short\"";
-    says(alloc, error, text, None)
-        && *error == AnyError::Raw(raw_bson::Error::malformed(Reason::TooShort))
-}
-
-#[test]
-fn an_error_of_reading_stays_itself(rt: HostRuntime) -> Result<(), Fail> {
-    match listed(rt.alloc(), b"\x04\0\0\0") {
-        Ok(_) => Err(Fail::new("no error")),
-        Err(error) => holds(is_too_short(rt.alloc(), &error), "document too short"),
+/// Whether there is such an error.
+fn is_said(alloc: Global, answer: &Result<i32, AnyError>, text: &str, key: Option<&str>) -> bool {
+    match answer {
+        Ok(_) => false,
+        Err(error) => says(alloc, error, text, key),
     }
 }
 
-/// Whether the error is that of an access to what isn't there.
-fn is_not_present(error: &AnyError) -> bool {
-    match error {
-        AnyError::Access(access) => access.kind == ValueAccessErrorKind::NotPresent,
-        AnyError::Raw(_) => false,
-    }
+/// Bytes, and the text and the key of the error.
+const ERRORS: &[(&[u8], &str, Option<&str>)] = &[
+    (
+        b"\x04\0\0\0",
+        "malformed value: \"document too short\"",
+        None,
+    ),
+    (
+        GREETING,
+        "error at key: \"a\": value not present",
+        Some("a"),
+    ),
+];
+
+/// Whether a push goes well; its error would be one of these.
+fn push(list: &mut Vec<i32>) -> Result<(), AnyError> {
+    list.push(1)?;
+    Ok(())
+}
+
+/// Whether this is out of memory.
+fn is_out_of_memory(alloc: Global, error: AnyError) -> bool {
+    says(alloc, &error, "out of memory", None)
 }
 
 #[test]
-fn an_access_error_stays_itself(rt: HostRuntime) -> Result<(), Fail> {
-    match listed(rt.alloc(), GREETING) {
-        Ok(_) => Err(Fail::new("no error")),
-        Err(error) => {
-            let text = "error at key: \"a\": value not present";
-            let is_said = says(rt.alloc(), &error, text, Some("a"));
-            holds(is_said && is_not_present(&error), "not present")
-        }
-    }
-}
-
-#[test]
-fn out_of_memory_is_an_error_of_any_sort(rt: HostRuntime) -> Result<(), Fail> {
+fn each_error_stays_itself(rt: HostRuntime) {
     let alloc = rt.alloc();
-    let are_said = says(alloc, &AnyError::from(NoMemory), "out of memory", None)
-        && says(
-            alloc,
-            &AnyError::from(std::alloc::AllocError),
-            "out of memory",
-            None,
-        );
-    holds(are_said, "out of memory")
+    assert!(rt; is_number(&number(alloc, REPEATED_KEY), 1));
+    for (bytes, text, key) in ERRORS {
+        assert!(rt; is_said(alloc, &number(alloc, bytes), text, *key), "{text}");
+    }
+    assert!(rt; is_out_of_memory(alloc, AnyError::from(NoMemory)));
+    assert!(rt; is_out_of_memory(alloc, AnyError::from(AllocError)));
+    assert!(rt; push(&mut Vec::new(alloc)).is_ok());
 }

@@ -1,3 +1,4 @@
+use crate::fixtures::{EMPTY, REPEATED_KEY};
 use bson_uses::{
     Dump, MOST, Tally, TallyError, are_equal, check_user, copy_without, count_nulls, find_path,
     keep, normalised_twice, received, set_path, split_dump, tally_of,
@@ -6,12 +7,6 @@ use raw_bson::{Document, RawBsonRef, RawDocument, RawDocumentBuf, Result};
 use raw_shelf::Shelf;
 use std::alloc::Global;
 use std::process::Abort;
-use std::test::Fail;
-use test_fixtures::holds;
-
-const EMPTY_DOCUMENT: &[u8] = b"\x05\0\0\0\0";
-
-const REPEATED_KEY: &[u8] = b"\x13\0\0\0\x10a\0\x01\0\0\0\x10a\0\x02\0\0\0\0";
 
 const ITS_CANONICAL_FORM: &[u8] = b"\x0C\0\0\0\x10a\0\x02\0\0\0\0";
 
@@ -23,29 +18,12 @@ fn is_truth(answer: Result<bool>, wanted: bool) -> bool {
     }
 }
 
-#[test]
-fn two_spellings_of_a_tree_are_equal(rt: HostRuntime) {
-    let alloc = rt.alloc();
-    assert!(rt; is_truth(are_equal(alloc, REPEATED_KEY, ITS_CANONICAL_FORM), true));
-    assert!(rt; is_truth(are_equal(alloc, REPEATED_KEY, EMPTY_DOCUMENT), false));
-}
-
 /// Whether both are this form.
 fn are_form(answer: Result<(Vec<u8>, Vec<u8>)>, form: &[u8]) -> bool {
     match answer {
         Ok((once, twice)) => once.as_slice() == form && twice.as_slice() == form,
         Err(_) => false,
     }
-}
-
-#[test]
-fn a_form_is_its_own_form(rt: HostRuntime) {
-    assert!(rt;
-        are_form(
-            normalised_twice(rt.alloc(), REPEATED_KEY),
-            ITS_CANONICAL_FORM
-        )
-    );
 }
 
 /// The null under `b` in the document under `a`.
@@ -59,10 +37,12 @@ fn is_null(answer: Result<Option<RawBsonRef<'_>>>) -> bool {
     }
 }
 
-#[test]
-fn a_path_goes_down(rt: HostRuntime) -> std::result::Result<(), Fail> {
-    let here = RawBsonRef::Document(RawDocument::from_bytes(NESTED)?);
-    holds(is_null(find_path(rt.alloc(), here, &["a", "b"])), "a path")
+/// Whether a null is found at this path in the document of these bytes.
+fn is_null_found(alloc: Global, bytes: &[u8], path: &[&str]) -> bool {
+    match RawDocument::from_bytes(bytes) {
+        Ok(document) => is_null(find_path(alloc, RawBsonRef::Document(document), path)),
+        Err(_) => false,
+    }
 }
 
 /// Whether the tree has one pair.
@@ -73,22 +53,12 @@ fn is_one_pair(tree: Result<Document>) -> bool {
     }
 }
 
-#[test]
-fn what_comes_from_outside_is_taken(rt: HostRuntime) {
-    assert!(rt; is_one_pair(received(rt.alloc(), REPEATED_KEY)));
-}
-
 /// Whether a tree is kept once, and another beside it.
 fn is_kept_once(alloc: Global, shelf: &mut Shelf) -> bool {
     is_truth(keep(alloc, shelf, REPEATED_KEY), true)
         && is_truth(keep(alloc, shelf, ITS_CANONICAL_FORM), false)
-        && is_truth(keep(alloc, shelf, EMPTY_DOCUMENT), true)
+        && is_truth(keep(alloc, shelf, EMPTY), true)
         && shelf.len() == 2
-}
-
-#[test]
-fn a_tree_is_kept_once(rt: HostRuntime) {
-    assert!(rt; is_kept_once(rt.alloc(), &mut Shelf::new(rt.alloc())));
 }
 
 /// Whether the dump is one document, and nothing is left.
@@ -97,11 +67,6 @@ fn is_whole(answer: &Result<Dump<'_>>) -> bool {
         Ok(dump) => dump.documents.len() == 1 && dump.rest.is_empty() && dump.error.is_none(),
         Err(_) => false,
     }
-}
-
-#[test]
-fn a_dump_is_cut_into_documents(rt: HostRuntime) {
-    assert!(rt; is_whole(&split_dump(rt.alloc(), REPEATED_KEY)));
 }
 
 /// Whether so many were counted.
@@ -120,19 +85,15 @@ fn are_counted(alloc: Global, bytes: &[u8], wanted: usize) -> bool {
     }
 }
 
-#[test]
-fn nulls_are_counted(rt: HostRuntime) -> std::result::Result<(), Fail> {
-    let bytes = b"\x0B\0\0\0\x0Aa\0\x0Ab\0\0";
-    holds(are_counted(rt.alloc(), bytes, 2), "nulls")
-}
-
 /// A user: an ObjectId of zeros, and the text `x` as its address.
 const USER: &[u8] = b"\x23\0\0\0\x07_id\0\0\0\0\0\0\0\0\0\0\0\0\0\x02email\0\x02\0\0\0x\0\0";
 
-#[test]
-fn a_user_has_its_fields(rt: HostRuntime) -> std::result::Result<(), Fail> {
-    let user = RawDocument::from_bytes(USER)?;
-    holds(check_user(rt.alloc(), user).is_ok(), "a user")
+/// Whether the document of these bytes is a user.
+fn is_user(alloc: Global, bytes: &[u8]) -> bool {
+    match RawDocument::from_bytes(bytes) {
+        Ok(document) => check_user(alloc, document).is_ok(),
+        Err(_) => false,
+    }
 }
 
 /// The 64-bit number 7 under `n`; a repeated key, which isn't canonical; and the number once more.
@@ -145,11 +106,6 @@ fn is_tally(tally: std::result::Result<Tally, TallyError>) -> bool {
         Ok(tally) => tally.documents == 3 && tally.canonical == 2 && tally.sum == 14,
         Err(_) => false,
     }
-}
-
-#[test]
-fn a_dump_has_a_tally(rt: HostRuntime) {
-    assert!(rt; is_tally(tally_of(rt.alloc(), NUMBERS, "n", MOST)));
 }
 
 /// Whether the copy has these bytes.
@@ -174,11 +130,6 @@ fn is_left(alloc: Global, bytes: &[u8], key: &str, left: &[u8]) -> bool {
     }
 }
 
-#[test]
-fn a_copy_has_all_but_one_key(rt: HostRuntime) -> std::result::Result<(), Fail> {
-    holds(is_left(rt.alloc(), AROUND, "a", B_ALONE), "a copy")
-}
-
 /// The number 1 under `a`; under `b` a document: the number 2 under `c`, and under `d` a boolean that is neither 0 nor 1.
 const DAMAGED_BELOW: &[u8] =
     b"\x1F\0\0\0\x10a\0\x01\0\0\0\x03b\0\x10\0\0\0\x10c\0\x02\0\0\0\x08d\0\x02\0\0";
@@ -195,7 +146,23 @@ fn is_set(alloc: Global, bytes: &[u8], path: &[&str], set: &[u8]) -> bool {
 }
 
 #[test]
-fn a_value_is_set_under_keys(rt: HostRuntime) -> std::result::Result<(), Fail> {
-    let is_set = is_set(rt.alloc(), DAMAGED_BELOW, &["b", "c"], SET_BELOW);
-    holds(is_set, "a value")
+fn callers_of_bytes_have_their_results(rt: HostRuntime) {
+    let alloc = rt.alloc();
+    assert!(rt; is_truth(are_equal(alloc, REPEATED_KEY, ITS_CANONICAL_FORM), true));
+    assert!(rt; is_truth(are_equal(alloc, REPEATED_KEY, EMPTY), false));
+    assert!(rt; are_form(normalised_twice(alloc, REPEATED_KEY), ITS_CANONICAL_FORM));
+    assert!(rt; is_one_pair(received(alloc, REPEATED_KEY)));
+    assert!(rt; is_kept_once(alloc, &mut Shelf::new(alloc)));
+    assert!(rt; is_whole(&split_dump(alloc, REPEATED_KEY)));
+    assert!(rt; is_tally(tally_of(alloc, NUMBERS, "n", MOST)));
+}
+
+#[test]
+fn callers_of_documents_have_their_results(rt: HostRuntime) {
+    let alloc = rt.alloc();
+    assert!(rt; is_null_found(alloc, NESTED, &["a", "b"]));
+    assert!(rt; are_counted(alloc, b"\x0B\0\0\0\x0Aa\0\x0Ab\0\0", 2));
+    assert!(rt; is_user(alloc, USER));
+    assert!(rt; is_left(alloc, AROUND, "a", B_ALONE));
+    assert!(rt; is_set(alloc, DAMAGED_BELOW, &["b", "c"], SET_BELOW));
 }

@@ -1,25 +1,9 @@
-use crate::checks::{check_array_text, holds_of};
-use raw_bson::{
-    ElementType, RawBson, RawBsonRef, RawDocument, RawElement, RawRegexRef, ToRawArrayBuf,
-    ToRawBson, ToRawDocumentBuf,
-};
+use crate::fixtures::*;
+use raw_bson::{RawArrayBuf, RawBson, RawBsonRef, RawRegexRef, Result, ToRawArrayBuf, ToRawBson};
 use std::alloc::Global;
-use std::test::Fail;
-use test_fixtures::*;
+use std::process::Abort;
 
-#[test]
-fn a_view_of_a_document_is_copied(rt: HostRuntime) -> Result<(), Fail> {
-    let copy = RawDocument::from_bytes(GREETING)?.to_raw_document_buf(rt.alloc())?;
-    check_bytes(copy.as_bytes(), GREETING, "a copy")
-}
-
-/// The copy of the array has this text.
-fn check_array_copied(alloc: Global, bytes: &[u8], text: &str) -> Result<(), Fail> {
-    let copy = array_view(bytes)?.to_raw_array_buf(alloc)?;
-    check_array_text(alloc, &copy, text)
-}
-
-/// Arrays, and the texts of their copies.
+/// Arrays, and the texts of their copies, which show their counts.
 const COUNTED: &[(&[u8], &str)] = &[
     (EMPTY, "RawArrayBuf { data: \"0500000000\", len: 0 }"),
     (
@@ -42,28 +26,27 @@ const COUNTED: &[(&[u8], &str)] = &[
     ),
 ];
 
+/// Whether the copy was made, and has this text.
+fn is_counted(alloc: Global, copy: &Result<RawArrayBuf>, text: &str) -> bool {
+    match copy {
+        Ok(copy) => has_debug_text(alloc, copy, text),
+        Err(_) => false,
+    }
+}
+
+/// The same of the copy of the array of these bytes.
+fn is_row(alloc: Global, bytes: &[u8], text: &str) -> bool {
+    match array_view(bytes) {
+        Ok(view) => is_counted(alloc, &view.to_raw_array_buf(alloc), text),
+        Err(_) => false,
+    }
+}
+
 #[test]
-fn a_view_of_an_array_is_copied_and_counted(rt: HostRuntime) -> Result<(), Fail> {
+fn a_view_of_an_array_is_copied_and_counted(rt: HostRuntime) {
     for (bytes, text) in COUNTED {
-        check_array_copied(rt.alloc(), bytes, text)?;
+        assert!(rt; is_row(rt.alloc(), bytes, text), "{text}");
     }
-    Ok(())
-}
-
-/// Whether the copy is the value of this kind.
-fn is_copied(copy: &raw_bson::Result<RawBson>, kind: ElementType) -> bool {
-    match (copy, borrowed(kind)) {
-        (Ok(copy), Ok(value)) => copy.as_raw_bson_ref() == value,
-        _ => false,
-    }
-}
-
-#[test]
-fn a_borrowed_value_of_each_kind_is_copied(rt: HostRuntime) -> Result<(), Fail> {
-    for &(_, kind) in KINDS.iter() {
-        holds_of(is_copied(&owned(rt.alloc(), kind), kind), kind)?;
-    }
-    Ok(())
 }
 
 /// A regular expression with these options.
@@ -74,24 +57,16 @@ fn with_options(options: &str) -> RawBsonRef<'_> {
     })
 }
 
-#[test]
-fn options_are_put_in_order(rt: HostRuntime) -> Result<(), Fail> {
-    let copy = with_options("mi").to_raw_bson(rt.alloc())?;
-    let are_sorted = copy.as_raw_bson_ref() == with_options("im");
-    holds(are_sorted, "options in order")
-}
-
-/// The copy of the element's value is this text.
-fn check_text_copied(alloc: Global, element: RawElement<'_>, text: &str) -> Result<(), Fail> {
-    let wanted = RawBson::from_str(alloc, text)?;
-    holds(is_answer(element.to_raw_bson(alloc), &wanted), text)
-}
-
-#[test]
-fn the_value_of_an_element_of_a_buffer_is_copied(rt: HostRuntime) -> Result<(), Fail> {
-    let greeting = document_of(rt.alloc(), GREETING)?;
-    match greeting.iter_elements().next() {
-        Some(Ok(element)) => check_text_copied(rt.alloc(), element, "y'all"),
-        _ => Err(Fail::new("no element")),
+/// Whether the copy was made, and is this value.
+fn is_copy(copy: Result<RawBson>, wanted: RawBsonRef<'_>) -> bool {
+    match copy {
+        Ok(copy) => copy.as_raw_bson_ref() == wanted,
+        Err(_) => false,
     }
+}
+
+#[test]
+fn options_are_put_in_order(rt: HostRuntime) {
+    let copy = with_options("mi").to_raw_bson(rt.alloc());
+    assert!(rt; is_copy(copy, with_options("im")));
 }

@@ -4,7 +4,6 @@ use bson_uses::{Unmet, matches};
 use raw_bson::{RawArrayBuf, RawBson, RawBsonRef, RawDocumentBuf, Result};
 use std::alloc::Global;
 use std::process::Abort;
-use std::test::Fail;
 
 /// A user of this name and age.
 fn user(alloc: Global, name: &str, age: i32) -> Result<RawDocumentBuf> {
@@ -65,20 +64,33 @@ fn leaves_out(alloc: Global, filter: &RawDocumentBuf, name: &str, age: i32) -> b
     }
 }
 
-#[test]
-fn an_age_is_over_another(rt: HostRuntime) -> std::result::Result<(), Fail> {
-    let alloc = rt.alloc();
-    let filter = under(alloc, "age", "$gt", RawBsonRef::Int32(21))?;
-    assert!(rt; finds(alloc, &filter, "Ada", 36) && leaves_out(alloc, &filter, "Bob", 21));
-    Ok(())
+/// Whether the filter was made, finds the first of these users, and says that the second differs.
+fn divides(
+    alloc: Global,
+    filter: Result<RawDocumentBuf>,
+    (name, age): (&str, i32),
+    (other_name, other_age): (&str, i32),
+) -> bool {
+    match filter {
+        Ok(filter) => {
+            finds(alloc, &filter, name, age) && leaves_out(alloc, &filter, other_name, other_age)
+        }
+        Err(_) => false,
+    }
+}
+
+/// The filter that wants the name to be one of two.
+fn one_of_two(alloc: Global) -> Result<RawDocumentBuf> {
+    let names = names(alloc)?;
+    under(alloc, "name", "$in", RawBsonRef::from(&names))
 }
 
 #[test]
-fn a_name_is_one_of_two(rt: HostRuntime) -> std::result::Result<(), Fail> {
+fn filters_divide_users(rt: HostRuntime) {
     let alloc = rt.alloc();
-    let filter = under(alloc, "name", "$in", RawBsonRef::from(&names(alloc)?))?;
-    assert!(rt; finds(alloc, &filter, "Bob", 18) && leaves_out(alloc, &filter, "Eve", 22));
-    Ok(())
+    let over = under(alloc, "age", "$gt", RawBsonRef::Int32(21));
+    assert!(rt; divides(alloc, over, ("Ada", 36), ("Bob", 21)));
+    assert!(rt; divides(alloc, one_of_two(alloc), ("Bob", 18), ("Eve", 22)));
 }
 
 /// Whether a user is found by a filter of the same pairs and by an empty one, and not by others, nor an empty document
@@ -95,12 +107,22 @@ fn are_compared(
         && said(alloc, empty, ada) == Err(Unmet::Differs)
 }
 
+/// Whether that holds of two users and an empty document, where there is memory for them.
+fn are_equal_alone(
+    alloc: Global,
+    ada: Result<RawDocumentBuf>,
+    other: Result<RawDocumentBuf>,
+    empty: Result<RawDocumentBuf>,
+) -> bool {
+    match (ada, other, empty) {
+        (Ok(ada), Ok(other), Ok(empty)) => are_compared(alloc, &ada, &other, &empty),
+        _ => false,
+    }
+}
+
 #[test]
-fn values_are_equal_under_their_keys(rt: HostRuntime) -> std::result::Result<(), Fail> {
+fn values_are_equal_under_their_keys(rt: HostRuntime) {
     let alloc = rt.alloc();
-    let ada = user(alloc, "Ada", 36)?;
-    let other = user(alloc, "Ada", 37)?;
-    let empty = RawDocumentBuf::new(alloc)?;
-    assert!(rt; are_compared(alloc, &ada, &other, &empty));
-    Ok(())
+    let (ada, other) = (user(alloc, "Ada", 36), user(alloc, "Ada", 37));
+    assert!(rt; are_equal_alone(alloc, ada, other, RawDocumentBuf::new(alloc)));
 }

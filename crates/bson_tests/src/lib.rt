@@ -1,14 +1,13 @@
-//! Tests of `bson_model`, `raw_view`, `raw_bson`, `raw_form`, `raw_shelf` and `bson_uses` through their public calls. They are apart
-//! from these, so that none is proved twice. `bin/test` runs those of `memory` and `views::memory` with each request for memory
-//! refused in turn, alone; others that it runs so are in `memory_tests`.
+//! Tests of the libraries through their public calls. They are apart from these, so that none is proved twice, and in one crate, as
+//! each crate of tests reads all of these first. `bin/test` runs those of the module `memory` with each request for memory refused in
+//! turn, alone. What becomes of texts of Extended JSON is tested in `c/tests/from_json.c`, what is printed in
+//! `python/tests/test_json.py`.
 #![tactic(auto)]
 
 #[cfg(test)]
 mod any_errors;
 #[cfg(test)]
 mod arrays;
-#[cfg(test)]
-mod buffers;
 #[cfg(test)]
 mod callers;
 #[cfg(test)]
@@ -21,6 +20,8 @@ mod copies;
 mod damage;
 #[cfg(test)]
 mod filter;
+#[cfg(test)]
+mod fixtures;
 #[cfg(test)]
 mod memory;
 #[cfg(test)]

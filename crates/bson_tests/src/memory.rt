@@ -1,20 +1,23 @@
-use crate::shelf::{GREETING, document};
-use raw_bson::RawDocumentBuf;
-use raw_shelf::{PutError, Shelf};
-use std::process::Abort;
+//! Tests that `bin/test` runs with each request for memory refused in turn, alone: each call returns what it returns with ample
+//! memory, or out of memory where it may.
 
-/// Whether the put into the empty shelf stores the document, or runs out of memory and leaves the shelf empty.
-fn is_stored(shelf: &mut Shelf, document: RawDocumentBuf) -> bool {
-    match shelf.put(document) {
-        Ok(is_new) => is_new && shelf.len() == 1,
-        Err(error) => error == PutError::OutOfMemory && shelf.is_empty(),
-    }
-}
-
-// `bin/test` runs this with each request for memory refused in turn, alone.
-#[test]
-fn put_or_out_of_memory(rt: HostRuntime) {
-    if let Ok(greeting) = document(rt.alloc(), GREETING) {
-        assert!(rt; is_stored(&mut Shelf::new(rt.alloc()), greeting));
-    }
-}
+mod arrays;
+mod asserts;
+mod barriers;
+mod buffers;
+mod copies;
+mod counts;
+mod errors;
+mod from_json;
+mod keys;
+mod kinds;
+mod no_memory;
+mod pairs;
+mod parts;
+mod requests;
+mod shelf;
+mod to_json;
+mod trees;
+mod validation;
+mod views;
+mod writing;

@@ -1,27 +1,14 @@
+use crate::fixtures::*;
 use raw_bson::{Breach, Cause, RawBson, RawDocumentBuf, Result, canonical_bytes};
 use raw_shelf::{PutError, Shelf};
 use std::alloc::Global;
 use std::process::Abort;
-use test_fixtures::{has_debug_text, has_display_text};
-
-const EMPTY_DOCUMENT: &[u8] = b"\x05\0\0\0\0";
-
-pub(crate) const GREETING: &[u8] = b"\x13\0\0\0\x02hi\0\x06\0\0\0y'all\0\0";
-
-const REPEATED_KEY: &[u8] = b"\x13\0\0\0\x10a\0\x01\0\0\0\x10a\0\x02\0\0\0\0";
-
-const ARRAY_WITH_AN_EMPTY_KEY: &[u8] = b"\x0F\0\0\0\x04a\0\x07\0\0\0\x0A\0\0\0";
 
 const ITS_CANONICAL_FORM: &[u8] = b"\x10\0\0\0\x04a\0\x08\0\0\0\x0A0\0\0\0";
 
-/// A buffer of these bytes.
-pub(crate) fn document(alloc: Global, bytes: &[u8]) -> Result<RawDocumentBuf> {
-    RawDocumentBuf::from_bytes(Vec::from_slice(alloc, bytes)?)
-}
-
 /// What the put of these bytes returns; out of memory where there was none for the bytes.
 fn put(alloc: Global, shelf: &mut Shelf, bytes: &[u8]) -> std::result::Result<bool, PutError> {
-    match document(alloc, bytes) {
+    match document_of(alloc, bytes) {
         Ok(document) => shelf.put(document),
         Err(_) => Err(PutError::OutOfMemory),
     }
@@ -78,7 +65,7 @@ fn are_put(alloc: Global, shelf: &mut Shelf) -> bool {
             shelf,
             canonical_bytes(alloc, ARRAY_WITH_AN_EMPTY_KEY),
         )
-        && is_put(alloc, shelf, EMPTY_DOCUMENT, true)
+        && is_put(alloc, shelf, EMPTY, true)
 }
 
 /// Whether the documents are there then.
@@ -87,15 +74,14 @@ fn are_in_order(shelf: &Shelf) -> bool {
         && !shelf.is_empty()
         && is_at(shelf, 0, Some(GREETING))
         && is_at(shelf, 1, Some(ITS_CANONICAL_FORM))
-        && is_at(shelf, 2, Some(EMPTY_DOCUMENT))
+        && is_at(shelf, 2, Some(EMPTY))
         && is_at(shelf, 3, None)
 }
 
 #[test]
 fn documents_come_in_order(rt: HostRuntime) {
-    let mut shelf = Shelf::new(rt.alloc());
-    assert!(rt; are_put(rt.alloc(), &mut shelf));
-    assert!(rt; are_in_order(&shelf));
+    let shelf = &mut Shelf::new(rt.alloc());
+    assert!(rt; are_put(rt.alloc(), shelf) && are_in_order(shelf));
 }
 
 /// The document of this number under `n`.
@@ -129,36 +115,36 @@ fn first_wrong(alloc: Global, shelf: &mut Shelf, is_new: bool) -> Option<i32> {
 /// The number 9999 under `n`.
 const LAST_NUMBER: &[u8] = b"\x0C\0\0\0\x10n\0\x0F\x27\0\0\0";
 
+/// Whether ten thousand are put, and none of them again.
+fn are_put_once(alloc: Global, shelf: &mut Shelf) -> bool {
+    first_wrong(alloc, shelf, true).is_none()
+        && shelf.len() == 10_000
+        && first_wrong(alloc, shelf, false).is_none()
+        && shelf.len() == 10_000
+        && is_at(shelf, 9_999, Some(LAST_NUMBER))
+}
+
 #[test]
 fn ten_thousand_documents_twice(rt: HostRuntime) {
-    let mut shelf = Shelf::new(rt.alloc());
-    assert!(rt; first_wrong(rt.alloc(), &mut shelf, true).is_none());
-    assert!(rt; shelf.len() == 10_000);
-    assert!(rt; first_wrong(rt.alloc(), &mut shelf, false).is_none());
-    assert!(rt; shelf.len() == 10_000 && is_at(&shelf, 9_999, Some(LAST_NUMBER)));
+    assert!(rt; are_put_once(rt.alloc(), &mut Shelf::new(rt.alloc())));
 }
 
-/// A breach at this path.
-fn breach(alloc: Global, path: &[usize]) -> Result<Breach> {
-    let path = Vec::from_slice(alloc, path)?;
-    let cause = Cause::RepeatedKey;
-    Ok(Breach { path, cause })
+/// Whether the breach has this text, and a refusal for it this one, and this `Debug` text.
+fn is_breach_printed(alloc: Global, breach: Breach, text: &str, refusal: (&str, &str)) -> bool {
+    let is_said = has_display_text(alloc, &breach, text);
+    let error = PutError::Breach(breach);
+    is_said
+        && has_display_text(alloc, &error, refusal.0)
+        && has_debug_text(alloc, &error, refusal.1)
 }
 
-/// Whether a breach at this path has this text.
-fn is_breach_printed(alloc: Global, path: &[usize], text: &str) -> bool {
-    match breach(alloc, path) {
-        Ok(breach) => has_display_text(alloc, &breach, text),
-        Err(_) => false,
-    }
-}
-
-/// Whether a refusal for a breach at this path has this text, and this `Debug` text.
-fn is_refusal_printed(alloc: Global, path: &[usize], text: &str, debug_text: &str) -> bool {
-    match breach(alloc, path) {
+/// The same of a breach at a path.
+fn is_refusal_printed(alloc: Global, path: &[usize]) -> bool {
+    let text = "not canonical: repeated-key at 4.0.12";
+    let debug_text = "Breach(Breach { path: [4, 0, 12], cause: RepeatedKey })";
+    match breach(alloc, path, Cause::RepeatedKey) {
         Ok(breach) => {
-            let error = PutError::Breach(breach);
-            has_display_text(alloc, &error, text) && has_debug_text(alloc, &error, debug_text)
+            is_breach_printed(alloc, breach, "repeated-key at 4.0.12", (text, debug_text))
         }
         Err(_) => false,
     }
@@ -172,11 +158,6 @@ fn is_out_of_memory_printed(alloc: Global) -> bool {
 
 #[test]
 fn refusals_in_words(rt: HostRuntime) {
-    let alloc = rt.alloc();
-    let path = &[4, 0, 12];
-    assert!(rt; is_breach_printed(alloc, path, "repeated-key at 4.0.12"));
-    let text = "not canonical: repeated-key at 4.0.12";
-    let debug_text = "Breach(Breach { path: [4, 0, 12], cause: RepeatedKey })";
-    assert!(rt; is_refusal_printed(alloc, path, text, debug_text));
-    assert!(rt; is_out_of_memory_printed(alloc));
+    assert!(rt; is_refusal_printed(rt.alloc(), &[4, 0, 12]));
+    assert!(rt; is_out_of_memory_printed(rt.alloc()));
 }

@@ -1,15 +1,9 @@
-//! Tests of what `raw_bson` and `raw_form` do with trees, canonical forms, barriers and verdicts.
+//! Tests of what the libraries do with trees and canonical forms.
 
-mod barriers;
 mod checks;
 mod counts;
 mod deep_encodings;
 mod depth;
-mod encodings;
-mod forms;
 mod limits;
-mod readings;
-mod trees;
-mod trees_fixtures;
-mod validation;
+mod made;
 mod worked;

@@ -1,8 +1,8 @@
-use crate::checks::{check_no_kind, is_same, one_if};
-use raw_bson::{ElementType, RawBson, RawJavaScriptCodeWithScope};
+use crate::checks::one_if;
+use crate::fixtures::*;
+use raw_bson::{ElementType, RawArrayBuf, RawBson, RawDocumentBuf, Result};
 use std::alloc::Global;
-use std::test::Fail;
-use test_fixtures::*;
+use std::process::Abort;
 
 /// Whether the value is of this kind, and its view is the borrowed value of that kind.
 fn is_viewed(value: &RawBson, kind: ElementType) -> bool {
@@ -44,105 +44,63 @@ fn are_accessed(value: &RawBson, kind: ElementType) -> bool {
     count == usize::from(has_accessor(kind)) && is_viewed(value, kind)
 }
 
-/// The first kind, if there is one, of whose value that doesn't hold.
-fn first_unaccessed(values: &[(ElementType, RawBson)]) -> Option<ElementType> {
-    for (kind, value) in values {
-        if !are_accessed(value, *kind) {
-            return Some(*kind);
-        }
-    }
-    None
-}
-
-#[test]
-fn an_accessor_answers_its_own_kind_alone(rt: HostRuntime) -> Result<(), Fail> {
-    let values = all_owned(rt.alloc())?;
-    check_no_kind(first_unaccessed(&values))
-}
-
-/// A value of an array of these bytes.
-fn array_value(alloc: Global, bytes: &[u8]) -> raw_bson::Result<RawBson> {
-    Ok(RawBson::from(array_of(alloc, bytes)?))
-}
-
-/// Whether `true` is pushed onto an array where it is in a value.
-fn is_pushed_in_its_place(value: &mut raw_bson::Result<RawBson>) -> bool {
-    match value {
-        Ok(value) => match value.as_array_mut() {
-            Some(array) => array.push(RawBson::from(true)).is_ok(),
-            None => false,
-        },
+/// Whether the value of this kind is made, and that holds of it.
+fn is_accessed(alloc: Global, kind: ElementType) -> bool {
+    match owned(alloc, kind) {
+        Ok(value) => are_accessed(&value, kind),
         Err(_) => false,
     }
 }
 
 #[test]
-fn an_array_is_changed_in_its_place(rt: HostRuntime) -> Result<(), Fail> {
+fn an_accessor_answers_its_own_kind_alone(rt: HostRuntime) {
+    for &(key, kind) in KINDS.iter() {
+        assert!(rt; is_accessed(rt.alloc(), kind), "{key}");
+    }
+}
+
+/// Whether `true` is pushed onto an array where it is in a value, which is equal to this one then.
+fn is_pushed_in_its_place(value: &mut RawBson, wanted: &RawBson) -> bool {
+    let is_pushed = match value.as_array_mut() {
+        Some(array) => array.push(RawBson::from(true)).is_ok(),
+        None => false,
+    };
+    is_pushed && *value == *wanted
+}
+
+/// The same of two arrays of bytes, where there is memory for them.
+fn are_pushed_in_place(array: Result<RawArrayBuf>, wanted: Result<RawArrayBuf>) -> bool {
+    match (array, wanted) {
+        (Ok(array), Ok(wanted)) => {
+            is_pushed_in_its_place(&mut RawBson::from(array), &RawBson::from(wanted))
+        }
+        _ => false,
+    }
+}
+
+/// Whether the number -1 is appended to a document where it is in a value, which is equal to this one then.
+fn is_appended_in_its_place(value: &mut RawBson, wanted: &RawBson) -> bool {
+    let is_appended = match value.as_document_mut() {
+        Some(document) => document.append("a", RawBson::from(-1_i32)).is_ok(),
+        None => false,
+    };
+    is_appended && *value == *wanted
+}
+
+/// The same of two documents of bytes.
+fn are_appended_in_place(document: Result<RawDocumentBuf>, wanted: Result<RawDocumentBuf>) -> bool {
+    match (document, wanted) {
+        (Ok(document), Ok(wanted)) => {
+            is_appended_in_its_place(&mut RawBson::from(document), &RawBson::from(wanted))
+        }
+        _ => false,
+    }
+}
+
+#[test]
+fn values_are_changed_in_their_places(rt: HostRuntime) {
+    let alloc = rt.alloc();
     let changed = b"\x0C\0\0\0\x0A0\0\x081\0\x01\0".as_slice();
-    let mut value = array_value(rt.alloc(), NULL_ARRAY);
-    let is_pushed = is_pushed_in_its_place(&mut value);
-    let is_changed = is_same(&value, &array_value(rt.alloc(), changed));
-    holds(is_pushed && is_changed, "changed")
-}
-
-/// A value of a document of these bytes.
-fn document_value(alloc: Global, bytes: &[u8]) -> raw_bson::Result<RawBson> {
-    Ok(RawBson::from(document_of(alloc, bytes)?))
-}
-
-/// Whether the number -1 is appended to a document where it is in a value.
-fn is_appended_in_its_place(value: &mut raw_bson::Result<RawBson>) -> bool {
-    match value {
-        Ok(value) => match value.as_document_mut() {
-            Some(document) => document.append("a", RawBson::from(-1_i32)).is_ok(),
-            None => false,
-        },
-        Err(_) => false,
-    }
-}
-
-#[test]
-fn a_document_is_changed_in_its_place(rt: HostRuntime) -> Result<(), Fail> {
-    let mut value = document_value(rt.alloc(), EMPTY);
-    let is_appended = is_appended_in_its_place(&mut value);
-    let is_changed = is_same(&value, &document_value(rt.alloc(), ONE_INT32));
-    holds(is_appended && is_changed, "changed")
-}
-
-/// Whether the value has a copy, which is equal, and that of its kind.
-fn is_copied(value: &RawBson, kind: ElementType) -> bool {
-    match value.clone() {
-        Ok(copy) => copy == *value && is_viewed(&copy, kind),
-        Err(_) => false,
-    }
-}
-
-/// The first kind, if there is one, whose value isn't copied so.
-fn first_uncopied(values: &[(ElementType, RawBson)]) -> Option<ElementType> {
-    for (kind, value) in values {
-        if !is_copied(value, *kind) {
-            return Some(*kind);
-        }
-    }
-    None
-}
-
-#[test]
-fn copies_are_equal(rt: HostRuntime) -> Result<(), Fail> {
-    let values = all_owned(rt.alloc())?;
-    check_no_kind(first_uncopied(&values))
-}
-
-/// Whether there is a copy of the code, which is equal.
-fn is_code_copied(code: &RawJavaScriptCodeWithScope) -> bool {
-    match code.clone() {
-        Ok(copy) => copy == *code,
-        Err(_) => false,
-    }
-}
-
-#[test]
-fn code_with_scope_is_copied(rt: HostRuntime) -> Result<(), Fail> {
-    let code = code_of(rt.alloc(), "g", EMPTY)?;
-    holds(is_code_copied(&code), "a copy")
+    assert!(rt; are_pushed_in_place(array_of(alloc, NULL_ARRAY), array_of(alloc, changed)));
+    assert!(rt; are_appended_in_place(document_of(alloc, EMPTY), document_of(alloc, ONE_INT32)));
 }

@@ -1,10 +1,10 @@
-use crate::trees::checks::{check_written, is_written};
-use crate::trees::trees_fixtures::tree_of;
+use crate::fixtures::*;
+use crate::trees::checks::is_written;
+use crate::trees::made::tree_of;
 use raw_bson::{Document, RawArrayBuf, RawBson, encode, encode_list, list_from_raw};
 use std::alloc::{AllocError, Global};
 use std::mem;
-use std::test::Fail;
-use test_fixtures::*;
+use std::process::Abort;
 
 // A stack of 8 MB has eight bytes for each of a million levels, so what works for a million takes none for a level.
 // `bin/test` also counts what these tests ask for, and that all of it is released. `rt try --test` needs a greater stack
@@ -12,21 +12,25 @@ use test_fixtures::*;
 
 const MILLION: usize = 1_000_000;
 
+/// Bytes, where there is memory for them.
+type Made = Result<Vec<u8>, AllocError>;
+
 /// All holders.
 const IN_TURN: &[Holder] = &[Holder::Document, Holder::Array, Holder::CodeWithScope];
+
+/// The bytes of a million levels.
+fn million(alloc: Global, holders: &[Holder]) -> Made {
+    nested_in_turn(alloc, holders, MILLION, EMPTY)
+}
 
 /// Whether the tree has a million levels, and is written as these bytes.
 fn is_million(alloc: Global, tree: &Document, bytes: &[u8]) -> bool {
     levels_inside(tree, MILLION + 1) == MILLION && is_written(encode(alloc, tree), bytes)
 }
 
-/// The bytes of a million levels.
-fn million(alloc: Global, holders: &[Holder]) -> Result<Vec<u8>, AllocError> {
-    nested_in_turn(alloc, holders, MILLION, EMPTY)
-}
-
 /// Whether a million levels come back, and are dropped.
-fn are_read(alloc: Global, bytes: &[u8]) -> bool {
+fn are_read(alloc: Global, made: &Made) -> bool {
+    let Ok(bytes) = made else { return false };
     match tree_of(alloc, bytes) {
         Ok(tree) => is_million(alloc, &tree, bytes),
         Err(_) => false,
@@ -34,31 +38,28 @@ fn are_read(alloc: Global, bytes: &[u8]) -> bool {
 }
 
 #[test]
-fn a_million_documents_come_back(rt: HostRuntime) -> Result<(), Fail> {
-    let bytes = million(rt.alloc(), &[Holder::Document])?;
-    holds(are_read(rt.alloc(), &bytes), "documents")
+fn a_million_documents_come_back(rt: HostRuntime) {
+    assert!(rt; are_read(rt.alloc(), &million(rt.alloc(), &[Holder::Document])));
 }
 
 #[test]
-fn a_million_arrays_come_back(rt: HostRuntime) -> Result<(), Fail> {
-    let bytes = million(rt.alloc(), &[Holder::Array])?;
-    holds(are_read(rt.alloc(), &bytes), "arrays")
+fn a_million_arrays_come_back(rt: HostRuntime) {
+    assert!(rt; are_read(rt.alloc(), &million(rt.alloc(), &[Holder::Array])));
 }
 
 #[test]
-fn a_million_scopes_come_back(rt: HostRuntime) -> Result<(), Fail> {
-    let bytes = million(rt.alloc(), &[Holder::CodeWithScope])?;
-    holds(are_read(rt.alloc(), &bytes), "scopes")
+fn a_million_scopes_come_back(rt: HostRuntime) {
+    assert!(rt; are_read(rt.alloc(), &million(rt.alloc(), &[Holder::CodeWithScope])));
 }
 
 #[test]
-fn a_million_levels_in_turn_come_back(rt: HostRuntime) -> Result<(), Fail> {
-    let bytes = million(rt.alloc(), IN_TURN)?;
-    holds(are_read(rt.alloc(), &bytes), "levels in turn")
+fn a_million_levels_in_turn_come_back(rt: HostRuntime) {
+    assert!(rt; are_read(rt.alloc(), &million(rt.alloc(), IN_TURN)));
 }
 
 /// Whether a million levels come back; they are never dropped.
-fn are_forgotten(alloc: Global, bytes: &[u8]) -> bool {
+fn are_forgotten(alloc: Global, made: &Made) -> bool {
+    let Ok(bytes) = made else { return false };
     match tree_of(alloc, bytes) {
         Ok(tree) => {
             let is_million = is_million(alloc, &tree, bytes);
@@ -71,9 +72,8 @@ fn are_forgotten(alloc: Global, bytes: &[u8]) -> bool {
 
 /// The same levels, which are never dropped: what `bin/test` compares the requests for memory with.
 #[test]
-fn a_million_levels_in_turn_are_forgotten(rt: HostRuntime) -> Result<(), Fail> {
-    let bytes = million(rt.alloc(), IN_TURN)?;
-    holds(are_forgotten(rt.alloc(), &bytes), "levels in turn")
+fn a_million_levels_in_turn_are_forgotten(rt: HostRuntime) {
+    assert!(rt; are_forgotten(rt.alloc(), &million(rt.alloc(), IN_TURN)));
 }
 
 /// Whether the document of these bytes is pushed.
@@ -84,22 +84,40 @@ fn is_pushed(alloc: Global, array: &mut RawArrayBuf, bytes: &[u8]) -> bool {
     }
 }
 
-/// An array of a thousand documents of a thousand levels.
-fn thousand_deep(alloc: Global) -> Result<RawArrayBuf, Fail> {
-    let bytes = nested_in_turn(alloc, IN_TURN, 1000, EMPTY)?;
-    let mut array = RawArrayBuf::new(alloc)?;
+/// Whether a thousand documents of these bytes are pushed.
+fn are_pushed(alloc: Global, array: &mut RawArrayBuf, bytes: &[u8]) -> bool {
     for _ in 0..1000 {
-        holds(is_pushed(alloc, &mut array, &bytes), "a document")?;
+        if !is_pushed(alloc, array, bytes) {
+            return false;
+        }
     }
-    Ok(array)
+    true
+}
+
+/// Whether the array is read as a list of a thousand, which is written as it is.
+fn comes_back(alloc: Global, array: &RawArrayBuf) -> bool {
+    match list_from_raw(alloc, array.as_ref()) {
+        Ok(list) => {
+            list.len() == 1000 && is_written(encode_list(alloc, &list), array.as_bytes())
+        }
+        Err(_) => false,
+    }
+}
+
+/// Whether an array of a thousand documents of these bytes does.
+fn are_deep_documents_read(alloc: Global, made: &Made) -> bool {
+    match (RawArrayBuf::new(alloc), made) {
+        (Ok(mut array), Ok(bytes)) => {
+            are_pushed(alloc, &mut array, bytes) && comes_back(alloc, &array)
+        }
+        _ => false,
+    }
 }
 
 #[test]
-fn a_list_of_deep_documents_comes_back(rt: HostRuntime) -> Result<(), Fail> {
-    let array = thousand_deep(rt.alloc())?;
-    let list = list_from_raw(rt.alloc(), array.as_ref())?;
-    holds(list.len() == 1000, "values")?;
-    check_written(encode_list(rt.alloc(), &list), array.as_bytes())
+fn a_list_of_deep_documents_comes_back(rt: HostRuntime) {
+    let made = nested_in_turn(rt.alloc(), IN_TURN, 1000, EMPTY);
+    assert!(rt; are_deep_documents_read(rt.alloc(), &made));
 }
 
 /// The digits of the numbers below 16.
@@ -125,7 +143,7 @@ fn are_digits(mut digits: &[u8], bytes: &[u8]) -> bool {
 }
 
 /// Whether this is the printed text of an owned document of these bytes.
-fn is_printed(text: &str, bytes: &[u8]) -> bool {
+fn is_printed_text(text: &str, bytes: &[u8]) -> bool {
     match text.strip_prefix("Document(RawDocumentBuf { data: \"") {
         Some(rest) => match rest.strip_suffix("\" })") {
             Some(digits) => are_digits(digits.as_bytes(), bytes),
@@ -135,16 +153,35 @@ fn is_printed(text: &str, bytes: &[u8]) -> bool {
     }
 }
 
-/// The value is equal to its copy, and is printed as a document of these bytes.
-fn check_owned_levels(alloc: Global, value: &RawBson, bytes: &[u8]) -> Result<(), Fail> {
-    holds(value.clone()? == *value, "a copy")?;
-    let printed = format!(in alloc; "{value:?}")?;
-    holds(is_printed(printed.as_str(), bytes), "the printed text")
+/// Whether the value is equal to its copy.
+fn is_copied(value: &RawBson) -> bool {
+    match value.clone() {
+        Ok(copy) => copy == *value,
+        Err(_) => false,
+    }
+}
+
+/// Whether it is printed as a document of these bytes.
+fn has_text(alloc: Global, value: &RawBson, bytes: &[u8]) -> bool {
+    match format!(in alloc; "{value:?}") {
+        Ok(text) => is_printed_text(text.as_str(), bytes),
+        Err(_) => false,
+    }
+}
+
+/// Whether the value of the document of these bytes is equal to its copy and printed so.
+fn is_owned_value(alloc: Global, made: &Made) -> bool {
+    let Ok(bytes) = made else { return false };
+    match document_of(alloc, bytes) {
+        Ok(document) => {
+            let value = RawBson::from(document);
+            is_copied(&value) && has_text(alloc, &value, bytes)
+        }
+        Err(_) => false,
+    }
 }
 
 #[test]
-fn a_million_owned_levels_are_compared_and_printed(rt: HostRuntime) -> Result<(), Fail> {
-    let bytes = nested_in_turn(rt.alloc(), IN_TURN, MILLION, EMPTY)?;
-    let value = RawBson::from(document_of(rt.alloc(), &bytes)?);
-    check_owned_levels(rt.alloc(), &value, &bytes)
+fn a_million_owned_levels_are_compared_and_printed(rt: HostRuntime) {
+    assert!(rt; is_owned_value(rt.alloc(), &million(rt.alloc(), IN_TURN)));
 }

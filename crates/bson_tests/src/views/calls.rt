@@ -1,10 +1,8 @@
 use crate::checks::one_if;
-use bson_model::{Binary, BinarySubtype};
-use raw_view::{ElementType, RawBinaryRef, RawBsonRef, RawDocument};
+use crate::fixtures::*;
+use raw_view::{ElementType, RawBsonRef, RawDocument};
 use std::alloc::Global;
 use std::process::Abort;
-use std::test::Fail;
-use test_fixtures::*;
 
 /// How many accessors of kinds of one length return something of the value.
 fn fixed_accessors(value: RawBsonRef<'_>) -> usize {
@@ -68,32 +66,15 @@ fn are_kinds(alloc: Global, document: RawDocument<'_>) -> bool {
     iter.next().is_none()
 }
 
-#[test]
-fn each_kind_has_its_value_and_its_accessor(rt: HostRuntime) -> Result<(), Fail> {
-    assert!(rt; are_kinds(rt.alloc(), RawDocument::from_bytes(ALL_KINDS)?));
-    Ok(())
-}
-
-#[test]
-fn the_empty_document_is_empty(rt: HostRuntime) -> Result<(), Fail> {
-    assert!(rt; RawDocument::from_bytes(EMPTY)?.is_empty());
-    Ok(())
-}
-
-const BINARY: RawBinaryRef<'static> = RawBinaryRef {
-    subtype: BinarySubtype::UserDefined(128),
-    bytes: b"\x01\x02",
-};
-
-/// Whether a reference to the owned binary becomes this value.
-fn is_converted(owned: raw_view::Result<Binary>, value: RawBinaryRef<'_>) -> bool {
-    match owned {
-        Ok(owned) => RawBsonRef::from(&owned) == RawBsonRef::Binary(value),
+/// Whether the document of these bytes does.
+fn are_kinds_of(alloc: Global, bytes: &[u8]) -> bool {
+    match RawDocument::from_bytes(bytes) {
+        Ok(document) => are_kinds(alloc, document),
         Err(_) => false,
     }
 }
 
 #[test]
-fn a_reference_to_an_owned_binary_is_converted(rt: HostRuntime) {
-    assert!(rt; is_converted(BINARY.to_binary(rt.alloc()), BINARY));
+fn each_kind_has_its_value_and_its_accessor(rt: HostRuntime) {
+    assert!(rt; are_kinds_of(rt.alloc(), ALL_KINDS));
 }

@@ -1,5 +1,6 @@
 //! The `Debug` texts: those that Rust's `derive` gives, and of views their bytes as hexadecimal digits.
 
+use crate::fixtures::*;
 use bson_model::BinarySubtype;
 use raw_view::{
     Error, ErrorKind, RawArray, RawBinaryRef, RawBsonRef, RawDbPointerRef, RawDocument,
@@ -7,8 +8,6 @@ use raw_view::{
 };
 use std::alloc::Global;
 use std::process::Abort;
-use std::test::Fail;
-use test_fixtures::*;
 
 const BINARY: RawBinaryRef<'static> = RawBinaryRef {
     subtype: BinarySubtype::Generic,
@@ -155,14 +154,19 @@ fn is_look_up_error(alloc: Global, bytes: &[u8], kind: &str, text: &str) -> bool
 }
 
 #[test]
-fn errors_have_a_debug_text(rt: HostRuntime) -> Result<(), Fail> {
-    let none = Error::new(ErrorKind::OutOfMemory);
+fn errors_have_a_debug_text(rt: HostRuntime) {
     let text = "Error { kind: OutOfMemory, key: None }";
-    holds(is_error(rt.alloc(), &none, "OutOfMemory", text), text)?;
+    assert!(rt;
+        is_error(
+            rt.alloc(),
+            &Error::new(ErrorKind::OutOfMemory),
+            "OutOfMemory",
+            text
+        )
+    );
     for (bytes, kind, text) in LOOK_UPS {
-        holds(is_look_up_error(rt.alloc(), bytes, kind, text), text)?;
+        assert!(rt; is_look_up_error(rt.alloc(), bytes, kind, text), "{text}");
     }
-    Ok(())
 }
 
 /// Whether the getter has no value, and its error this `Debug` text, and its kind this one.
@@ -210,14 +214,13 @@ fn is_access_error(alloc: Global, bytes: &[u8], key: &str, kind: &str, text: &st
 }
 
 #[test]
-fn access_errors_have_a_debug_text(rt: HostRuntime) -> Result<(), Fail> {
+fn access_errors_have_a_debug_text(rt: HostRuntime) {
     let none = &ValueAccessErrorKind::OutOfMemory;
-    holds(
-        has_debug_text(rt.alloc(), none, "OutOfMemory"),
-        "OutOfMemory",
-    )?;
+    assert!(rt; has_debug_text(rt.alloc(), none, "OutOfMemory"));
     for (bytes, key, kind, text) in ACCESSES {
-        holds(is_access_error(rt.alloc(), bytes, key, kind, text), text)?;
+        assert!(rt;
+            is_access_error(rt.alloc(), bytes, key, kind, text),
+            "{text}"
+        );
     }
-    Ok(())
 }

@@ -3,12 +3,7 @@
 use crate::views::trees::{put, string};
 use bson_model::{Bson, Document, JavaScriptCodeWithScope, NoMemory};
 use std::alloc::Global;
-use std::test::Fail;
-
-/// This holds.
-fn holds(is_so: bool, place: &str) -> Result<(), Fail> {
-    if is_so { Ok(()) } else { Err(Fail::new(place)) }
-}
+use std::process::Abort;
 
 /// The list of the numbers 1 and 2.
 fn list(alloc: Global) -> Result<Bson, NoMemory> {
@@ -33,13 +28,23 @@ fn between_others(alloc: Global, inner: Document) -> Result<Document, NoMemory> 
     Ok(outer)
 }
 
-#[test]
-fn a_deep_branch_among_others_is_let_go(rt: HostRuntime) -> Result<(), Fail> {
-    let mut tree = Document::new(rt.alloc());
-    for _ in 0..200_000 {
-        tree = between_others(rt.alloc(), tree)?;
+/// So many documents, each but the innermost between others.
+fn branch(alloc: Global, levels: usize) -> Result<Document, NoMemory> {
+    let mut tree = Document::new(alloc);
+    for _ in 0..levels {
+        tree = between_others(alloc, tree)?;
     }
-    holds(tree.len() == 3, "pairs")
+    Ok(tree)
+}
+
+/// Whether it was made.
+fn is_branch(made: &Result<Document, NoMemory>) -> bool {
+    matches!(made, Ok(tree) if tree.len() == 3)
+}
+
+#[test]
+fn a_deep_branch_among_others_is_let_go(rt: HostRuntime) {
+    assert!(rt; is_branch(&branch(rt.alloc(), 200_000)));
 }
 
 /// What a level holds the next one in, under the key `0` where it has keys.
@@ -50,9 +55,6 @@ enum Holder {
     /// the scope of an empty code
     CodeWithScope,
 }
-
-/// All holders.
-const HOLDERS: &[Holder] = &[Holder::Document, Holder::Array, Holder::CodeWithScope];
 
 /// The document of this value.
 fn holding(alloc: Global, value: Bson) -> Result<Document, NoMemory> {
@@ -94,22 +96,28 @@ fn tree_of_levels(alloc: Global, holder: Holder, levels: usize) -> Result<Docume
     holding(alloc, level)
 }
 
-/// Whether two trees of so many levels are equal.
-fn are_equal(alloc: Global, holder: Holder, levels: usize) -> Result<bool, NoMemory> {
-    let tree = tree_of_levels(alloc, holder, levels)?;
-    Ok(tree == tree_of_levels(alloc, holder, levels)?)
+/// Whether both were made, and are equal.
+fn are_equal(tree: &Result<Document, NoMemory>, other: &Result<Document, NoMemory>) -> bool {
+    match (tree, other) {
+        (Ok(tree), Ok(other)) => tree == other,
+        _ => false,
+    }
+}
+
+/// Whether two trees of so many levels are.
+fn are_levels_equal(alloc: Global, holder: Holder, levels: usize) -> bool {
+    are_equal(
+        &tree_of_levels(alloc, holder, levels),
+        &tree_of_levels(alloc, holder, levels),
+    )
 }
 
 #[test]
-fn levels_are_compared(rt: HostRuntime) -> Result<(), Fail> {
+fn levels_are_compared(rt: HostRuntime) {
     // as many as the page of `Bson` says
-    for &holder in HOLDERS {
-        holds(
-            are_equal(rt.alloc(), holder, 40_000)?,
-            "levels that are held so",
-        )?;
-    }
-    Ok(())
+    assert!(rt; are_levels_equal(rt.alloc(), Holder::Document, 40_000));
+    assert!(rt; are_levels_equal(rt.alloc(), Holder::Array, 40_000));
+    assert!(rt; are_levels_equal(rt.alloc(), Holder::CodeWithScope, 40_000));
 }
 
 /// A text of levels: what is before and behind the levels, before and behind the next one in each, and in the last.
@@ -172,26 +180,25 @@ fn is_text_of_levels(text: &str, wanted: &LevelsText, levels: usize) -> bool {
     }
 }
 
-/// The tree of so many levels is printed so.
-fn check_levels_text(
+/// Whether the tree of so many levels was made, and is printed so.
+fn are_levels_printed(
     alloc: Global,
-    tree: &Document,
+    made: &Result<Document, NoMemory>,
     wanted: &LevelsText,
     levels: usize,
-) -> Result<(), Fail> {
-    let printed = format!(in alloc; "{tree:?}")?;
-    holds(
-        is_text_of_levels(printed.as_str(), wanted, levels),
-        wanted.around.0,
-    )
+) -> bool {
+    let Ok(tree) = made else { return false };
+    match format!(in alloc; "{tree:?}") {
+        Ok(text) => is_text_of_levels(text.as_str(), wanted, levels),
+        Err(_) => false,
+    }
 }
 
 #[test]
-fn levels_are_printed(rt: HostRuntime) -> Result<(), Fail> {
+fn levels_are_printed(rt: HostRuntime) {
     // as many as the page of `Bson` says
     for (holder, wanted) in TEXTS.iter() {
-        let tree = tree_of_levels(rt.alloc(), *holder, 15_000)?;
-        check_levels_text(rt.alloc(), &tree, wanted, 15_000)?;
+        let tree = tree_of_levels(rt.alloc(), *holder, 15_000);
+        assert!(rt; are_levels_printed(rt.alloc(), &tree, wanted, 15_000));
     }
-    Ok(())
 }

@@ -1,6 +1,6 @@
+use crate::fixtures::{Checks, Fault, SWALLOWED_TERMINATOR, Want};
 use raw_view::Reason;
 use std::process::Abort;
-use test_fixtures::{Checks, Fault, SWALLOWED_TERMINATOR, Want};
 
 /// Bytes without an envelope: why, and the text of the error.
 const REFUSALS: &[(&[u8], Reason, &str)] = &[

@@ -1,8 +1,7 @@
+use crate::fixtures::*;
 use raw_view::{ElementType, Error, ErrorKind, RawDocument, Reason};
 use std::alloc::Global;
 use std::process::Abort;
-use std::test::Fail;
-use test_fixtures::*;
 
 /// Whether there is an error, and it has this text.
 fn has_text<T: Drop, E: std::error::Error>(
@@ -28,13 +27,19 @@ fn errors_are_printed(rt: HostRuntime) {
     assert!(rt; has_display_text(alloc, &Error::new(short), TOO_SHORT));
 }
 
+/// Whether the look-up of the empty key in the document of these bytes has an error of this text.
+fn has_look_up_text(alloc: Global, bytes: &[u8], text: &str) -> bool {
+    match RawDocument::from_bytes(bytes) {
+        Ok(view) => has_text(alloc, view.get(alloc, ""), text),
+        Err(_) => false,
+    }
+}
+
 #[test]
-fn a_key_is_printed_as_it_stands(rt: HostRuntime) -> Result<(), Fail> {
+fn a_key_is_printed_as_it_stands(rt: HostRuntime) {
     // the key is a quote and a line end
-    let view = RawDocument::from_bytes(b"\x08\0\0\0\x14\"\n\0")?;
     let text = "error at key \"\"\n\": malformed value: \"invalid tag: 20\"";
-    assert!(rt; has_text(rt.alloc(), view.get(rt.alloc(), ""), text));
-    Ok(())
+    assert!(rt; has_look_up_text(rt.alloc(), b"\x08\0\0\0\x14\"\n\0", text));
 }
 
 /// Documents, each with a key under which no int32 is found, and the text of the error.
@@ -71,20 +76,22 @@ fn has_access_text(alloc: Global, bytes: &[u8], key: &str, text: &str) -> bool {
     }
 }
 
-#[test]
-fn access_errors_are_printed(rt: HostRuntime) -> Result<(), Fail> {
-    for (bytes, key, text) in ACCESS_TEXTS {
-        holds(has_access_text(rt.alloc(), bytes, key, text), text)?;
+/// Whether that of an array of these bytes at this index has.
+fn has_index_text(alloc: Global, bytes: &[u8], index: usize, text: &str) -> bool {
+    match array_view(bytes) {
+        Ok(view) => has_text(alloc, view.get_i32(alloc, index), text),
+        Err(_) => false,
     }
-    Ok(())
 }
 
 #[test]
-fn an_index_is_printed_in_decimal(rt: HostRuntime) -> Result<(), Fail> {
+fn access_errors_are_printed(rt: HostRuntime) {
+    for (bytes, key, text) in ACCESS_TEXTS {
+        assert!(rt; has_access_text(rt.alloc(), bytes, key, text), "{text}");
+    }
+    // an index in decimal
     let text = "error at key: \"18446744073709551615\": value not present";
-    let empty = array_view(EMPTY)?;
-    assert!(rt; has_text(rt.alloc(), empty.get_i32(rt.alloc(), usize::MAX), text));
-    Ok(())
+    assert!(rt; has_index_text(rt.alloc(), EMPTY, usize::MAX, text));
 }
 
 /// The key of each kind but the boolean in the document of all kinds, with the kind and its name.
@@ -115,24 +122,15 @@ const NAMES: &[(&str, ElementType, &str)] = &[
     ("u", ElementType::MinKey, "MinKey"),
 ];
 
-/// Whether the getter of a boolean finds another kind, of this name.
-fn has_kind_text(alloc: Global, view: RawDocument<'_>, key: &str, name: &str) -> bool {
+/// Whether the getter of a boolean finds another kind under this key of the document of all kinds, of this name.
+fn has_kind_text(alloc: Global, key: &str, name: &str) -> bool {
     let text = format!(in alloc;
         "error at key: \"{key}\":  unexpected element type: {name}, expected: Boolean"
     );
-    match text {
-        Ok(text) => has_text(alloc, view.get_bool(alloc, key), text.as_str()),
-        Err(_) => false,
+    match (text, RawDocument::from_bytes(ALL_KINDS)) {
+        (Ok(text), Ok(view)) => has_text(alloc, view.get_bool(alloc, key), text.as_str()),
+        _ => false,
     }
-}
-
-#[test]
-fn every_kind_has_its_name_in_a_text(rt: HostRuntime) -> Result<(), Fail> {
-    let view = RawDocument::from_bytes(ALL_KINDS)?;
-    for (key, _, name) in NAMES {
-        holds(has_kind_text(rt.alloc(), view, key, name), name)?;
-    }
-    Ok(())
 }
 
 /// Whether the kind is printed by this name, and its `Debug` text is the same.
@@ -142,8 +140,9 @@ fn has_name(alloc: Global, kind: ElementType, name: &str) -> bool {
 
 #[test]
 fn every_kind_is_printed_by_its_name(rt: HostRuntime) {
-    for (_, kind, name) in NAMES {
+    for (key, kind, name) in NAMES {
         assert!(rt; has_name(rt.alloc(), *kind, name), "{name}");
+        assert!(rt; has_kind_text(rt.alloc(), key, name), "{name}");
     }
     assert!(rt; has_name(rt.alloc(), ElementType::Boolean, "Boolean"));
 }

@@ -1,9 +1,9 @@
 //! Documents and values of `bson_model`: pairs in their order, equality, `Debug` texts and deep trees.
 
+use crate::fixtures::has_debug_text;
 use bson_model::{Bson, Document, JavaScriptCodeWithScope, NoMemory};
 use std::alloc::{AllocError, Global};
 use std::process::Abort;
-use test_fixtures::has_debug_text;
 
 fn text(alloc: Global, content: &str) -> Result<String, AllocError> {
     String::from_str(alloc, content)
@@ -30,46 +30,6 @@ fn document_of(alloc: Global, pairs: &[(&str, i32)]) -> Result<Document, NoMemor
 /// The pairs b: 3 and a: 2, where b was 1 first.
 fn two_pairs(alloc: Global) -> Result<Document, NoMemory> {
     document_of(alloc, &[("b", 1), ("a", 2), ("b", 3)])
-}
-
-/// Whether the pair is this one.
-fn is_pair(pair: Option<(&str, &Bson)>, key: &str, number: i32) -> bool {
-    match pair {
-        Some((found, value)) => found == key && *value == Bson::Int32(number),
-        None => false,
-    }
-}
-
-fn has_two_pairs(document: &Document) -> bool {
-    document.len() == 2
-        && is_pair(document.pair_at(0), "b", 3)
-        && is_pair(document.pair_at(1), "a", 2)
-        && document.pair_at(2).is_none()
-        && are_iterated(document)
-}
-
-/// Whether iteration over the document gives those two pairs.
-fn are_iterated(document: &Document) -> bool {
-    let mut pairs = document.iter();
-    is_pair(pairs.next(), "b", 3) && is_pair(pairs.next(), "a", 2) && pairs.next().is_none()
-}
-
-/// Whether these are those two pairs, in that order and by their keys.
-fn are_two_pairs(made: &Result<Document, NoMemory>) -> bool {
-    match made {
-        Ok(document) => {
-            !document.is_empty()
-                && has_two_pairs(document)
-                && document.get("a") == Some(&Bson::Int32(2))
-                && document.get("c").is_none()
-        }
-        Err(_) => false,
-    }
-}
-
-#[test]
-fn a_document_is_its_pairs_in_order(rt: HostRuntime) {
-    assert!(rt; are_two_pairs(&two_pairs(rt.alloc())));
 }
 
 pub(crate) fn string(alloc: Global, content: &str) -> Result<Bson, NoMemory> {

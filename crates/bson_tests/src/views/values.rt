@@ -1,12 +1,12 @@
 //! The small values of `bson_model`: numbers, times, ids, binaries and regular expressions.
 
+use crate::fixtures::{has_debug_text, has_display_text};
 use bson_model::{
     Binary, BinarySubtype, DateTime, DbPointer, Decimal128, DoubleBits, NoMemory, ObjectId, Regex,
     Timestamp,
 };
 use std::alloc::{AllocError, Global};
 use std::process::Abort;
-use test_fixtures::{has_debug_text, has_display_text};
 
 fn is_text(found: Result<String, AllocError>, text: &str) -> bool {
     match found {

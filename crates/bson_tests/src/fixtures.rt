@@ -1,0 +1,45 @@
+//! What the tests share: bytes and the faults that are in them, tables of what is returned of them, a value of each kind, borrowed
+//! and owned, the getters by kind, and checks of results.
+
+mod as_values;
+mod breaches;
+mod checks;
+mod documents;
+mod faults;
+mod forms;
+mod getters;
+mod keys;
+mod levels;
+mod owned_values;
+mod refusals;
+mod results;
+mod rows;
+mod tables;
+mod values;
+mod walks;
+
+pub use as_values::{got, is_got};
+pub use breaches::{BREACHES, BreachRow, CANONICAL, breach};
+pub use checks::{Checks, Mismatch, NoValue, Want};
+pub use documents::{
+    ALL_KINDS, ARRAY_WITH_AN_EMPTY_KEY, ARRAY_WITH_TEXT_NOT_UTF8, BOOL_AND_INT32, BOOLEAN_TWO,
+    DECLARED_LENGTH_THREE, DECLARED_LENGTH_THREE_APPENDED, EMPTY, FAULT_BEFORE_A_NUMBER,
+    FAULT_UNDER_A_LATER_GOOD_KEY, GREETING, INNER_LENGTH_OVERFLOWS, KEY_NOT_UTF8,
+    LEAST_CODE_WITH_SCOPE, NEGATIVE_DOCUMENT_LENGTH, NESTED_STOP, NULL_ARRAY, NULL_DOCUMENT,
+    OLD_BINARY, ONE_INT32, OPTIONS_OUT_OF_ORDER, PATTERN_NOT_UTF8, REGEX_SWALLOWS_THE_TERMINATOR,
+    REPEATED_KEY, SCOPE_WITH_A_WRONG_HEADER, SWALLOWED_TERMINATOR, SWALLOWED_TERMINATOR_PUSHED,
+    TAG_ZERO, THREE_INT32, TIMESTAMP, TRUNCATED_STRING,
+};
+pub use faults::{
+    ADD_OVERFLOW, CODE_TOO_SMALL_AT_A, Fault, NEGATIVE_AT_A, NOT_UTF8, NOT_UTF8_AT_A, OVERFLOWED,
+    PAST_END_AT_A, SCOPE_LENGTH, STRING_PAST_END_AT_A, TWO_AT_0, TWO_AT_A, ZERO_IS_NO_TAG,
+};
+pub use forms::{A_THEN_B, B_THEN_A, FORMS};
+pub use keys::KEY_ANSWERS;
+pub use levels::{Holder, has_levels, levels_inside, nested, nested_in_turn};
+pub use owned_values::{array_of, code_of, document_of, owned};
+pub use refusals::{is_malformed, is_refused};
+pub use results::{has_debug_text, has_display_text, is_answer, is_printed};
+pub use values::{
+    HALF_MORE_THAN_ONE, KINDS, MOMENT, array_view, borrowed, decimal, has_accessor, id, pointed,
+};

@@ -1,0 +1,281 @@
+use crate::fixtures::*;
+use crate::memory::asserts::{is_array, is_document, is_out_of_memory};
+use crate::memory::copies::first_element;
+use raw_bson::{
+    BinarySubtype, Error, ErrorKind, RawArrayBuf, RawBinaryRef, RawBson, RawBsonRef,
+    RawDocumentBuf, RawElement, Reason, Result, Timestamp, ToRawBson,
+};
+use std::alloc::Global;
+use std::process::Abort;
+
+// Each call returns what it returns with ample memory, or out of memory without a key, and what it was handed by
+// reference is then as it was. So the same call goes well when it is made again.
+
+/// The numbers -1 and 123 under the keys `a` and `b`.
+const TWO_INT32: &[u8] = b"\x13\0\0\0\x10a\0\xFF\xFF\xFF\xFF\x10b\0\x7B\0\0\0\0";
+
+/// A value that is appended.
+#[derive(Clone, Copy)]
+enum Value {
+    /// an old binary of these bytes, which has an inner length
+    OldBinary(&'static [u8]),
+    Timestamp(Timestamp),
+    Int32(i32),
+}
+
+impl Value {
+    fn borrowed(self) -> RawBsonRef<'static> {
+        match self {
+            Value::OldBinary(bytes) => RawBsonRef::Binary(RawBinaryRef {
+                subtype: BinarySubtype::BinaryOld,
+                bytes,
+            }),
+            Value::Timestamp(timestamp) => RawBsonRef::Timestamp(timestamp),
+            Value::Int32(number) => RawBsonRef::Int32(number),
+        }
+    }
+}
+
+/// What is appended: the bytes before, the key, the value, the bytes after.
+type Append = (&'static [u8], &'static str, Value, &'static [u8]);
+
+/// Appends, to the empty document and behind others.
+const APPENDS: &[Append] = &[
+    (
+        EMPTY,
+        "b",
+        Value::OldBinary(b"\x01\x02\x03\x04"),
+        OLD_BINARY,
+    ),
+    (EMPTY, "ts", Value::Timestamp(MOMENT), TIMESTAMP),
+    (EMPTY, "a", Value::Int32(-1), ONE_INT32),
+    (ONE_INT32, "b", Value::Int32(123), TWO_INT32),
+    (TWO_INT32, "c", Value::Int32(0), THREE_INT32),
+];
+
+#[test]
+fn new_or_out_of_memory(rt: HostRuntime) {
+    assert!(rt; is_document(RawDocumentBuf::new(rt.alloc()), EMPTY));
+    assert!(rt; is_array(RawArrayBuf::new(rt.alloc()), EMPTY));
+}
+
+/// After an append that went well the bytes are those after it; else memory ran out, and they are those before.
+fn is_appended(answer: &Result<()>, found: &[u8], before: &[u8], after: &[u8]) -> bool {
+    match answer {
+        Ok(()) => found == after,
+        Err(error) => is_out_of_memory(error) && found == before,
+    }
+}
+
+/// Whether the append went well, or left what was there, and goes well when it is made again.
+fn goes_well_at_last(
+    answer: &Result<()>,
+    document: &mut RawDocumentBuf,
+    (before, key, value, after): Append,
+) -> bool {
+    if !is_appended(answer, document.as_bytes(), before, after) {
+        return false;
+    }
+    answer.is_ok()
+        || (document.append_ref(key, value.borrowed()).is_ok() && document.as_bytes() == after)
+}
+
+/// Whether an owned copy of the value is appended in the end, or memory ran out for the copy.
+fn is_copy_appended(document: &mut RawDocumentBuf, copy: Result<RawBson>, append: Append) -> bool {
+    match copy {
+        Ok(copy) => {
+            let answer = document.append(append.1, copy);
+            goes_well_at_last(&answer, document, append)
+        }
+        Err(error) => is_out_of_memory(&error),
+    }
+}
+
+/// Whether an owned copy of the value is appended in the end to the buffer of the bytes before, if there is memory for it.
+fn goes_well(alloc: Global, buffer: Result<RawDocumentBuf>, append: Append) -> bool {
+    match buffer {
+        Ok(mut document) => {
+            document.as_bytes() == append.0
+                && is_copy_appended(
+                    &mut document,
+                    append.2.borrowed().to_raw_bson(alloc),
+                    append,
+                )
+        }
+        Err(error) => is_out_of_memory(&error),
+    }
+}
+
+/// The same of a buffer of those bytes.
+fn is_owned_appended(alloc: Global, append: Append) -> bool {
+    goes_well(alloc, document_of(alloc, append.0), append)
+}
+
+/// The same of a borrowed value.
+fn goes_well_by_reference(buffer: Result<RawDocumentBuf>, append: Append) -> bool {
+    match buffer {
+        Ok(mut document) => {
+            let is_before = document.as_bytes() == append.0;
+            let answer = document.append_ref(append.1, append.2.borrowed());
+            is_before && goes_well_at_last(&answer, &mut document, append)
+        }
+        Err(error) => is_out_of_memory(&error),
+    }
+}
+
+/// The same of a buffer of those bytes.
+fn is_borrowed_appended(alloc: Global, append: Append) -> bool {
+    goes_well_by_reference(document_of(alloc, append.0), append)
+}
+
+#[test]
+fn append_or_out_of_memory(rt: HostRuntime) {
+    for append in APPENDS {
+        assert!(rt; is_owned_appended(rt.alloc(), *append), "{}", append.1);
+        assert!(rt; is_borrowed_appended(rt.alloc(), *append), "{}", append.1);
+    }
+}
+
+/// One number.
+const NUMBER: &[u8] = b"\x0C\0\0\0\x10b\0\x02\0\0\0\0";
+
+/// Whether the element is appended to the empty document, or memory ran out and nothing changed, and it is appended
+/// when it is tried again.
+fn is_element_appended(document: &mut RawDocumentBuf, element: RawElement<'_>) -> bool {
+    let answer = document.append_element(element);
+    is_appended(&answer, document.as_bytes(), EMPTY, NUMBER)
+        && (answer.is_ok()
+            || (document.append_element(element).is_ok() && document.as_bytes() == NUMBER))
+}
+
+/// The same of the buffer of the empty document, if there is memory for it.
+fn has_element_appended(buffer: Result<RawDocumentBuf>, element: RawElement<'_>) -> bool {
+    match buffer {
+        Ok(mut document) => {
+            document.as_bytes() == EMPTY && is_element_appended(&mut document, element)
+        }
+        Err(error) => is_out_of_memory(&error),
+    }
+}
+
+/// The same of the first element of a document.
+fn is_first_appended(alloc: Global, item: Option<RawElement<'_>>) -> bool {
+    match item {
+        Some(element) => has_element_appended(document_of(alloc, EMPTY), element),
+        None => false,
+    }
+}
+
+#[test]
+fn append_element_or_out_of_memory(rt: HostRuntime) {
+    assert!(rt; is_first_appended(rt.alloc(), first_element(rt.alloc(), NUMBER)));
+}
+
+/// Whether the error is that the key holds a 0.
+fn is_interior_nul(error: &Error) -> bool {
+    *error
+        == Error::new(ErrorKind::MalformedValue {
+            reason: Reason::InteriorNul,
+        })
+}
+
+/// Whether an append was refused for a 0 in the key, and the document is still empty.
+fn is_refused(answer: &Result<()>, document: &RawDocumentBuf) -> bool {
+    match answer {
+        Ok(()) => false,
+        Err(error) => is_interior_nul(error) && document.as_bytes() == EMPTY,
+    }
+}
+
+/// Whether a 0 in the key is refused, be the value owned or borrowed.
+fn is_nul_refused(document: &mut RawDocumentBuf) -> bool {
+    let owned = document.append("a\0b", RawBson::Null);
+    let is_owned_refused = is_refused(&owned, document);
+    let borrowed = document.append_ref("a\0b", RawBsonRef::Null);
+    is_owned_refused && is_refused(&borrowed, document)
+}
+
+/// The same of the buffer of the empty document, if there is memory for it.
+fn has_nul_refused(buffer: Result<RawDocumentBuf>) -> bool {
+    match buffer {
+        Ok(mut document) => document.as_bytes() == EMPTY && is_nul_refused(&mut document),
+        Err(error) => is_out_of_memory(&error),
+    }
+}
+
+/// A 0 is refused before memory is asked for.
+#[test]
+fn interior_nul_or_out_of_memory(rt: HostRuntime) {
+    assert!(rt; has_nul_refused(document_of(rt.alloc(), EMPTY)));
+}
+
+/// Whether a null is pushed, at once or, where memory ran out and nothing changed, when it is pushed again.
+fn is_null_pushed(array: &mut RawArrayBuf, before: &[u8], after: &[u8]) -> bool {
+    let answer = array.push(RawBson::Null);
+    is_appended(&answer, array.as_bytes(), before, after)
+        && (answer.is_ok() || (array.push(RawBson::Null).is_ok() && array.as_bytes() == after))
+}
+
+/// The same array with two more nulls pushed.
+const PUSHED_TWICE: &[u8] = b"\x0C\0\0\0\x0A\n2\0\x0A3\0\0";
+
+/// Whether two nulls are pushed, if there is memory for the array.
+fn are_nulls_pushed(array: Result<RawArrayBuf>) -> bool {
+    match array {
+        Ok(mut array) => {
+            is_null_pushed(
+                &mut array,
+                SWALLOWED_TERMINATOR,
+                SWALLOWED_TERMINATOR_PUSHED,
+            ) && is_null_pushed(&mut array, SWALLOWED_TERMINATOR_PUSHED, PUSHED_TWICE)
+        }
+        Err(error) => is_out_of_memory(&error),
+    }
+}
+
+/// The key of the next push shows that one that ran out of memory left the count as it was.
+#[test]
+fn push_or_out_of_memory(rt: HostRuntime) {
+    assert!(rt; are_nulls_pushed(array_of(rt.alloc(), SWALLOWED_TERMINATOR)));
+}
+
+/// A document of three numbers.
+fn three_numbers(alloc: Global) -> Result<RawDocumentBuf> {
+    let numbers = [
+        ("a", RawBson::Int32(-1)),
+        ("b", RawBson::Int32(123)),
+        ("c", RawBson::Int32(0)),
+    ];
+    RawDocumentBuf::from_iter(alloc, numbers.into_iter())
+}
+
+/// A document of one pair.
+fn one_pair(alloc: Global, key: &str, value: RawBson) -> Result<RawDocumentBuf> {
+    RawDocumentBuf::from_iter(alloc, [(key, value)].into_iter())
+}
+
+/// Whether there is no document, for the 0 in the key or because memory ran out.
+fn is_no_document(answer: Result<RawDocumentBuf>) -> bool {
+    match answer {
+        Ok(_) => false,
+        Err(error) => is_interior_nul(&error) || is_out_of_memory(&error),
+    }
+}
+
+#[test]
+fn from_iter_or_out_of_memory(rt: HostRuntime) {
+    assert!(rt; is_document(three_numbers(rt.alloc()), THREE_INT32));
+    assert!(rt; is_no_document(one_pair(rt.alloc(), "a\0b", RawBson::Null)));
+}
+
+/// An array of two numbers.
+fn two_numbers(alloc: Global) -> Result<RawArrayBuf> {
+    let numbers = [RawBson::Int32(-1), RawBson::Int32(123)];
+    RawArrayBuf::from_iter(alloc, numbers.into_iter())
+}
+
+#[test]
+fn from_iter_of_an_array_or_out_of_memory(rt: HostRuntime) {
+    let numbers = b"\x13\0\0\0\x100\0\xFF\xFF\xFF\xFF\x101\0\x7B\0\0\0\0";
+    assert!(rt; is_array(two_numbers(rt.alloc()), numbers));
+}

@@ -1,0 +1,192 @@
+use crate::fixtures::*;
+use crate::memory::asserts::is_out_of_memory;
+use crate::memory::kinds::has_memory;
+use raw_bson::{
+    ElementType, RawArrayBuf, RawBson, RawBsonRef, RawDocument, RawDocumentBuf, RawElement,
+    ToRawArrayBuf, ToRawBson, ToRawDocumentBuf,
+};
+use std::alloc::Global;
+use std::process::Abort;
+
+// Each copy is equal, or there is none because memory ran out, and what is copied is as it was.
+
+/// The document has these bytes, and its clone is equal.
+fn is_document_cloned(document: &RawDocumentBuf, bytes: &[u8]) -> bool {
+    let copy: Result<_, _> = document.clone();
+    let is_equal = match copy {
+        Ok(copy) => copy == *document,
+        Err(_) => true,
+    };
+    is_equal && document.as_bytes() == bytes
+}
+
+/// The array has these bytes, and its clone is equal.
+fn is_array_cloned(array: &RawArrayBuf, bytes: &[u8]) -> bool {
+    let copy: Result<_, _> = array.clone();
+    let is_equal = match copy {
+        Ok(copy) => copy == *array,
+        Err(_) => true,
+    };
+    is_equal && array.as_bytes() == bytes
+}
+
+/// Whether the document has these bytes, and its clone is equal, if there is memory for the document.
+fn has_document_clone(document: raw_bson::Result<RawDocumentBuf>, bytes: &[u8]) -> bool {
+    match document {
+        Ok(document) => is_document_cloned(&document, bytes),
+        Err(error) => is_out_of_memory(&error),
+    }
+}
+
+/// The same of an array.
+fn has_array_clone(array: raw_bson::Result<RawArrayBuf>, bytes: &[u8]) -> bool {
+    match array {
+        Ok(array) => is_array_cloned(&array, bytes),
+        Err(error) => is_out_of_memory(&error),
+    }
+}
+
+/// Whether a buffer of these bytes has a clone.
+fn is_buffer_cloned(alloc: Global, bytes: &[u8]) -> bool {
+    match RawDocument::from_bytes(bytes) {
+        Ok(view) => has_document_clone(view.to_raw_document_buf(alloc), bytes),
+        Err(_) => false,
+    }
+}
+
+/// The same of an array.
+fn is_array_buffer_cloned(alloc: Global, bytes: &[u8]) -> bool {
+    match array_view(bytes) {
+        Ok(view) => has_array_clone(view.to_raw_array_buf(alloc), bytes),
+        Err(_) => false,
+    }
+}
+
+#[test]
+fn clones_of_buffers_or_out_of_memory(rt: HostRuntime) {
+    assert!(rt; is_buffer_cloned(rt.alloc(), GREETING));
+    assert!(rt; is_array_buffer_cloned(rt.alloc(), SWALLOWED_TERMINATOR));
+}
+
+/// The value is the wanted one, and so is its clone; without a clone, it has memory of its own.
+fn is_value_cloned(value: &RawBson, want: RawBsonRef<'_>, kind: ElementType) -> bool {
+    let copy: Result<_, _> = value.clone();
+    let is_equal = match copy {
+        Ok(copy) => copy.as_raw_bson_ref() == want,
+        Err(_) => has_memory(kind),
+    };
+    is_equal && value.as_raw_bson_ref() == want
+}
+
+/// The same of an owned value, if there is memory for it.
+fn has_value_clone(
+    value: raw_bson::Result<RawBson>,
+    want: RawBsonRef<'_>,
+    kind: ElementType,
+) -> bool {
+    match value {
+        Ok(value) => is_value_cloned(&value, want, kind),
+        Err(error) => is_out_of_memory(&error),
+    }
+}
+
+/// The same of a copy of the value of this kind.
+fn is_kind_cloned(alloc: Global, kind: ElementType) -> bool {
+    match borrowed(kind) {
+        Ok(want) => has_value_clone(want.to_raw_bson(alloc), want, kind),
+        Err(_) => false,
+    }
+}
+
+#[test]
+fn clones_of_values_or_out_of_memory(rt: HostRuntime) {
+    for (key, kind) in KINDS {
+        assert!(rt; is_kind_cloned(rt.alloc(), *kind), "{key}");
+    }
+}
+
+/// Whether the result is the wanted value, or out of memory for a value that has memory of its own.
+fn is_copy(answer: raw_bson::Result<RawBson>, want: RawBsonRef<'_>, kind: ElementType) -> bool {
+    match answer {
+        Ok(copy) => copy.as_raw_bson_ref() == want,
+        Err(error) => has_memory(kind) && is_out_of_memory(&error),
+    }
+}
+
+/// Whether the value of this kind and its element are copied.
+fn is_kind_copied(
+    alloc: Global,
+    kind: ElementType,
+    item: &Option<raw_bson::Result<RawElement<'_>>>,
+) -> bool {
+    match (borrowed(kind), item) {
+        (Ok(want), Some(Ok(element))) => {
+            is_copy(want.to_raw_bson(alloc), want, kind)
+                && is_copy(element.to_raw_bson(alloc), want, kind)
+        }
+        _ => false,
+    }
+}
+
+/// Whether the values and the elements of all kinds are copied.
+fn are_copied(alloc: Global, document: RawDocument<'_>) -> bool {
+    let mut elements = document.iter_elements(alloc);
+    for (_, kind) in KINDS {
+        if !is_kind_copied(alloc, *kind, &elements.next()) {
+            return false;
+        }
+    }
+    true
+}
+
+/// Whether those of the document of these bytes are.
+fn are_copied_of(alloc: Global, bytes: &[u8]) -> bool {
+    match RawDocument::from_bytes(bytes) {
+        Ok(document) => are_copied(alloc, document),
+        Err(_) => false,
+    }
+}
+
+#[test]
+fn to_raw_bson_or_out_of_memory(rt: HostRuntime) {
+    assert!(rt; are_copied_of(rt.alloc(), ALL_KINDS));
+}
+
+/// The first element of a document of these bytes.
+pub(crate) fn first_element(alloc: Global, bytes: &[u8]) -> Option<RawElement<'_>> {
+    let view = RawDocument::from_bytes(bytes).ok()?;
+    view.iter_elements(alloc).next()?.ok()
+}
+
+/// Whether the result is the fault of the boolean of the byte 2, or out of memory.
+fn is_fault(checks: Checks, answer: &raw_bson::Result<RawBson>) -> bool {
+    match answer {
+        Ok(_) => false,
+        Err(error) => is_out_of_memory(error) || checks.is_fault(error, &TWO_AT_A),
+    }
+}
+
+/// Whether the value of the element isn't copied, for that.
+fn has_fault(alloc: Global, item: Option<RawElement<'_>>) -> bool {
+    match item {
+        Some(element) => is_fault(Checks::refusable(alloc), &element.to_raw_bson(alloc)),
+        None => false,
+    }
+}
+
+#[test]
+fn fault_of_an_element_or_out_of_memory(rt: HostRuntime) {
+    assert!(rt; has_fault(rt.alloc(), first_element(rt.alloc(), BOOLEAN_TWO)));
+}
+
+fn is_text(answer: raw_bson::Result<RawBson>, text: &str) -> bool {
+    match answer {
+        Ok(value) => value.as_str() == Some(text),
+        Err(error) => is_out_of_memory(&error),
+    }
+}
+
+#[test]
+fn from_str_or_out_of_memory(rt: HostRuntime) {
+    assert!(rt; is_text(RawBson::from_str(rt.alloc(), "a"), "a"));
+}

@@ -1,0 +1,294 @@
+use crate::fixtures::*;
+use crate::memory::asserts::{is_document, is_list, is_out_of_memory};
+use crate::memory::parts::{is_one_null, is_part};
+use raw_bson::{
+    Bson, Document, Error, Limits, RawBson, RawBsonRef, RawDocument, RawDocumentBuf, RawElement,
+    bson_from_element, bson_from_raw, canonical_bytes, document_from_raw, document_from_raw_within,
+    encode, list_from_raw,
+};
+use std::alloc::Global;
+use std::process::Abort;
+
+// `bin/test` runs these with each request for memory refused in turn, alone: each call returns what it returns with
+// ample memory, or out of memory without a key. What is looked at of a tree takes no memory.
+
+/// A document, an array, a text, a regular expression and code with a scope.
+const PARTS: &[u8] = b"\x3D\0\0\0\
+\x03d\0\x07\0\0\0\x0A\0\0\
+\x04l\0\x08\0\0\0\x0A0\0\0\
+\x02t\0\x02\0\0\0s\0\
+\x0Br\0p\0im\0\
+\x0Fc\0\x0F\0\0\0\x02\0\0\0g\0\x05\0\0\0\0\
+\0";
+
+/// The same with another key in the array and other options' order.
+const OTHER_SPELLING: &[u8] = b"\x3D\0\0\0\
+\x03d\0\x07\0\0\0\x0A\0\0\
+\x04l\0\x08\0\0\0\x0Ax\0\0\
+\x02t\0\x02\0\0\0s\0\
+\x0Br\0p\0mi\0\
+\x0Fc\0\x0F\0\0\0\x02\0\0\0g\0\x05\0\0\0\0\
+\0";
+
+/// Whether the tree has this part at this place.
+fn has_part(tree: &Document, index: usize, wanted: &str) -> bool {
+    match tree.pair_at(index) {
+        Some((key, value)) => key == wanted && is_part(key, value),
+        None => false,
+    }
+}
+
+/// Whether the tree has these parts in this order.
+fn has_parts(tree: &Document) -> bool {
+    has_part(tree, 0, "d")
+        && has_part(tree, 1, "l")
+        && has_part(tree, 2, "t")
+        && has_part(tree, 3, "r")
+        && has_part(tree, 4, "c")
+        && tree.len() == 5
+}
+
+/// Whether the result is a tree of these parts, or out of memory.
+fn is_tree(answer: raw_bson::Result<Document>) -> bool {
+    match answer {
+        Ok(tree) => has_parts(&tree),
+        Err(error) => is_out_of_memory(&error),
+    }
+}
+
+/// Whether the buffer has these parts whatever is made of it, or memory ran out for it.
+fn has_trees(answer: raw_bson::Result<RawDocumentBuf>) -> bool {
+    match answer {
+        Ok(buffer) => {
+            is_tree(buffer.to_document())
+                && is_tree(buffer.to_document_within(LIMITS))
+                && buffer.as_bytes() == OTHER_SPELLING
+                && is_tree(buffer.into_document())
+        }
+        Err(error) => is_out_of_memory(&error),
+    }
+}
+
+/// Whether the document of these bytes has these parts, also within limits.
+fn is_view_read(alloc: Global, bytes: &[u8]) -> bool {
+    match RawDocument::from_bytes(bytes) {
+        Ok(view) => {
+            is_tree(document_from_raw(alloc, view))
+                && is_tree(document_from_raw_within(alloc, view, LIMITS))
+        }
+        Err(_) => false,
+    }
+}
+
+#[test]
+fn trees_of_documents_or_out_of_memory(rt: HostRuntime) {
+    assert!(rt; is_view_read(rt.alloc(), OTHER_SPELLING));
+    assert!(rt; has_trees(document_of(rt.alloc(), OTHER_SPELLING)));
+}
+
+/// The bytes of that document, and its levels.
+const LIMITS: Limits = Limits {
+    bytes: 61,
+    depth: 2,
+};
+
+/// Whether the result is the value under this key, or out of memory.
+fn is_part_answered(key: &str, answer: raw_bson::Result<Bson>) -> bool {
+    match answer {
+        Ok(tree) => is_part(key, &tree),
+        Err(error) => is_out_of_memory(&error),
+    }
+}
+
+/// Whether the result is a list of one null, or out of memory.
+fn is_null_list(answer: raw_bson::Result<Vec<Bson>>) -> bool {
+    match answer {
+        Ok(list) => is_one_null(&list),
+        Err(error) => is_out_of_memory(&error),
+    }
+}
+
+/// Whether the value under this key becomes a tree, and where it is an array, a list.
+fn is_value_read(alloc: Global, key: &str, value: RawBsonRef<'_>) -> bool {
+    let is_part = is_part_answered(key, bson_from_raw(alloc, value));
+    match value {
+        RawBsonRef::Array(array) => is_part && is_null_list(list_from_raw(alloc, array)),
+        _ => is_part,
+    }
+}
+
+/// Whether the element, and its value, become the tree under its key.
+fn is_element_read(alloc: Global, item: raw_bson::Result<RawElement<'_>>) -> bool {
+    let Ok(element) = item else { return false };
+    let is_read = is_part_answered(element.key(), bson_from_element(alloc, element));
+    match element.value(alloc) {
+        Ok(value) => is_read && is_value_read(alloc, element.key(), value),
+        Err(_) => false,
+    }
+}
+
+/// Whether each element does.
+fn are_elements_read(alloc: Global, document: RawDocument<'_>) -> bool {
+    for item in document.iter_elements(alloc) {
+        if !is_element_read(alloc, item) {
+            return false;
+        }
+    }
+    true
+}
+
+/// Whether each call that writes the tree gives its bytes, or runs out of memory, and leaves the tree as it was.
+fn is_written(alloc: Global, tree: &Document) -> bool {
+    is_document(RawDocumentBuf::from_document(alloc, tree), PARTS)
+        && is_document(RawDocumentBuf::try_from_document(alloc, tree), PARTS)
+        && has_parts(tree)
+}
+
+/// Whether the tree is written, or memory ran out for it.
+fn is_tree_written(alloc: Global, answer: raw_bson::Result<Document>) -> bool {
+    match answer {
+        Ok(tree) => is_written(alloc, &tree),
+        Err(error) => is_out_of_memory(&error),
+    }
+}
+
+/// Whether the tree of the document of these bytes is.
+fn is_read_and_written(alloc: Global, bytes: &[u8]) -> bool {
+    match RawDocument::from_bytes(bytes) {
+        Ok(view) => is_tree_written(alloc, document_from_raw(alloc, view)),
+        Err(_) => false,
+    }
+}
+
+#[test]
+fn bytes_of_trees_or_out_of_memory(rt: HostRuntime) {
+    assert!(rt; is_list(canonical_bytes(rt.alloc(), OTHER_SPELLING), PARTS));
+    assert!(rt; is_read_and_written(rt.alloc(), PARTS));
+}
+
+/// Whether memory ran out for the value under this key. A text and a regular expression are moved, which takes none.
+fn is_copy_refused(key: &str, error: &Error) -> bool {
+    key != "t" && key != "r" && is_out_of_memory(error)
+}
+
+/// Whether the value becomes the tree under this key, or memory runs out for its copy.
+fn comes_back(alloc: Global, key: &str, owned: RawBson) -> bool {
+    match owned.into_bson(alloc) {
+        Ok(tree) => is_part(key, &tree),
+        Err(error) => is_copy_refused(key, &error),
+    }
+}
+
+/// Whether the tree under this key becomes this value, and that the tree again, or memory runs out for a copy.
+fn goes_and_comes_back(alloc: Global, key: &str, tree: Bson, value: RawBsonRef<'_>) -> bool {
+    match RawBson::try_from_bson(alloc, tree) {
+        Ok(owned) => owned.as_raw_bson_ref() == value && comes_back(alloc, key, owned),
+        Err(error) => is_copy_refused(key, &error),
+    }
+}
+
+/// Whether the tree of this element goes to its value and back, or memory ran out for it.
+fn is_element_owned(alloc: Global, item: raw_bson::Result<RawElement<'_>>) -> bool {
+    let Ok(element) = item else { return false };
+    let Ok(value) = element.value(alloc) else {
+        return false;
+    };
+    match bson_from_element(alloc, element) {
+        Ok(tree) => goes_and_comes_back(alloc, element.key(), tree, value),
+        Err(error) => is_out_of_memory(&error),
+    }
+}
+
+/// Whether the tree of each element does.
+fn are_elements_owned(alloc: Global, document: RawDocument<'_>) -> bool {
+    for item in document.iter_elements(alloc) {
+        if !is_element_owned(alloc, item) {
+            return false;
+        }
+    }
+    true
+}
+
+/// Whether those of the documents of these bytes do, and become trees.
+fn are_values_read(alloc: Global, other: &[u8], bytes: &[u8]) -> bool {
+    match (
+        RawDocument::from_bytes(other),
+        RawDocument::from_bytes(bytes),
+    ) {
+        (Ok(other), Ok(document)) => {
+            are_elements_read(alloc, other) && are_elements_owned(alloc, document)
+        }
+        _ => false,
+    }
+}
+
+#[test]
+fn values_or_out_of_memory(rt: HostRuntime) {
+    assert!(rt; are_values_read(rt.alloc(), OTHER_SPELLING, PARTS));
+}
+
+/// Whether just this form was written.
+fn is_written_as(written: raw_bson::Result<Vec<u8>>, form: &[u8]) -> bool {
+    match written {
+        Ok(written) => written.as_slice() == form,
+        Err(_) => false,
+    }
+}
+
+/// Whether the tree is written as the form; where memory runs out, it is so when it is written again.
+fn has_form(alloc: Global, tree: &Document, form: &[u8]) -> bool {
+    match encode(alloc, tree) {
+        Ok(written) => written.as_slice() == form,
+        Err(error) => is_out_of_memory(&error) && is_written_as(encode(alloc, tree), form),
+    }
+}
+
+/// Whether the buffer becomes a tree with the form, or memory runs out.
+fn becomes_form(buffer: &RawDocumentBuf, alloc: Global, form: &[u8]) -> bool {
+    match buffer.to_document() {
+        Ok(tree) => has_form(alloc, &tree, form),
+        Err(error) => is_out_of_memory(&error),
+    }
+}
+
+/// Whether the buffer becomes a tree with the form and has its bytes, or memory ran out for it.
+fn becomes(
+    alloc: Global,
+    answer: raw_bson::Result<RawDocumentBuf>,
+    bytes: &[u8],
+    form: &[u8],
+) -> bool {
+    match answer {
+        Ok(buffer) => becomes_form(&buffer, alloc, form) && buffer.as_bytes() == bytes,
+        Err(error) => is_out_of_memory(&error),
+    }
+}
+
+/// Whether by way of a buffer and a tree the bytes become the form, or memory runs out.
+fn have_form(alloc: Global, bytes: &[u8], form: &[u8]) -> bool {
+    becomes(alloc, document_of(alloc, bytes), bytes, form)
+}
+
+#[test]
+fn forms_or_out_of_memory(rt: HostRuntime) {
+    for (bytes, form) in FORMS {
+        assert!(rt; have_form(rt.alloc(), bytes, form), "{bytes:?}");
+        assert!(rt;
+            is_list(canonical_bytes(rt.alloc(), bytes), form),
+            "{bytes:?}"
+        );
+    }
+}
+
+/// Whether so many levels are their own form, or memory ran out for them.
+fn are_levels_form(alloc: Global, levels: usize) -> bool {
+    match nested(alloc, Holder::Document, levels, EMPTY) {
+        Ok(bytes) => have_form(alloc, &bytes, &bytes),
+        Err(_) => true,
+    }
+}
+
+#[test]
+fn form_of_five_hundred_levels_or_out_of_memory(rt: HostRuntime) {
+    assert!(rt; are_levels_form(rt.alloc(), 499));
+}
