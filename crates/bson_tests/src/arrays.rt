@@ -4,11 +4,11 @@ use raw_bson::{ElementType, RawArrayBuf, RawBson, RawBsonRef};
 use std::alloc::Global;
 use std::process::Abort;
 
-/// Whether this value, or nothing, is at the position.
-fn is_at(array: &RawArrayBuf, index: usize, wanted: Option<RawBsonRef<'_>>) -> bool {
+/// Whether this value is at the position.
+fn is_at(array: &RawArrayBuf, index: usize, wanted: RawBsonRef<'_>) -> bool {
     match array.get(index) {
-        Ok(found) => found == wanted,
-        Err(_) => false,
+        Ok(Some(found)) => found == wanted,
+        _ => false,
     }
 }
 
@@ -18,9 +18,9 @@ fn are_text_and_number(array: &RawArrayBuf) -> bool {
     is_item(&iter.next(), RawBsonRef::String("a string"))
         && is_item(&iter.next(), RawBsonRef::Int32(12))
         && iter.next().is_none()
-        && is_at(array, 0, Some(RawBsonRef::String("a string")))
-        && is_at(array, 1, Some(RawBsonRef::Int32(12)))
-        && is_at(array, 2, None)
+        && is_at(array, 0, RawBsonRef::String("a string"))
+        && is_at(array, 1, RawBsonRef::Int32(12))
+        && matches!(array.get(2), Ok(None))
 }
 
 /// The array of the two.

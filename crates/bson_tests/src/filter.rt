@@ -51,7 +51,7 @@ fn said(
 /// Whether the filter finds a user of this name and age.
 fn finds(alloc: Global, filter: &RawDocumentBuf, name: &str, age: i32) -> bool {
     match user(alloc, name, age) {
-        Ok(user) => said(alloc, &user, filter) == Ok(()),
+        Ok(user) => matches!(said(alloc, &user, filter), Ok(())),
         Err(_) => false,
     }
 }
@@ -59,7 +59,7 @@ fn finds(alloc: Global, filter: &RawDocumentBuf, name: &str, age: i32) -> bool {
 /// Whether the filter says that a user of this name and age differs.
 fn leaves_out(alloc: Global, filter: &RawDocumentBuf, name: &str, age: i32) -> bool {
     match user(alloc, name, age) {
-        Ok(user) => said(alloc, &user, filter) == Err(Unmet::Differs),
+        Ok(user) => matches!(said(alloc, &user, filter), Err(Unmet::Differs)),
         Err(_) => false,
     }
 }
@@ -101,10 +101,10 @@ fn are_compared(
     other: &RawDocumentBuf,
     empty: &RawDocumentBuf,
 ) -> bool {
-    said(alloc, ada, ada) == Ok(())
-        && said(alloc, ada, other) == Err(Unmet::Differs)
-        && said(alloc, ada, empty) == Ok(())
-        && said(alloc, empty, ada) == Err(Unmet::Differs)
+    matches!(said(alloc, ada, ada), Ok(()))
+        && matches!(said(alloc, ada, other), Err(Unmet::Differs))
+        && matches!(said(alloc, ada, empty), Ok(()))
+        && matches!(said(alloc, empty, ada), Err(Unmet::Differs))
 }
 
 /// Whether that holds of two users and an empty document, where there is memory for them.

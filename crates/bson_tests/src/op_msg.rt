@@ -27,8 +27,8 @@ fn body<'a>(message: &Message<'a>) -> Option<RawDocument<'a>> {
 
 /// Whether the document is the command, and the same message is made of it.
 fn is_ping(alloc: Global, document: RawDocument<'_>) -> bool {
-    document.get_i32(alloc, "ping") == Ok(1)
-        && document.get_str(alloc, "$db") == Ok("admin")
+    matches!(document.get_i32(alloc, "ping"), Ok(1))
+        && matches!(document.get_str(alloc, "$db"), Ok("admin"))
         && match message_of(alloc, 7, document) {
             Ok(again) => again.as_slice() == PING,
             Err(_) => false,

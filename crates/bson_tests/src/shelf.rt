@@ -22,11 +22,19 @@ fn is_put(alloc: Global, shelf: &mut Shelf, bytes: &[u8], wanted: bool) -> bool 
     }
 }
 
+/// Whether this is a refusal for this breach.
+fn is_refusal(error: &PutError, path: &[usize], cause: Cause) -> bool {
+    match error {
+        PutError::Breach(breach) => breach.path.as_slice() == path && breach.cause == cause,
+        PutError::OutOfMemory => false,
+    }
+}
+
 /// Whether the put of these bytes is refused for this breach.
 fn is_breach(alloc: Global, shelf: &mut Shelf, bytes: &[u8], path: &[usize], cause: Cause) -> bool {
-    match Vec::from_slice(alloc, path) {
-        Ok(path) => put(alloc, shelf, bytes) == Err(PutError::Breach(Breach { path, cause })),
-        Err(_) => false,
+    match put(alloc, shelf, bytes) {
+        Ok(_) => false,
+        Err(error) => is_refusal(&error, path, cause),
     }
 }
 
