@@ -178,7 +178,7 @@ GIVES = {
     "bson_from_json": "documents from Extended JSON",
     "json_round_trip": "that what is printed is read back",
     "bsonraw": "the program for one document in hex",
-    "dump_lines": "what is found in a document of a dump, in lines",
+    "dump_lines": "what is found in a document, in lines",
     "dump_input": "inputs as they are read",
     "dump_runs": "runs over dumps",
     "text_runs": "runs over texts",
