@@ -9,7 +9,7 @@ mod Stopping
 mod Halting
 mod Choosing
 mod Portioning
-mod Picking
+mod Picked
 mod Summing
 mod Tabled
 mod Prefixes

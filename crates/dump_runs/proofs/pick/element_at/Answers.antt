@@ -3,7 +3,7 @@ use Rattle.std.specs.Option.{option_map}
 use Rattle.std.proofs.lemmas.Str.Pattern.{split_parts}
 use Rattle.raw_view.specs.Document.{bytes_of}
 use Rattle.dump_runs.specs.Pick.{FindsInner, dot}
-use Rattle.dump_runs.proofs.Picking.{leads_last, leads_more, leads_out}
+use Rattle.dump_runs.proofs.Picked.{leads_last, leads_more, leads_out}
 use Rattle.dump_runs.proofs.pick.element_at.Goals as goal
 
 pub steps-init : goal.steps-init

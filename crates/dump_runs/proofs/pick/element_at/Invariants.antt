@@ -1,6 +1,6 @@
 use Rattle.std.proofs.Common.{IsUtf8, length}
 use Rattle.raw_view.specs.Document.{bytes_of}
-use Rattle.dump_runs.proofs.Picking.{LeadsOn}
+use Rattle.dump_runs.proofs.Picked.{LeadsOn}
 use Rattle.dump_runs.proofs.pick.element_at.Given as goal
 
 -- what the other steps lead to in this level is what the path leads to

@@ -1,5 +1,5 @@
 use Rattle.raw_view.specs.Document.{bytes_of}
-use Rattle.dump_runs.proofs.Picking.{fault_told, first_told}
+use Rattle.dump_runs.proofs.Picked.{fault_told, first_told}
 use Rattle.dump_runs.proofs.pick.first_with.Goals as goal
 
 pub returns-in-Ok : goal.returns-in-Ok

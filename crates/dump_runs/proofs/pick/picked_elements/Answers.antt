@@ -2,7 +2,7 @@ use Rattle.std.proofs.Common.{◌≡◌, ◌++◌, [], List, ℕ, arith, rules, 
 use Rattle.std.proofs.lemmas.Str.Pattern.{split_parts}
 use Rattle.raw_view.specs.Document.{bytes_of}
 use Rattle.dump_runs.specs.Pick.{PicksEach, comma, parts}
-use Rattle.dump_runs.proofs.Picking.{picks_last, picks_more}
+use Rattle.dump_runs.proofs.Picked.{picks_last, picks_more}
 use Rattle.dump_runs.proofs.pick.picked_elements.Goals as goal
 
 pub paths-init : goal.paths-init

@@ -1,6 +1,6 @@
 use Rattle.std.proofs.Common.{IsUtf8, length}
 use Rattle.raw_view.specs.Document.{bytes_of}
-use Rattle.dump_runs.proofs.Picking.{PicksOn}
+use Rattle.dump_runs.proofs.Picked.{PicksOn}
 use Rattle.dump_runs.proofs.pick.picked_elements.Given as goal
 
 -- what was picked, and what the other paths pick, is what all pick
