@@ -18,8 +18,8 @@ CRATES = ["bson_model", "raw_view", "raw_tree", *USED]
 PROGRAMS = {
     "bsonraw/src/answer.rt": ["answer"],
     "bsonraw/src/run.rt": ["run"],
-    "bsonraw_dump/src/batch.rt": ["run_all"],
-    "bsonraw_dump/src/run.rt": ["run", "put_summary"],
+    "dump_runs/src/batch.rt": ["run_all"],
+    "dump_runs/src/run.rt": ["run", "put_summary"],
 }
 KINDS = "fn|struct|enum|type|const|trait"
 
@@ -183,7 +183,7 @@ class Words:
 
 def of_programs(crates: Path) -> Iterator["tuple[str, str]"]:
     """Each file of the programs and of the library for C with clauses of a call that PROMISES.md names, and these."""
-    for path in sorted(crates.glob("bsonraw*/src/**/*.rt")):
+    for path in sorted({*crates.glob("bsonraw*/src/**/*.rt"), *(crates / name for name in PROGRAMS)}):
         name = str(path.relative_to(crates))
         lines = path.read_text(encoding="utf-8").splitlines()
         lost = set(PROGRAMS.get(name, []))

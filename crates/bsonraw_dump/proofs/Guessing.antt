@@ -7,9 +7,9 @@ use Rattle.std.proofs.lemmas.Slice.Eq.{starts_is}
 use Rattle.std.specs.List.{starts_with}
 use Rattle.std.specs.Option.{option_copied}
 use Rattle.raw_view.specs.Frame.{Frame, IsFrame}
-use Rattle.bsonraw_dump.specs.Cut.{IsSoundLength, said_len}
+use Rattle.dump_input.specs.Cut.{IsSoundLength, said_len}
 use Rattle.bsonraw_dump.specs.Guess.{Begins, Hints, LooksLike, LooksLikeNothing, MayBegin, MayFollow, OpensWell, front_of}
-use Rattle.bsonraw_dump.proofs.Going.{said_front}
+use Rattle.dump_input.proofs.Face.{said_front}
 
 -- the byte behind the length of a document that opens well
 follows : (most len t : ℕ) (s d r : List ℕ) → length d ≡ len → IsSoundLength most len → t ∷ s ≡ drop 4 d ++ r

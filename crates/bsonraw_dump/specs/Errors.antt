@@ -1,24 +1,19 @@
 -- What standard error is told, a line each.
-use Rattle.std.specs.Prelude.{ℕ, List, [], ◌∷◌, ◌++◌, Option, None, Some, codes, cond, decimal}
+use Rattle.std.specs.Prelude.{ℕ, List, [], ◌++◌, Option, None, Some, codes, cond, decimal}
 use Rattle.json.specs.Print.{quoted}
-use Rattle.json.specs.Token.{Token, key, string}
-use Rattle.bsonraw_dump.specs.Told.{number_member, object_line}
-use Rattle.bsonraw_dump.specs.declared.batch.Lack.{Lack}
-use Rattle.bsonraw_dump.specs.declared.batch.Lack.TheVariants as lack
-use Rattle.bsonraw_dump.specs.declared.failure.Failure.TheVariants as failure
+use Rattle.dump_lines.specs.Told.{object_line, error_members}
+use Rattle.dump_input.specs.declared.done.Lack.{Lack}
+use Rattle.dump_input.specs.declared.done.Lack.TheVariants as lack
+use Rattle.dump_input.specs.declared.failure.Failure.TheVariants as failure
 use Rattle.bsonraw_dump.specs.declared.reading.Reading.{Reading}
 use Rattle.bsonraw_dump.specs.declared.reading.Reading.TheVariants as reading
-use Rattle.bsonraw_dump.specs.declared.style.Style.{Style}
-use Rattle.bsonraw_dump.specs.declared.style.Style.TheVariants as style
+use Rattle.dump_lines.specs.declared.style.Style.{Style}
+use Rattle.dump_lines.specs.declared.style.Style.TheVariants as style
 
 -- behind a colon how many bytes of a file were read, if some were
 abbrev pub place_text : Option ℕ → List ℕ
 place_text None = []
 place_text (Some at) = codes ":" ++ decimal at
-
--- the members of an object that tells what goes wrong with a file
-abbrev pub error_members : List ℕ → Option ℕ → List ℕ → List Token
-error_members name at text = key (codes "file") ∷ string name ∷ number_member (codes "offset") at ++ key (codes "error") ∷ string text ∷ []
 
 -- the line of what goes wrong with a file, in quiet as in words
 abbrev pub error_line : Style → List ℕ → Option ℕ → List ℕ → List ℕ

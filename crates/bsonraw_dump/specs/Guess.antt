@@ -5,7 +5,7 @@ use Rattle.std.specs.Str.{IsTrimAsciiStart}
 use Rattle.raw_view.specs.Frame.{Frame, IsFrame}
 use Rattle.raw_view.specs.Frame.Kind.{tag_of}
 use Rattle.raw_view.specs.declared.element_type.ElementType.{ElementType}
-use Rattle.bsonraw_dump.specs.Cut.{IsPiece, IsSoundLength, said_len}
+use Rattle.dump_input.specs.Cut.{IsPiece, IsSoundLength, said_len}
 
 -- so many bytes of a file are looked at
 abbrev pub front_of : List ℕ → List ℕ

@@ -1,20 +1,17 @@
 //! The command line.
 #![tactic(auto)]
 
-use crate::batch::Job;
-use crate::command::{Command, Spelling};
-use crate::find::most_allowed;
-use crate::pick::Picking;
-use crate::portion::Portion;
 use crate::reading::Reading;
-use crate::style::Style;
-use crate::texts_batch::TextJob;
 use crate::version::VERSION;
 use bson_json::{Format, Layout, Style as JsonStyle};
 use clap::builder::ValueParser;
 use clap::{Arg, ArgAction, ArgMatches, Error};
+use dump_lines::find::most_allowed;
+use dump_lines::style::Style;
+use dump_runs::{Command, Job, Picking, Portion, Spelling};
 use raw_tree::Limits;
 use std::alloc::{AllocError, Global};
+use text_runs::TextJob;
 
 /// What the arguments ask for.
 #[derive(Drop)]

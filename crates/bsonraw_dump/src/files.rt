@@ -2,25 +2,25 @@
 #![tactic(auto)]
 
 use crate::args::{Task, parsed};
-use crate::batch::{Done, Lack, run_all};
-use crate::command::Command;
-use crate::failure::Failure;
-use crate::find::most_allowed;
-use crate::inputs::Inputs;
 use crate::names::{Words, copied, expanded, given_words};
 use crate::output::into_file;
 use crate::prompt::Prompt;
 use crate::reading::Reading;
-use crate::status::Status;
-use crate::style::Style;
 use crate::tell::{tell, tell_words};
-use crate::texts_batch::run_texts;
 use crate::watch::{About, Watched};
+use dump_input::done::{Done, Lack};
+use dump_input::failure::Failure;
+use dump_input::inputs::Inputs;
+use dump_input::status::Status;
+use dump_lines::find::most_allowed;
+use dump_lines::style::Style;
+use dump_runs::{Command, run_all};
 use std::alloc::AllocError;
 use std::fs::File;
 use std::io::{BufWriter, ErrorKind, IsTerminal, Read, Stdin, Write};
 use std::os::unix::fs::MetadataExt;
 use std::{fs, io};
+use text_runs::run_texts;
 
 /// How many bytes are written at a time.
 pub const BLOCK: usize = 1 << 18;

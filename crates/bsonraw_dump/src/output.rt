@@ -2,10 +2,10 @@
 #![tactic(auto)]
 
 use crate::args::Task;
-use crate::batch::Done;
 use crate::files::{BLOCK, each};
-use crate::status::Status;
 use crate::tell::{tell, tell_lack};
+use dump_input::done::Done;
+use dump_input::status::Status;
 use std::alloc::AllocError;
 use std::fs::{File, Metadata, OpenOptions};
 use std::io::BufWriter;

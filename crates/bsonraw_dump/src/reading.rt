@@ -4,14 +4,13 @@
 ghost use Rattle.std.specs.Prelude.{◌≡◌, MatchBool, MatchOption};
 ghost use Rattle.bsonraw_dump.specs.Binary.{WritesBson, WritesNoBson};
 ghost use Rattle.bsonraw_dump.specs.Errors as says;
-ghost use Rattle.bsonraw_dump.specs.declared.batch.Job.{Job};
+ghost use Rattle.dump_runs.specs.declared.batch.Job.{Job};
 ghost use Rattle.bsonraw_dump.specs.declared.reading.Reading.TheVariants.{Dumps, Texts};
-ghost use Rattle.bsonraw_dump.specs.declared.texts_batch.TextJob.{TextJob};
+ghost use Rattle.text_runs.specs.declared.texts_batch.TextJob.{TextJob};
 
-use crate::batch::Job;
-use crate::command::Command;
-use crate::style::Style;
-use crate::texts_batch::TextJob;
+use dump_lines::style::Style;
+use dump_runs::{Command, Job};
+use text_runs::TextJob;
 
 /// What the inputs of a run hold, and what is asked of them.
 #[derive(Clone, Copy)]

@@ -3,14 +3,14 @@
 
 ghost use Rattle.std.specs.Prelude.{◌≡◌, ◌++◌, ℕ, List, IfOk, OnOk};
 ghost use Rattle.bsonraw_dump.specs.Errors.{error_line, input_name, input_words, lack_line, lack_words, place_text, style_of};
-ghost use Rattle.bsonraw_dump.specs.declared.style.Style.TheVariants.{Json, Words};
+ghost use Rattle.dump_lines.specs.declared.style.Style.TheVariants.{Json, Words};
 
-use crate::batch::Lack;
-use crate::failure::Failure;
-use crate::object::error_object;
 use crate::reading::Reading;
-use crate::style::Style;
-use crate::text::{push_number, push_quoted, push_words, quotation};
+use dump_input::done::Lack;
+use dump_input::failure::Failure;
+use dump_lines::object::error_object;
+use dump_lines::style::Style;
+use dump_lines::text::{push_number, push_quoted, push_words, quotation};
 use std::alloc::{AllocError, Global};
 use std::io;
 use std::io::Write;

@@ -8,8 +8,8 @@ ghost use Rattle.bsonraw_dump.specs.Guess.{HintsAt, OpensWell};
 ghost use Rattle.bsonraw_dump.specs.Watching.{IsUnread};
 
 use crate::guess::{hint, text_hint};
-use crate::style::Style;
 use crate::tell::tell;
+use dump_lines::style::Style;
 use std::io;
 use std::io::{Read, Write};
 use std::time::Instant;

@@ -1,6 +1,6 @@
 use Rattle.std.proofs.Common.{rules, ◌≡◌, ◌++◌, IfOk, None, codes, subst}
-use Rattle.bsonraw_dump.specs.Errors.{error_members, input_name, lack_words}
-use Rattle.bsonraw_dump.specs.Told.{object_line}
+use Rattle.dump_lines.specs.Told.{error_members, object_line}
+use Rattle.bsonraw_dump.specs.Errors.{input_name, lack_words}
 use Rattle.bsonraw_dump.proofs.tell.lack_object_of.Goals as goal
 
 pub returns : goal.returns

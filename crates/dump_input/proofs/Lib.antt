@@ -1,0 +1,9 @@
+pub mod Cases
+pub mod Fronts
+mod Filling
+pub mod Ahead
+pub mod Going
+pub mod Skipping
+pub mod Deciding
+mod Scanning
+pub mod Face

@@ -1,0 +1,4 @@
+pub mod Cases
+pub mod Objects
+mod Naming
+pub mod Face

@@ -1,0 +1,4 @@
+pub mod Find
+pub mod Told
+pub mod Origins
+pub mod Values

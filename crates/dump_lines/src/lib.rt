@@ -1,0 +1,10 @@
+//! What is found in a document, and what is told of it: lines of words, and objects of JSON.
+#![tactic(auto)]
+
+pub mod find;
+pub mod object;
+pub mod origin;
+pub mod reason;
+pub mod style;
+pub mod text;
+pub mod value;

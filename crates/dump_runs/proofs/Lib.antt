@@ -1,0 +1,16 @@
+mod Judging
+mod Digesting
+mod Repeating
+mod Writing
+mod Levels
+mod Listed
+mod Passing
+mod Stopping
+mod Halting
+mod Choosing
+mod Portioning
+mod Picked
+mod Summing
+mod Tabled
+mod Prefixes
+mod Endings

@@ -1,0 +1,147 @@
+-- Which documents of an input are asked for: those from an offset on, behind so many, and at most so many.
+use Rattle.std.specs.Prelude.{◌≡◌, ◌⊎◌, ◌<◌, ◌≤◌, ◌+◌, ◌++◌, ◌∷◌, ℕ, List, [], Bool, true, Option, IfSome, IsNone, Some, drop, flat_map, length}
+use Rattle.std.specs.List.{AllByRecursion}
+use Rattle.std.specs.Io.KnownBytes.{Consumes, IsAtEnd}
+use Rattle.raw_tree.specs.declared.reader.limits.Limits.{Limits}
+use Rattle.dump_input.specs.Cut.{IsPiece}
+use Rattle.dump_input.specs.Fronts.{HasFront}
+use Rattle.dump_runs.specs.Halting.{Halts}
+use Rattle.dump_input.specs.Reading.{GoesAhead, IsNextPiece, IsWindow, ahead_of}
+use Rattle.dump_runs.specs.Run.{EndsRun, Part, PassesAll, piece, gap, skipped}
+use Rattle.dump_runs.specs.Unique.{joined}
+use Rattle.dump_runs.specs.declared.command.Command.{Command}
+use Rattle.dump_runs.specs.declared.counts.Counts.{Counts}
+use Rattle.dump_input.specs.declared.failure.ReadFailure.{ReadFailure}
+use Rattle.dump_runs.specs.declared.kept.Kept.{Kept}
+use Rattle.dump_runs.specs.declared.portion.Portion.{Portion}
+use Rattle.dump_runs.specs.declared.run.Stop.{Stop}
+use Rattle.dump_runs.specs.declared.run.Stop.TheVariants as stop
+use Rattle.dump_lines.specs.declared.style.Style.{Style}
+use Rattle.dump_input.specs.declared.window.Next.{Next}
+use Rattle.dump_input.specs.declared.window.Next.TheVariants as next
+use Rattle.dump_input.specs.declared.window.Window.{Window}
+
+-- Bytes in front of the documents that are asked for, in an input of which these bytes are known: bytes up to the offset at most; and behind
+-- the offset so many documents at most, at their lengths.
+pub record IsInFront (p : Portion) (most : ℕ) (input : Option (List ℕ)) (front : List ℕ) : Type 0 where
+  pub bytes : List ℕ
+  pub documents : List (List ℕ)
+  pub are : front ≡ bytes ++ joined documents
+  pub up_to : length bytes ≤ p.at
+  pub behind_offset : IfSome input (λ s. length bytes < p.at → documents ≡ [])
+  pub pieces : AllByRecursion (IsPiece most) documents
+  pub few : length documents ≤ p.skip
+
+-- no document begins here, at its length
+abbrev pub BeginsNone : (most : ℕ) → List ℕ → Type 0
+BeginsNone most s = (x : List ℕ) → IsPiece most x → ¬ HasFront s x
+
+-- They are all that is in front: the input ends before the offset; or so many documents are behind it, or as many as there are in front of
+-- the first place where none begins.
+pub record IsAllInFront (p : Portion) (most : ℕ) (input : Option (List ℕ)) (front : List ℕ) : Type 0 where
+  pub front_of : IsInFront p most input front
+  pub to_offset : IfSome input (λ s. length front_of.bytes < p.at → s ≡ front)
+  pub to_document : IfSome input (λ s. length front_of.documents < p.skip → BeginsNone most (drop (length front) s))
+
+-- the documents of a part, at their lengths: that of a piece
+abbrev pub documents_of_part : Part → List (List ℕ)
+documents_of_part (piece e) = e.bytes ∷ []
+documents_of_part (gap g) = []
+documents_of_part (skipped b) = []
+
+abbrev pub documents_of_parts : List Part → List (List ℕ)
+documents_of_parts ps = flat_map documents_of_part ps
+
+-- a part that the command is run over
+abbrev pub IsRunOver : Part → Type 0
+IsRunOver (piece e) = Unit {0}
+IsRunOver (gap g) = Unit {0}
+IsRunOver (skipped b) = ⊥
+
+-- the command is run over each of these parts, behind so many documents, and fewer than are asked for are before it
+abbrev pub AreAsked : Option ℕ → ℕ → List Part → Type 0
+AreAsked take count [] = Unit {0}
+AreAsked take count (q ∷ qs) = IsRunOver q × IfSome take (λ n. count < n) × AreAsked take (count + length (documents_of_part q)) qs
+
+-- as many documents are run over as are asked for
+abbrev pub IsEnough : Portion → List Part → Type 0
+IsEnough p ps = p.take ≡ Some (length (documents_of_parts ps))
+
+-- These parts are what is in front of the documents that are asked for, and behind that parts which the command is run over: none, unless it
+-- is all that is in front.
+pub record IsChosen (p : Portion) (most : ℕ) (input : Option (List ℕ)) (front : List ℕ) (ps : List Part) : Type 0 where
+  pub in_front : IsInFront p most input front
+  pub others : List Part
+  pub are : ps ≡ skipped front ∷ others
+  pub asked : AreAsked p.take 0 others
+  pub behind : IsAllInFront p most input front ⊎ (others ≡ [])
+
+-- How a run over the documents that are asked for ends: as one over these parts does. Unless reading failed, all in front of them is
+-- passed over, and if it ends before the input does, then with the last document that is asked for.
+pub record EndsPortion (p : Portion) (limits : Limits) (c : Command) (style : Counts → Style) (resync : Bool) (name : List ℕ)
+    (read_old read_new out_old out_new report_old report_new : Option (List ℕ))
+    (counts_old counts_new : Counts) (kept_old kept_new : Kept) (failed : Option ReadFailure) : Type 0 where
+  pub front : List ℕ
+  pub ends : EndsRun limits c style resync name read_old read_new out_old out_new report_old report_new counts_old counts_new kept_old kept_new failed
+  pub chosen : IsChosen p limits.bytes read_old front ends.ps
+  pub to_front : IsNone failed → IsAllInFront p limits.bytes read_old front
+  pub to_last : ends.early ≡ true → IsEnough p ends.ps
+
+-- how it fails
+pub record HaltsPortion (p : Portion) (limits : Limits) (c : Command) (style : Counts → Style) (resync : Bool) (name : List ℕ) (input out_old out_new report_old report_new : Option (List ℕ))
+    (counts_old counts_new : Counts) (kept_old : Kept) : Type 0 where
+  pub front : List ℕ
+  pub halts : Halts limits c style resync name input out_old out_new report_old report_new counts_old counts_new kept_old
+  pub chosen : IsChosen p limits.bytes input front halts.ps
+
+-- What the code tells of the documents that are asked for. No public contract cites what follows.
+
+-- reading fails
+abbrev pub HasFailed : Stop → Type 0
+HasFailed (stop.Failed at error) = Unit {0}
+HasFailed _ = ⊥
+
+-- parts were passed of those that are asked for, and how they end
+pub record PassesPortion (p : Portion) (limits : Limits) (c : Command) (style : Counts → Style) (resync : Bool) (name : List ℕ)
+    (read_old read_new out_old out_new report_old report_new : Option (List ℕ))
+    (counts_old counts_new : Counts) (kept_old kept_new : Kept) (window_new : Window) (stopped : Stop) : Type 0 where
+  pub front : List ℕ
+  pub all : PassesAll limits c style resync name read_old read_new out_old out_new report_old report_new counts_old counts_new kept_old kept_new window_new stopped
+  pub chosen : IsChosen p limits.bytes read_old front all.ps
+  pub to_front : IsAllInFront p limits.bytes read_old front ⊎ HasFailed stopped
+  pub to_last : stopped ≡ stop.Enough → IsEnough p all.ps
+
+-- so many bytes were passed at most
+abbrev pub GoesUpTo : (most : ℕ) → (old new : Option (List ℕ)) → (window_old window_new : Window) → Type 0
+GoesUpTo most old new window_old window_new = (goes : GoesAhead old new window_old window_new) × (goes.count ≤ most)
+
+-- and if fewer were, the input is at its end
+abbrev pub PassesBytes : (most : ℕ) → (old new : Option (List ℕ)) → (window_old window_new : Window) → Type 0
+PassesBytes most old new window_old window_new =
+    (goes : GoesAhead old new window_old window_new) × (goes.count ≤ most) × (goes.count < most → (ahead_of window_new ≡ []) × IsAtEnd new)
+
+-- so many documents were passed at most, at their lengths
+pub record PassesDocuments (most count : ℕ) (old new : Option (List ℕ)) (window_old window_new : Window) : Type 0 where
+  pub window : IsWindow window_new
+  pub documents : List (List ℕ)
+  pub pieces : AllByRecursion (IsPiece most) documents
+  pub few : length documents ≤ count
+  pub offset : window_new.offset ≡ window_old.offset + length (joined documents)
+  pub is_read : (before : Option (List ℕ)) → Consumes before old (ahead_of window_old) → Consumes before new (joined documents ++ ahead_of window_new)
+
+-- no document is next
+abbrev pub IsOther : Next → Type 0
+IsOther (next.Document len) = ⊥
+IsOther _ = Unit {0}
+
+-- and if fewer were, none is next
+abbrev pub PassesAllDocuments : (most count : ℕ) → (old new : Option (List ℕ)) → (window_old window_new : Window) → Type 0
+PassesAllDocuments most count old new window_old window_new =
+    (passes : PassesDocuments most count old new window_old window_new)
+    × (length passes.documents < count → (told : Next) × IsOther told × IsNextPiece most new (ahead_of window_new) told)
+
+-- these bytes were passed, from the first one of the input on
+pub record HasPassedFront (front : List ℕ) (read_old read_new : Option (List ℕ)) (window_new : Window) : Type 0 where
+  pub window : IsWindow window_new
+  pub offset : window_new.offset ≡ length front
+  pub is_read : Consumes read_old read_new (front ++ ahead_of window_new)

@@ -1,0 +1,6 @@
+mod Advancing
+mod TextWords
+mod TextWhole
+mod TextParts
+mod TextPassing
+mod TextSumming

@@ -1,0 +1,4 @@
+pub mod TextReading
+pub mod TextFaults
+pub mod TextRun
+pub mod TextBatch
