@@ -40,6 +40,7 @@ impl<'a> KeysSoFar<'a> {
 
     /// Adds the key of the next element, which has this number; or returns why the key breaches, and adds nothing. The
     /// only error is out of memory.
+    #[inline(always)]
     pub fn add(
         &mut self,
         alloc: Global,
