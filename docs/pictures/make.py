@@ -169,8 +169,8 @@ def rescue_picture():
 GIVES = {
     "bson_model": "owned values, the ordered tree",
     "raw_view": "views, elements, values, faults",
-    "raw_tree": "trees, encodings, limits, breaches",
-    "raw_form": "first faults, verdicts, forms; no tree",
+    "raw_tree": "trees, encodings, first faults, breaches",
+    "raw_form": "canonical forms and tokens; no tree",
     "raw_resync": "where documents go on in a damaged dump",
     "raw_bson": "buffers, owned values, canonical forms",
     "raw_shelf": "canonical documents, each once",
