@@ -18,7 +18,7 @@ use Rattle.dump_input.proofs.Face.{front_behind, front_first}
 use Rattle.dump_runs.specs.Pick.{IsPicked, IsPickedAs, IsPrinted}
 use Rattle.dump_runs.specs.Run.{Emits, Makes, MakesJson, MakesPicked, Writes, spelled}
 use Rattle.dump_runs.specs.Unique.{CountsOne, Made, first_made, firsts_of, has_digest, if_new, kept_of, known_behind, knows, made_as, origins_of, placed, plain, with_made, written_of}
-use Rattle.dump_runs.specs.Unique as says
+use Rattle.dump_lines.specs.Origins as says
 use Rattle.dump_runs.specs.declared.command.Command.{Command}
 use Rattle.dump_runs.specs.declared.command.Command.TheVariants as command
 use Rattle.dump_runs.specs.declared.command.Spelling.{Spelling}
