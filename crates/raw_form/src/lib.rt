@@ -1,4 +1,4 @@
-//! First faults, validation, canonical forms and tokens of documents, from views, without a tree.
+//! Canonical forms and tokens of documents, from views, without a tree; and first faults and validation, which `raw_tree` has.
 #![tactic(auto)]
 
 mod canonical;
