@@ -1,7 +1,7 @@
 -- What a piece whose levels are listed has written.
 use Rattle.std.proofs.Common.{◌≡◌, ℕ, List, [], ◌∷◌, ◌++◌, Option, subst, refl, inl, inr}
 use Rattle.std.specs.Io.KnownBytes.{Appends}
-use Rattle.std.proofs.KnownBytes.{Appends-trans}
+use Rattle.std.proofs.KnownBytes.{Appends-nil, Appends-trans}
 use Rattle.dump_input.specs.Fronts.{AppendsFront}
 use Rattle.raw_view.specs.Frame.Envelope.{IsEnvelope, Refuses}
 use Rattle.raw_view.specs.Errors.{IsMalformed, TellsRefusal}
@@ -28,11 +28,11 @@ reason_in (kind.MalformedValue why) b h = (why, h)
 reason_in (kind.Utf8EncodingError e) b h = absurd h
 reason_in kind.OutOfMemory b h = absurd h
 
-pub listed_nothing : (b head : List ℕ) (e : Error) (old mid new : Option (List ℕ)) → TellsRefusal b e → Appends old mid head → Appends mid new []
+pub listed_nothing : (b head : List ℕ) (e : Error) (old new : Option (List ℕ)) → TellsRefusal b e → Appends old new head
     → (listing : List ℕ) × ListsDocument b listing × Appends old new (head ++ listing)
-listed_nothing b head e old mid new refused first none =
+listed_nothing b head e old new refused first =
     let (why, refuses) = reason_in e.kind b refused.reason in
-    ([], inr (why, refuses, refl), Appends-trans old mid new head [] first none)
+    ([], inr (why, refuses, refl), Appends-trans old new new head [] first (Appends-nil new))
 
 -- a front of the lines of a level is written
 abbrev pub IsPartly : ℕ → ℕ → List ℕ → (old new : Option (List ℕ)) → Type 0
@@ -48,16 +48,3 @@ pub lists_behind : (name b : List ℕ) (offset : ℕ) (told : Option Account) (o
     → IsPartly 500 1 b mid new → (lines : List ℕ) × ListsFront name offset b told lines × Appends old new lines
 lists_behind name b offset told old mid new is first (text, has, put) =
     (_, inr (text, inr (is, has), refl), Appends-trans old mid new _ text first put)
-
-front_of_none : (front behind : List ℕ) → [] ≡ front ++ behind → front ≡ []
-front_of_none [] behind is = refl
-front_of_none (x ∷ front) behind is = absurd (cc)
-
--- or that line, and nothing
-pub lists_nothing : (name b : List ℕ) (offset : ℕ) (told : Option Account) (old mid new : Option (List ℕ)) → Appends old mid (line name offset (head_text b told))
-    → AppendsFront mid new [] → (lines : List ℕ) × ListsFront name offset b told lines × Appends old new lines
-lists_nothing name b offset told old mid new first front =
-    let head = line name offset (head_text b told) in
-    let none : front.front ≡ [] = front_of_none front.front front.behind front.whole in
-    let put : Appends old new (head ++ []) = Appends-trans old mid new head [] first (subst (Appends mid new) none front.put) in
-    (head ++ [], inr ([], inl refl, refl), put)

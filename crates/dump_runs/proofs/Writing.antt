@@ -90,15 +90,12 @@ nothing_known (command.Pick picking) known d = refl
 nothing_known (command.Unique spelling) known d = refl
 
 -- nothing is made
-pub writes_nothing : (c : Command) (d d' : Option (List ℕ)) (k : Kept) → Appends d d' [] → Writes c [] d d' k k
-writes_nothing c d d' k put = record {
-  is_written = subst (λ l. Appends d d' (flat_map written l)) (sym (nothing_kept c (knows k))) put;
+pub writes_none : (c : Command) (out : Option (List ℕ)) (k : Kept) → Writes c [] out out k k
+writes_none c out k = record {
+  is_written = subst (λ l. Appends out out (flat_map written l)) (sym (nothing_kept c (knows k))) (Appends-nil out);
   is_known = nothing_known c (knows k);
   is_counted = let none : length (kept_of c (knows k) []) ≡ 0 = ap length (nothing_kept c (knows k)) in omega arith;
 }
-
-pub writes_none : (c : Command) (out : Option (List ℕ)) (k : Kept) → Writes c [] out out k k
-writes_none c out k = writes_nothing c out out k (Appends-nil out)
 
 pub writes_more : (c : Command) (xs ys : List Made) (d d' d'' : Option (List ℕ)) (k k' k'' : Kept) → Writes c xs d d' k k' → Writes c ys d' d'' k' k'' → Writes c (xs ++ ys) d d'' k k''
 writes_more c xs ys d d' d'' k k' k'' first second =
@@ -141,9 +138,9 @@ line_written style line d d' k k' put (counted, same) = record {
 }
 
 -- nothing is made of a document
-pub nothing_emitted : (c : Command) (at : Origin) (b : List ℕ) (f : Finding) (d d' : Option (List ℕ)) (k : Kept) → Makes c b f [] → Appends d d' [] → Emits c at b f d d' k k None
-nothing_emitted c at b f d d' k nothing put =
-    ([], nothing, (writes_nothing c d d' k put, record { placed = sym (firsts_none c (firsts_of k)); repeats = sym (repeats_none c (firsts_of k)) }))
+pub nothing_emitted : (c : Command) (at : Origin) (b : List ℕ) (f : Finding) (out : Option (List ℕ)) (k : Kept) → Makes c b f [] → Emits c at b f out out k k None
+nothing_emitted c at b f out k nothing =
+    ([], nothing, (writes_none c out k, record { placed = sym (firsts_none c (firsts_of k)); repeats = sym (repeats_none c (firsts_of k)) }))
 
 -- a document without damage is written as Extended JSON
 pub json_emitted : (style : json.Style) (at : Origin) (b : List ℕ) (f : Finding) (d d' : Option (List ℕ)) (k k' : Kept) → (f ≡ finding.Canonical) ⊎ (f ≡ finding.Breached)

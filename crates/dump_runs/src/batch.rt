@@ -273,7 +273,7 @@ fn put_counts<W: Write>(
         | Command::Unique(_)
         | Command::Fields
         | Command::Json(_)
-        | Command::Pick(_) => put(report, b""),
+        | Command::Pick(_) => Ok(()),
     }
 }
 
@@ -291,7 +291,7 @@ fn put_all_counts<W: Write>(
     ensures failed { IfErr result (λ failure. ¬ IsReading failure) }
 {
     match job.command {
-        Command::List => put(report, b""),
+        Command::List => Ok(()),
         Command::Fields => put_fields(alloc, job, totals, report),
         Command::Check
         | Command::Count

@@ -496,7 +496,7 @@ fn report_found<W: Write>(
             | Command::Count
             | Command::Fields,
             Finding::Canonical | Finding::Breached | Finding::Unjudged,
-        ) => put(report, b""),
+        ) => Ok(()),
     }
 }
 
@@ -520,7 +520,7 @@ fn put_listing<W: Write>(
     put_line(alloc, name, offset, &head, report)?;
     match RawDocument::from_bytes(bytes) {
         Ok(document) => list_levels(alloc, document, report),
-        Err(_) => put(report, b""),
+        Err(_) => Ok(()),
     }
 }
 
@@ -557,7 +557,7 @@ fn put_told<W: Write>(
     ensures failed { IfErr result (λ failure. ¬ IsReading failure) }
 {
     let Some(told) = told else {
-        return put(report, b"");
+        return Ok(());
     };
     let text = match style {
         Style::Words => told_line(alloc, name, offset, told)?,
@@ -646,7 +646,7 @@ fn put_repeat<W: Write>(
     ensures failed { IfErr result (λ failure. ¬ IsReading failure) }
 {
     let Some(first) = first else {
-        return put(report, b"");
+        return Ok(());
     };
     let text = match style {
         Style::Words => repeat_line(alloc, origin, first)?,
@@ -677,10 +677,7 @@ fn emit<'a, D: Write>(
 {
     match (command, finding) {
         (Command::Check | Command::List | Command::Count | Command::Fields, _)
-        | (_, Finding::Damaged | Finding::TooDeep | Finding::Unjudged) => {
-            put(out, b"")?;
-            Ok(None)
-        }
+        | (_, Finding::Damaged | Finding::TooDeep | Finding::Unjudged) => { Ok(None) }
         (Command::Sound, Finding::Canonical | Finding::Breached) => {
             put_document(command, origin, bytes, bytes, out, kept)
         }
@@ -875,9 +872,6 @@ fn put_new<'a, D: Write>(
             put_one(document, out, kept)?;
             Ok(None)
         }
-        Added::Repeat(first) => {
-            put(out, b"")?;
-            Ok(first)
-        }
+        Added::Repeat(first) => { Ok(first) }
     }
 }

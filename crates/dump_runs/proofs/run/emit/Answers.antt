@@ -80,14 +80,12 @@ returns-in-Unique-Breached-clause-front g c =
     (subst (λ x. WritesFront (IsMade unique b x k) old new) (sym c.in-Unique-Breached.is-1) (form_made_unique c.in-Unique-Breached.spelling b k old new front)))
     c.put_form-in-Unique-Breached.ensures.front
 
-pub returns-in_ok-put-in-Check-default-clause-written : goal.returns-in_ok-put-in-Check-default-clause-written
-returns-in_ok-put-in-Check-default-clause-written g c =
+pub returns-in-Check-default-clause-written : goal.returns-in-Check-default-clause-written
+returns-in-Check-default-clause-written g c =
     let command = c.args.command in
     let b = c.args.bytes.now in
     let f = c.args.finding in
-    let old = g.D.Write.contents c.args.out.now in
-    let new = g.D.Write.contents c.put.new.writer in
-    let k = c.args.kept.now in
+    let out = g.D.Write.contents c.args.out.now in
     let nothing : Makes command b f [] = elim c.in-Check-default-1.branch [
       | in-Check-1 w ↦ search rules
       | in-Sound+in-Damaged-1 w ↦ search rules
@@ -96,7 +94,7 @@ returns-in_ok-put-in-Check-default-clause-written g c =
       | in-Json+in-Damaged-1 w ↦ search rules
       | in-Pick+in-Damaged-1 w ↦ search rules
     ] in
-    nothing_emitted command c.args.origin b f old new k nothing c.in_ok-put-in-Check-default.ensures.written
+    nothing_emitted command c.args.origin b f out c.args.kept.now nothing
 
 pub returns-in-Canon-Breached-clause-written : goal.returns-in-Canon-Breached-clause-written
 returns-in-Canon-Breached-clause-written g c =

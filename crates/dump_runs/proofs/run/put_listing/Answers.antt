@@ -9,7 +9,7 @@ use Rattle.dump_lines.specs.Told.{head_text, line}
 use Rattle.dump_input.specs.Fronts.{AppendsFront}
 use Rattle.dump_runs.specs.Halting.{ListsFront}
 use Rattle.dump_input.proofs.Face.{front_none, on_any, on_err}
-use Rattle.dump_runs.proofs.Listed.{IsPartly, IsWritten, listed_behind, listed_nothing, lists_behind, lists_first, lists_nothing}
+use Rattle.dump_runs.proofs.Listed.{IsPartly, IsWritten, listed_behind, listed_nothing, lists_behind, lists_first}
 use Rattle.dump_lines.proofs.Face.{on_ok}
 use Rattle.dump_runs.proofs.run.put_listing.Goals as goal
 
@@ -31,11 +31,9 @@ returns-clause-listed g c =
     let b = c.args.bytes.now in
     let old = g.W.Write.contents c.args.report.now in
     let mid = g.W.Write.contents c.put_line.new.report in
-    let new = g.W.Write.contents c.put.new.writer in
     let head = line c.args.name.now c.args.offset (head_text b (option_map account_of c.args.told.now)) in
     let first = subst (λ (x : List ℕ). Appends old mid (line c.args.name.now c.args.offset x)) (c.deref.ensures.value ∙ c.in_ok-head.ensures b (search rules)) c.in_ok-put_line.ensures.written in
-    on_ok c.put.result (Appends mid new []) ((listing : List ℕ) × ListsDocument b listing × Appends old new (head ++ listing))
-    (λ none. listed_nothing b head c.in-Err.field-0 old mid new c.in-Err.ensures.refused first none) c.put.ensures.written
+    listed_nothing b head c.in-Err.field-0 old mid c.in-Err.ensures.refused first
 
 pub returns-in_err-head-clause-front : goal.returns-in_err-head-clause-front
 returns-in_err-head-clause-front g c =
@@ -54,14 +52,3 @@ returns-in-Ok-clause-front g c =
     let is : IsEnvelope b = subst IsEnvelope same c.in-Ok.document.envelope in
     on_err c.list_levels.result (IsPartly 500 1 (bytes_of c.in-Ok.document) mid new) ((lines : List ℕ) × ListsFront c.args.name.now c.args.offset b told lines × Appends old new lines)
     (λ partly. lists_behind c.args.name.now b c.args.offset told old mid new is first (subst (λ (x : List ℕ). IsPartly 500 1 x mid new) same partly)) c.list_levels.ensures.front
-
-pub returns-clause-front : goal.returns-clause-front
-returns-clause-front g c =
-    let b = c.args.bytes.now in
-    let told = option_map account_of c.args.told.now in
-    let old = g.W.Write.contents c.args.report.now in
-    let mid = g.W.Write.contents c.put_line.new.report in
-    let new = g.W.Write.contents c.put.new.writer in
-    let first = subst (λ (x : List ℕ). Appends old mid (line c.args.name.now c.args.offset x)) (c.deref.ensures.value ∙ c.in_ok-head.ensures b (search rules)) c.in_ok-put_line.ensures.written in
-    on_err c.put.result (AppendsFront mid new []) ((lines : List ℕ) × ListsFront c.args.name.now c.args.offset b told lines × Appends old new lines)
-    (λ front. lists_nothing c.args.name.now b c.args.offset told old mid new first front) c.put.ensures.front

@@ -9,7 +9,7 @@ use Rattle.dump_runs.specs.declared.command.Command.{Command}
 use Rattle.dump_input.proofs.Face.{on_err}
 use Rattle.dump_runs.proofs.Halting.{IsOther, reports_front}
 use Rattle.dump_runs.proofs.run.report_found.Goals as goal
-use Rattle.dump_runs.proofs.run.report_found.Goals.{in-Check+in-Canonical-1, in-Canon+in-Canonical-1, in_default-Damaged-via-in-Check+in-Damaged-1, in_default-Damaged-via-in-Check+in-Breached-1, in_default-Damaged-via-in-Canon+in-Damaged-1}
+use Rattle.dump_runs.proofs.run.report_found.Goals.{in_default-Damaged-via-in-Check+in-Damaged-1, in_default-Damaged-via-in-Check+in-Breached-1, in_default-Damaged-via-in-Canon+in-Damaged-1}
 
 pub returns-in-List-default-clause-front : goal.returns-in-List-default-clause-front
 returns-in-List-default-clause-front g c =
@@ -24,23 +24,6 @@ returns-in-List-default-clause-front g c =
     let some = λ (x : Command). (lines : List ℕ) × ReportsFront x style name offset b f told lines × Appends old new lines in
     on_err c.put_listing.result ((lines : List ℕ) × ListsFront name offset b told lines × Appends old new lines) (some c.args.command)
     (λ front. subst some (sym c.in-List-default.is-0) front) c.put_listing.ensures.front
-
-pub returns-in-Check-Canonical-clause-front : goal.returns-in-Check-Canonical-clause-front
-returns-in-Check-Canonical-clause-front g c =
-    let style = c.args.style in
-    let name = c.args.name.now in
-    let offset = c.args.offset in
-    let b = c.args.bytes.now in
-    let f = c.args.found.now.finding in
-    let told = option_map account_of c.args.found.now.told in
-    let old = g.W.Write.contents c.args.report.now in
-    let new = g.W.Write.contents c.put.new.writer in
-    let is : IsOther c.args.command × Reports c.args.command style name offset b f told [] = elim c.in-Check-Canonical-1.branch [
-      | in-Check+in-Canonical-1 w ↦ (search rules, search rules)
-      | in-Canon+in-Canonical-1 w ↦ (search rules, search rules)
-    ] in
-    on_err c.put.result (AppendsFront old new []) ((lines : List ℕ) × ReportsFront c.args.command style name offset b f told lines × Appends old new lines)
-    (reports_front c.args.command style name offset b f told is.0 is.1) c.put.ensures.front
 
 pub returns-in_default-Damaged-clause-front : goal.returns-in_default-Damaged-clause-front
 returns-in_default-Damaged-clause-front g c =
