@@ -1,8 +1,8 @@
 //! The bytes of a document whose levels are still open.
-ghost use Rattle.std.specs.Prelude.{◌≡◌, ◌++◌, ◌∷◌, [], length, pos, IfErr, IfOk, OnOk, MatchOption};
+ghost use Rattle.std.specs.Prelude.{◌≡◌, ◌≤◌, ◌+◌, ◌++◌, ◌∷◌, [], length, pos, vec_capacity, vec_len, IfErr, IfOk, OnOk, MatchOption};
 ghost use Rattle.raw_bson.specs.Format.{c_string as text_then, framed, string_payload};
 ghost use Rattle.raw_bson.specs.Kind.{tag_of};
-ghost use Rattle.raw_bson.specs.Number.{le32};
+ghost use Rattle.raw_bson.specs.Number.{le32, max_length};
 ghost use Rattle.raw_bson.specs.Payload.{unset};
 ghost use Rattle.raw_bson.specs.Tree.{Tree};
 ghost use Rattle.raw_bson.specs.WithinLimits.{ReadsWithin};
@@ -10,8 +10,9 @@ ghost use Rattle.bson_from_json.specs.Levels.{before_scope, headed, level_at, wi
 ghost use Rattle.bson_from_json.specs.Texts.{LeavesOpen};
 
 use crate::error::JsonReason;
-use raw_bson::{ElementType, Limits, RawDocumentBuf};
+use raw_bson::{ElementType, Limits, RawDocumentBuf, total_len};
 use raw_form::{BarrierKind, first_fault_within};
+use raw_tree::{put_head, put_string, set_len};
 use std::alloc::Global;
 
 /// What holds a level.
@@ -95,14 +96,35 @@ impl<'a> Unfinished<'a> {
         }
     }
 
+    /// Makes room for so many bytes more, where the limits allow as many.
+    fn make_room(&mut self, added: usize) -> Result<(), JsonReason>
+        ensures bytes { self.new.bytes.items ≡ self.old.bytes.items }
+        ensures room { OnOk result (vec_len self.new.bytes + added ≤ vec_capacity self.new.bytes) }
+        ensures fits { OnOk result (vec_len self.new.bytes + added ≤ max_length) }
+        ensures levels { self.new.levels.items ≡ self.old.levels.items }
+        ensures reason { IfErr result LeavesOpen }
+    {
+        if total_len(self.bytes.len(), added).is_none() {
+            return Err(JsonReason::TooManyBytes);
+        }
+        if self.bytes.len() + added > self.limits.bytes {
+            return Err(JsonReason::TooManyBytes);
+        }
+        match self.bytes.reserve(added) {
+            Ok(()) => Ok(()),
+            Err(_) => Err(JsonReason::OutOfMemory),
+        }
+    }
+
     /// Puts the tag of a kind and a key at the end.
     pub(crate) fn put_head(&mut self, kind: ElementType, key: &str) -> Result<(), JsonReason>
         ensures bytes { OnOk result (self.new.bytes.items ≡ self.old.bytes.items ++ tag_of kind ∷ text_then key.now []) }
         ensures levels { self.new.levels.items ≡ self.old.levels.items }
         ensures reason { IfErr result LeavesOpen }
     {
-        self.put(&[kind.to_tag()])?;
-        self.put_c_string(key)
+        self.make_room(key.len().saturating_add(2))?;
+        put_head(&mut self.bytes, kind.to_tag(), key);
+        Ok(())
     }
 
     /// Puts a text and a 0 at the end.
@@ -133,8 +155,9 @@ impl<'a> Unfinished<'a> {
         ensures levels { self.new.levels.items ≡ self.old.levels.items }
         ensures reason { IfErr result LeavesOpen }
     {
-        self.put_len(text.len().saturating_add(1))?;
-        self.put_c_string(text)
+        self.make_room(text.len().saturating_add(5))?;
+        put_string(&mut self.bytes, text);
+        Ok(())
     }
 
     /// Whether one more level may be opened.
@@ -228,11 +251,10 @@ impl<'a> Unfinished<'a> {
         if self.bytes.len() < start.saturating_add(4) {
             return Err(JsonReason::Unsound);
         }
-        let len = self.bytes.len() - start;
-        if len > 0x7FFF_FFFF {
+        if self.bytes.len() - start > 0x7FFF_FFFF {
             return Err(JsonReason::TooManyBytes);
         }
-        self.bytes[start..start + 4].copy_from_slice(&(len as i32).to_le_bytes()[..]);
+        set_len(&mut self.bytes, start);
         Ok(())
     }
 

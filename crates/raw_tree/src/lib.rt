@@ -10,7 +10,7 @@ mod writer;
 
 pub use put::payload::{is_nul_free, is_value_nul_free, payload_len};
 pub use put::total::total_len;
-// For `raw_bson` and `raw_form` alone: they write where there is room, and that is their caller's to see.
+// For `raw_bson`, `raw_form` and `bson_from_json` alone: they write where there is room, and that is their caller's to see.
 #[doc(hidden)]
 pub use put::{put_element, put_head, put_raw_element, put_string, put_unset, set_len};
 pub use reader::levels::copied_pointer;
