@@ -34,6 +34,9 @@ refuses "two arguments" list list
 refuses "an argument that isn't UTF-8" "$(printf '\377')"
 refuses "a command and an argument that isn't UTF-8" list "$(printf '\377')"
 refuses "a command in upper case" LIST
+refuses "a command with a capital" Canon
+refuses "a command and a blank" "list "
+refuses "more than a command" checks
 refuses "the empty argument" ""
 refuses "an unknown command" show
 refuses "another two arguments" canon list

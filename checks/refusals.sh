@@ -105,6 +105,24 @@ each_refused() {
     echo "$scenario: $((n - 1)) requests refused in turn"
 }
 
+# each_row COMMAND: the program on each row of this command
+each_row() {
+    mkdir "$work/rows" && python3 -B checks/answers.py --rows "$1" "$work/rows" || return 1
+    count=0
+    for input in "$work/rows"/*.text; do
+        wanted=${input%.text}.wanted
+        wanted_memory=no
+        scenario="rows $1 of $(cat "$input")"
+        each_refused program_answered crates/bsonraw/out/bsonraw "$1" >"$work/said" || return 1
+        if [ "$wanted_memory" = no ]; then
+            echo "$scenario: no run ended with status 4" >&2
+            return 1
+        fi
+        count=$((count + 1))
+    done
+    echo "rows $1: each request refused in turn, for $count rows"
+}
+
 # in_runs STATUS..: the statuses, as many equal ones in a row as STATUSxTIMES
 in_runs() {
     printf '%s\n' "$@" | uniq -c | awk '{ printf "%s%sx%s", (NR > 1 ? " " : ""), $2, $1 }'
@@ -144,6 +162,7 @@ run_scenario() {
             return 1
         fi
         ;;
+    rows) each_row "$2" ;;
     test)
         input=/dev/null
         wanted_requests=${4-}
@@ -204,7 +223,7 @@ trap 'rm -rf "$folder"' EXIT
 kit=$(dirname "$(rt doc)")
 "$kit/toolchain/bin/clang" -shared -fPIC -O1 -nostdlib -fuse-ld=lld -o "$folder/refuse.so" checks/refuse.c || exit 1
 sed '/^#/d; /^$/d' "$list" |
-    awk -v crates=" $crates " 'crates == "  " || index(crates, $1 == "program" ? " bsonraw " : $1 == "dump" ? " bsonraw_dump " : " " $2 " ")' >"$folder/scenarios"
+    awk -v crates=" $crates " 'crates == "  " || index(crates, $1 ~ /^(program|rows)$/ ? " bsonraw " : $1 == "dump" ? " bsonraw_dump " : " " $2 " ")' >"$folder/scenarios"
 [ -s "$folder/scenarios" ] || exit 1
 
 # No test that is there to be refused is left out. First: one that is left out is seen.

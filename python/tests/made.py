@@ -110,6 +110,19 @@ class Maker:
         return framed(data[4:-1]) if self.rng.random() < 0.9 else data
 
 
+def cut_off(data: bytes) -> Iterator[bytes]:
+    """The document cut off at each length, with its header and its last byte put right."""
+    for size in range(5, len(data) + 1):
+        yield framed(data[4 : size - 1])
+
+
+def flipped(data: bytes) -> Iterator[bytes]:
+    """The document with each of its bits flipped."""
+    for at, byte in enumerate(data):
+        for bit in range(8):
+            yield data[:at] + bytes([byte ^ 1 << bit]) + data[at + 1 :]
+
+
 def with_repeats(data: bytes) -> bytes:
     """The document with each of its elements twice."""
     return framed(data[4:-1] * 2)

@@ -5,14 +5,15 @@ import struct
 import unittest
 import uuid
 from datetime import datetime, timedelta, timezone
-from typing import Any, List, Optional, Tuple
+from typing import Any, List, Optional, Tuple, Union
 
 import bsonraw
 import plain
 from bsonraw import Binary, Code, DatetimeMS, DBPointer, Int64, MaxKey, MinKey, Pairs, Regex, Symbol, Undefined
 from bsonraw._native import Raw
 from lines import canon, check_line, line, list_lines, without_key
-from made import KEPT, all_made
+from made import KEPT, all_made, cut_off, flipped
+from test_documents import WORKED
 
 try:
     import bson
@@ -24,6 +25,15 @@ except ImportError:
 
 COUNT = 20_000
 MADE: List[bytes] = []
+OTHERS = [
+    "15000000 023000 02000000ff00 103100 07000000 00",
+    "0f000000 0f6100 030000 08620001 00",
+    "15000000 056200 08000000 02 04000000 01020304 00",
+    "15000000 08626f6f6c00 01 1069333200 40420f00 00",
+    "0c000000 106100 02000000 00",
+    "10000000 046100 08000000 0a3000 00 00",
+]
+"""Documents beside the worked ones."""
 EPOCH = datetime(1970, 1, 1, tzinfo=timezone.utc)
 
 
@@ -100,13 +110,23 @@ def without_array_keys(values: plain.Values) -> List[Any]:
 
 
 class BesideAPlainReader(unittest.TestCase):
+    def form_of(self, data: bytes) -> Union[bytes, str]:
+        """The canonical form or its line, once all that is said of these bytes was compared."""
+        form, wanted = canon(data), plain.canon(data)
+        self.assertEqual(list_lines(data), [without_key(text) for text in plain.list_lines(data)], data.hex())
+        self.assertEqual(form, wanted if isinstance(wanted, bytes) else without_key(wanted), data.hex())
+        self.assertEqual(check_line(data), plain.check_line(data), data.hex())
+        return form
+
+    def test_worked_documents_cut_off_and_with_each_bit_flipped(self) -> None:
+        for data in map(bytes.fromhex, [document for document, *_ in WORKED] + OTHERS):
+            for damaged in (*cut_off(data), *flipped(data)):
+                self.form_of(damaged)
+
     def test_elements_forms_and_verdicts(self) -> None:
         forms = faults = changed = 0
         for data in MADE:
-            form, wanted = canon(data), plain.canon(data)
-            self.assertEqual(list_lines(data), [without_key(text) for text in plain.list_lines(data)], data.hex())
-            self.assertEqual(form, wanted if isinstance(wanted, bytes) else without_key(wanted), data.hex())
-            self.assertEqual(check_line(data), plain.check_line(data), data.hex())
+            form = self.form_of(data)
             forms += isinstance(form, bytes)
             faults += isinstance(form, str)
             changed += isinstance(form, bytes) and form != data

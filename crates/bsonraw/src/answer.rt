@@ -14,9 +14,6 @@ use hex::FromHexError;
 use raw_bson::{ErrorKind, RawDocument, Reason};
 use std::alloc::{AllocError, Global};
 
-#[cfg(test)]
-mod tests;
-
 /// What the program prints of a text for a command's name, and its exit status: what the command prints, or how the
 /// program is used. Where memory runs out, status 4 and nothing.
 pub fn answer(alloc: Global, command: &str, text: &[u8]) -> (u8, Vec<u8>)

@@ -10,9 +10,6 @@ use std::alloc::Global;
 use std::io;
 use std::io::{Read, Write};
 
-#[cfg(test)]
-mod tests;
-
 /// Reads the text to its end, writes the command's output and returns its exit status; 5 if reading or writing
 /// failed. The usage of an unknown command is written before anything is read.
 pub fn run<R: Read, W: Write>(alloc: Global, command: &str, reader: &mut R, writer: &mut W) -> u8
