@@ -11,7 +11,7 @@ ghost use Rattle.bson_from_json.specs.Texts.{LeavesOpen};
 
 use crate::error::JsonReason;
 use raw_bson::{ElementType, Limits, RawDocumentBuf};
-use raw_form::{BarrierKind, first_fault_within};
+use raw_tree::{BarrierKind, first_fault_within};
 use std::alloc::Global;
 
 /// What holds a level.
