@@ -4,6 +4,7 @@ pub mod Fronts
 pub mod Levels
 pub mod Offsets
 pub mod OneBarrier
+pub mod OneEnd
 pub mod OnePlace
 pub mod Outward
 pub mod Passed

@@ -1,5 +1,5 @@
 -- Frames in front of what is left, and what a step over them takes.
-use Rattle.std.proofs.Common.{◌≡◌, ◌∙◌, ◌<◌, ◌+◌, ◌-◌, ◌++◌, ◌∷◌, [], ℕ, true, List, Option, None, Some, Err, drop, length, ltb, slice_get, slice_index_or, arith, ap, refl, sym, subst, length-append}
+use Rattle.std.proofs.Common.{◌≡◌, ◌∙◌, ◌<◌, ◌+◌, ◌++◌, ◌∷◌, [], ℕ, true, List, Option, None, Some, Err, drop, length, ltb, slice_get, slice_index_or, arith, ap, refl, sym, subst, length-append}
 use Rattle.std.proofs.Math.Seq.{drop-append-add}
 use Rattle.std.proofs.lemmas.Bool.Decides.{nat_tests}
 use Rattle.std.proofs.lemmas.Option.{slice_get-get_or}

@@ -1,4 +1,4 @@
-use Rattle.std.proofs.Common.{◌≡◌, ◌∙◌, ◌-◌, ◌^◌, ℕ, List, Option, None, Some, map, arith, ap, subst, sym}
+use Rattle.std.proofs.Common.{◌≡◌, ◌∙◌, ℕ, List, Option, Some, map, arith, ap, subst, sym}
 use Rattle.raw_view.specs.Document.{bytes_of}
 use Rattle.raw_tree.specs.declared.validator.verdict.Found.{Found}
 use Rattle.raw_tree.specs.declared.walk.place.PathStep.{PathStep}
