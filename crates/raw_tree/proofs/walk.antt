@@ -1,4 +1,5 @@
 pub mod Bounds
+pub mod Common
 pub mod Frames
 pub mod Fronts
 pub mod Levels
@@ -6,7 +7,7 @@ pub mod Offsets
 pub mod OneBarrier
 pub mod OneEnd
 pub mod OnePlace
-pub mod Outward
+pub mod Linked
 pub mod Passed
 pub mod Rooms
 pub mod Starts

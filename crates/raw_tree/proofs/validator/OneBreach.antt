@@ -1,13 +1,13 @@
 -- Bytes are canonical or have one first breach, and never both.
 use Rattle.std.proofs.Common.{◌≡◌, inl, inr, ◌++◌, ◌∷◌, [], ℕ, zero, suc, List, Option, None, Some, length, drop, ap, refl, sym, ◌∙◌, arith}
-use Rattle.raw_tree.proofs.Common.{IsEnvelope, Frame, Fault, IsStop, RawValue, Meaning, value, keys_of_frames, BreachesMeaning, BreachesFrame, HasBreachUpTo}
-use Rattle.raw_tree.proofs.Common.{IsJudgedOneWay, IsValueCanonical, IsCanonicalUpTo, IsCanonicalAs, Sort, Cause}
+use Rattle.raw_tree.proofs.Common.{BreachesFrame, BreachesMeaning, Cause, Fault, Frame, HasBreachUpTo, IsCanonicalAs, IsCanonicalUpTo, IsEnvelope, IsJudgedOneWay, IsStop, IsValueCanonical, Meaning}
+use Rattle.raw_tree.proofs.Common.{RawValue, Sort, keys_of_frames, value}
 use Rattle.raw_view.proofs.Face.{one_meaning}
 use Rattle.raw_tree.specs.declared.validator.breach.Cause.TheVariants as cause
 use Rattle.raw_tree.proofs.validator.EitherWay.{either_way}
 use Rattle.raw_tree.proofs.validator.LevelKeys.{key_nor_breach}
 use Rattle.raw_tree.proofs.validator.OneVerdict.{AreCanonical, IsAmong, among, one_of_keys}
-use Rattle.raw_tree.proofs.walk.OneEnd.{IsEnd, one_end, walk_leads}
+use Rattle.raw_tree.proofs.walk.OneEnd.{IsEnd, nor_both, one_end, one_some, walk_leads}
 use Rattle.raw_tree.proofs.Returns.{frames_canonical_on}
 
 -- bytes are canonical, or have this breach within so many levels
@@ -61,19 +61,14 @@ module _ (sort : Sort) where
 
 module _ (n m : ℕ) (one : (sort : Sort) (d : List ℕ) (x y : Option (List ℕ × Cause)) → Tells n sort d x → Tells m sort d y → y ≡ x) where
   apart : (sort : Sort) (d path : List ℕ) (why : Cause) → HasBreachUpTo n sort d path why → ¬ IsCanonicalAs sort d
-  apart sort d path why h c =
-      let same : ◌≡◌ {A = Option (List ℕ × Cause)} None (Some (path, why)) = one sort d (Some (path, why)) None h c in
-      absurd (cc)
+  apart sort d path why h c = nor_both (Tells n sort d) (Tells m sort d) (one sort d) (path, why) h c
 
   apart_other : (sort : Sort) (d path : List ℕ) (why : Cause) → HasBreachUpTo m sort d path why → ¬ IsCanonicalAs sort d
-  apart_other sort d path why h c =
-      let same : ◌≡◌ {A = Option (List ℕ × Cause)} (Some (path, why)) None = one sort d None (Some (path, why)) c h in
-      absurd (cc)
+  apart_other sort d path why h c = nor_both (Tells m sort d) (Tells n sort d) (λ x y h g. sym (one sort d y x g h)) (path, why) h c
 
   one_nested : (sort : Sort) (d path other : List ℕ) (why cause : Cause) → HasBreachUpTo n sort d path why → HasBreachUpTo m sort d other cause → (other ≡ path) × (cause ≡ why)
   one_nested sort d path other why cause h g =
-      let same : ◌≡◌ {A = Option (List ℕ × Cause)} (Some (other, cause)) (Some (path, why)) = one sort d (Some (path, why)) (Some (other, cause)) h g in
-      let both : ◌≡◌ {A = List ℕ × Cause} (other, cause) (path, why) = cc in
+      let both = one_some (Tells n sort d) (Tells m sort d) (one sort d) (path, why) (other, cause) h g in
       (ap (λ (p : List ℕ × Cause). p.0) both, ap (λ (p : List ℕ × Cause). p.1) both)
 
   one_deeper : (sort : Sort) (b : List ℕ) (x y : Option (List ℕ × Cause)) → Tells (suc n) sort b x → Tells (suc m) sort b y → y ≡ x

@@ -1,20 +1,13 @@
 -- A document has one verdict at most within a depth, at one place, and none where it is canonical.
 use Rattle.std.proofs.Common.{◌≡◌, inl, inr, ◌++◌, ◌∷◌, [], ℕ, zero, suc, List, Option, None, Some, length, drop, ap, refl, sym, ◌∙◌, append_assoc, arith}
-use Rattle.std.proofs.lemmas.List.{map-append}
-use Rattle.raw_view.specs.Frame.{Frame, Fault, IsStop}
-use Rattle.raw_view.specs.Meaning.{RawValue, Meaning, Means, value, faulty}
+use Rattle.raw_tree.proofs.Common.{AreFramesCanonical, AreKeysCanonical, BreachesKeys, Cause, Fault, Frame, IsCanonicalUpTo, IsStop, IsValueCanonical, Limits, Meaning, Means, RawValue, Sort}
+use Rattle.raw_tree.proofs.Common.{as_array, as_document, faulty, keys_of_frames, map-append, value}
+use Rattle.raw_tree.proofs.walk.Common.{AllAreJudgedOneWayWithin, FirstVerdictTo, IsLastStep, JudgesFrameAt, JudgesMeaningAt, Step, Verdict, breach_of}
 use Rattle.raw_view.specs.Meaning as raw
 use Rattle.raw_view.proofs.Face.{one_meaning}
-use Rattle.raw_tree.specs.validator.Breaches.{keys_of_frames, BreachesKeys}
-use Rattle.raw_tree.specs.Canonical.{AreKeysCanonical, IsValueCanonical, AreFramesCanonical, IsCanonicalUpTo}
-use Rattle.raw_tree.specs.reader.Reading.{Sort, as_document, as_array}
-use Rattle.raw_tree.specs.declared.validator.breach.Cause.{Cause}
 use Rattle.raw_tree.specs.declared.validator.breach.Cause.TheVariants as cause
-use Rattle.raw_tree.specs.declared.reader.limits.Limits.{Limits}
 use Rattle.raw_tree.proofs.validator.LevelKeys.{keys_front, key_nor_breach}
-use Rattle.raw_tree.specs.walk.Places.{Step, IsLastStep}
-use Rattle.raw_tree.specs.validator.Verdicts.{Verdict, breach_of, JudgesMeaningAt, JudgesFrameAt, FirstVerdictTo, AllAreJudgedOneWayWithin}
-use Rattle.raw_tree.proofs.walk.OneEnd.{IsEnd, one_end, walk_leads}
+use Rattle.raw_tree.proofs.walk.OneEnd.{IsEnd, nor_both, one_end, one_some, walk_leads}
 use Rattle.raw_tree.proofs.walk.OnePlace.{Placed, one_inside, one_last}
 
 -- frames whose keys and values are canonical
@@ -49,23 +42,15 @@ Tells n sort b (Some a) = FirstVerdictTo n sort b a.what a.path a.offset
 
 module _ (n : ℕ) (one : (sort : Sort) (d : List ℕ) (x y : Option (Placed Verdict)) → Tells n sort d x → Tells n sort d y → y ≡ x) (sort : Sort) (b : List ℕ) where
   apart : (of : Sort) (d : List ℕ) (x : Verdict) (path : List Step) (offset : ℕ) → FirstVerdictTo n of d x path offset → ¬ IsCanonicalUpTo n of d
-  apart of d x path offset h c =
-      let a : Placed Verdict = record { what = x; path = path; offset = offset } in
-      let same : ◌≡◌ {A = Option (Placed Verdict)} None (Some a) = one of d (Some a) None h c in
-      absurd (cc)
+  apart of d x path offset h c = nor_both (Tells n of d) (Tells n of d) (one of d) (record { what = x; path = path; offset = offset }) h c
 
   one_nested : (of : Sort) (d : List ℕ) (x y : Placed Verdict) → FirstVerdictTo n of d x.what x.path x.offset → FirstVerdictTo n of d y.what y.path y.offset → y ≡ x
-  one_nested of d x y h g =
-      let same : Some y ≡ Some x = one of d (Some x) (Some y) h g in
-      cc
+  one_nested of d x y h g = one_some (Tells n of d) (Tells n of d) (one of d) x y h g
 
   module _ (s : List ℕ) (step : Step) (q : List ℕ) where
     value_nor : (v : RawValue) (a : Placed Verdict) → IsValueCanonical (IsCanonicalUpTo n) v
         → JudgesMeaningAt (IsCanonicalUpTo n) (FirstVerdictTo n) b s step q (value v) a.what a.path a.offset → ⊥
-    value_nor (raw.single l) a c h = h.0 c
-    value_nor (raw.document d) a c h = apart as_document d a.what h.0 h.1 h.2 c
-    value_nor (raw.array d) a c h = apart as_array d a.what h.0 h.1 h.2 c
-    value_nor (raw.scoped code d) a c h = apart as_document d a.what h.0 h.1 h.2 c
+    value_nor v a c h = grind (arith, apart)
 
     one_meant : (m : Meaning) (a c : Placed Verdict) → JudgesMeaningAt (IsCanonicalUpTo n) (FirstVerdictTo n) b s step q m a.what a.path a.offset
         → JudgesMeaningAt (IsCanonicalUpTo n) (FirstVerdictTo n) b s step q m c.what c.path c.offset → c ≡ a

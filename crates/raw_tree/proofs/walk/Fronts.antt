@@ -1,21 +1,12 @@
 -- What a look at the front of a level tells.
-use Rattle.std.proofs.Common.{◌≡◌, List, ℕ, Option, None, Some, Ok, Err, refl, subst}
-use Rattle.std.specs.Option.{option_copied}
-use Rattle.raw_view.specs.Frame.ElementSteps.{frame_of}
-use Rattle.raw_view.specs.Frame.{Malformed, Utf8, IsStop}
-use Rattle.raw_view.specs.Errors.{SaysFault}
-use Rattle.raw_view.specs.Frame.Front.{StepsFront, StopsWith}
-use Rattle.raw_view.specs.Meaning.{RawValue, KeyedFault, Means, value}
+use Rattle.std.proofs.Common.{◌≡◌, List, ℕ, Option, None, Some, Ok, Err, refl, subst, arith}
+use Rattle.raw_tree.proofs.Common.{BorrowedError, ErrorKind, IsStop, KeyedFault, Means, RawElement, RawValue, StepsFront, StopsWith, frame_of, value}
+use Rattle.raw_tree.proofs.walk.Common.{HoldsBytes, HoldsNone, Looks, Malformed, RawDocument, SaysFault, Utf8, option_copied}
 use Rattle.raw_view.specs.Meaning as raw
-use Rattle.raw_view.specs.declared.document.RawDocument.{RawDocument}
-use Rattle.raw_view.specs.declared.element.RawElement.{RawElement}
-use Rattle.raw_view.specs.declared.error.BorrowedError.{BorrowedError}
-use Rattle.raw_view.specs.declared.error.ErrorKind.{ErrorKind}
 use Rattle.raw_view.specs.declared.error.ErrorKind.TheVariants as kind
-use Rattle.raw_tree.specs.walk.Looking.{HoldsBytes, HoldsNone, Looks}
 use Rattle.raw_tree.specs.walk.Aheads as next
 
-stop_of : (k : ErrorKind) (key : Option (List ℕ)) (s : List ℕ) → StopsWith k key s → (fault : KeyedFault) × IsStop s fault.fault fault.key × SaysFault k fault.fault × (key ≡ fault.key)
+pub stop_of : (k : ErrorKind) (key : Option (List ℕ)) (s : List ℕ) → StopsWith k key s → (fault : KeyedFault) × IsStop s fault.fault fault.key × SaysFault k fault.fault × (key ≡ fault.key)
 stop_of (kind.MalformedValue reason) key s h = (record { fault = Malformed reason; key = key }, h, refl, refl)
 stop_of (kind.Utf8EncodingError error) key s h = (record { fault = Utf8; key = key }, h, refl, refl)
 stop_of kind.OutOfMemory key s h = absurd h
@@ -27,10 +18,7 @@ looks_stop (Some s) new e st =
     (told.0, told.1, record { says = told.2; key_is = told.3 })
 
 holds_none : (v : RawValue) → HoldsBytes v None → HoldsNone v
-holds_none (raw.single l) h d k = k
-holds_none (raw.document e) h d k = absurd h
-holds_none (raw.array e) h d k = absurd h
-holds_none (raw.scoped code e) h d k = absurd h
+holds_none v h d k = grind arith
 
 pub looks_whole : (old new : Option (List ℕ)) (e : RawElement) (v : RawValue) (x : Option RawDocument) → StepsFront old (Some (Ok e)) new
     → Means (frame_of e) (value v) → HoldsBytes v x → x ≡ None → Looks old new (next.Whole e)

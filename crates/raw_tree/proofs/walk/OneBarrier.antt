@@ -1,16 +1,12 @@
 -- A document has one first barrier at most within limits, at one place.
 use Rattle.std.proofs.Common.{◌≡◌, inl, inr, ◌++◌, ◌∷◌, [], ℕ, zero, suc, List, Option, None, Some, length, drop, arith, ap, refl, sym, ◌∙◌}
-use Rattle.bson_model.specs.Tree.{Tree, document}
-use Rattle.raw_view.specs.Frame.{Frame, IsStop}
-use Rattle.raw_view.specs.Meaning.{RawValue, KeyedFault, Means, value, faulty}
+use Rattle.raw_tree.proofs.Common.{Barrier, Frame, Holds, IsFaultWith, IsStop, KeyedFault, Limits, Means, RawValue, ReadsUpTo, Sort, StandForEach, StandsFor, Tree, as_array, as_document, document}
+use Rattle.raw_tree.proofs.Common.{fault_of, faulty, value}
+use Rattle.raw_tree.proofs.walk.Common.{AllAreBarredAtOnePlace, BarsFrameAt, FirstFaultAt, IsLastStep}
 use Rattle.raw_view.specs.Meaning as raw
 use Rattle.raw_view.proofs.Face.{one_stop, one_meaning}
-use Rattle.raw_tree.specs.reader.Reading.{Sort, as_document, as_array, StandsFor, StandForEach, ReadsUpTo, Holds}
-use Rattle.raw_tree.specs.reader.WithinLimits.{Barrier, fault_of, IsFaultWith}
-use Rattle.raw_tree.specs.declared.reader.limits.Limits.{Limits}
 use Rattle.raw_tree.proofs.reader.OneTree.{one_value_of}
-use Rattle.raw_tree.specs.walk.Places.{IsLastStep, BarsFrameAt, FirstFaultAt, AllAreBarredAtOnePlace}
-use Rattle.raw_tree.proofs.walk.OneEnd.{IsEnd, one_end, walk_leads}
+use Rattle.raw_tree.proofs.walk.OneEnd.{IsEnd, nor_both, one_end, one_some, walk_leads}
 use Rattle.raw_tree.proofs.walk.OnePlace.{Placed, one_inside, one_last}
 
 -- a barrier with a fault of which something holds is that fault
@@ -38,20 +34,13 @@ Tells n b (Some a) = FirstFaultAt n b a.what a.path a.offset
 
 module _ (n : ℕ) (one : (d : List ℕ) (x y : Option (Placed Barrier)) → Tells n d x → Tells n d y → y ≡ x) (b : List ℕ) where
   one_nested : (d : List ℕ) (x y : Placed Barrier) → FirstFaultAt n d x.what x.path x.offset → FirstFaultAt n d y.what y.path y.offset → y ≡ x
-  one_nested d x y h g =
-      let same : Some y ≡ Some x = one d (Some x) (Some y) h g in
-      cc
+  one_nested d x y h g = one_some (Tells n d) (Tells n d) (one d) x y h g
 
   apart : (d : List ℕ) (a : Placed Barrier) → FirstFaultAt n d a.what a.path a.offset → (sort : Sort) (t : Tree) → ¬ ReadsUpTo n sort d t
-  apart d a h sort t c =
-      let same : ◌≡◌ {A = Option (Placed Barrier)} None (Some a) = one d (Some a) None h (sort, t, c) in
-      absurd (cc)
+  apart d a h sort t c = nor_both (Tells n d) (Tells n d) (one d) a h (sort, t, c)
 
   value_nor : (v : RawValue) (t : Tree) (d : List ℕ) (a : Placed Barrier) → StandsFor (ReadsUpTo n) v t → Holds v d → FirstFaultAt n d a.what a.path a.offset → ⊥
-  value_nor (raw.single l) t d a h holds bars = holds
-  value_nor (raw.document e) t d a h holds bars = apart d a bars as_document t (rw holds h)
-  value_nor (raw.array e) t d a h holds bars = apart d a bars as_array t (rw holds h)
-  value_nor (raw.scoped code e) t d a h holds bars = apart d a bars as_document (document h.0) (rw holds (h.1))
+  value_nor v t d a h holds bars = grind (arith, apart)
 
   one_of_frame : (s : List ℕ) (number : ℕ) (f : Frame) (q : List ℕ) (a c : Placed Barrier) → BarsFrameAt (ReadsUpTo n) (FirstFaultAt n) b s number f q a.what a.path a.offset
       → BarsFrameAt (ReadsUpTo n) (FirstFaultAt n) b s number f q c.what c.path c.offset → c ≡ a

@@ -1,6 +1,6 @@
 -- Frames are passed up to one end alone: the final 0, a stop, or a frame that isn't passed.
 use Rattle.std.proofs.Common.{◌≡◌, ◌⊎◌, inl, inr, ◌++◌, ◌∷◌, [], ℕ, List, Option, None, Some, ap, refl, sym, ◌∙◌}
-use Rattle.raw_view.specs.Frame.{Frame, Fault, IsFrame, IsStop, IsWalk, Done, LeadsTo}
+use Rattle.raw_tree.proofs.Common.{Done, Fault, Frame, IsFrame, IsStop, IsWalk, LeadsTo}
 use Rattle.raw_view.proofs.Face.{one_frame, no_frame_at_stop, no_frame_at_final, no_stop_at_final}
 
 -- frames that are passed in two ways
@@ -78,3 +78,15 @@ module _ {X : Type 0} {Passed : List Frame → Type 0} {Stop : List Frame → Li
         | inr (inl more) ↦ absurd (no_further InFrame are.none h.passed h.rest x more.0 more.1 more.2 h.ends more.3 (rw (more.4) at g.are))
         | inr (inr more) ↦ absurd (no_further InOther are.none_other g.passed g.rest y more.0 more.1 more.2 g.ends more.3 (rw (more.4) at h.are))
       ]
+
+-- where what is told of the same is one, nothing beside `None` is told with it
+module _ {X : Type 0} (Tells Others : Option X → Type 0) (one : (x y : Option X) → Tells x → Others y → y ≡ x) where
+  pub nor_both : (x : X) → Tells (Some x) → ¬ Others None
+  nor_both x h none =
+      let same : ◌≡◌ {A = Option X} None (Some x) = one (Some x) None h none in
+      absurd (cc)
+
+  pub one_some : (x y : X) → Tells (Some x) → Others (Some y) → y ≡ x
+  one_some x y h g =
+      let same : Some y ≡ Some x = one (Some x) (Some y) h g in
+      cc

@@ -1,6 +1,6 @@
 -- What is told at a place is told at that place alone.
 use Rattle.std.proofs.Common.{◌≡◌, ◌∷◌, [], ℕ, List, arith, ap, sym, ◌∙◌}
-use Rattle.raw_tree.specs.walk.Places.{Step, IsLastStep, IsOffsetOf}
+use Rattle.raw_tree.proofs.walk.Common.{IsLastStep, IsOffsetOf, Step}
 
 -- what is told, the path that leads to where it is, and its offset
 pub record Placed (X : Type 0) : Type 0 where

@@ -1,23 +1,18 @@
 use Rattle.std.proofs.Common.{Some, Result, subst}
-use Rattle.raw_view.specs.Frame.Front.{StepsFront}
-use Rattle.raw_view.specs.Meaning.Value.{value_of}
-use Rattle.raw_view.specs.declared.element.RawElement.{RawElement}
-use Rattle.raw_view.specs.declared.error.BorrowedError.{BorrowedError}
+use Rattle.raw_tree.proofs.Common.{BorrowedError, RawElement, StepsFront, value_of}
 use Rattle.raw_tree.proofs.walk.Fronts.{looks_stop, looks_whole}
 use Rattle.raw_tree.proofs.walk.level.look.Goals as goal
 
 pub returns-in-Some-Err : goal.returns-in-Some-Err
 returns-in-Some-Err c = record {
   sees = looks_stop c.args.elements.now c.next.new.self c.in-Some-Err.error
-      (subst (λ (x : Result RawElement BorrowedError). StepsFront c.args.elements.now (Some x) c.next.new.self) c.in-Some-Err.field-0-is
-      c.in-Some-Err.ensures.steps);
+      (rw c.in-Some-Err.field-0-is at c.in-Some-Err.ensures.steps);
   value = tt;
 }
 
 pub returns-in-None-inside : goal.returns-in-None-inside
 returns-in-None-inside c = record {
   sees = looks_whole c.args.elements.now c.next.new.self c.in-Some-Ok.element (value_of c.in-Ok.value) c.inside.result
-      (subst (λ (x : Result RawElement BorrowedError). StepsFront c.args.elements.now (Some x) c.next.new.self) c.in-Some-Ok.field-0-is
-      c.in-Some-Ok.ensures.steps) c.in-Ok.ensures.value c.inside.ensures c.in-None-inside.is;
+      (rw c.in-Some-Ok.field-0-is at c.in-Some-Ok.ensures.steps) c.in-Ok.ensures.value c.inside.ensures c.in-None-inside.is;
   value = c.in-Ok.ensures.value;
 }
