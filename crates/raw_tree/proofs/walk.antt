@@ -1,11 +1,13 @@
 pub mod Bounds
+pub mod Common
 pub mod Frames
 pub mod Fronts
 pub mod Levels
 pub mod Offsets
 pub mod OneBarrier
+pub mod OneEnd
 pub mod OnePlace
-pub mod Outward
+pub mod Linked
 pub mod Passed
 pub mod Rooms
 pub mod Starts

@@ -1,8 +1,8 @@
 -- Bytes with an envelope are canonical, or have a first breach.
 use Rattle.std.proofs.Common.{◌≡◌, ◌⊎◌, inl, inr, ◌≤◌, ◌+◌, ◌++◌, ◌∷◌, [], ℕ, zero, suc, Bool, true, false, List, length, decimal, drop, arith, refl, sym, ◌∙◌, true≢false, length-drop, bytes_eq}
-use Rattle.raw_tree.proofs.Common.{bytes_decides, IsDistinct, list_any, AreBytes, Leaf, regular_expression, DoLeafOptionsAscend, IsEnvelope, Frame, IsFrame, IsWalk, End, Done, Stopped}
-use Rattle.raw_tree.proofs.Common.{HasPassed, RawValue, Means, Meaning, value, faulty, keys_of_frames, BreachesKeys, BreachesMeaning, BreachesFront, HasBreachUpTo, HasBreachAs, AreDecimalsFrom}
-use Rattle.raw_tree.proofs.Common.{AreKeysCanonical, IsValueCanonical, IsCanonicalAs, Sort, as_document, as_array, Holds, Cause}
+use Rattle.raw_tree.proofs.Common.{AreBytes, AreDecimalsFrom, AreKeysCanonical, BreachesFront, BreachesKeys, BreachesMeaning, Cause, DoLeafOptionsAscend, Done, End, Frame, HasBreachAs, HasBreachUpTo}
+use Rattle.raw_tree.proofs.Common.{HasPassed, Holds, IsCanonicalAs, IsDistinct, IsEnvelope, IsFrame, IsValueCanonical, IsWalk, Leaf, Meaning, Means, RawValue, Sort, Stopped, as_array, as_document}
+use Rattle.raw_tree.proofs.Common.{bytes_decides, faulty, keys_of_frames, list_any, regular_expression, value}
 use Rattle.bson_model.proofs.Face.{AreBytes-drop, options_decided}
 use Rattle.raw_view.specs.Meaning as raw
 use Rattle.raw_view.proofs.Face.{IsFrame-shorter, has_meaning, AreBytes-rest, document_has_walk}

@@ -1,34 +1,19 @@
 -- What the loop of a validation keeps, and what it tells where it ends.
-use Rattle.std.proofs.Common.{◌≡◌, ◌≤◌, ◌<◌, ◌+◌, ◌-◌, ◌++◌, ◌∷◌, [], ℕ, suc, List, Bool, Bor, Option, Some, map, length, drop, arith, ap, refl, sym, subst, length-append, length-drop}
-use Rattle.std.specs.Option.{option_copied}
-use Rattle.raw_view.specs.Document.{bytes_of}
-use Rattle.raw_view.specs.Frame.ElementSteps.{frame_of}
-use Rattle.raw_view.specs.Meaning.{RawValue}
+use Rattle.std.proofs.Common.{◌≡◌, ◌∙◌, ◌≤◌, ◌<◌, ◌+◌, ◌-◌, ◌++◌, ◌∷◌, [], ℕ, suc, List, Bool, Bor, Option, Some, map, length, drop, arith, ap, refl, sym, subst, length-append, length-drop}
+use Rattle.std.proofs.lemmas.List.{same_from_push}
+use Rattle.std.proofs.lemmas.Simd.{map-map}
+use Rattle.raw_tree.proofs.Common.{Cause, IsCanonicalUpTo, RawElement, RawValue, as_document, bytes_of, frame_of, keys_of_frames, left_of, length-map, map-append, texts}
+use Rattle.raw_tree.proofs.walk.Common.{AreLinked, AreOpenKeys, FirstVerdictTo, HasKeysSoFar, HoldsNone, IsAt, IsOpened, IsSingleWith, Judged, Judges, KeysSoFar, LeavesOpenKeys, Level, Looks}
+use Rattle.raw_tree.proofs.walk.Common.{RawDocument, Step, StoreEach, TellsJudged, Verdict, Wait, Walk, array_sort, breach_of, option_copied, size_of, step_at, whole_span}
 use Rattle.raw_view.specs.Meaning as raw
 use Rattle.raw_view.proofs.Face.{LeadsTo-bound}
-use Rattle.raw_view.specs.declared.document.RawDocument.{RawDocument}
-use Rattle.raw_view.specs.declared.element.RawElement.{RawElement}
-use Rattle.raw_tree.specs.validator.Breaches.{keys_of_frames}
-use Rattle.raw_tree.specs.Canonical.{IsCanonicalUpTo}
-use Rattle.raw_tree.specs.validator.OpenKeys.{AreOpenKeys, HasKeysSoFar, LeavesOpenKeys}
-use Rattle.raw_tree.specs.reader.Reading.{Sort, as_document}
-use Rattle.raw_tree.specs.validator.References.{texts}
-use Rattle.raw_tree.specs.validator.Validating.{left_of}
-use Rattle.raw_tree.specs.declared.validator.breach.Cause.{Cause}
-use Rattle.raw_tree.specs.declared.validator.keys_so_far.KeysSoFar.{KeysSoFar}
-use Rattle.raw_tree.specs.validator.Judging.{array_sort, IsSingleWith, Judges, TellsJudged}
-use Rattle.raw_tree.specs.walk.Looking.{HoldsNone, Looks, size_of, step_at}
-use Rattle.raw_tree.specs.walk.Places.{Step}
-use Rattle.raw_tree.specs.validator.Verdicts.{Verdict, too_deep, breach_of, FirstVerdictTo}
-use Rattle.raw_tree.specs.declared.validator.judge.Judged.{Judged}
+use Rattle.raw_tree.specs.validator.Verdicts.{too_deep}
 use Rattle.raw_tree.specs.declared.validator.judge.Judged.TheVariants as judged
+use Rattle.raw_tree.specs.walk.Aheads.{Ahead}
 use Rattle.raw_tree.specs.walk.Aheads as next
-use Rattle.raw_tree.specs.walk.Waits.{StoreEach, Wait}
-use Rattle.raw_tree.specs.walk.Walks.{IsAt, IsOpened, left_behind}
-use Rattle.raw_tree.specs.declared.walk.level.Level.{Level}
-use Rattle.raw_tree.specs.declared.walk.Walk.{Walk}
-use Rattle.raw_tree.proofs.validator.JudgedLevels.{AreHeld, IsInFront, IsJudged, IsJudgedThere, IsLast, begun, held_less, held_more, numbered, passed_breach, passed_deep, passed_end, passed_inside, passed_whole, resumed, so_many, verdict_outward}
+use Rattle.raw_tree.proofs.validator.JudgedLevels.{WaitsBehind, IsHeld, IsInFront, IsJudged, IsJudgedThere, Keyed, begun, held_judged, numbered, passed_breach, passed_deep, passed_end, passed_inside, passed_whole, resumed}
 use Rattle.raw_tree.proofs.walk.Levels.{IsWalking, at_inside, at_inside_size, at_whole, at_whole_size, waiting_then}
+use Rattle.raw_tree.proofs.walk.Linked.{IsOutward, last_link, none_linked, outward}
 use Rattle.raw_tree.proofs.walk.Passed.{as_held}
 
 -- the levels are those that first faults are looked for in; and the innermost judges some bytes, for which the others wait,
@@ -36,182 +21,176 @@ use Rattle.raw_tree.proofs.walk.Passed.{as_held}
 pub record IsJudgedAt (depth : ℕ) (b : List ℕ) (ws : List Wait) (ks : List KeysSoFar) (listed : List (Bor (List ℕ))) (left : Option (List ℕ)) (number offset start : ℕ) (k : KeysSoFar) : Type 0 where
   pub at : IsAt depth b ws left number offset start
   pub inside : ℕ
-  pub sort : Sort
-  pub d : List ℕ
-  pub end : ℕ
-  pub below : List (List ℕ)
-  pub held : AreHeld inside as_document b (length b) [] ws ks sort d end below
-  pub is : IsJudged inside sort d below listed left number k
-  pub levels : suc (length ws + inside) ≡ depth
-  pub begins : offset + left_of left ≡ end
+  pub many : ℕ
+  pub waits : List (Wait × KeysSoFar)
+  pub here : Keyed
+  pub waits_are : ws ≡ map (λ (w : Wait × KeysSoFar). w.0) waits
+  pub keys_are : ks ≡ map (λ (w : Wait × KeysSoFar). w.1) waits
+  pub held : AreLinked IsHeld many inside (record { span = whole_span b; below = [] }) waits here
+  pub is : IsJudged inside here listed left number k
+  pub levels : suc (length waits + inside) ≡ depth
+  pub begins : offset + left_of left ≡ here.span.end
+
+-- what is judged is ahead of a level
+abbrev pub IsAhead : (Ahead → Type 0) → Judged → Type 0
+IsAhead P (judged.Whole e) = P (next.Whole e)
+IsAhead P (judged.Inside e inner is_array) = P (next.Inside e inner)
+IsAhead P judged.End = P next.End
+IsAhead P (judged.Breach key why) = Unit {0}
 
 holds_none : (v : RawValue) → IsSingleWith (λ A. A) v → HoldsNone v
-holds_none (raw.single l) h d k = k
-holds_none (raw.document e) h d k = absurd h
-holds_none (raw.array e) h d k = absurd h
-holds_none (raw.scoped code e) h d k = absurd h
+holds_none v h d k = grind arith
 
 pub judged_begin : {depth : ℕ} {b : List ℕ} {left : Option (List ℕ)} {number offset start : ℕ} (most : ℕ) (ks : List KeysSoFar) (listed : List (Bor (List ℕ)))
     (k : KeysSoFar) → IsAt depth b [] left number offset start → suc most ≡ depth → ks ≡ [] → listed ≡ []
     → left ≡ Some (drop 4 b) → number ≡ 0 → offset + length (drop 4 b) ≡ length b → HasKeysSoFar k listed as_document (texts listed) []
     → IsJudgedAt depth b [] ks listed left number offset start k
 judged_begin {b = b} {left = left} {number = number} most ks listed k at whole no_keys empty e first begins has =
-    let is = begun most as_document b listed left number k e first has in
+    let here : Keyed = record { span = whole_span b; below = [] } in
     record {
       at = at;
       inside = most;
-      sort = as_document;
-      d = b;
-      end = length b;
-      below = [];
-      held = rw no_keys (refl, refl, refl, refl);
-      is = subst (λ (below : List (List ℕ)). IsJudged most as_document b below listed left number k) (ap texts empty) is;
+      many = 0;
+      waits = [];
+      here = here;
+      waits_are = refl;
+      keys_are = no_keys;
+      held = (refl, refl);
+      is = begun most here listed left number k e first (subst (λ (below : List (List ℕ)). HasKeysSoFar k listed as_document below []) (ap texts empty) has);
       levels = omega (arith, whole);
       begins = rw e begins;
     }
 
--- as many wait as there are keys of levels that wait
-same_many : (inside : ℕ) (outer : Sort) (b : List ℕ) (end : ℕ) (under : List (List ℕ)) (ws : List Wait) (ks : List KeysSoFar) (sort : Sort) (d : List ℕ)
-    (last : ℕ) (below : List (List ℕ)) → AreHeld inside outer b end under ws ks sort d last below → length ws ≡ length ks
-same_many inside outer b end under [] [] sort d last below h = refl
-same_many inside outer b end under [] (k ∷ ks) sort d last below h = absurd h
-same_many inside outer b end under (w ∷ ws) [] sort d last below h = absurd h
-same_many inside outer b end under (w ∷ ws) (k ∷ ks) sort d last below h = omega (arith, same_many inside h.0 h.1 w.offset h.2 ws ks sort d last below h.5)
-
 module _ {depth : ℕ} {b : List ℕ} {ws : List Wait} {ks : List KeysSoFar} {listed : List (Bor (List ℕ))} {left : Option (List ℕ)} {number offset start : ℕ}
     {k : KeysSoFar} (at : IsJudgedAt depth b ws ks listed left number offset start k) where
+  waits_many : length ws ≡ length at.waits
+  waits_many = ap length at.waits_are ∙ length-map at.waits (λ (w : Wait × KeysSoFar). w.0)
+
+  -- as many wait as there are keys of levels that wait
   pub as_many : length ws ≡ length ks
-  as_many = same_many at.inside as_document b (length b) [] ws ks at.sort at.d at.end at.below at.held
+  as_many = waits_many ∙ sym (ap length at.keys_are ∙ length-map at.waits (λ (w : Wait × KeysSoFar). w.1))
 
   pub open_keys : AreOpenKeys k listed
-  open_keys = (at.sort, at.below, keys_of_frames at.is.frames, at.is.keys, at.is.keys_canonical)
+  open_keys = (at.here.span.sort, at.here.below, keys_of_frames at.is.frames, at.is.keys, at.is.keys_canonical)
 
   -- what is told of this level
-  abbrev Told : Option (List ℕ) → KeysSoFar → List (Bor (List ℕ)) → Judged → Type 0
-  Told new i after answer = TellsJudged at.sort at.below (keys_of_frames at.is.frames) at.is.rest new i after answer
+  abbrev pub Told : Option (List ℕ) → KeysSoFar → List (Bor (List ℕ)) → Judged → Type 0
+  Told new i after answer = TellsJudged at.here.span.sort at.here.below (keys_of_frames at.is.frames) at.is.rest new i after answer
 
   pub told : (new : Option (List ℕ)) (i : KeysSoFar) (after : List (Bor (List ℕ))) (answer : Judged) → Judges left k listed number new i after answer → Told new i after answer
   told new i after answer judges =
-      subst (λ (x : Option (List ℕ)). Judges x k listed number new i after answer) at.is.left_is judges at.sort at.below
+      subst (λ (x : Option (List ℕ)). Judges x k listed number new i after answer) at.is.left_is judges at.here.span.sort at.here.below
       (keys_of_frames at.is.frames) at.is.keys at.is.keys_canonical (numbered at.is)
 
-  pub looks_whole : (new : Option (List ℕ)) (i : KeysSoFar) (after : List (Bor (List ℕ))) (e : RawElement) → Told new i after (judged.Whole e) → Looks left new (next.Whole e)
-  looks_whole new i after e (r, v, frame, m, new_is, has, more, single) = rw (at.is.left_is) (r, v, frame, m, holds_none v single, new_is)
-
-  pub looks_inside : (new : Option (List ℕ)) (i : KeysSoFar) (after : List (Bor (List ℕ))) (e : RawElement) (inner : RawDocument) (is_array : Bool)
-      → Told new i after (judged.Inside e inner is_array) → Looks left new (next.Inside e inner)
-  looks_inside new i after e inner is_array (r, v, frame, m, new_is, has, more, holds) = rw (at.is.left_is) (r, v, frame, m, as_held v (array_sort is_array) (bytes_of inner) holds, new_is)
-
-  pub looks_end : (new : Option (List ℕ)) (i : KeysSoFar) (after : List (Bor (List ℕ))) → Told new i after judged.End → Looks left new next.End
-  looks_end new i after h = rw (at.is.left_is) (h.0)
-
-  pub judged_whole : (new : Option (List ℕ)) (i : KeysSoFar) (after : List (Bor (List ℕ))) (e : RawElement) (behind : ℕ) → Told new i after (judged.Whole e)
-      → behind ≡ offset + size_of (frame_of e) → IsJudgedAt depth b ws ks after new (number + 1) behind start i
-  judged_whole new i after e behind h far =
-      let looks = looks_whole new i after e h in
-      record {
-        at = at_whole at.at new behind e looks far;
-        inside = at.inside;
-        sort = at.sort;
-        d = at.d;
-        end = at.end;
-        below = at.below;
-        held = at.held;
-        is = passed_whole at.is e new after i h;
-        levels = at.levels;
-        begins = omega (arith, far, at.begins, (at_whole_size at.at new e looks).0);
-      }
-
-  -- the next level, for which this one waits
-  pub judged_inside : {behind : ℕ} {inner : RawDocument} {level : Level} (new : Option (List ℕ)) (i : KeysSoFar) (after : List (Bor (List ℕ))) (e : RawElement)
-      (is_array : Bool) (k2 : KeysSoFar) (h : Told new i after (judged.Inside e inner is_array)) → suc (length ws) < depth
-      → (far : behind ≡ offset + size_of (frame_of e)) → IsOpened behind inner level → HasKeysSoFar k2 after (array_sort is_array) (texts after) []
-      → IsJudgedAt depth b (ws ++ waiting_then at.at new behind e inner (looks_inside new i after e inner is_array h) far
-      ∷ []) (ks ++ i ∷ []) after level.elements level.number level.offset level.start k2
-  judged_inside {behind} {inner} {level} new i after e is_array k2 h few far opens has =
-      let looks = looks_inside new i after e inner is_array h in
-      let w : Wait = waiting_then at.at new behind e inner looks far in
-      let less : ℕ = at.inside - 1 in
-      let more : at.inside ≡ suc less = omega (arith, at.levels, few) in
-      let held : AreHeld (suc less) as_document b (length b) [] ws ks at.sort at.d at.end at.below =
-      subst (λ (n : ℕ). AreHeld n as_document b (length b) [] ws ks at.sort at.d at.end at.below) more at.held in
-      let waits = passed_inside (so_many at.is more) e inner is_array new after i w h refl refl refl in
-      let ends : w.offset + left_behind w ≡ at.end = omega (arith, far, at.begins, (at_inside_size at.at new e inner looks).0) in
-      record {
-        at = at_inside at.at new behind e inner looks far level few opens;
-        inside = less;
-        sort = array_sort is_array;
-        d = bytes_of inner;
-        end = behind;
-        below = texts after;
-        held = held_more as_document b (length b) [] ws ks at.end held waits ends;
-        is = begun less (array_sort is_array) (bytes_of inner) after level.elements level.number k2 opens.left_is opens.first_is has;
-        levels = omega (arith, at.levels, more, length-append ws (w ∷ []));
-        begins = rw (opens.left_is) (opens.begins);
-      }
-
   -- a verdict in front of what is left of the innermost level is that on b, at the offset of what is left
-  front_outward : (x : Verdict) (step : Step) → IsInFront at.inside at.sort at.d left x step → FirstVerdictTo depth as_document b x (map step_at ws ++ step ∷ []) offset
+  front_outward : (x : Verdict) (step : Step) → IsInFront at.inside at.here.span left x step → FirstVerdictTo depth as_document b x (map step_at ws ++ step ∷ []) offset
   front_outward x step judges =
-      let here : ℕ = length at.d - left_of left in
-      let there : here + left_of left ≡ length at.d = omega (arith, ends) in
-      let is : IsJudgedThere at.inside at.sort at.d x step here = record { judges = judges here there } in
-      let out = verdict_outward as_document b (length b) [] ws ks at.end at.below offset at.held is (omega (arith, there, at.begins)) in
-      let same : out.0 ≡ offset = omega (arith, out.2) in
-      subst (λ (u : ℕ). FirstVerdictTo depth as_document b x (map step_at ws ++ step ∷ []) u) same
-      (subst (λ (n : ℕ). FirstVerdictTo n as_document b x (map step_at ws ++ step ∷ []) out.0) at.levels out.1)
+      let there : length at.here.span.bytes - left_of left + left_of left ≡ length at.here.span.bytes = omega (arith, ends) in
+      let told : IsOutward IsHeld (IsJudgedThere x offset) (λ (w : Wait × KeysSoFar). step_at w.0) = record { out = held_judged x offset } in
+      let (u, is, far) = outward told at.many at.inside depth
+      (record { span = whole_span b; below = [] }) at.waits at.here step [] at.levels at.held
+      (length at.here.span.bytes - left_of left, judges (length at.here.span.bytes - left_of left) there, omega (arith, there, at.begins)) in
+      let same : offset ≡ u = omega (arith, far) in
+      rw (same, at.waits_are, map-map step_at (λ (w : Wait × KeysSoFar). w.0) at.waits) is
     where
-      ends : left_of left ≤ length at.d
-      ends = rw (at.is.left_is) (omega (arith, LeadsTo-bound (drop 4 at.d) at.is.frames at.is.rest at.is.reaches, length-drop 4 at.d))
+      ends : left_of left ≤ length at.here.span.bytes
+      ends = rw (at.is.left_is) (omega (arith, LeadsTo-bound (drop 4 at.here.span.bytes) at.is.frames at.is.rest at.is.reaches, length-drop 4 at.here.span.bytes))
 
-  pub judged_breach : (new : Option (List ℕ)) (i : KeysSoFar) (after : List (Bor (List ℕ))) (key : Option (Bor (List ℕ))) (why : Cause)
-      → Told new i after (judged.Breach key why) → FirstVerdictTo depth as_document b (breach_of why)
-      (map step_at ws ++ record { number = number; key = option_copied key } ∷ []) offset
-  judged_breach new i after key why h = front_outward (breach_of why) (record { number = number; key = option_copied key })
-      (passed_breach at.is (option_copied key) why h)
+  module _ (new : Option (List ℕ)) (i : KeysSoFar) (after : List (Bor (List ℕ))) where
+    pub looks : (answer : Judged) → Told new i after answer → IsAhead (Looks left new) answer
+    looks (judged.Whole e) (r, v, frame, m, new_is, has, more, single) = rw (at.is.left_is) (r, v, frame, m, holds_none v single, new_is)
+    looks (judged.Inside e inner is_array) (r, v, frame, m, new_is, has, more, holds) =
+        rw (at.is.left_is) (r, v, frame, m, as_held v (array_sort is_array) (bytes_of inner) holds, new_is)
+    looks judged.End h = rw (at.is.left_is) (h.0)
+    looks (judged.Breach key why) h = tt
 
-  pub judged_deep : (new : Option (List ℕ)) (i : KeysSoFar) (after : List (Bor (List ℕ))) (e : RawElement) (inner : RawDocument) (is_array : Bool)
-      → Told new i after (judged.Inside e inner is_array) → depth ≤ suc (length ws)
-      → FirstVerdictTo depth as_document b too_deep (map step_at ws ++ record { number = number; key = Some (frame_of e).key } ∷ []) offset
-  judged_deep new i after e inner is_array h many =
-      let step : Step = record { number = number; key = Some (frame_of e).key } in
-      let none : at.inside ≡ 0 = omega (arith, at.levels, many) in
-      let here = passed_deep (so_many at.is none) e inner is_array new after i h in
-      front_outward too_deep step (subst (λ (n : ℕ). IsInFront n at.sort at.d left too_deep step) (sym none) here)
+    pub judged_whole : (e : RawElement) (behind : ℕ) → Told new i after (judged.Whole e) → behind ≡ offset + size_of (frame_of e) → IsJudgedAt depth b ws ks after new (number + 1) behind start i
+    judged_whole e behind h far =
+        let saw = looks (judged.Whole e) h in
+        record {
+          at = at_whole at.at new behind e saw far;
+          inside = at.inside;
+          many = at.many;
+          waits = at.waits;
+          here = at.here;
+          waits_are = at.waits_are;
+          keys_are = at.keys_are;
+          held = at.held;
+          is = passed_whole at.is new after i e h;
+          levels = at.levels;
+          begins = omega (arith, far, at.begins, (at_whole_size at.at new e saw).0);
+        }
 
-  whole_end : (xs : List Wait) (ys : List KeysSoFar) (n : ℕ) → length xs ≡ 0 → suc n ≡ depth
-      → AreHeld n as_document b (length b) [] xs ys at.sort at.d at.end at.below → IsCanonicalUpTo (suc n) at.sort at.d → IsCanonicalUpTo depth as_document b
-  whole_end [] [] n none same held c = subst (λ (m : ℕ). IsCanonicalUpTo m as_document b) same
-      (subst (λ (x : List ℕ). IsCanonicalUpTo (suc n) as_document x) (sym held.1) (subst (λ (s : Sort). IsCanonicalUpTo (suc n) s at.d) (sym held.0) c))
-  whole_end [] (y ∷ ys) n none same held c = absurd held
-  whole_end (x ∷ xs) ys n none same held c = absurd (omega (arith, none))
+    -- the next level, for which this one waits
+    pub judged_inside : {behind : ℕ} {inner : RawDocument} {level : Level} (e : RawElement) (is_array : Bool) (k2 : KeysSoFar) (h : Told new i after (judged.Inside e inner is_array))
+        → suc (length ws) < depth → (far : behind ≡ offset + size_of (frame_of e)) → IsOpened behind inner level → HasKeysSoFar k2 after (array_sort is_array) (texts after) []
+        → IsJudgedAt depth b (ws ++ waiting_then at.at new behind e inner (looks (judged.Inside e inner is_array) h) far ∷ []) (ks ++ i ∷ []) after level.elements level.number level.offset level.start k2
+    judged_inside {behind} {inner} {level} e is_array k2 h few far opens has =
+        let saw = looks (judged.Inside e inner is_array) h in
+        let w : Wait = waiting_then at.at new behind e inner saw far in
+        let less : ℕ = at.inside - 1 in
+        let more : at.inside ≡ suc less = omega (arith, at.levels, few, waits_many) in
+        let here : Keyed = record { span = record { sort = array_sort is_array; bytes = bytes_of inner; end = behind }; below = texts after } in
+        let waits : WaitsBehind w new number (frame_of e) at.here.span.end =
+        record { left_is = refl; number_is = refl; key_is = refl; ends = omega (arith, far, at.begins, (at_inside_size at.at new e inner saw).0) } in
+        record {
+          at = at_inside at.at new behind e inner saw far level few opens;
+          inside = less;
+          many = suc at.many;
+          waits = at.waits ++ (w, i) ∷ [];
+          here = here;
+          waits_are = rw (map-append (λ (x : Wait × KeysSoFar). x.0) at.waits ((w, i) ∷ []), ← at.waits_are) refl;
+          keys_are = rw (map-append (λ (x : Wait × KeysSoFar). x.1) at.waits ((w, i) ∷ []), ← at.keys_are) refl;
+          held = (at.waits, (w, i), at.here, refl, passed_inside at.is new after i e inner is_array h (suc less) more waits, rw more at at.held);
+          is = begun less here after level.elements level.number k2 opens.left_is opens.first_is has;
+          levels = omega (arith, at.levels, more, length-append at.waits ((w, i) ∷ []));
+          begins = rw (opens.left_is) (opens.begins);
+        }
 
-  pub judged_end : (new : Option (List ℕ)) (i : KeysSoFar) (after : List (Bor (List ℕ))) → Told new i after judged.End → length ws ≡ 0 → IsCanonicalUpTo depth as_document b
-  judged_end new i after h none =
-      whole_end ws ks at.inside none (omega (arith, at.levels, none)) at.held (passed_end at.is new after i h)
+    pub judged_breach : (key : Option (Bor (List ℕ))) (why : Cause) → Told new i after (judged.Breach key why)
+        → FirstVerdictTo depth as_document b (breach_of why) (map step_at ws ++ record { number = number; key = option_copied key } ∷ []) offset
+    judged_breach key why h = front_outward (breach_of why) (record { number = number; key = option_copied key }) (passed_breach at.is (option_copied key) why h)
+
+    pub judged_deep : (e : RawElement) (inner : RawDocument) (is_array : Bool) → Told new i after (judged.Inside e inner is_array) → depth ≤ suc (length ws)
+        → FirstVerdictTo depth as_document b too_deep (map step_at ws ++ record { number = number; key = Some (frame_of e).key } ∷ []) offset
+    judged_deep e inner is_array h many = front_outward too_deep (record { number = number; key = Some (frame_of e).key })
+        (passed_deep at.is new after i e inner is_array h (omega (arith, at.levels, many, waits_many)))
+
+    pub judged_end : Told new i after judged.End → length ws ≡ 0 → IsCanonicalUpTo depth as_document b
+    judged_end h none =
+        let empty : length at.waits ≡ 0 = omega (arith, none, waits_many) in
+        let same = none_linked IsHeld at.many at.inside (record { span = whole_span b; below = [] }) at.waits at.here empty at.held in
+        let depth_is : depth ≡ suc at.inside = omega (arith, at.levels, empty) in
+        rw depth_is (subst (λ (x : Keyed). IsCanonicalUpTo (suc at.inside) x.span.sort x.span.bytes) (sym same) (passed_end at.is new after i h))
 
 -- the level that waits for the innermost goes on
 pub judged_resumed : {depth : ℕ} {b : List ℕ} {listed : List (Bor (List ℕ))} {left : Option (List ℕ)} {number offset start : ℕ} {k : KeysSoFar}
     (ws : List Wait) (w : Wait) (ks : List KeysSoFar) (j : KeysSoFar)
     (at : IsJudgedAt depth b (ws ++ w ∷ []) (ks ++ j ∷ []) listed left number offset start k) (new : Option (List ℕ)) (i : KeysSoFar)
-    (after left_list : List (Bor (List ℕ))) → TellsJudged at.sort at.below (keys_of_frames at.is.frames) at.is.rest new i after judged.End
-    → LeavesOpenKeys i after left_list → IsAt depth b ws w.elements (w.number + 1) w.offset w.start → IsJudgedAt depth b ws ks left_list w.elements (w.number + 1) w.offset w.start j
+    (after left_list : List (Bor (List ℕ))) → Told at new i after judged.End → LeavesOpenKeys i after left_list → IsAt depth b ws w.elements (w.number + 1) w.offset w.start
+    → IsJudgedAt depth b ws ks left_list w.elements (w.number + 1) w.offset w.start j
 judged_resumed {b = b} ws w ks j at new i after left_list h leaves goes_on =
-    let less : IsLast at.inside as_document b (length b) [] ws ks w j at.sort at.d at.below =
-    held_less at.inside as_document b (length b) [] ws ks at.sort at.d at.end at.below at.held in
-    let canonical = passed_end at.is new after i h in
-    let same : texts left_list ≡ at.below = leaves at.sort at.below (keys_of_frames at.is.frames) h.1 in
+    let some : 0 < length at.waits = omega (arith, waits_many at, length-append ws (w ∷ [])) in
+    let (many, outer, z, o, same, link, held) = last_link IsHeld at.many at.inside (record { span = whole_span b; below = [] }) at.waits at.here some at.held in
+    let waits = same_from_push ws (map (λ (x : Wait × KeysSoFar). x.0) outer) w z.0
+    (at.waits_are ∙ ap (map (λ (x : Wait × KeysSoFar). x.0)) same ∙ map-append (λ (x : Wait × KeysSoFar). x.0) outer (z ∷ [])) in
+    let keys = same_from_push ks (map (λ (x : Wait × KeysSoFar). x.1) outer) j z.1
+    (at.keys_are ∙ ap (map (λ (x : Wait × KeysSoFar). x.1)) same ∙ map-append (λ (x : Wait × KeysSoFar). x.1) outer (z ∷ [])) in
+    let below : texts left_list ≡ at.here.below = leaves at.here.span.sort at.here.below (keys_of_frames at.is.frames) h.1 in
+    let judged : IsJudged (suc at.inside) o left_list z.0.elements (z.0.number + 1) z.1 = resumed left_list link (passed_end at.is new after i h) below in
     record {
       at = goes_on;
       inside = suc at.inside;
-      sort = less.sort;
-      d = less.d;
-      end = less.last;
-      below = less.below;
-      held = less.held;
-      is = resumed left_list less.is canonical same;
-      levels = omega (arith, at.levels, length-append ws (w ∷ []));
-      begins = less.ends;
+      many = many;
+      waits = outer;
+      here = o;
+      waits_are = waits.0;
+      keys_are = keys.0;
+      held = held;
+      is = subst (λ (x : Wait). IsJudged (suc at.inside) o left_list x.elements (x.number + 1) j) (sym waits.1)
+          (subst (λ (x : KeysSoFar). IsJudged (suc at.inside) o left_list z.0.elements (z.0.number + 1) x) (sym keys.1) judged);
+      levels = omega (arith, at.levels, ap length same, length-append outer (z ∷ []));
+      begins = omega (arith, link.nested.ends, ap left_of link.nested.left_is, ap (λ (x : Wait). x.offset + left_of x.elements) waits.1);
     }
 
 -- so it is for a walk over this document within this depth

@@ -1,11 +1,8 @@
 -- What a caller knows where a validation within limits returned no `Ok(None)`: the document isn't canonical within them.
 use Rattle.std.proofs.Common.{◌≡◌, ℕ, List, Option, Some, Ok, Err, subst}
-use Rattle.raw_tree.specs.declared.reader.limits.Limits.{Limits}
-use Rattle.raw_tree.specs.walk.Barriers.{steps_of}
-use Rattle.raw_tree.specs.validator.Verdicts.{AllAreJudgedOneWayWithin, IsCanonicalWithin, TellsVerdict, breach_of, too_deep}
-use Rattle.raw_tree.specs.declared.walk.place.Place.{Place}
-use Rattle.raw_tree.specs.declared.validator.verdict.PlacedBreach.{PlacedBreach}
-use Rattle.raw_tree.specs.declared.validator.verdict.ValidateError.{ValidateError}
+use Rattle.raw_tree.proofs.Common.{Limits}
+use Rattle.raw_tree.proofs.walk.Common.{AllAreJudgedOneWayWithin, IsCanonicalWithin, Place, PlacedBreach, TellsVerdict, ValidateError, breach_of, steps_of}
+use Rattle.raw_tree.specs.validator.Verdicts.{too_deep}
 use Rattle.raw_tree.specs.declared.validator.verdict.ValidateError.TheVariants as error
 
 module _ {limits : Limits} (b : List ℕ) where

@@ -1,13 +1,13 @@
 -- Canonical frames that are passed: the end, one frame more, or a breach is behind them.
 use Rattle.std.proofs.Common.{◌≡◌, ◌++◌, ◌∷◌, [], ℕ, suc, List, length, drop, arith, refl}
 use Rattle.std.specs.List.{IsDistinct}
-use Rattle.raw_tree.proofs.Common.{map-append, Frame, IsFrame, Done, RawValue, Means, value, keys_of_frames, BreachesFront, HasBreachUpTo, HasBreachAs, HasPassed}
-use Rattle.raw_tree.proofs.Common.{AreKeysCanonical, IsValueCanonical, AreFramesCanonical, IsCanonicalAs, Sort, Cause}
+use Rattle.raw_tree.proofs.Common.{AreFramesCanonical, AreKeysCanonical, BreachesFront, Cause, Done, Frame, HasBreachAs, HasBreachUpTo, HasPassed, IsCanonicalAs, IsFrame, IsValueCanonical, Means}
+use Rattle.raw_tree.proofs.Common.{RawValue, Sort, keys_of_frames, map-append, value}
 use Rattle.raw_view.proofs.Face.{LeadsTo-more, LeadsTo-walk}
 use Rattle.raw_tree.proofs.Returns.{canonical_of}
 
 -- before any frame the keys are canonical
-no_keys : (sort : Sort) → AreKeysCanonical sort []
+pub no_keys : (sort : Sort) → AreKeysCanonical sort []
 unfolding IsDistinct
 no_keys sort = grind arith
 
@@ -17,10 +17,9 @@ none_passed sort b = record { reaches = refl; keys = no_keys sort; values = tt }
 pub keys_more : (fs : List Frame) (f : Frame) → keys_of_frames (fs ++ f ∷ []) ≡ keys_of_frames fs ++ f.key ∷ []
 keys_more fs f = map-append (λ (g : Frame). g.key) fs (f ∷ [])
 
-frames_more : (fs : List Frame) (f : Frame) (v : RawValue) → AreFramesCanonical IsCanonicalAs fs → Means f (value v) → IsValueCanonical IsCanonicalAs v
-    → AreFramesCanonical IsCanonicalAs (fs ++ f ∷ [])
-frames_more [] f v h m c = (v, m, c, tt)
-frames_more (g ∷ fs) f v h m c = (h.0, h.1, h.2, frames_more fs f v h.3 m c)
+pub frames_more : (N : Sort → List ℕ → Type 0) (fs : List Frame) (f : Frame) (v : RawValue) → AreFramesCanonical N fs → Means f (value v) → IsValueCanonical N v → AreFramesCanonical N (fs ++ f ∷ [])
+frames_more N [] f v h m c = (v, m, c, tt)
+frames_more N (g ∷ fs) f v h m c = (h.0, h.1, h.2, frames_more N fs f v h.3 m c)
 
 module _ {sort : Sort} {b : List ℕ} {passed : List Frame} {s : List ℕ} (has : HasPassed sort b passed s) where
   pub all_passed : s ≡ 0 ∷ [] → IsCanonicalAs sort b
@@ -35,5 +34,5 @@ module _ {sort : Sort} {b : List ℕ} {passed : List Frame} {s : List ℕ} (has 
     one_passed v means c = record {
       reaches = LeadsTo-more (drop 4 b) passed s f r has.reaches stands;
       keys = rw (keys_more passed f) more;
-      values = frames_more passed f v has.values means c;
+      values = frames_more IsCanonicalAs passed f v has.values means c;
     }

@@ -1,19 +1,11 @@
 -- What is told within a depth that no document reaches is told without limits.
 use Rattle.std.proofs.Common.{◌≡◌, ◌≤◌, ◌<◌, ◌∷◌, [], inl, inr, ℕ, zero, suc, List, None, Some, map, length, drop, arith, ap, refl, subst, sym, length-drop}
-use Rattle.raw_view.specs.Frame.Envelope.{IsEnvelope}
-use Rattle.raw_view.specs.Frame.Number.{max_length}
-use Rattle.raw_view.specs.Meaning.{Meaning, Means, RawValue, value, faulty}
+use Rattle.raw_tree.proofs.Common.{BreachesFront, BreachesKeys, BreachesMeaning, Cause, HasBreachAs, HasBreachUpTo, Holds, IsCanonicalAs, IsCanonicalUpTo, IsEnvelope, Meaning, Means, RawValue, Sort}
+use Rattle.raw_tree.proofs.Common.{as_array, as_document, faulty, keys_of_frames, max_length, value}
+use Rattle.raw_tree.proofs.walk.Common.{FirstVerdictTo, Found, JudgesFrontAt, JudgesMeaningAt, Step, TellsFound, breach_of, steps_of}
 use Rattle.raw_view.specs.Meaning as raw
 use Rattle.raw_view.proofs.Face.{LeadsTo-bound}
-use Rattle.raw_tree.specs.Canonical.{IsCanonicalAs, IsCanonicalUpTo}
-use Rattle.raw_tree.specs.declared.validator.breach.Cause.{Cause}
-use Rattle.raw_tree.specs.declared.validator.verdict.Found.{Found}
-use Rattle.raw_tree.specs.reader.Reading.{Holds, Sort, as_array, as_document}
-use Rattle.raw_tree.specs.validator.Breaches.{BreachesFront, BreachesKeys, BreachesMeaning, HasBreachAs, HasBreachUpTo, keys_of_frames}
-use Rattle.raw_tree.specs.validator.Judging.{TellsFound}
-use Rattle.raw_tree.specs.validator.Verdicts.{FirstVerdictTo, JudgesFrontAt, JudgesMeaningAt, breach_of, too_deep}
-use Rattle.raw_tree.specs.walk.Barriers.{steps_of}
-use Rattle.raw_tree.specs.walk.Places.{Step}
+use Rattle.raw_tree.specs.validator.Verdicts.{too_deep}
 use Rattle.raw_tree.proofs.Returns.{frames_canonical_on}
 use Rattle.raw_tree.proofs.reader.Loops.{nested_shorter}
 
@@ -65,11 +57,7 @@ breached (suc n) sort b why steps offset (passed, s, l, keys, canonical, front) 
 deep_inside : (n : ℕ) (b s : List ℕ) (step : Step) (q : List ℕ) (m : Meaning) (path : List Step) (offset : ℕ)
     → JudgesMeaningAt (IsCanonicalUpTo n) (FirstVerdictTo n) b s step q m too_deep path offset
     → (v : RawValue) × (d : List ℕ) × (m ≡ value v) × Holds v d × (sort : Sort) × (steps : List Step) × (inside : ℕ) × FirstVerdictTo n sort d too_deep steps inside
-deep_inside n b s step q (faulty fault) path offset h = absurd (no_breach _ (sym h.0))
-deep_inside n b s step q (value (raw.single l)) path offset h = absurd (no_breach _ (sym h.1))
-deep_inside n b s step q (value (raw.document d)) path offset h = (raw.document d, d, refl, refl, as_document, h.0, h.1, h.2)
-deep_inside n b s step q (value (raw.array d)) path offset h = (raw.array d, d, refl, refl, as_array, h.0, h.1, h.2)
-deep_inside n b s step q (value (raw.scoped code d)) path offset h = (raw.scoped code d, d, refl, refl, as_document, h.0, h.1, h.2)
+deep_inside n b s step q m path offset h = grind arith
 
 deep_long : (n : ℕ) (sort : Sort) (b : List ℕ) (path : List Step) (offset : ℕ) → FirstVerdictTo n sort b too_deep path offset → n ≤ length b
 deep_long zero sort b path offset h = omega arith

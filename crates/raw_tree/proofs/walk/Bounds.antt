@@ -1,13 +1,8 @@
 -- What is told of a document is within it.
 use Rattle.std.proofs.Common.{◌≤◌, ◌∷◌, [], inl, inr, ℕ, zero, suc, List, Some, length, arith, length-append}
-use Rattle.raw_tree.specs.reader.Reading.{Sort, as_array, as_document}
-use Rattle.raw_tree.specs.reader.WithinLimits.{Barrier}
-use Rattle.raw_tree.specs.declared.reader.limits.Limits.{Limits}
-use Rattle.raw_view.specs.Meaning.{Meaning, value, faulty}
+use Rattle.raw_tree.proofs.Common.{Barrier, IsCanonicalUpTo, Limits, Meaning, Sort, as_array, as_document, faulty, value}
+use Rattle.raw_tree.proofs.walk.Common.{FirstBarrierAt, FirstFaultAt, FirstVerdict, FirstVerdictTo, IsOffsetOf, JudgesMeaningAt, Step, Verdict}
 use Rattle.raw_view.specs.Meaning as raw
-use Rattle.raw_tree.specs.walk.Places.{Step, IsOffsetOf, FirstBarrierAt, FirstFaultAt}
-use Rattle.raw_tree.specs.validator.Verdicts.{Verdict, FirstVerdict, FirstVerdictTo, JudgesMeaningAt}
-use Rattle.raw_tree.specs.Canonical.{IsCanonicalUpTo}
 
 offset_bound : (b s d q : List ℕ) (steps : List Step) (inside offset : ℕ) → inside ≤ length d → IsOffsetOf b s d q steps inside offset → offset ≤ length b
 offset_bound b s d q [] inside offset few is = omega (arith, is)
@@ -15,10 +10,7 @@ offset_bound b s d q (step ∷ steps) inside offset few is = omega (arith, few, 
 
 fault_bound : (n : ℕ) (b : List ℕ) (x : Barrier) (path : List Step) (offset : ℕ) → FirstFaultAt n b x path offset → offset ≤ length b
 fault_bound zero b x path offset h = omega (arith, h.2)
-fault_bound (suc n) b x path offset (passed, pairs, s, l, each, inl stop) = omega (arith, stop.1.1)
-fault_bound (suc n) b x path offset (passed, pairs, s, l, each, inr (f, q, at, inl means)) = omega (arith, means.1.1)
-fault_bound (suc n) b x path offset (passed, pairs, s, l, each, inr (f, q, at, inr (v, d, steps, inside, means, holds, bars, path_is, offset_is))) =
-    offset_bound b s d q steps inside offset (fault_bound n d x steps inside bars) offset_is
+fault_bound (suc n) b x path offset h = grind (arith, offset_bound, fault_bound n)
 
 -- where the first barrier begins
 pub barrier_bound : (limits : Limits) (b : List ℕ) (x : Barrier) (path : List Step) (offset : ℕ) → FirstBarrierAt limits b x path offset → offset ≤ length b
@@ -29,14 +21,7 @@ barrier_bound limits b x path offset (inr few) = fault_bound limits.depth b x pa
 meaning_bound : (n : ℕ) → ((sort : Sort) (d : List ℕ) (x : Verdict) (path : List Step) (offset : ℕ) → FirstVerdictTo n sort d x path offset → offset ≤ length d)
     → (b s : List ℕ) (step : Step) (q : List ℕ) (m : Meaning) (x : Verdict) (path : List Step) (offset : ℕ)
     → JudgesMeaningAt (IsCanonicalUpTo n) (FirstVerdictTo n) b s step q m x path offset → offset ≤ length b
-meaning_bound n bound b s step q (faulty fault) x path offset h = omega (arith, h.1.1)
-meaning_bound n bound b s step q (value (raw.single l)) x path offset h = omega (arith, h.2.1)
-meaning_bound n bound b s step q (value (raw.document d)) x path offset (steps, inside, first, path_is, is) =
-    offset_bound b s d q steps inside offset (bound as_document d x steps inside first) is
-meaning_bound n bound b s step q (value (raw.array d)) x path offset (steps, inside, first, path_is, is) =
-    offset_bound b s d q steps inside offset (bound as_array d x steps inside first) is
-meaning_bound n bound b s step q (value (raw.scoped code d)) x path offset (steps, inside, first, path_is, is) =
-    offset_bound b s d q steps inside offset (bound as_document d x steps inside first) is
+meaning_bound n bound b s step q m x path offset h = grind (arith, offset_bound)
 
 verdict_bound_to : (n : ℕ) (sort : Sort) (b : List ℕ) (x : Verdict) (path : List Step) (offset : ℕ) → FirstVerdictTo n sort b x path offset → offset ≤ length b
 verdict_bound_to zero sort b x path offset h = omega (arith, h.2)

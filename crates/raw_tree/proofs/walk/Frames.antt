@@ -1,18 +1,11 @@
 -- Frames in front of what is left, and what a step over them takes.
-use Rattle.std.proofs.Common.{◌≡◌, ◌∙◌, ◌<◌, ◌+◌, ◌-◌, ◌++◌, ◌∷◌, [], ℕ, true, List, Option, None, Some, Err, drop, length, ltb, slice_get, slice_index_or, arith, ap, refl, sym, subst, length-append}
-use Rattle.std.proofs.Math.Seq.{drop-append-add}
+use Rattle.std.proofs.Common.{◌≡◌, ◌∙◌, ◌<◌, ◌+◌, ◌++◌, ◌∷◌, [], ℕ, true, List, Option, None, Some, Err, drop, length, ltb, slice_get, slice_index_or, arith, ap, refl, sym, subst, length-append}
 use Rattle.std.proofs.lemmas.Bool.Decides.{nat_tests}
-use Rattle.std.proofs.lemmas.Option.{slice_get-get_or}
-use Rattle.std.specs.Option.{option_copied}
-use Rattle.raw_view.specs.Frame.Format.{element_of}
-use Rattle.raw_view.specs.Frame.{Frame, HasNoFrame, IsFrame, IsWalk, Done, Malformed, Utf8}
-use Rattle.raw_view.specs.Frame.Front.{StepsFront, StopsWith}
-use Rattle.raw_view.specs.declared.error.BorrowedError.{BorrowedError}
-use Rattle.raw_view.specs.declared.error.ErrorKind.{ErrorKind}
+use Rattle.raw_tree.proofs.Common.{BorrowedError, Done, ErrorKind, Frame, IsFrame, IsWalk, StepsFront, StopsWith, drop-append-add, element_of, slice_get-get_or}
+use Rattle.raw_tree.proofs.walk.Common.{HasNoFrame, Malformed, TakesFrame, Utf8, option_copied, size_of}
 use Rattle.raw_view.specs.declared.error.ErrorKind.TheVariants as kind
+use Rattle.raw_tree.proofs.walk.Fronts.{stop_of}
 use Rattle.raw_view.proofs.Face.{front_and_rest, no_frame_at_final, no_frame_at_stop, one_frame}
-use Rattle.raw_tree.specs.walk.Looking.{size_of}
-use Rattle.raw_tree.specs.walk.Looking.{TakesFrame}
 
 -- what is in front of a walk
 
@@ -25,14 +18,9 @@ walk_step s (g ∷ fs) f r w at =
 
 -- what a step over the elements takes
 
-stopped : (s : List ℕ) (k : ErrorKind) (key : Option (List ℕ)) → StopsWith k key s → HasNoFrame s
-stopped s (kind.MalformedValue reason) key h = no_frame_at_stop s (Malformed reason) key h
-stopped s (kind.Utf8EncodingError error) key h = no_frame_at_stop s Utf8 key h
-stopped s kind.OutOfMemory key h = absurd h
-
 pub taken_stop : (old new : Option (List ℕ)) (e : BorrowedError) → StepsFront old (Some (Err e)) new → TakesFrame old None new
 taken_stop None new e st = refl
-taken_stop (Some s) new e st = stopped s e.kind (option_copied e.key) st.0
+taken_stop (Some s) new e st = let stop = stop_of e.kind (option_copied e.key) s st.0 in no_frame_at_stop s stop.0.fault stop.0.key stop.1
 
 -- where none is in front, a walk has no frame
 pub walk_over : (s : List ℕ) (frames : List Frame) → IsWalk s frames Done → HasNoFrame s → frames ≡ []

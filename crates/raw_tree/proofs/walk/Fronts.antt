@@ -18,7 +18,7 @@ use Rattle.raw_tree.specs.walk.Looking.{HoldsNone, Looks}
 use Rattle.raw_tree.specs.walk.Aheads as next
 use Rattle.raw_tree.proofs.reader.Stacks.{held_holds}
 
-stop_of : (k : ErrorKind) (key : Option (List ℕ)) (s : List ℕ) → StopsWith k key s → (fault : KeyedFault) × IsStop s fault.fault fault.key × SaysFault k fault.fault × (key ≡ fault.key)
+pub stop_of : (k : ErrorKind) (key : Option (List ℕ)) (s : List ℕ) → StopsWith k key s → (fault : KeyedFault) × IsStop s fault.fault fault.key × SaysFault k fault.fault × (key ≡ fault.key)
 stop_of (kind.MalformedValue reason) key s h = (record { fault = Malformed reason; key = key }, h, refl, refl)
 stop_of (kind.Utf8EncodingError error) key s h = (record { fault = Utf8; key = key }, h, refl, refl)
 stop_of kind.OutOfMemory key s h = absurd h

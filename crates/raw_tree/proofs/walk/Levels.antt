@@ -1,176 +1,176 @@
 -- What a walk over all levels keeps, and what it tells where it ends.
-use Rattle.std.proofs.Common.{◌≡◌, ◌∙◌, ◌≤◌, ◌<◌, ◌+◌, ◌-◌, ◌*◌, ◌++◌, ◌∷◌, [], ℕ, suc, List, Option, None, Some, map, length, drop, arith, ap, refl, sym, subst, length-append, length-drop}
-use denote.Ref.{Bor}
-use Rattle.std.specs.Option.{option_copied}
-use Rattle.bson_model.specs.Tree.{Tree}
-use Rattle.raw_view.specs.Document.{bytes_of}
-use Rattle.raw_view.specs.Frame.ElementSteps.{frame_of}
-use Rattle.raw_view.specs.Frame.{Frame, IsFrame, LeadsTo}
-use Rattle.raw_view.specs.Frame.Front.{TellsBorrowed}
-use Rattle.raw_view.specs.Meaning.{KeyedFault}
-use Rattle.raw_view.specs.declared.document.RawDocument.{RawDocument}
-use Rattle.raw_view.specs.declared.element.RawElement.{RawElement}
-use Rattle.raw_view.specs.declared.error.BorrowedError.{BorrowedError}
+use Rattle.std.proofs.Common.{◌≡◌, ◌∙◌, ◌≤◌, ◌<◌, ◌+◌, ◌-◌, ◌*◌, ◌++◌, ◌∷◌, [], inr, ℕ, zero, suc, List, Option, None, Some, map, length, drop, arith, ap, refl, sym, subst, length-append, length-drop, Bor}
+use Rattle.std.proofs.lemmas.List.{same_from_push}
+use Rattle.raw_tree.proofs.Common.{BorrowedError, Frame, Holds, KeyedFault, RawElement, RawValue, ReadsUpTo, Sort, Tree, as_document, bytes_of, fault_of, frame_of, left_of, too_deep, tree_of_pairs}
+use Rattle.raw_tree.proofs.walk.Common.{AreLinked, Barrier, BarrierKind, FirstFaultAt, IsAlong, IsAt, IsAtFinal, IsBarrier, IsBarrierAt, IsBehind, IsFurther, IsHeld, IsOpened, IsPassed, IsTooDeep}
+use Rattle.raw_tree.proofs.walk.Common.{Level, LiesAt, Looks, RawDocument, Span, Step, StoreEach, Stores, TellsBarrierWithin, TellsBorrowed, TellsError, Wait, Waiting, Walk, WalkError, first_number}
+use Rattle.raw_tree.proofs.walk.Common.{option_copied, outermost_of, size_of, step_at, wait_behind, whole_span}
 use Rattle.raw_view.proofs.Face.{LeadsTo-bound, LeadsTo-more}
-use Rattle.raw_tree.specs.reader.Reading.{Sort, as_document, tree_of_pairs, ReadsUpTo}
-use Rattle.raw_tree.specs.validator.Validating.{left_of}
-use Rattle.raw_tree.specs.reader.WithinLimits.{fault_of, too_deep}
 use Rattle.raw_tree.specs.reader.WithinLimits as within
-use Rattle.raw_tree.proofs.reader.Loops.{nested_beside}
-use Rattle.raw_tree.specs.walk.Barriers.{IsBarrier, TellsBarrierWithin}
-use Rattle.raw_tree.specs.validator.Judging.{first_number}
-use Rattle.raw_tree.specs.walk.Looking.{Looks, size_of, step_at}
-use Rattle.raw_tree.specs.walk.Places.{Step, FirstFaultAt}
-use Rattle.raw_tree.specs.walk.Waits.{LiesAt, Stores, StoreEach, Wait}
-use Rattle.raw_tree.specs.walk.Walks.{AreHeld, IsAlong, IsAt, IsBarrierAt, IsBehind, IsFurther, IsOpened, IsAtFinal, IsPassed, IsTooDeep, TellsError, outermost_of, wait_behind}
-use Rattle.raw_tree.specs.declared.walk.barrier.Barrier.{Barrier}
-use Rattle.raw_tree.specs.declared.walk.barrier.BarrierKind.{BarrierKind}
+use Rattle.raw_tree.proofs.reader.Loops.{nested_beside, valued}
 use Rattle.raw_tree.specs.declared.walk.barrier.BarrierKind.TheVariants as kind
-use Rattle.raw_tree.specs.declared.walk.level.Level.{Level}
-use Rattle.raw_tree.specs.declared.walk.Walk.{Walk}
-use Rattle.raw_tree.specs.declared.walk.WalkError.{WalkError}
 use Rattle.raw_tree.specs.declared.walk.WalkError.TheVariants as error
-use Rattle.raw_tree.specs.declared.walk.level.Waiting.{Waiting}
 use Rattle.raw_tree.specs.walk.Aheads as next
-use Rattle.raw_tree.proofs.walk.Passed.{read_as, begun, passed_whole, passed_inside, passed_end, IsInFront, passed_fault, passed_deep, resumed}
-use Rattle.raw_tree.proofs.walk.Outward.{IsBarred, held_more, held_less, held_last, held_ends, barrier_outward}
+use Rattle.raw_tree.proofs.walk.Passed.{IsInFront, IsNext, as_held, begun, front_at, held_as, held_next, left_now, next_inside, next_whole, passed_deep, passed_end, passed_fault, passed_whole, resumed}
+use Rattle.raw_tree.proofs.walk.Linked.{IsOutward, bounds, holds_place, holds_within, last_link, none_linked, outward}
 use Rattle.raw_tree.proofs.walk.Frames.{frame_size}
-use Rattle.raw_tree.proofs.walk.Offsets.{behind_in, frame_more, led_behind, nested_last, nested_lies, stored_whole, stored_less}
+use Rattle.raw_tree.proofs.walk.Offsets.{frame_more, led_behind, left_lies, nested_last, nested_lies, stored_whole, stored_less}
 
 pub passed_left : (inside : ℕ) (d : List ℕ) (left : Option (List ℕ)) (number : ℕ) → IsPassed inside d left number → 2 * number + left_of left ≤ length d
 passed_left inside d None number is = absurd is.passed
 passed_left inside d (Some s) number is = omega (arith, LeadsTo-bound (drop 4 d) is.frames s is.passed, length-drop 4 d, is.number_is)
 
-pub whole_size : (inside : ℕ) (d : List ℕ) (old new : Option (List ℕ)) (number : ℕ) (e : RawElement) → IsPassed inside d old number
-    → Looks old new (next.Whole e) → size_of (frame_of e) + left_of new ≡ left_of old
-whole_size inside d None new number e is looks = absurd is.passed
-whole_size inside d (Some s) new number e is (r, v, at, m, none, new_is) = rw new_is (frame_size s (frame_of e) r at)
-
-pub inside_size : (inside : ℕ) (d : List ℕ) (old new : Option (List ℕ)) (number : ℕ) (e : RawElement) (inner : RawDocument) → IsPassed inside d old number
-    → Looks old new (next.Inside e inner) → size_of (frame_of e) + left_of new ≡ left_of old
-inside_size inside d None new number e inner is looks = absurd is.passed
-inside_size inside d (Some s) new number e inner is (r, v, at, m, holds, new_is) = rw new_is (frame_size s (frame_of e) r at)
-
--- nested bytes begin no earlier than the element that holds them
-inside_fits : (inside : ℕ) (d : List ℕ) (old new : Option (List ℕ)) (number : ℕ) (e : RawElement) (inner : RawDocument) → IsPassed inside d old number
-    → Looks old new (next.Inside e inner) → length (bytes_of inner) ≤ size_of (frame_of e)
-inside_fits inside d None new number e inner is looks = absurd is.passed
-inside_fits inside d (Some s) new number e inner is (r, v, at, m, holds, new_is) =
-    omega (arith, nested_beside s (frame_of e) r v (bytes_of inner) at m holds, frame_size s (frame_of e) r at)
-
--- nested bytes lie in the document, where they end with their element
-inside_lies : {inside : ℕ} {b d : List ℕ} {start : ℕ} {old : Option (List ℕ)} {number : ℕ} (new : Option (List ℕ)) (offset : ℕ) (e : RawElement) (inner : RawDocument)
-    (first : ℕ) → LiesAt b start d → IsPassed inside d old number → offset + left_of old ≡ start + length d → Looks old new (next.Inside e inner)
-    → first + length (bytes_of inner) ≡ offset + size_of (frame_of e) → LiesAt b first (bytes_of inner)
-inside_lies {old = None} new offset e inner first lies is begins looks far = absurd is.passed
-inside_lies {d = d} {old = Some s} new offset e inner first lies is begins (r, v, at, m, holds, new_is) far =
-    let bound = LeadsTo-bound (drop 4 d) is.frames s is.passed in
-    let fits : length s ≤ length d = omega (arith, bound, length-drop 4 d) in
-    nested_lies (bytes_of inner) offset first lies (omega (arith, begins, fits)) fits
-    (led_behind d is.frames s (length d - length s) lies.envelope.enough is.passed (omega (arith, fits))) at
-    (nested_last (frame_of e).kind (frame_of e).payload v (bytes_of inner) m holds) inner.envelope far
-
--- what is stored of the level around it
-inside_stored : {inside : ℕ} {b d : List ℕ} {start : ℕ} {old : Option (List ℕ)} {number : ℕ} (new : Option (List ℕ)) (offset behind : ℕ) (e : RawElement)
-    (inner : RawDocument) → LiesAt b start d → IsPassed inside d old number → offset + left_of old ≡ start + length d → Looks old new (next.Inside e inner)
-    → behind ≡ offset + size_of (frame_of e)
-    → Stores b (record { start = start; element = offset; number = number }) (wait_behind start d new number offset behind (frame_of e).key)
-inside_stored {old = None} new offset behind e inner lies is begins looks far = absurd is.passed
-inside_stored {b = b} {d = d} {start = start} {old = Some s} new offset behind e inner lies is begins (r, v, at, m, holds, new_is) far =
-    let f : Frame = frame_of e in
-    let enough : 5 ≤ length d = lies.envelope.enough in
-    let bound = LeadsTo-bound (drop 4 d) is.frames s is.passed in
-    let size : size_of f + length r ≡ length s = frame_size s f r at in
-    let fits : length s + 4 ≤ length d = omega (arith, bound, length-drop 4 d, enough) in
-    let n_left : ℕ = length d - length s in
-    let here : s ≡ drop n_left d = led_behind d is.frames s n_left enough is.passed (omega (arith, fits)) in
-    let place : start + n_left ≡ offset = omega (arith, begins, fits) in
-    let left : drop offset b ≡ s ++ lies.behind = ap (λ (m : ℕ). drop m b) (sym place) ∙ behind_in b d lies.behind start n_left lies.lies (omega arith)
-    ∙ ap (λ (x : List ℕ). x ++ lies.behind) (sym here) in
-    let rest : r ≡ drop (behind - start) d = led_behind d (is.frames ++ f ∷ []) r (behind - start) enough (LeadsTo-more (drop 4 d) is.frames s f r is.passed at)
-    (omega (arith, far, begins, size, fits)) in
-    record {
-      start_is = refl;
-      element_is = refl;
-      number_is = refl;
-      lies = lies;
-      frame = f;
-      rest = r ++ lies.behind;
-      at = subst (λ (x : List ℕ). IsFrame x f (r ++ lies.behind)) (sym left) (frame_more s f r lies.behind at);
-      first = omega (arith, begins, fits);
-      key_is = refl;
-      elements_are = new_is ∙ ap Some rest;
-      begins = omega (arith, far, begins, fits);
-      ends = omega (arith, far, begins, size);
-    }
-
 over : (inside : ℕ) (d : List ℕ) (old new : Option (List ℕ)) (number : ℕ) → IsPassed inside d old number → Looks old new next.End → left_of old ≡ 1
 over inside d None new number is looks = absurd is.passed
 over inside d (Some s) new number is looks = ap length looks
 
--- where the element of the outermost level is
-outermost_behind : {inside : ℕ} {d : List ℕ} {left : Option (List ℕ)} {number : ℕ} (b : List ℕ) (ws : List Wait) (sort : Sort) (end offset : ℕ)
-    (key : Option (List ℕ)) → IsPassed inside d left number → AreHeld inside as_document b (length b) ws sort d end → offset + left_of left ≡ end
-    → IsBehind b (first_number (map step_at ws ++ record { number = number; key = key } ∷ [])) (outermost_of ws offset)
-outermost_behind {left = None} b ws sort end offset key is held begins = absurd is.passed
-outermost_behind {left = Some s} b [] sort end offset key is held begins = record {
-  frames = is.frames;
-  s = s;
-  reaches = subst (λ (x : List ℕ). LeadsTo (drop 4 x) is.frames s) (sym held.1) is.passed;
-  number_is = is.number_is;
-  begins = omega (arith, begins, held.2);
-}
-outermost_behind {left = Some s} b (w ∷ ws) sort end offset key is held begins =
-    let size : size_of held.2.f + length held.2.r ≡ length held.2.s = frame_size held.2.s held.2.f held.2.r held.2.frame in
-    record {
-      frames = held.2.frames;
-      s = held.2.s;
-      reaches = held.2.passed;
-      number_is = held.2.number_is;
-      begins = omega (arith, size, held.2.element_is, held.3, ap left_of held.2.left_is);
-    }
+-- a frame is next
+module _ {inside : ℕ} {d : List ℕ} {old new : Option (List ℕ)} {number : ℕ} {f : Frame} {v : RawValue} (is : IsNext inside d old new number f v) where
+  next_size : size_of f + left_of new ≡ left_of old
+  next_size = rw (is.old_is, is.new_is) (frame_size is.s f is.r is.frame)
 
-over_here : (old new : Option (List ℕ)) → Looks old new next.End → IsAtFinal old
-over_here None new looks s e = absurd (cc)
-over_here (Some t) new looks s e =
-    let same : t ≡ s = cc in
-    sym same ∙ looks
+  -- where it is in the document
+  next_lies : {b : List ℕ} {start : ℕ} (offset : ℕ) (lies : LiesAt b start d) → offset + left_of old ≡ start + length d → drop offset b ≡ is.s ++ lies.behind
+  next_lies {b} {start} offset lies begins = left_lies is.passed.frames is.s offset lies is.passed.passed (rw (is.old_is) at begins)
+
+  -- its nested bytes
+  next_inside_lies : {b : List ℕ} {start : ℕ} (inner : RawDocument) (offset first : ℕ) → LiesAt b start d → offset + left_of old ≡ start + length d → Holds v (bytes_of inner)
+      → first + length (bytes_of inner) ≡ offset + size_of f → LiesAt b first (bytes_of inner)
+  next_inside_lies inner offset first lies begins holds far =
+      nested_lies (bytes_of inner) lies.behind offset first (next_lies offset lies begins) is.frame
+      (nested_last (bytes_of inner) (valued f.kind f.payload is.r v is.frame.payload_is is.means) holds) inner.envelope far
+
+  -- what is stored of the level around them
+  next_stored : {b : List ℕ} {start : ℕ} (offset behind : ℕ) → LiesAt b start d → offset + left_of old ≡ start + length d → behind ≡ offset + size_of f
+      → Stores b (record { start = start; element = offset; number = number }) (wait_behind start d new number offset behind f.key)
+  next_stored {start = start} offset behind lies begins far =
+      let enough : 5 ≤ length d = lies.envelope.enough in
+      let begins : offset + length is.s ≡ start + length d = rw (is.old_is) at begins in
+      let bound = LeadsTo-bound (drop 4 d) is.passed.frames is.s is.passed.passed in
+      let size : size_of f + length is.r ≡ length is.s = frame_size is.s f is.r is.frame in
+      let fits : length is.s + 4 ≤ length d = omega (arith, bound, length-drop 4 d, enough) in
+      let rest : is.r ≡ drop (behind - start) d = led_behind d (is.passed.frames ++ f ∷ []) is.r (behind - start) enough
+      (LeadsTo-more (drop 4 d) is.passed.frames is.s f is.r is.passed.passed is.frame) (omega (arith, far, begins, size, fits)) in
+      record {
+        start_is = refl;
+        element_is = refl;
+        number_is = refl;
+        lies = lies;
+        frame = f;
+        rest = is.r ++ lies.behind;
+        at = rw (next_lies offset lies (rw (is.old_is) begins)) (frame_more is.s f is.r lies.behind is.frame);
+        first = omega (arith, begins, fits);
+        key_is = refl;
+        elements_are = is.new_is ∙ ap Some rest;
+        begins = omega (arith, far, begins, fits);
+        ends = omega (arith, far, begins, size);
+      }
+
+  -- the level that waits for them
+  next_held : (inner : RawDocument) (start offset behind end : ℕ) (sort : Sort) → Holds v (bytes_of inner) → offset + left_of old ≡ end → behind ≡ offset + size_of f
+      → (of : Sort) × IsHeld inside (record { sort = sort; bytes = d; end = end }) (wait_behind start d new number offset behind f.key)
+      (record { sort = of; bytes = bytes_of inner; end = behind })
+  next_held inner start offset behind end sort holds begins far =
+      let sorted = held_as v (bytes_of inner) holds in (
+        sorted.0,
+        record {
+          frames = is.passed.frames;
+          pairs = is.passed.pairs;
+          s = is.s;
+          nested = record {
+            f = f;
+            r = is.r;
+            v = v;
+            reaches = is.passed.passed;
+            frame = is.frame;
+            means = is.means;
+            holds = sorted.1;
+            number_is = is.passed.number_is;
+            key_is = refl;
+            left_is = is.new_is;
+            begins = refl;
+            ends = omega (arith, begins, far, next_size, ap left_of is.new_is);
+          };
+          each = is.passed.each;
+          bytes_are = refl;
+          element_is = sym far;
+        },
+      )
+
+-- where the element of the outermost level is
+first_at : (outer : List Wait) (w : Wait) (last : Step) (offset : ℕ) → (first_number (map step_at (outer ++ w ∷ []) ++ last ∷ []) ≡ first_number (map step_at outer ++ step_at w ∷ []))
+    × (outermost_of (outer ++ w ∷ []) offset ≡ outermost_of outer w.element)
+first_at [] w last offset = (refl, refl)
+first_at (x ∷ outer) w last offset = (refl, refl)
+
+outermost_behind : {n number : ℕ} {s : List ℕ} (many inside : ℕ) (b : List ℕ) (ws : List Wait) (i : Span) (offset : ℕ) (key : Option (List ℕ)) → IsPassed n i.bytes (Some s) number
+    → AreLinked IsHeld many inside (whole_span b) ws i → offset + length s ≡ i.end
+    → IsBehind b (first_number (map step_at ws ++ record { number = number; key = key } ∷ [])) (outermost_of ws offset)
+outermost_behind {s = s} zero inside b ws i offset key is (none, same) begins =
+    rw none (record {
+      frames = is.frames;
+      s = s;
+      reaches = rw (ap (λ (x : Span). x.bytes) same) (is.passed);
+      number_is = is.number_is;
+      begins = omega (arith, begins, ap (λ (x : Span). x.end) same);
+    })
+outermost_behind {number = number} (suc many) inside b ws i offset key is (outer, w, m, more, link, held) begins =
+    let first = first_at outer w (record { number = number; key = key }) offset in
+    let size = frame_size link.s link.nested.f link.nested.r link.nested.frame in
+    let there : w.element + length link.s ≡ m.end = omega (arith, size, link.element_is, link.nested.ends) in
+    rw (more, first.0, first.1) (outermost_behind many (suc inside) b outer m w.element (Some w.key) (held_next link).passed held there)
+
+-- a barrier with these steps, at this offset of the document
+abbrev IsBarredAt : within.Barrier → ℕ → ℕ → Span → List Step → Type 0
+IsBarredAt x offset n i steps = (at : ℕ) × FirstFaultAt n i.bytes x steps at × (at + i.end ≡ offset + length i.bytes)
+
+held_barred : (x : within.Barrier) (offset n : ℕ) (o : Span) (w : Wait) (i : Span) (first : Step) (steps : List Step) → IsHeld n o w i
+    → IsBarredAt x offset n i (first ∷ steps) → IsBarredAt x offset (suc n) o (step_at w ∷ first ∷ steps)
+held_barred x offset n o w i first steps is (at, bars, far) =
+    let h = is.nested in
+    let (place, offset_is, there) = holds_place h first steps at offset far in
+    let holds : Holds h.v i.bytes = as_held h.v i.sort i.bytes h.holds in
+    (place, front_at x _ place (held_next is).passed (inr (h.f, h.r, h.frame, inr (h.v, i.bytes, first ∷ steps, at, h.means, holds, bars, rw (h.key_is) refl, offset_is))), there)
 
 -- a walk is at a place
 module _ {depth : ℕ} {b : List ℕ} {ws : List Wait} {old : Option (List ℕ)} {number offset start : ℕ} (at : IsAt depth b ws old number offset start) where
   -- the number and the offset of what is left are within b
   pub at_within : (2 * number + left_of old ≤ length b) × (offset + left_of old ≤ length b)
   at_within =
-      let ends = held_ends at.inside as_document b (length b) ws at.sort at.d at.end at.held (omega arith) in
+      let ends = bounds IsHeld (λ (i : Span). length i.bytes) (λ (i : Span). i.end)
+      (λ n o w i h. (length h.nested.r, holds_within h.nested, omega (arith, h.nested.begins, h.nested.ends))) at.many at.inside (whole_span b) ws _ refl at.held in
       (omega (arith, passed_left at.inside at.d old number at.is, ends.0, ends.1), omega (arith, at.begins, ends.1))
 
   -- what is behind an element begins behind it, and within b
+  at_size : (new : Option (List ℕ)) (f : Frame) (v : RawValue) → IsNext at.inside at.d old new number f v → (size_of f + left_of new ≡ left_of old) × (offset + size_of f ≤ length b)
+  at_size new f v is = (next_size is, omega (arith, next_size is, at_within.1))
+
   pub at_whole_size : (new : Option (List ℕ)) (e : RawElement) → Looks old new (next.Whole e)
       → (size_of (frame_of e) + left_of new ≡ left_of old) × (offset + size_of (frame_of e) ≤ length b)
-  at_whole_size new e looks =
-      let size = whole_size at.inside at.d old new number e at.is looks in
-      (size, omega (arith, size, at_within.1))
+  at_whole_size new e looks = let (v, none, is) = next_whole at.is new e looks in at_size new (frame_of e) v is
 
   pub at_inside_size : (new : Option (List ℕ)) (e : RawElement) (inner : RawDocument) → Looks old new (next.Inside e inner)
       → (size_of (frame_of e) + left_of new ≡ left_of old) × (offset + size_of (frame_of e) ≤ length b)
-  at_inside_size new e inner looks =
-      let size = inside_size at.inside at.d old new number e inner at.is looks in
-      (size, omega (arith, size, at_within.1))
+  at_inside_size new e inner looks = let (v, holds, is) = next_inside at.is new e inner looks in at_size new (frame_of e) v is
 
+  -- nested bytes begin no earlier than the element that holds them
   pub at_inside_fits : (new : Option (List ℕ)) (e : RawElement) (inner : RawDocument) → Looks old new (next.Inside e inner) → length (bytes_of inner) ≤ size_of (frame_of e)
-  at_inside_fits new e inner looks = inside_fits at.inside at.d old new number e inner at.is looks
+  at_inside_fits new e inner looks =
+      let (v, holds, is) = next_inside at.is new e inner looks in
+      omega (arith, nested_beside is.s (frame_of e) is.r v (bytes_of inner) is.frame is.means holds, frame_size is.s (frame_of e) is.r is.frame)
 
   pub at_whole : (new : Option (List ℕ)) (behind : ℕ) (e : RawElement) → Looks old new (next.Whole e) → behind ≡ offset + size_of (frame_of e)
       → IsAt depth b ws new (number + 1) behind start
   at_whole new behind e looks far = record {
     inside = at.inside;
+    many = at.many;
     sort = at.sort;
     d = at.d;
     end = at.end;
     held = at.held;
     is = passed_whole at.inside at.d old new number e at.is looks;
     levels = at.levels;
-    begins = omega (arith, far, at.begins, whole_size at.inside at.d old new number e at.is looks);
+    begins = omega (arith, far, at.begins, (at_whole_size new e looks).0);
     lies = at.lies;
     whole = at.whole;
   }
@@ -185,49 +185,49 @@ module _ {depth : ℕ} {b : List ℕ} {ws : List Wait} {old : Option (List ℕ)}
     at_inside level few opens =
         let less : ℕ = at.inside - 1 in
         let more : at.inside ≡ suc less = omega (arith, at.levels, few) in
-        let held : AreHeld (suc less) as_document b (length b) ws at.sort at.d at.end = subst (λ (n : ℕ). AreHeld n as_document b (length b) ws at.sort at.d at.end) more at.held in
-        let is : IsPassed (suc less) at.d old number = subst (λ (n : ℕ). IsPassed n at.d old number) more at.is in
-        let waits = passed_inside new start offset behind e inner is looks far in
+        let (v, holds, is) = next_inside (rw more at at.is) new e inner looks in
+        let waits = next_held is inner start offset behind at.end at.sort holds at.begins far in
         record {
           inside = less;
+          many = suc at.many;
           sort = waits.0;
           d = bytes_of inner;
           end = behind;
-          held = held_more as_document b (length b) ws at.sort at.end held waits.1 (omega (arith, far, at.begins, (at_inside_size new e inner looks).0));
+          held = (ws, waiting_then, record { sort = at.sort; bytes = at.d; end = at.end }, refl, waits.1, rw more at at.held);
           is = begun less (bytes_of inner) level.elements level.number opens.left_is opens.first_is;
           levels = omega (arith, at.levels, more, length-append ws (waiting_then ∷ []));
           begins = rw (opens.left_is) (opens.begins);
-          lies = inside_lies new offset e inner level.start at.lies is (at.begins ∙ sym at.whole) looks (opens.starts ∙ far);
+          lies = next_inside_lies is inner offset level.start at.lies (at.begins ∙ sym at.whole) holds (opens.starts ∙ far);
           whole = opens.starts;
         }
 
     pub at_stored : Stores b (record { start = start; element = offset; number = number }) waiting_then
-    at_stored = inside_stored new offset behind e inner at.lies at.is (at.begins ∙ sym at.whole) looks far
+    at_stored = let (v, holds, is) = next_inside at.is new e inner looks in next_stored is offset behind at.lies (at.begins ∙ sym at.whole) far
 
   -- the final 0 is in front, and within b
   pub over_end : (new : Option (List ℕ)) → Looks old new next.End → IsAtFinal old
-  over_end new looks = over_here old new looks
+  over_end new looks s e = rw e at looks
 
   pub at_over_within : (new : Option (List ℕ)) → Looks old new next.End → offset + 1 ≤ length b
   at_over_within new looks = omega (arith, over at.inside at.d old new number at.is looks, at_within.1)
 
   pub at_end : (new : Option (List ℕ)) → ws ≡ [] → Looks old new next.End → (t : Tree) × ReadsUpTo depth as_document b t
   at_end new none looks =
-      let here : AreHeld at.inside as_document b (length b) [] at.sort at.d at.end = subst (λ (x : List Wait). AreHeld at.inside as_document b (length b) x at.sort at.d at.end) none at.held in
-      let read = read_as (suc at.inside) at.sort as_document at.d b (sym here.0) (sym here.1) (passed_end at.inside at.sort at.d old new number at.is looks) in
-      let same : suc at.inside ≡ depth = omega (arith, at.levels, ap length none) in
-      (tree_of_pairs as_document read.0, subst (λ (n : ℕ). ReadsUpTo n as_document b (tree_of_pairs as_document read.0)) same read.1)
+      let read = passed_end at.is as_document new looks in
+      let same = none_linked IsHeld at.many at.inside (whole_span b) ws _ (ap length none) at.held in
+      let depth_is : suc at.inside ≡ depth = omega (arith, at.levels, ap length none) in
+      (tree_of_pairs as_document read.0, rw (ap (λ (x : Span). x.bytes) same, ← depth_is) (read.1))
 
   -- a barrier in front of what is left of the innermost level is that of b, at the offset of what is left
   front_outward : (x : within.Barrier) (step : Step) → IsInFront at.inside at.d old x step → FirstFaultAt depth b x (map step_at ws ++ step ∷ []) offset
   front_outward x step bars =
       let here : ℕ = length at.d - left_of old in
       let there : here + left_of old ≡ length at.d = omega (arith, passed_left at.inside at.d old number at.is) in
-      let is : IsBarred at.inside at.d x step here = record { bars = bars here there } in
-      let out = barrier_outward as_document b (length b) ws at.sort at.end offset at.held is (omega (arith, there, at.begins)) in
-      let same : out.0 ≡ offset = omega (arith, out.2) in
-      subst (λ (u : ℕ). FirstFaultAt depth b x (map step_at ws ++ step ∷ []) u) same
-      (subst (λ (n : ℕ). FirstFaultAt n b x (map step_at ws ++ step ∷ []) out.0) at.levels out.1)
+      let told : IsOutward IsHeld (IsBarredAt x offset) step_at = record { out = held_barred x offset } in
+      let (u, is, far) = outward told at.many at.inside depth (whole_span b) ws
+      (record { sort = at.sort; bytes = at.d; end = at.end }) step [] at.levels at.held (here, bars here there, omega (arith, there, at.begins)) in
+      let same : offset ≡ u = omega (arith, far) in
+      rw same is
 
   pub at_fault : (new : Option (List ℕ)) (key : Option (Bor (List ℕ))) (e : BorrowedError) → Looks old new (next.Fault key e)
       → (fault : KeyedFault) × FirstFaultAt depth b (fault_of fault) (map step_at ws ++ record { number = number; key = option_copied key } ∷ []) offset
@@ -239,14 +239,14 @@ module _ {depth : ℕ} {b : List ℕ} {ws : List Wait} {old : Option (List ℕ)}
   pub at_deep : (new : Option (List ℕ)) (e : RawElement) (inner : RawDocument) → Looks old new (next.Inside e inner) → depth ≤ suc (length ws)
       → FirstFaultAt depth b too_deep (map step_at ws ++ record { number = number; key = Some (frame_of e).key } ∷ []) offset
   at_deep new e inner looks many =
-      let step : Step = record { number = number; key = Some (frame_of e).key } in
       let none : at.inside ≡ 0 = omega (arith, at.levels, many) in
-      let here = passed_deep at.d old new number e inner (subst (λ (n : ℕ). IsPassed n at.d old number) none at.is) looks in
-      front_outward too_deep step (subst (λ (n : ℕ). IsInFront n at.d old too_deep step) (sym none) here)
+      front_outward too_deep (record { number = number; key = Some (frame_of e).key }) (rw none (passed_deep at.d old new number e inner (rw none at at.is) looks))
 
   -- the element of the outermost level that holds the innermost, or is next in it
   pub at_outermost : (key : Option (List ℕ)) → IsBehind b (first_number (map step_at ws ++ record { number = number; key = key } ∷ [])) (outermost_of ws offset)
-  at_outermost key = outermost_behind b ws at.sort at.end offset key at.is at.held at.begins
+  at_outermost key =
+      let (s, old_is) = left_now at.is in
+      outermost_behind at.many at.inside b ws _ offset key (rw old_is at at.is) at.held (rw old_is at at.begins)
 
 -- of the levels that wait the innermost is taken
 pub record IsPopped (depth : ℕ) (b : List ℕ) (rest : List Waiting) (c : Waiting) (ws : List Wait) (old : Option (List ℕ)) (number offset start : ℕ) : Type 0 where
@@ -259,45 +259,42 @@ pub record IsPopped (depth : ℕ) (b : List ℕ) (rest : List Waiting) (c : Wait
 
 pub popped : {depth : ℕ} {b : List ℕ} {ws : List Wait} {old : Option (List ℕ)} {number offset start : ℕ} {waiting rest : List Waiting} {c : Waiting}
     → IsAt depth b ws old number offset start → StoreEach b waiting ws → waiting ≡ rest ++ c ∷ [] → IsPopped depth b rest c ws old number offset start
-popped {depth} {b} {ws} {old} {number} {offset} {start} {waiting} {rest} {c} at are_stored items =
-    let less = stored_less b rest c ws (subst (λ (xs : List Waiting). StoreEach b xs ws) items are_stored) in
-    record {
-      outer = less.0;
-      w = less.1;
-      same = less.2;
-      are_stored = less.3;
-      stored = less.4;
-      at = subst (λ (xs : List Wait). IsAt depth b xs old number offset start) less.2 at;
-    }
+popped {b = b} {ws = ws} {rest = rest} {c = c} at are_stored items =
+    let less = stored_less b rest c ws (rw items at are_stored) in
+    record { outer = less.0; w = less.1; same = less.2; are_stored = less.3; stored = less.4; at = rw (less.2) at at }
 
 -- the level that waits for the innermost goes on where that ends
 module _ {depth : ℕ} {b : List ℕ} {old : Option (List ℕ)} {number offset start : ℕ} (ws : List Wait) (w : Wait) (at : IsAt depth b (ws ++ w ∷ []) old number offset start)
     (new : Option (List ℕ)) (looks : Looks old new next.End) where
+  abbrev here : Span
+  here = record { sort = at.sort; bytes = at.d; end = at.end }
+
+  last_held : (o : Span) × (many : ℕ) × IsHeld (suc at.inside) o w here × AreLinked IsHeld many (suc at.inside) (whole_span b) ws o
+  last_held =
+      let (many, outer, x, m, same, link, held) = last_link IsHeld at.many at.inside (whole_span b) (ws ++ w ∷ []) here (omega (arith, length-append ws (w ∷ []))) at.held in
+      let both = same_from_push ws outer w x same in
+      (m, many, subst (λ (x : Wait). IsHeld (suc at.inside) m x here) (sym both.1) link, subst (λ (xs : List Wait). AreLinked IsHeld many (suc at.inside) (whole_span b) xs m) (sym both.0) held)
+
   pub at_over : offset + 1 ≡ w.offset
-  at_over = omega (arith, at.begins, over at.inside at.d old new number at.is looks, held_last at.inside as_document b (length b) ws w at.sort at.d at.end at.held)
+  at_over = omega (arith, at.begins, over at.inside at.d old new number at.is looks, last_held.2.nested.begins)
 
   pub at_resumed : (c : Waiting) → Stores b c w → IsAt depth b ws w.elements (w.number + 1) w.offset w.start
   at_resumed c stored =
-      let less = held_less at.inside as_document b (length b) ws w at.sort at.d at.end at.held in
-      let read = passed_end at.inside at.sort at.d old new number at.is looks in
+      let (o, many, is, held) = last_held in
+      let ends : w.offset + left_of w.elements ≡ o.end = omega (arith, ap left_of is.nested.left_is, is.nested.ends) in
       record {
         inside = suc at.inside;
-        sort = less.0;
-        d = less.1;
-        end = less.2;
-        held = less.3;
-        is = resumed (suc at.inside) less.1 w at.sort at.d less.4 read;
+        many = many;
+        sort = o.sort;
+        d = o.bytes;
+        end = o.end;
+        held = held;
+        is = resumed is (passed_end at.is at.sort new looks);
         levels = omega (arith, at.levels, length-append ws (w ∷ []));
-        begins = less.5;
-        lies = subst (λ (d : List ℕ). LiesAt b w.start d) less.4.bytes_are stored.lies;
-        whole = subst (λ (d : List ℕ). w.start + length d ≡ less.2) less.4.bytes_are (sym (stored_whole b c w stored) ∙ less.5);
+        begins = ends;
+        lies = rw (is.bytes_are) at stored.lies;
+        whole = omega (arith, stored_whole b c w stored, ends, ap length is.bytes_are);
       }
-
--- so it is for levels that are stored
-pub record IsStoredAt (depth : ℕ) (b : List ℕ) (stored : List Waiting) (left : Option (List ℕ)) (number offset start : ℕ) : Type 0 where
-  pub waits : List Wait
-  pub are_stored : StoreEach b stored waits
-  pub at : IsAt depth b waits left number offset start
 
 -- a walk over this document, for whose innermost level so many may wait
 pub record IsWalking (document : RawDocument) (most : ℕ) (walk : Walk) (level : Level) : Type 0 where

@@ -1,26 +1,12 @@
 -- Where levels and their elements are in the bytes of a document.
-use Rattle.std.proofs.Common.{inl, inr, pos, ◌≡◌, ◌∙◌, ◌<◌, ◌≤◌, ◌+◌, ◌-◌, ◌++◌, ◌∷◌, [], ℕ, suc, List, Option, Some, zero, map, slice_index_or, length, drop, take, append_assoc, arith, ap, refl, sym, subst, length-append, length-drop}
+use Rattle.std.proofs.Common.{pos, ◌≡◌, ◌∙◌, ◌<◌, ◌≤◌, ◌+◌, ◌-◌, ◌++◌, ◌∷◌, [], ℕ, suc, List, Option, Some, zero, map, slice_index_or, length, drop, take, append_assoc, arith, ap, refl, sym, subst, length-append, length-drop}
 use Rattle.std.proofs.Math.Seq.{drop-append_seam, take-length}
-use Rattle.std.proofs.lemmas.List.{append-nil, drop-append-le, drop-drop, map-append, take-append-le}
-use Rattle.bson_model.specs.Leaf.{Leaf}
-use Rattle.raw_view.specs.Frame.Envelope.{IsEnvelope}
-use Rattle.raw_view.specs.Frame.Format.{element_of, string_payload}
-use Rattle.raw_view.specs.Frame.{Frame, HasShape, IsFrame, LeadsTo}
-use Rattle.raw_view.specs.Frame.Kind.{tag_of}
-use Rattle.raw_view.specs.Meaning.{RawValue, MeansValue}
-use Rattle.raw_view.specs.Meaning as raw
-use Rattle.raw_view.specs.Frame.Number.{IsLe32, le32, max_length}
-use Rattle.raw_view.specs.declared.element_type.ElementType.{ElementType}
+use Rattle.std.proofs.lemmas.List.{append-nil, drop-append-le, drop-drop, take-append-le}
+use Rattle.raw_tree.proofs.Common.{ElementType, Frame, HasShape, Holds, IsEnvelope, IsFrame, LeadsTo, RawValue, element_of, le32, left_of, map-append, max_length, string_payload, tag_of}
+use Rattle.raw_tree.proofs.walk.Common.{IsLe32, LiesAt, PathStep, ResumesBehind, Step, StoreEach, Stores, Wait, Waiting, size_of, step_at, step_of}
 use Rattle.raw_view.specs.declared.element_type.ElementType.TheVariants as kind
 use Rattle.raw_view.proofs.Face.{IsFrame-shorter, LeadsTo-bound, front_and_rest}
-use Rattle.raw_tree.specs.reader.Reading.{Holds}
-use Rattle.raw_tree.specs.validator.Validating.{left_of}
-use Rattle.raw_tree.specs.walk.Barriers.{step_of}
-use Rattle.raw_tree.specs.walk.Looking.{size_of, step_at}
-use Rattle.raw_tree.specs.walk.Places.{Step}
-use Rattle.raw_tree.specs.walk.Waits.{ResumesBehind, LiesAt, Stores, StoreEach, Wait}
-use Rattle.raw_tree.specs.declared.walk.level.Waiting.{Waiting}
-use Rattle.raw_tree.specs.declared.walk.place.PathStep.{PathStep}
+use Rattle.raw_tree.proofs.reader.Loops.{Valued, of_array, of_code, of_document, of_single}
 use Rattle.raw_tree.proofs.walk.Frames.{drop_frame, frame_size}
 
 -- what frames lead to is what is behind so many bytes
@@ -68,65 +54,44 @@ frame_more s f r q at =
 
 -- nested bytes are the end of a payload
 
-single_holds_none : (v : RawValue) (l : Leaf) (d : List ℕ) → v ≡ raw.single l → Holds v d → ⊥
-single_holds_none v l d e h = subst (λ (x : RawValue). Holds x d) e h
-
 abbrev pub EndsWith : List ℕ → List ℕ → Type 0
 EndsWith p d = (front : List ℕ) × (p ≡ front ++ d)
 
-whole_payload : (p d : List ℕ) → d ≡ p → EndsWith p d
-whole_payload p d e = ([], sym e)
-
-pub nested_last : (k : ElementType) (p : List ℕ) (v : RawValue) (d : List ℕ) → MeansValue k p v → Holds v d → EndsWith p d
-nested_last kind.EmbeddedDocument p v d m h = whole_payload p d (subst (λ (y : RawValue). Holds y d) m h)
-nested_last kind.Array p v d m h = whole_payload p d (subst (λ (y : RawValue). Holds y d) m h)
-nested_last kind.JavaScriptCodeWithScope p v d m h =
-    let e : d ≡ m.1 = subst (λ (y : RawValue). Holds y d) m.5 h in
-    let rest : List ℕ = string_payload m.0 ++ m.1 in
+pub nested_last : {k : ElementType} {p : List ℕ} {v : RawValue} (d : List ℕ) → Valued k p v → Holds v d → EndsWith p d
+nested_last d (of_single l) h = absurd h
+nested_last d (of_document env) h = ([], sym h)
+nested_last d (of_array env) h = ([], sym h)
+nested_last d (of_code code scope is utf8 env) h =
+    let rest : List ℕ = string_payload code ++ scope in
     let len : List ℕ = le32 (pos (4 + length rest)) in
-    (len ++ string_payload m.0, m.2.spelled ∙ sym (append_assoc len (string_payload m.0) m.1) ∙ ap (λ (x : List ℕ). (len ++ string_payload m.0) ++ x) (sym e))
-nested_last kind.Double p v d m h = absurd (single_holds_none v _ d m.2 h)
-nested_last kind.String p v d m h = absurd (single_holds_none v _ d m.2 h)
-nested_last kind.Binary p v d m h =
-    elim m.3 [
-      | inl a ↦ absurd (single_holds_none v _ d a.1 h)
-      | inr b ↦ absurd (single_holds_none v _ d b.3 h)
-    ]
-nested_last kind.Boolean p v d m h = absurd (single_holds_none v _ d m.2 h)
-nested_last kind.DateTime p v d m h = absurd (single_holds_none v _ d m.2 h)
-nested_last kind.RegularExpression p v d m h = absurd (single_holds_none v _ d m.3 h)
-nested_last kind.DbPointer p v d m h = absurd (single_holds_none v _ d m.4 h)
-nested_last kind.JavaScriptCode p v d m h = absurd (single_holds_none v _ d m.2 h)
-nested_last kind.Symbol p v d m h = absurd (single_holds_none v _ d m.2 h)
-nested_last kind.Int32 p v d m h = absurd (single_holds_none v _ d m.2 h)
-nested_last kind.Timestamp p v d m h = absurd (single_holds_none v _ d m.3 h)
-nested_last kind.Int64 p v d m h = absurd (single_holds_none v _ d m.2 h)
-nested_last _ p v d m h = absurd (single_holds_none v _ d m h)
+    rw h (len ++ string_payload code, is.spelled ∙ sym (append_assoc len (string_payload code) scope))
 
--- what is behind so many bytes of a level, in the document
-pub behind_in : (b d behind : List ℕ) (start n : ℕ) → drop start b ≡ d ++ behind → n ≤ length d → drop (start + n) b ≡ drop n d ++ behind
-behind_in b d behind start n lies within =
-    sym (drop-drop n start b) ∙ ap (drop n) lies ∙ drop-append-le n d behind within
+-- what is left of a level, in the document
+pub left_lies : {b d : List ℕ} {start : ℕ} (fs : List Frame) (s : List ℕ) (offset : ℕ) (lies : LiesAt b start d) → LeadsTo (drop 4 d) fs s
+    → offset + length s ≡ start + length d → drop offset b ≡ s ++ lies.behind
+left_lies {b} {d} {start} fs s offset lies l begins =
+    let n : ℕ = length d - length s in
+    let enough : 5 ≤ length d = lies.envelope.enough in
+    let bound = LeadsTo-bound (drop 4 d) fs s l in
+    let fits : length s ≤ length d = omega (arith, bound, length-drop 4 d) in
+    let there : offset ≡ start + n = omega (arith, begins, fits) in
+    let here : s ≡ drop n d = led_behind d fs s n enough l (omega (arith, fits)) in
+    ap (λ (m : ℕ). drop m b) there ∙ sym (drop-drop n start b) ∙ ap (drop n) lies.lies ∙ drop-append-le n d lies.behind (omega arith) ∙ ap (λ (x : List ℕ). x ++ lies.behind) (sym here)
 
 -- the nested bytes of a frame lie in front of what is behind it
-pub nested_lies : {b d : List ℕ} {start : ℕ} {s : List ℕ} {f : Frame} {r : List ℕ} (inner : List ℕ) (offset first : ℕ) → LiesAt b start d
-    → (offset ≡ start + (length d - length s)) → length s ≤ length d → s ≡ drop (length d - length s) d → IsFrame s f r → EndsWith f.payload inner
+pub nested_lies : {b s : List ℕ} {f : Frame} {r : List ℕ} (inner q : List ℕ) (offset first : ℕ) → drop offset b ≡ s ++ q → IsFrame s f r → EndsWith f.payload inner
     → IsEnvelope inner → first + length inner ≡ offset + size_of f → LiesAt b first inner
-nested_lies {b} {d} {start} {s} {f} {r} inner offset first lies off within is at ends envelope far =
+nested_lies {b} {s} {f} {r} inner q offset first there at ends envelope far =
     let front : List ℕ = tag_of f.kind ∷ (f.key ++ 0 ∷ ends.0) in
-    let behind : List ℕ = lies.behind in
-    let there : drop (start + (length d - length s)) b ≡ s ++ behind = behind_in b d behind start (length d - length s) lies.lies (omega arith) ∙ ap (λ (x : List ℕ). x ++ behind) (sym is) in
     let whole : tag_of f.kind ∷ (f.key ++ 0 ∷ f.payload) ≡ front ++ inner =
     ap (λ (x : List ℕ). tag_of f.kind ∷ (f.key ++ 0 ∷ x)) ends.1 ∙ ap (λ (x : List ℕ). tag_of f.kind ∷ x) (sym (append_assoc f.key (0 ∷ ends.0) inner)) in
-    let spelled : s ++ behind ≡ front ++ (inner ++ (r ++ behind)) =
-    ap (λ (x : List ℕ). x ++ behind) (front_and_rest s f r at ∙ ap (λ (x : List ℕ). x ++ r) whole ∙ append_assoc front inner r)
-    ∙ append_assoc front (inner ++ r) behind ∙ ap (λ (x : List ℕ). front ++ x) (append_assoc inner r behind) in
+    let spelled : s ++ q ≡ front ++ (inner ++ (r ++ q)) = ap (λ (x : List ℕ). x ++ q) (front_and_rest s f r at ∙ ap (λ (x : List ℕ). x ++ r) whole ∙ append_assoc front inner r)
+    ∙ append_assoc front (inner ++ r) q ∙ ap (λ (x : List ℕ). front ++ x) (append_assoc inner r q) in
     let size : length front + length inner ≡ size_of f = omega (arith, length-append f.key (0 ∷ ends.0), ap length ends.1, length-append ends.0 inner) in
-    let place : start + (length d - length s) + length front ≡ first = omega (arith, off, far, size) in
+    let place : first ≡ offset + length front = omega (arith, far, size) in
     record {
-      behind = r ++ behind;
-      lies = ap (λ (n : ℕ). drop n b) (sym place) ∙ sym (drop-drop (length front) (start + (length d - length s)) b)
-          ∙ ap (drop (length front)) (there ∙ spelled) ∙ drop-append_seam front (inner ++ (r ++ behind));
+      behind = r ++ q;
+      lies = rw place (sym (drop-drop (length front) offset b) ∙ ap (drop (length front)) (there ∙ spelled) ∙ drop-append_seam front (inner ++ (r ++ q)));
       envelope = envelope;
     }
 
@@ -217,5 +182,4 @@ none_stored b ws xs none h = subst (λ (l : List Waiting). StoreEach b l xs) non
 
 pub stored_many : (b : List ℕ) (ws : List Waiting) (xs : List Wait) → StoreEach b ws xs → length xs ≡ length ws
 stored_many b [] xs h = ap length h
-stored_many b (w ∷ ws) [] h = absurd h
-stored_many b (w ∷ ws) (x ∷ xs) h = ap suc (stored_many b ws xs h.1)
+stored_many b (w ∷ ws) xs h = grind (arith, stored_many b ws)

@@ -1,11 +1,8 @@
 -- Items in a room.
 use Rattle.std.proofs.Common.{rules, ◌≡◌, ◌<◌, ◌≤◌, ◌+◌, ◌-◌, ◌++◌, ◌∷◌, [], ℕ, zero, suc, List, Some, length, map, take, slice_get, slice_index_or, arith, ap, refl, sym, subst, set}
-use Rattle.std.specs.Option.{option_copied}
-use Rattle.raw_tree.specs.walk.Barriers.{step_of}
-use Rattle.raw_tree.specs.walk.Places.{Step}
-use Rattle.raw_tree.specs.walk.Rooms.{filled_from}
-use Rattle.raw_tree.specs.walk.Places.{last_key}
-use Rattle.raw_tree.specs.declared.walk.place.PathStep.{PathStep}
+use Rattle.std.proofs.lemmas.Grind.{common_steps}
+use Rattle.std.proofs.lemmas.List.{map_more}
+use Rattle.raw_tree.proofs.walk.Common.{PathStep, Step, filled_from, last_key, option_copied, step_of}
 
 pub filled_none : {X : Type 0} (n : ℕ) (room : List X) → filled_from n room [] ≡ room
 filled_none n [] = refl
@@ -49,24 +46,13 @@ numbers_of (p ∷ path) = ap (λ (ns : List ℕ). p.number ∷ ns) (numbers_of p
 pub number_at : (path : List PathStep) (index : ℕ) (none : PathStep) → index < length path
     → map (λ (step : PathStep). step.number) (take (index + 1) path) ≡ map (λ (step : PathStep). step.number) (take index path)
     ++ (slice_index_or path index none).number ∷ []
-number_at [] index none h = absurd (omega (arith, h))
-number_at (p ∷ path) zero none h = refl
-number_at (p ∷ path) (suc index) none h =
-    let same : suc (index + 1) ≡ suc index + 1 = omega arith in
-    subst (λ (n : ℕ). map (λ (step : PathStep). step.number) (take n (p ∷ path)) ≡ p.number
-    ∷ (map (λ (step : PathStep). step.number) (take index path) ++ (slice_index_or path index none).number ∷ [])) same
-    (ap (λ (ns : List ℕ). p.number ∷ ns) (number_at path index none (omega (arith, h))))
+number_at path index none h = map_more (λ (step : PathStep). step.number) path index none h
 
 pub numbers_len : (path : List PathStep) (index : ℕ) → index ≤ length path → length (map (λ (step : PathStep). step.number) (take index path)) ≡ index
-numbers_len path zero h = refl
-numbers_len [] (suc index) h = absurd (omega (arith, h))
-numbers_len (p ∷ path) (suc index) h = ap (λ (n : ℕ). suc n) (numbers_len path index (omega (arith, h)))
+numbers_len path index h = grind (arith, common_steps)
 
 pub numbers_all : (path : List PathStep) (index : ℕ) → length path ≤ index → take index path ≡ path
-numbers_all [] zero h = refl
-numbers_all [] (suc index) h = refl
-numbers_all (p ∷ path) zero h = absurd (omega (arith, h))
-numbers_all (p ∷ path) (suc index) h = ap (λ (rest : List PathStep). p ∷ rest) (numbers_all path index (omega (arith, h)))
+numbers_all path index h = grind (arith, common_steps)
 
 pub last_at : (path : List PathStep) (p : PathStep) → slice_get path (length path - 1) ≡ Some p → last_key (map step_of path) ≡ option_copied p.key
 last_at [] p is = search rules

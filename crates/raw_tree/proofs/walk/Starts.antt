@@ -1,12 +1,8 @@
 -- Where a walk may start.
 use Rattle.std.proofs.Common.{◌≡◌, ◌∙◌, ◌≤◌, ◌-◌, [], ℕ, suc, List, Option, Some, inl, inr, ◌⊎◌, ◌<◌, length, drop, arith, ap, refl, sym, subst, length-drop}
-use Rattle.raw_view.specs.Frame.ElementSteps.{HasRead}
-use Rattle.raw_view.specs.Frame.Envelope.{IsEnvelope}
+use Rattle.raw_tree.proofs.Common.{IsEnvelope, as_document}
+use Rattle.raw_tree.proofs.walk.Common.{AreReadBefore, HasNoneBefore, HasRead, IsAt, IsBehind, Wait}
 use Rattle.raw_view.proofs.Face.{LeadsTo-bound}
-use Rattle.raw_tree.specs.reader.Reading.{as_document}
-use Rattle.raw_tree.specs.walk.Looking.{AreReadBefore, HasNoneBefore}
-use Rattle.raw_tree.specs.walk.Waits.{Wait}
-use Rattle.raw_tree.specs.walk.Walks.{IsAt, IsBehind}
 use Rattle.raw_tree.proofs.walk.Offsets.{drop_both, leads_behind, whole_lies}
 
 -- the first element is behind no other
@@ -49,7 +45,8 @@ at_start most depth b ws left number offset envelope whole none e is =
       sort = as_document;
       d = b;
       end = length b;
-      held = rw none (refl, refl, refl);
+      many = 0;
+      held = (none, refl);
       is = record {
         frames = is.frames;
         pairs = is.pairs;

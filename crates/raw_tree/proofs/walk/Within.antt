@@ -1,21 +1,14 @@
 -- What is told within a depth is told within limits.
-use Rattle.std.proofs.Common.{inl, inr, ◌≤◌, zero, suc, List, ℕ, Option, None, Some, Result, Ok, Err, IfOk, length}
-use Rattle.raw_view.specs.declared.error.Error.{Error}
-use Rattle.raw_tree.specs.reader.WithinLimits.{FirstBarrier, FirstFaultWithin}
+use Rattle.std.proofs.Common.{inl, inr, ◌≤◌, zero, suc, List, ℕ, Option, None, Some, Result, Ok, Err, IfOk, length, arith}
+use Rattle.raw_tree.proofs.Common.{Error, FirstBarrier, FirstFaultWithin, Limits}
+use Rattle.raw_tree.proofs.walk.Common.{Barrier, FirstFaultAt, IsBarrier, Step, TellsBarrier, TellsBarrierWithin, steps_of}
 use Rattle.raw_tree.specs.reader.WithinLimits as within
-use Rattle.raw_tree.specs.declared.reader.limits.Limits.{Limits}
 use Rattle.raw_tree.proofs.reader.Limited.{read_within}
-use Rattle.raw_tree.specs.walk.Barriers.{IsBarrier, TellsBarrier, TellsBarrierWithin, steps_of}
-use Rattle.raw_tree.specs.walk.Places.{Step, FirstFaultAt}
-use Rattle.raw_tree.specs.declared.walk.barrier.Barrier.{Barrier}
 
 -- a first barrier that is somewhere is the first
 pub first_somewhere : (n : ℕ) (b : List ℕ) (x : within.Barrier) (path : List Step) (offset : ℕ) → FirstFaultAt n b x path offset → FirstFaultWithin n b x
 first_somewhere zero b x path offset h = h.0
-first_somewhere (suc n) b x path offset (passed, pairs, s, l, each, inl stop) = (passed, pairs, s, l, each, inl stop.0)
-first_somewhere (suc n) b x path offset (passed, pairs, s, l, each, inr (f, q, at, inl means)) = (passed, pairs, s, l, each, inr (f, q, at, inl means.0))
-first_somewhere (suc n) b x path offset (passed, pairs, s, l, each, inr (f, q, at, inr (v, d, steps, inside, means, holds, bars, path_is, offset_is))) =
-    (passed, pairs, s, l, each, inr (f, q, at, inr (v, d, means, holds, first_somewhere n d x steps inside bars)))
+first_somewhere (suc n) b x path offset h = grind (arith, first_somewhere n)
 
 pub barrier_told : (limits : Limits) (b : List ℕ) (result : Result (Option Barrier) Error) → length b ≤ limits.bytes
     → IfOk result (TellsBarrierWithin limits.depth b) → IfOk result (TellsBarrier limits b)

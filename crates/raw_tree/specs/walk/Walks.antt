@@ -1,5 +1,5 @@
 -- What a walk over all levels of a document has passed, and what it comes to next. No contract of a call for users cites this file.
-use Rattle.std.specs.Prelude.{◌≡◌, ◌+◌, ◌++◌, ◌∷◌, ◌<◌, ◌≤◌, ℕ, suc, Bool, true, false, List, Option, Some, Result, Ok, Err, drop, length, map, []}
+use Rattle.std.specs.Prelude.{◌≡◌, ◌+◌, ◌++◌, ◌∷◌, ◌<◌, ◌≤◌, ℕ, zero, suc, Bool, true, false, List, Option, Some, Result, Ok, Err, drop, length, map, []}
 use Rattle.bson_model.specs.Tree.{Tree}
 use Rattle.raw_view.specs.Document.{bytes_of}
 use Rattle.raw_view.specs.Frame.ElementSteps.{HasRead, frame_of}
@@ -39,44 +39,57 @@ pub record IsPassed (inside : ℕ) (b : List ℕ) (left : Option (List ℕ)) (nu
   pub each : StandForEach (ReadsUpTo inside) frames pairs
   pub number_is : number ≡ length frames
 
--- and the value of the frame behind them, under this key, holds the bytes d
-pub record IsHeld (inside : ℕ) (b : List ℕ) (w : Wait) (sort : Sort) (d : List ℕ) : Type 0 where
-  pub frames : List Frame
-  pub pairs : List (List ℕ × Tree)
-  pub s : List ℕ
+-- the bytes of a level, what they are read as, and where in the document they end
+pub record Span : Type 0 where
+  pub sort : Sort
+  pub bytes : List ℕ
+  pub end : ℕ
+
+abbrev pub whole_span : List ℕ → Span
+whole_span b = record { sort = as_document; bytes = b; end = length b }
+
+-- Some frames have been passed of the outer bytes, and s is left of them. The value of the frame in front holds the inner
+-- bytes, which end where what is left behind it begins.
+pub record HoldsLevel (frames : List Frame) (s : List ℕ) (o : Span) (w : Wait) (i : Span) : Type 0 where
   pub f : Frame
   pub r : List ℕ
   pub v : RawValue
-  pub passed : LeadsTo (drop 4 b) frames s
+  pub reaches : LeadsTo (drop 4 o.bytes) frames s
   pub frame : IsFrame s f r
-  pub bytes_are : w.bytes ≡ b
-  pub left_is : w.elements ≡ Some r
-  pub element_is : w.element + size_of f ≡ w.offset
+  pub means : Means f (value v)
+  pub holds : HoldsAs v i.sort i.bytes
   pub number_is : w.number ≡ length frames
   pub key_is : w.key ≡ f.key
+  pub left_is : w.elements ≡ Some r
+  pub begins : w.offset ≡ i.end
+  pub ends : w.offset + length r ≡ o.end
+
+-- and the frames stand for trees, with at most so many levels inside
+pub record IsHeld (inside : ℕ) (o : Span) (w : Wait) (i : Span) : Type 0 where
+  pub frames : List Frame
+  pub pairs : List (List ℕ × Tree)
+  pub s : List ℕ
+  pub nested : HoldsLevel frames s o w i
   pub each : StandForEach (ReadsUpTo inside) frames pairs
-  pub means : Means f (value v)
-  pub holds : HoldsAs v sort d
+  pub bytes_are : w.bytes ≡ o.bytes
+  pub element_is : w.element + size_of nested.f ≡ w.offset
 
--- what is left of the level that waits
-abbrev pub left_behind : Wait → ℕ
-left_behind w = left_of w.elements
-
--- levels that wait, the outermost first: from the bytes b, which end at this offset of the document, inward to the bytes d,
--- which end at that one; at most so many levels may be inside d. Nested bytes end where what is left of their level begins.
-abbrev pub AreHeld : ℕ → Sort → List ℕ → ℕ → List Wait → Sort → List ℕ → ℕ → Type 0
-AreHeld inside outer b end [] sort d last = (outer ≡ sort) × (b ≡ d) × (end ≡ last)
-AreHeld inside outer b end (w ∷ ws) sort d last =
-    (s : Sort) × (c : List ℕ) × IsHeld (suc (length ws + inside)) b w s c × (w.offset + left_behind w ≡ end) × AreHeld inside s c w.offset ws sort d last
+-- So many levels wait, the outermost first, and each is linked to the one that it waits for. So many may be inside the
+-- innermost.
+module _ {A S : Type 0} (Link : ℕ → S → A → S → Type 0) where
+  abbrev pub AreLinked : (many inside : ℕ) → S → List A → S → Type 0
+  AreLinked zero inside o ws i = (ws ≡ []) × (o ≡ i)
+  AreLinked (suc many) inside o ws i = (outer : List A) × (w : A) × (m : S) × (ws ≡ outer ++ w ∷ []) × Link (suc inside) m w i × AreLinked many (suc inside) o outer m
 
 -- what the loop keeps: the innermost level passes over some bytes, for which the others wait, and what is left of them begins
 -- at this offset of b; so many levels may be inside
 pub record IsAt (depth : ℕ) (b : List ℕ) (ws : List Wait) (left : Option (List ℕ)) (number offset start : ℕ) : Type 0 where
   pub inside : ℕ
+  pub many : ℕ
   pub sort : Sort
   pub d : List ℕ
   pub end : ℕ
-  pub held : AreHeld inside as_document b (length b) ws sort d end
+  pub held : AreLinked IsHeld many inside (whole_span b) ws (record { sort = sort; bytes = d; end = end })
   pub is : IsPassed inside d left number
   pub levels : suc (length ws + inside) ≡ depth
   pub begins : offset + left_of left ≡ end

@@ -1,10 +1,6 @@
-use Rattle.std.proofs.Common.{◌≡◌, ◌∙◌, ◌-◌, ◌^◌, ℕ, List, Option, None, Some, map, arith, ap, subst, sym}
-use Rattle.raw_view.specs.Document.{bytes_of}
-use Rattle.raw_tree.specs.declared.validator.verdict.Found.{Found}
-use Rattle.raw_tree.specs.declared.walk.place.PathStep.{PathStep}
-use Rattle.raw_tree.specs.reader.Reading.{as_document}
-use Rattle.raw_tree.specs.validator.Breaches.{HasBreachAs}
-use Rattle.raw_tree.specs.validator.Judging.{TellsFound}
+use Rattle.std.proofs.Common.{◌≡◌, ◌∙◌, ℕ, List, Option, Some, map, arith, ap, subst, sym}
+use Rattle.raw_tree.proofs.Common.{HasBreachAs, as_document, bytes_of}
+use Rattle.raw_tree.proofs.walk.Common.{Found, PathStep, TellsFound}
 use Rattle.raw_tree.proofs.validator.Unlimited.{breach_found, most, never_too_deep}
 use Rattle.raw_tree.proofs.walk.Rooms.{numbers_of}
 use Rattle.raw_tree.proofs.validator.validate.Goals as goal

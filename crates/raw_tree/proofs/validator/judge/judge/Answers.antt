@@ -1,38 +1,19 @@
-use Rattle.std.proofs.Common.{◌≡◌, ◌++◌, ◌∷◌, [], List, ℕ, Bor, Option, Result, None, Some, Ok, Err, length, refl, subst, inr}
-use Rattle.std.specs.Option.{option_copied}
-use Rattle.raw_view.specs.Frame.ElementSteps.{frame_of}
-use Rattle.raw_view.specs.Frame.{Fault, Malformed, Utf8, IsFrame, IsStop}
-use Rattle.raw_view.specs.Frame.Front.{StepsFront, StopsWith}
-use Rattle.raw_view.specs.Meaning.{RawValue, value, faulty}
+use Rattle.std.proofs.Common.{arith, ◌≡◌, ◌++◌, ◌∷◌, [], List, ℕ, Bor, Option, Result, None, Some, Ok, Err, length, refl, subst, inr}
+use Rattle.raw_tree.proofs.Common.{AreKeysCanonical, BorrowedError, Cause, ErrorKind, Fault, IsFrame, IsStop, RawElement, RawValue, Sort, StepsFront, StopsWith, faulty, frame_of, value, value_of}
+use Rattle.raw_tree.proofs.walk.Common.{BreachesItself, HasKeysSoFar, HoldsAsTold, IsSingleWith, Judged, Judges, KeysSoFar, Malformed, TellsJudged, TellsOpenKey, Utf8, option_copied}
 use Rattle.raw_view.specs.Meaning as raw
-use Rattle.raw_view.specs.Meaning.Value.{value_of}
-use Rattle.raw_view.specs.declared.element.RawElement.{RawElement}
-use Rattle.raw_view.specs.declared.error.BorrowedError.{BorrowedError}
-use Rattle.raw_view.specs.declared.error.ErrorKind.{ErrorKind}
 use Rattle.raw_view.specs.declared.error.ErrorKind.TheVariants as kind
-use Rattle.raw_tree.specs.Canonical.{AreKeysCanonical}
-use Rattle.raw_tree.specs.validator.OpenKeys.{HasKeysSoFar, TellsOpenKey}
-use Rattle.raw_tree.specs.reader.Reading.{Sort}
-use Rattle.raw_tree.specs.declared.validator.breach.Cause.{Cause}
 use Rattle.raw_tree.specs.declared.validator.breach.Cause.TheVariants as cause
-use Rattle.raw_tree.specs.declared.validator.keys_so_far.KeysSoFar.{KeysSoFar}
-use Rattle.raw_tree.specs.validator.Judging.{BreachesItself, HoldsAsTold, IsSingleWith, Judges, TellsJudged}
-use Rattle.raw_tree.specs.declared.validator.judge.Judged.{Judged}
 use Rattle.raw_tree.specs.declared.validator.judge.Judged.TheVariants as judged
+use Rattle.raw_tree.proofs.walk.Fronts.{stop_of}
 use Rattle.raw_tree.proofs.validator.judge.judge.Goals as goal
-
--- a stop is one of some fault
-some_stop : (k : ErrorKind) (key : Option (List ℕ)) (s : List ℕ) → StopsWith k key s → (fault : Fault) × IsStop s fault key
-some_stop (kind.MalformedValue r) key s h = (Malformed r, h)
-some_stop (kind.Utf8EncodingError e) key s h = (Utf8, h)
-some_stop kind.OutOfMemory key s h = absurd h
 
 judges_stop : (old new : Option (List ℕ)) (e : BorrowedError) (ks k : KeysSoFar) (before after : List (Bor (List ℕ))) (number : ℕ)
     → StepsFront old (Some (Err e)) new → Judges old ks before number new k after (judged.Breach None cause.Stop)
 judges_stop None new e ks k before after number st = tt
 judges_stop (Some s) new e ks k before after number st =
-    let stop = some_stop e.kind (option_copied e.key) s st.0 in
-    λ sort below own h canonical n. (stop.0, option_copied e.key, stop.1, refl)
+    let stop = stop_of e.kind (option_copied e.key) s st.0 in
+    λ sort below own h canonical n. (stop.0.fault, stop.0.key, stop.1, refl)
 
 -- an element is next
 judges_next : (old new : Option (List ℕ)) (e : RawElement) (ks k : KeysSoFar) (before after : List (Bor (List ℕ))) (number : ℕ) (answer : Judged) → StepsFront old (Some (Ok e)) new
@@ -42,9 +23,6 @@ judges_next : (old new : Option (List ℕ)) (e : RawElement) (ks k : KeysSoFar) 
 judges_next None new e ks k before after number answer st f = tt
 judges_next (Some s) new e ks k before after number answer st f = λ sort below own h canonical n. f s st.0 sort below own st.1 h canonical n
 
-element_steps : (old new : Option (List ℕ)) (e : RawElement) (item : Result RawElement BorrowedError) → item ≡ Ok e → StepsFront old (Some item) new → StepsFront old (Some (Ok e)) new
-element_steps old new e item is st = subst (λ (x : Result RawElement BorrowedError). StepsFront old (Some x) new) is st
-
 -- the key of the element is canonical
 key_more : (sort : Sort) (below own : List (List ℕ)) (key same : List ℕ) (k : KeysSoFar) (refs : List (Bor (List ℕ))) (answer : Option Cause) → key ≡ same
     → answer ≡ None → TellsOpenKey sort below own key k refs answer → AreKeysCanonical sort (own ++ same ∷ [])
@@ -53,21 +31,17 @@ key_more sort below own key same k refs answer e none h =
     subst (λ (x : List ℕ). AreKeysCanonical sort (own ++ x ∷ [])) e told.1
 
 descends : (v : RawValue) → IsSingleWith (λ A. ¬ A) v → BreachesItself (value v) cause.Options
-descends (raw.single l) h = (h, refl)
-descends (raw.document d) h = absurd h
-descends (raw.array d) h = absurd h
-descends (raw.scoped code d) h = absurd h
+descends v h = grind arith
 
 pub returns-in-Some-Err-clause-judges : goal.returns-in-Some-Err-clause-judges
 returns-in-Some-Err-clause-judges c =
     judges_stop c.args.elements.now c.next.new.self c.in-Some-Err.field-0-0 c.args.keys.now c.args.keys.now c.args.listed.now.items c.args.listed.now.items
-    c.args.number (subst (λ (x : Result RawElement BorrowedError). StepsFront c.args.elements.now (Some x) c.next.new.self) c.in-Some-Err.field-0-is
-    c.in-Some-Err.ensures.steps)
+    c.args.number (rw c.in-Some-Err.field-0-is at c.in-Some-Err.ensures.steps)
 
 pub returns-in_default-resolve-clause-judges : goal.returns-in_default-resolve-clause-judges
 returns-in_default-resolve-clause-judges c =
     let e = c.in-Some-Ok.element in
-    let st = element_steps c.args.elements.now c.next.new.self e c.in-Some-Ok.field-0 c.in-Some-Ok.field-0-is c.in-Some-Ok.ensures.steps in
+    let st = rw c.in-Some-Ok.field-0-is at c.in-Some-Ok.ensures.steps in
     judges_next c.args.elements.now c.next.new.self e c.args.keys.now c.add.new.self c.args.listed.now.items c.add.new.listed.items c.args.number
     (judged.Breach (Some c.key-key.result) cause.Value) st (λ s r sort below own frame h canonical n.
     let more = key_more sort below own c.key-key.result.now
@@ -80,7 +54,7 @@ pub returns-in-Descending-clause-judges : goal.returns-in-Descending-clause-judg
 returns-in-Descending-clause-judges c =
     let e = c.in-Some-Ok.element in
     let v = value_of c.in-Ok.value in
-    let st = element_steps c.args.elements.now c.next.new.self e c.in-Some-Ok.field-0 c.in-Some-Ok.field-0-is c.in-Some-Ok.ensures.steps in
+    let st = rw c.in-Some-Ok.field-0-is at c.in-Some-Ok.ensures.steps in
     let holds = subst (HoldsAsTold v) c.in-Descending.is c.held_by.ensures in
     judges_next c.args.elements.now c.next.new.self e c.args.keys.now c.add.new.self c.args.listed.now.items c.add.new.listed.items c.args.number
     (judged.Breach (Some c.key-key.result) cause.Options) st (λ s r sort below own frame h canonical n.

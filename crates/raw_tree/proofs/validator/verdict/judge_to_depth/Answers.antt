@@ -1,72 +1,31 @@
 use Rattle.std.proofs.Common.{rules, ◌≡◌, ◌≤◌, ◌<◌, Bool, ◌+◌, ◌++◌, ◌∷◌, ◌∙◌, [], List, ℕ, suc, Bor, Option, None, Some, Result, Ok, Err, IfOk, arith, map, length, drop, length-append, length-drop, ap, refl, sym, subst}
-use Rattle.std.specs.Option.{option_copied}
-use Rattle.raw_view.specs.Document.{bytes_of}
-use Rattle.raw_view.specs.Frame.ElementSteps.{frame_of}
-use Rattle.raw_view.specs.declared.document.RawDocument.{RawDocument}
-use Rattle.raw_view.specs.declared.element.RawElement.{RawElement}
-use Rattle.raw_view.specs.declared.error.Error.{Error}
-use Rattle.raw_tree.specs.validator.Breaches.{keys_of_frames}
-use Rattle.raw_tree.specs.Canonical.{IsCanonicalUpTo}
-use Rattle.raw_tree.specs.validator.OpenKeys.{HasKeysSoFar}
-use Rattle.raw_tree.specs.reader.Reading.{as_document}
-use Rattle.raw_tree.specs.validator.References.{texts}
-use Rattle.raw_tree.specs.declared.validator.keys_so_far.KeysSoFar.{KeysSoFar}
-use Rattle.raw_tree.specs.walk.Barriers.{steps_of}
-use Rattle.raw_tree.specs.validator.Judging.{EndsTooDeep, Judges, TellsFound, TellsJudged, TellsOutermost, first_number, array_sort, verdict_of}
-use Rattle.raw_tree.specs.walk.Looking.{size_of, step_at}
-use Rattle.raw_tree.specs.walk.Places.{Step}
-use Rattle.raw_tree.specs.validator.Verdicts.{Verdict, too_deep, breach_of, FirstVerdictTo}
-use Rattle.raw_tree.specs.walk.Waits.{Wait}
-use Rattle.raw_tree.specs.walk.Walks.{IsAt, IsBehind, IsLooked, IsTooDeep, with_left}
-use Rattle.raw_tree.specs.declared.validator.judge.Judged.{Judged}
+use Rattle.raw_tree.proofs.Common.{Error, IsCanonicalUpTo, RawElement, as_document, bytes_of, frame_of, texts}
+use Rattle.raw_tree.proofs.walk.Common.{EndsTooDeep, FirstVerdictTo, Found, HasKeysSoFar, IsAlong, IsAt, IsBehind, IsLooked, IsTooDeep, Judged, Judges, KeysSoFar, Level, Looks, Place, RawDocument}
+use Rattle.raw_tree.proofs.walk.Common.{Step, TellsFound, TellsOutermost, Verdict, Wait, Walk, WalkError, array_sort, breach_of, first_number, option_copied, size_of, step_at, steps_of, verdict_of}
+use Rattle.raw_tree.proofs.walk.Common.{with_left}
+use Rattle.raw_tree.specs.validator.Verdicts.{too_deep}
 use Rattle.raw_tree.specs.declared.validator.judge.Judged.TheVariants as judged
-use Rattle.raw_tree.specs.declared.walk.level.Level.{Level}
 use Rattle.raw_tree.specs.walk.Aheads as next
-use Rattle.raw_tree.specs.declared.walk.place.Place.{Place}
-use Rattle.raw_tree.specs.declared.validator.verdict.Found.{Found}
-use Rattle.raw_tree.specs.declared.walk.Walk.{Walk}
-use Rattle.raw_tree.specs.declared.walk.WalkError.{WalkError}
 use Rattle.raw_tree.specs.declared.walk.WalkError.TheVariants as error
 use Rattle.raw_tree.proofs.walk.Starts.{first_behind}
-use Rattle.raw_tree.proofs.validator.JudgedAt.{IsJudgedAt, as_many, judged_begin, judged_breach, judged_deep, judged_end, judged_inside, judged_resumed, judged_whole, looks_end, looks_inside, looks_whole, open_keys, told, told_of, walks}
+use Rattle.raw_tree.proofs.validator.JudgedAt.{IsJudgedAt, Told, as_many, judged_begin, judged_breach, judged_deep, judged_end, judged_inside, judged_resumed, judged_whole, IsAhead, looks, open_keys, told, told_of, walks}
 use Rattle.raw_tree.proofs.walk.Levels.{at_outermost, waiting_then, walks_nearer}
 use Rattle.raw_tree.proofs.validator.verdict.judge_to_depth.Goals as goal
 use Rattle.raw_tree.proofs.validator.verdict.judge_to_depth.Goals.{In_ok-element, In_ok-place-in-Breach}
 
--- a verdict at the steps and the offset of a place
-placed : (depth : ℕ) (b : List ℕ) (x : Verdict) (steps : List Step) (offset : ℕ) (place : Place) → steps_of place ≡ steps → place.offset ≡ offset
-    → FirstVerdictTo depth as_document b x steps offset → FirstVerdictTo depth as_document b x (steps_of place) place.offset
-placed depth b x steps offset place p o h = subst (λ (u : ℕ). FirstVerdictTo depth as_document b x (steps_of place) u) (sym o)
-    (subst (λ (q : List Step). FirstVerdictTo depth as_document b x q offset) (sym p) h)
-
--- the level that was too deep is the first verdict
-deep_found : (walk : Walk) (from : Level) (ws : List Wait) (e : RawElement) (outermost : ℕ)
-    → (suc walk.most_waiting ≤ suc (length ws) → FirstVerdictTo (suc walk.most_waiting) as_document (bytes_of walk.document) too_deep
-    (map step_at ws ++ record { number = from.number; key = Some (frame_of e).key } ∷ []) from.offset)
-    → (answer : WalkError) (r : Result (Option Found) Error) → IsTooDeep walk from ws e answer → IfOk r (EndsTooDeep outermost answer)
-    → IfOk r (TellsFound (suc walk.most_waiting) (bytes_of walk.document))
-deep_found walk from ws e outermost bars error.OutOfMemory (Ok found) deep ends = absurd ends
-deep_found walk from ws e outermost bars error.OutOfMemory (Err x) deep ends = tt
-deep_found walk from ws e outermost bars (error.Barrier b) (Ok None) deep ends = absurd ends
-deep_found walk from ws e outermost bars (error.Barrier b) (Ok (Some found)) (full, (kind_is, steps_is, offset_is)) (cause_is, place_is, outermost_is) =
-    rw (ap verdict_of cause_is, ap steps_of place_is, ap (λ (p : Place). p.offset) place_is, steps_is, offset_is) (bars (omega (arith, full)))
-deep_found walk from ws e outermost bars (error.Barrier b) (Err x) deep ends = tt
-
--- it is in the element of the outermost level that was asked for
-deep_outermost : (walk : Walk) (from : Level) (ws : List Wait) (e : RawElement) (outermost : ℕ)
-    → IsBehind (bytes_of walk.document) (first_number (map step_at ws ++ record { number = from.number; key = Some (frame_of e).key } ∷ [])) outermost
-    → (answer : WalkError) (r : Result (Option Found) Error) → IsTooDeep walk from ws e answer → IfOk r (EndsTooDeep outermost answer)
-    → IfOk r (TellsOutermost (bytes_of walk.document))
-deep_outermost walk from ws e outermost there error.OutOfMemory (Ok found) deep ends = absurd ends
-deep_outermost walk from ws e outermost there error.OutOfMemory (Err x) deep ends = tt
-deep_outermost walk from ws e outermost there (error.Barrier b) (Ok None) deep ends = absurd ends
-deep_outermost walk from ws e outermost there (error.Barrier b) (Ok (Some found)) (full, (kind_is, steps_is, offset_is)) (cause_is, place_is, outermost_is) =
-    rw (ap steps_of place_is, steps_is, outermost_is) there
-deep_outermost walk from ws e outermost there (error.Barrier b) (Err x) deep ends = tt
+-- what is told of the level that was too deep is told of what is found
+deep_found : (P : Option Found → Type 0) (walk : Walk) (from : Level) (ws : List Wait) (e : RawElement) (outermost : ℕ)
+    → ((found : Found) → walk.most_waiting ≤ length ws → found.cause ≡ None → steps_of found.place ≡ map step_at ws ++ record { number = from.number; key = Some (frame_of e).key } ∷ []
+    → found.place.offset ≡ from.offset → found.outermost ≡ outermost → P (Some found))
+    → (answer : WalkError) (r : Result (Option Found) Error) → IsTooDeep walk from ws e answer → IfOk r (EndsTooDeep outermost answer) → IfOk r P
+deep_found P walk from ws e outermost tells answer (Err x) deep ends = tt
+deep_found P walk from ws e outermost tells error.OutOfMemory (Ok found) deep ends = absurd ends
+deep_found P walk from ws e outermost tells (error.Barrier b) (Ok None) deep ends = absurd ends
+deep_found P walk from ws e outermost tells (error.Barrier b) (Ok (Some found)) (full, (kind_is, steps_is, offset_is)) (cause_is, place_is, outermost_is) =
+    tells found full cause_is (ap steps_of place_is ∙ steps_is) (ap (λ (p : Place). p.offset) place_is ∙ offset_is) outermost_is
 
 -- what is told of the element that was judged
-told_as : (c : In_ok-element) (x : Judged) → c.in_ok-element.field-0 ≡ x → let at = c.elements.invariant.at in
-    TellsJudged at.sort at.below (keys_of_frames at.is.frames) at.is.rest c.judge.new.elements c.judge.new.keys c.judge.new.listed.items x
+told_as : (c : In_ok-element) (x : Judged) → c.in_ok-element.field-0 ≡ x → Told c.elements.invariant.at c.judge.new.elements c.judge.new.keys c.judge.new.listed.items x
 told_as c x is = told c.elements.invariant.at c.judge.new.elements c.judge.new.keys c.judge.new.listed.items x
     (subst (λ (y : Judged). Judges c.elements.level.elements c.elements.keys c.elements.listed.items c.elements.level.number c.judge.new.elements c.judge.new.keys
     c.judge.new.listed.items y) is c.in_ok-element.ensures.judges)
@@ -92,26 +51,19 @@ elements-init c =
     }
 
 -- and what the walk saw then
-saw_whole : (c : In_ok-element) (e : RawElement) → c.in_ok-element.field-0 ≡ judged.Whole e
-    → IsLooked c.elements.walk (with_left c.judge.new.elements c.elements.level) c.elements.level.elements c.elements.invariant.waits (next.Whole e)
-saw_whole c e is = record {
-  along = record { are_stored = c.elements.invariant.are_stored; at = c.elements.invariant.at.at };
-  looks = looks_whole c.elements.invariant.at c.judge.new.elements c.judge.new.keys c.judge.new.listed.items e (told_as c (judged.Whole e) is);
-}
+saw : (c : In_ok-element) (x : Judged) → c.in_ok-element.field-0 ≡ x
+    → IsAhead (IsLooked c.elements.walk (with_left c.judge.new.elements c.elements.level) c.elements.level.elements c.elements.invariant.waits) x
+saw c x is = looked x (looks c.elements.invariant.at c.judge.new.elements c.judge.new.keys c.judge.new.listed.items x (told_as c x is))
+  where
+    along : IsAlong c.elements.walk (with_left c.elements.level.elements (with_left c.judge.new.elements c.elements.level)) c.elements.invariant.waits
+    along = record { are_stored = c.elements.invariant.are_stored; at = c.elements.invariant.at.at }
 
-saw_inside : (c : In_ok-element) (e : RawElement) (inner : RawDocument) (is_array : Bool) → c.in_ok-element.field-0 ≡ judged.Inside e inner is_array
-    → IsLooked c.elements.walk (with_left c.judge.new.elements c.elements.level) c.elements.level.elements c.elements.invariant.waits (next.Inside e inner)
-saw_inside c e inner is_array is = record {
-  along = record { are_stored = c.elements.invariant.are_stored; at = c.elements.invariant.at.at };
-  looks = looks_inside c.elements.invariant.at c.judge.new.elements c.judge.new.keys c.judge.new.listed.items e inner is_array (told_as c (judged.Inside e inner is_array) is);
-}
-
-saw_end : (c : In_ok-element) → c.in_ok-element.field-0 ≡ judged.End
-    → IsLooked c.elements.walk (with_left c.judge.new.elements c.elements.level) c.elements.level.elements c.elements.invariant.waits next.End
-saw_end c is = record {
-  along = record { are_stored = c.elements.invariant.are_stored; at = c.elements.invariant.at.at };
-  looks = looks_end c.elements.invariant.at c.judge.new.elements c.judge.new.keys c.judge.new.listed.items (told_as c judged.End is);
-}
+    looked : (y : Judged) → IsAhead (Looks c.elements.level.elements c.judge.new.elements) y
+        → IsAhead (IsLooked c.elements.walk (with_left c.judge.new.elements c.elements.level) c.elements.level.elements c.elements.invariant.waits) y
+    looked (judged.Whole e) h = record { along = along; looks = h }
+    looked (judged.Inside e inner is_array) h = record { along = along; looks = h }
+    looked judged.End h = record { along = along; looks = h }
+    looked (judged.Breach key why) h = tt
 
 pub returns-in_default-clause-outermost : goal.returns-in_default-clause-outermost
 returns-in_default-clause-outermost c = rw (c.whole.ensures.path) (first_behind (bytes_of c.args.document) c.args.document.envelope.enough)
@@ -120,25 +72,25 @@ pub judge-requires : goal.judge-requires
 judge-requires c = open_keys c.elements.invariant.at
 
 pub pass-requires : goal.pass-requires
-pass-requires c = (c.elements.invariant.waits, c.elements.level.elements, saw_whole (goal.at.pass-requires c).In_ok-element _ c.in-Whole.is)
+pass-requires c = (c.elements.invariant.waits, c.elements.level.elements, saw (goal.at.pass-requires c).In_ok-element _ c.in-Whole.is)
 
 pub enter-requires : goal.enter-requires
-enter-requires c = (c.elements.invariant.waits, c.elements.level.elements, saw_inside (goal.at.enter-requires c).In_ok-element _ _ _ c.in-Inside.is)
+enter-requires c = (c.elements.invariant.waits, c.elements.level.elements, saw (goal.at.enter-requires c).In_ok-element _ c.in-Inside.is)
 
 pub leave-requires : goal.leave-requires
-leave-requires c = (c.elements.invariant.waits, c.elements.level.elements, saw_end (goal.at.leave-requires c).In_ok-element c.in-End.is)
+leave-requires c = (c.elements.invariant.waits, c.elements.level.elements, saw (goal.at.leave-requires c).In_ok-element _ c.in-End.is)
 
 pub elements-smaller-in-Whole : goal.elements-smaller-in-Whole
 elements-smaller-in-Whole c =
     let is = c.elements.invariant in
-    let saw = saw_whole (goal.at.elements-smaller-in-Whole c).In_ok-element _ c.in-Whole.is in
+    let saw = saw (goal.at.elements-smaller-in-Whole c).In_ok-element _ c.in-Whole.is in
     walks_nearer (walks is) is.waits c.elements.walk c.pass.new.level (c.pass.ensures.passed is.waits c.elements.level.elements saw).0 refl
 
 pub elements-preserved-in-Whole : goal.elements-preserved-in-Whole
 elements-preserved-in-Whole c =
     let at = goal.at.elements-preserved-in-Whole c in
     let is = c.elements.invariant in
-    let came = c.pass.ensures.passed is.waits c.elements.level.elements (saw_whole at.In_ok-element _ c.in-Whole.is) in
+    let came = c.pass.ensures.passed is.waits c.elements.level.elements (saw at.In_ok-element _ c.in-Whole.is) in
     record {
       waits = is.waits;
       are_stored = is.are_stored;
@@ -154,24 +106,22 @@ returns-in-Err-clause-found c =
     let tells = told_as (goal.at.returns-in-Err-clause-found c).In_ok-element _ c.in-Inside.is in
     let is = c.elements.invariant in
     told_of is (λ n b. IfOk c.too_deep.result (TellsFound n b))
-    (deep_found c.elements.walk c.elements.level is.waits c.in-Inside.element c.outermost-outermost.result
-    (λ full. judged_deep is.at c.judge.new.elements c.judge.new.keys c.judge.new.listed.items c.in-Inside.element c.in-Inside.inner c.in-Inside.is_array tells full)
-    c.in-Err.error c.too_deep.result (c.in-Err.ensures.ends is.waits is.are_stored) c.too_deep.ensures.found)
+    (deep_found _ c.elements.walk c.elements.level is.waits c.in-Inside.element c.outermost-outermost.result (λ found full cause_is steps_is offset_is outermost_is.
+    rw (ap verdict_of cause_is, steps_is, offset_is) (judged_deep is.at c.judge.new.elements c.judge.new.keys c.judge.new.listed.items c.in-Inside.element c.in-Inside.inner
+    c.in-Inside.is_array tells (omega (arith, full)))) c.in-Err.error c.too_deep.result (c.in-Err.ensures.ends is.waits is.are_stored) c.too_deep.ensures.found)
 
 pub returns-in-Err-clause-outermost : goal.returns-in-Err-clause-outermost
 returns-in-Err-clause-outermost c =
     let is = c.elements.invariant in
-    let step : Step = record { number = c.elements.level.number; key = Some (frame_of c.in-Inside.element).key } in
-    let there : IsBehind (bytes_of c.elements.walk.document) (first_number (map step_at is.waits ++ step ∷ [])) c.outermost-outermost.result =
-    rw (c.outermost-outermost.ensures is.waits is.are_stored) (at_outermost is.at.at (Some (frame_of c.in-Inside.element).key)) in
     told_of is (λ n b. IfOk c.too_deep.result (TellsOutermost b))
-    (deep_outermost c.elements.walk c.elements.level is.waits c.in-Inside.element c.outermost-outermost.result there c.in-Err.error c.too_deep.result
-    (c.in-Err.ensures.ends is.waits is.are_stored) c.too_deep.ensures.found)
+    (deep_found _ c.elements.walk c.elements.level is.waits c.in-Inside.element c.outermost-outermost.result (λ found full cause_is steps_is offset_is outermost_is.
+    rw (steps_is, outermost_is, c.outermost-outermost.ensures is.waits is.are_stored) (at_outermost is.at.at (Some (frame_of c.in-Inside.element).key)))
+    c.in-Err.error c.too_deep.result (c.in-Err.ensures.ends is.waits is.are_stored) c.too_deep.ensures.found)
 
 pub elements-smaller-else-is_err : goal.elements-smaller-else-is_err
 elements-smaller-else-is_err c =
     let is = c.elements.invariant in
-    let saw = saw_inside (goal.at.elements-smaller-else-is_err c).In_ok-element _ _ _ c.in-Inside.is in
+    let saw = saw (goal.at.elements-smaller-else-is_err c).In_ok-element _ c.in-Inside.is in
     walks_nearer (walks is) _ c.enter.new.self c.enter.new.level (c.in_default-enter.ensures.entered is.waits c.elements.level.elements saw).0 c.enter.ensures.document
 
 -- the level that waits is the one that was judged, behind the element
@@ -180,7 +130,7 @@ elements-preserved-else-is_err c =
     let at = goal.at.elements-preserved-else-is_err c in
     let is = c.elements.invariant in
     let tells = told_as at.In_ok-element _ c.in-Inside.is in
-    let looks = looks_inside is.at c.judge.new.elements c.judge.new.keys c.judge.new.listed.items c.in-Inside.element c.in-Inside.inner c.in-Inside.is_array tells in
+    let looks = looks is.at c.judge.new.elements c.judge.new.keys c.judge.new.listed.items (judged.Inside c.in-Inside.element c.in-Inside.inner c.in-Inside.is_array) tells in
     let came = c.in_default-enter.ensures.entered is.waits c.elements.level.elements (record { along = record { are_stored = is.are_stored; at = is.at.at }; looks = looks }) in
     let after = c.judge.new.listed.items in
     let keys_grown : c.push.new.self.items ≡ c.elements.outer_keys.items ++ c.judge.new.keys ∷ [] = search rules in
@@ -215,8 +165,7 @@ returns-in-Breach-clause-found c =
     let bad = told_of is (λ n b. FirstVerdictTo n as_document b (breach_of c.in-Breach.cause)
     (map step_at is.waits ++ record { number = c.elements.level.number; key = option_copied c.in-Breach.key } ∷ []) c.elements.level.offset)
     (judged_breach is.at c.judge.new.elements c.judge.new.keys c.judge.new.listed.items c.in-Breach.key c.in-Breach.cause (told_as at.In_ok-element _ c.in-Breach.is)) in
-    placed c.args.depth (bytes_of c.args.document) (breach_of c.in-Breach.cause) _ c.elements.level.offset c.in_ok-place-in-Breach.place
-    (breach_at at.In_ok-place-in-Breach) c.in_ok-place-in-Breach.ensures.offset bad
+    rw (breach_at at.In_ok-place-in-Breach, c.in_ok-place-in-Breach.ensures.offset) bad
 
 pub returns-in-Breach-clause-outermost : goal.returns-in-Breach-clause-outermost
 returns-in-Breach-clause-outermost c =
@@ -236,21 +185,21 @@ pub returns-then-not-leave-clause-found : goal.returns-then-not-leave-clause-fou
 returns-then-not-leave-clause-found c =
     let at = goal.at.returns-then-not-leave-clause-found c in
     let is = c.elements.invariant in
-    let came = c.if-not-leave.ensures.left is.waits c.elements.level.elements (saw_end at.In_ok-element c.in-End.is) in
+    let came = c.if-not-leave.ensures.left is.waits c.elements.level.elements (saw at.In_ok-element _ c.in-End.is) in
     told_of is (λ n b. IsCanonicalUpTo n as_document b)
     (judged_end is.at c.judge.new.elements c.judge.new.keys c.judge.new.listed.items (told_as at.In_ok-element _ c.in-End.is) (ap length came.2))
 
 pub elements-smaller : goal.elements-smaller
 elements-smaller c =
     let is = c.elements.invariant in
-    let saw = saw_end (goal.at.elements-smaller c).In_ok-element c.in-End.is in
+    let saw = saw (goal.at.elements-smaller c).In_ok-element _ c.in-End.is in
     walks_nearer (walks is) _ c.leave.new.self c.leave.new.level (c.if-not-leave.ensures.left is.waits c.elements.level.elements saw).3 c.leave.ensures.document
 
 pub elements-preserved : goal.elements-preserved
 elements-preserved c =
     let is = c.elements.invariant in
     let level = c.elements.level in
-    let came = c.if-not-leave.ensures.left is.waits level.elements (saw_end (goal.at.elements-preserved c).In_ok-element c.in-End.is) in
+    let came = c.if-not-leave.ensures.left is.waits level.elements (saw (goal.at.elements-preserved c).In_ok-element _ c.in-End.is) in
     let goes = came.5 in
     let most : ℕ = suc c.elements.walk.most_waiting in
     let b = bytes_of c.elements.walk.document in

@@ -1,5 +1,5 @@
 use Rattle.std.proofs.Common.{◌-◌, length}
-use Rattle.raw_view.specs.Document.{bytes_of}
+use Rattle.raw_tree.proofs.Common.{bytes_of}
 use Rattle.raw_tree.proofs.validator.JudgedAt.{IsJudgedAlong}
 use Rattle.raw_tree.proofs.validator.verdict.judge_to_depth.Given as goal
 

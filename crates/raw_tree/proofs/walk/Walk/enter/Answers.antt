@@ -1,15 +1,7 @@
 use Rattle.std.proofs.Common.{rules, ◌≡◌, ◌++◌, ◌∷◌, ◌<◌, ◌≤◌, ◌+◌, [], ℕ, suc, List, Some, length, length-drop, arith, refl, subst}
-use Rattle.raw_view.specs.Document.{bytes_of}
-use Rattle.raw_view.specs.Frame.ElementSteps.{frame_of}
-use Rattle.raw_view.specs.declared.element.RawElement.{RawElement}
-use Rattle.raw_tree.specs.walk.Looking.{size_of}
-use Rattle.raw_tree.specs.walk.Waits.{Wait}
-use Rattle.raw_tree.specs.walk.Walks.{IsBarrierAt, IsOpened, IsTooDeep}
+use Rattle.raw_tree.proofs.Common.{RawElement, bytes_of, frame_of}
+use Rattle.raw_tree.proofs.walk.Common.{IsBarrierAt, IsOpened, IsTooDeep, Level, Wait, Waiting, Walk, WalkError, size_of}
 use Rattle.raw_tree.specs.declared.walk.barrier.BarrierKind.TheVariants as kind
-use Rattle.raw_tree.specs.declared.walk.level.Level.{Level}
-use Rattle.raw_tree.specs.declared.walk.level.Waiting.{Waiting}
-use Rattle.raw_tree.specs.declared.walk.Walk.{Walk}
-use Rattle.raw_tree.specs.declared.walk.WalkError.{WalkError}
 use Rattle.raw_tree.specs.declared.walk.WalkError.TheVariants as error
 use Rattle.raw_tree.proofs.walk.Levels.{at_inside, at_inside_fits, at_inside_size, at_stored, at_within}
 use Rattle.raw_tree.proofs.walk.Offsets.{envelope_fits, stored_many, stored_more}

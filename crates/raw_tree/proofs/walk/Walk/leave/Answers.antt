@@ -1,5 +1,5 @@
 use Rattle.std.proofs.Common.{rules, ◌≡◌, [], arith}
-use Rattle.raw_view.specs.Document.{bytes_of}
+use Rattle.raw_tree.proofs.Common.{bytes_of}
 use Rattle.raw_tree.proofs.walk.Levels.{at_end, at_over, at_over_within, at_resumed, over_end, popped}
 use Rattle.raw_tree.proofs.walk.Offsets.{none_stored}
 use Rattle.raw_tree.proofs.walk.Walk.leave.Goals as goal

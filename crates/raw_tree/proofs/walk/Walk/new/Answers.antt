@@ -1,5 +1,5 @@
 use Rattle.std.proofs.Common.{rules, ◌≡◌, ◌⊎◌, ◌<◌, Option, IfSome, drop, Some, suc, length, refl, subst, []}
-use Rattle.raw_view.specs.Document.{bytes_of}
+use Rattle.raw_tree.proofs.Common.{bytes_of}
 use Rattle.raw_view.specs.declared.elements.Elements.{Elements}
 use Rattle.raw_tree.proofs.walk.Starts.{at_start, not_outside, start_within}
 use Rattle.raw_tree.proofs.walk.Walk.new.Goals as goal
@@ -14,8 +14,7 @@ unreachable-requires c =
 pub returns-clause-along : goal.returns-clause-along
 returns-clause-along c =
     let b = bytes_of c.args.document in
-    let left : c.in-Some.elements ≡ Some (drop c.args.start.offset b) =
-    subst (λ (r : Option Elements). IfSome r (λ elements. elements ≡ Some (drop c.args.start.offset b))) c.in-Some.is c.from_offset.ensures.left in
+    let left : c.in-Some.elements ≡ Some (drop c.args.start.offset b) = rw c.in-Some.is at c.from_offset.ensures.left in
     record {
       are_stored = rw (c.new.ensures.items) refl;
       at = at_start c.args.most_waiting (suc c.args.most_waiting) b [] c.in-Some.elements c.args.start.number c.args.start.offset c.args.document.envelope refl refl left

@@ -1,5 +1,5 @@
 use Rattle.std.proofs.Common.{◌≡◌, ◌-◌, ℕ, suc, length}
-use Rattle.raw_view.specs.Document.{bytes_of}
+use Rattle.raw_tree.proofs.Common.{bytes_of}
 use Rattle.raw_tree.proofs.walk.Levels.{IsWalking}
 use Rattle.raw_tree.proofs.walk.faults.first_behind.Given as goal
 

@@ -1,5 +1,5 @@
 use Rattle.std.proofs.Common.{arith, ap, length}
-use Rattle.raw_view.specs.Document.{bytes_of}
+use Rattle.raw_tree.proofs.Common.{bytes_of}
 use Rattle.raw_tree.proofs.reader.Limited.{answered_one_way}
 use Rattle.raw_tree.proofs.walk.OneBarrier.{barred_at_one_place}
 use Rattle.raw_tree.proofs.walk.Within.{barrier_told}

@@ -10,8 +10,7 @@ use Rattle.raw_tree.proofs.walk.level.look.Goals as goal
 pub returns-in-Some-Err : goal.returns-in-Some-Err
 returns-in-Some-Err c = record {
   sees = looks_stop c.args.elements.now c.next.new.self c.in-Some-Err.error
-      (subst (λ (x : Result RawElement BorrowedError). StepsFront c.args.elements.now (Some x) c.next.new.self) c.in-Some-Err.field-0-is
-      c.in-Some-Err.ensures.steps);
+      (rw c.in-Some-Err.field-0-is at c.in-Some-Err.ensures.steps);
   value = tt;
 }
 

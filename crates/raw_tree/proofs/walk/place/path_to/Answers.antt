@@ -1,5 +1,5 @@
 use Rattle.std.proofs.Common.{◌≡◌, ◌∙◌, Some, length, arith, ap, sym}
-use Rattle.raw_view.specs.Document.{bytes_of}
+use Rattle.raw_tree.proofs.Common.{bytes_of}
 use Rattle.raw_tree.proofs.walk.Offsets.{steps_done, steps_more, stored_at, stored_many, stored_within}
 use Rattle.raw_tree.proofs.walk.place.path_to.Goals as goal
 

@@ -1,8 +1,6 @@
 use Rattle.std.proofs.Common.{◌≡◌, List, map, take}
-use Rattle.raw_view.specs.Document.{bytes_of}
-use Rattle.raw_tree.specs.walk.Barriers.{step_of}
-use Rattle.raw_tree.specs.walk.Looking.{step_at}
-use Rattle.raw_tree.specs.walk.Waits.{StoreEach, Wait}
+use Rattle.raw_tree.proofs.Common.{bytes_of}
+use Rattle.raw_tree.proofs.walk.Common.{StoreEach, Wait, step_at, step_of}
 use Rattle.raw_tree.proofs.walk.place.path_to.Given as goal
 
 -- the steps so far

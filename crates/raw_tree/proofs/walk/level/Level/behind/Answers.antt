@@ -1,4 +1,4 @@
-use Rattle.raw_view.specs.Document.{bytes_of}
+use Rattle.raw_tree.proofs.Common.{bytes_of}
 use Rattle.raw_tree.proofs.walk.Starts.{not_outside}
 use Rattle.raw_tree.proofs.walk.Offsets.{goes_on, lies_there, reopened}
 use Rattle.raw_tree.proofs.walk.level.Level.behind.Goals as goal

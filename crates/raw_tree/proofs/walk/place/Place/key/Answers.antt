@@ -1,5 +1,5 @@
 use Rattle.std.proofs.Common.{◌≡◌, ◌-◌, List, Some, length, sym, subst, slice_get}
-use Rattle.raw_tree.specs.declared.walk.place.PathStep.{PathStep}
+use Rattle.raw_tree.proofs.walk.Common.{PathStep}
 use Rattle.raw_tree.proofs.walk.Rooms.{last_at}
 use Rattle.raw_tree.proofs.walk.place.Place.key.Goals as goal
 

@@ -1,6 +1,5 @@
 use Rattle.std.proofs.Common.{◌≡◌, ◌∙◌, ◌≤◌, ◌+◌, ◌++◌, ◌∷◌, [], ℕ, List, None, map, take, length, slice_index_or, arith, ap, sym}
-use Rattle.raw_tree.specs.walk.Rooms.{filled_from}
-use Rattle.raw_tree.specs.declared.walk.place.PathStep.{PathStep}
+use Rattle.raw_tree.proofs.walk.Common.{PathStep, filled_from}
 use Rattle.raw_tree.proofs.walk.Rooms.{filled_more, filled_none, number_at, numbers_all, numbers_len, numbers_of}
 use Rattle.raw_tree.proofs.walk.place.Place.put_path.Goals as goal
 

@@ -1,6 +1,5 @@
 use Rattle.std.proofs.Common.{◌≡◌, map, take}
-use Rattle.raw_tree.specs.walk.Rooms.{filled_from}
-use Rattle.raw_tree.specs.declared.walk.place.PathStep.{PathStep}
+use Rattle.raw_tree.proofs.walk.Common.{PathStep, filled_from}
 use Rattle.raw_tree.proofs.walk.place.Place.put_path.Given as goal
 
 -- the numbers of the steps so far

@@ -1,0 +1,33 @@
+-- The names of definitions that most proofs on walks and verdicts cite, passed on from one place. It declares nothing.
+pub use Rattle.raw_tree.specs.declared.validator.judge.Judged.{Judged}
+pub use Rattle.raw_tree.specs.declared.validator.keys_so_far.KeysSoFar.{KeysSoFar}
+pub use Rattle.raw_tree.specs.declared.validator.verdict.Found.{Found}
+pub use Rattle.raw_tree.specs.declared.validator.verdict.PlacedBreach.{PlacedBreach}
+pub use Rattle.raw_tree.specs.declared.validator.verdict.ValidateError.{ValidateError}
+pub use Rattle.raw_tree.specs.declared.walk.Walk.{Walk}
+pub use Rattle.raw_tree.specs.declared.walk.WalkError.{WalkError}
+pub use Rattle.raw_tree.specs.declared.walk.barrier.Barrier.{Barrier}
+pub use Rattle.raw_tree.specs.declared.walk.barrier.BarrierKind.{BarrierKind}
+pub use Rattle.raw_tree.specs.declared.walk.level.Level.{Level}
+pub use Rattle.raw_tree.specs.declared.walk.level.Waiting.{Waiting}
+pub use Rattle.raw_tree.specs.declared.walk.place.PathStep.{PathStep}
+pub use Rattle.raw_tree.specs.declared.walk.place.Place.{Place}
+pub use Rattle.raw_tree.specs.validator.Judging.{BreachesHere, BreachesItself, EndsTooDeep, HoldsAsTold, IsSingleWith, Judges, TellsFound, TellsJudged, TellsOutermost, array_sort, first_number}
+pub use Rattle.raw_tree.specs.validator.Judging.{verdict_of}
+pub use Rattle.raw_tree.specs.validator.OpenKeys.{AreOpenKeys, HasKeysSoFar, LeavesOpenKeys, TellsOpenKey}
+pub use Rattle.raw_tree.specs.validator.Verdicts.{AllAreJudgedOneWayWithin, FirstVerdict, FirstVerdictTo, IsCanonicalWithin, JudgesFrameAt, JudgesFrontAt, JudgesMeaningAt, JudgesNestedAt}
+pub use Rattle.raw_tree.specs.validator.Verdicts.{TellsVerdict, Verdict, breach_of}
+pub use Rattle.raw_tree.specs.walk.Barriers.{IsBarrier, TellsBarrier, TellsBarrierWithin, step_of, steps_of}
+pub use Rattle.raw_tree.specs.walk.Looking.{AreReadBefore, FailsAt, HasNoneBefore, HasValue, HoldsBytes, HoldsNone, Looks, Sees, TakesFrame, size_of, step_at}
+pub use Rattle.raw_tree.specs.walk.Places.{AllAreBarredAtOnePlace, BarsFrameAt, BarsFrontAt, BeginsAt, FirstBarrierAt, FirstFaultAt, IsLastStep, IsOffsetOf, Step, last_key}
+pub use Rattle.raw_tree.specs.walk.Rooms.{filled_from}
+pub use Rattle.raw_tree.specs.walk.Waits.{LiesAt, ResumesBehind, StoreEach, Stores, Wait}
+pub use Rattle.raw_tree.specs.walk.Walks.{AreLinked, AreReadTo, HoldsLevel, IsAlong, IsAt, IsAtFinal, IsBarrierAt, IsBehind, IsFurther, IsHeld, IsLooked, IsOpened, IsPassed, IsTooDeep, Span}
+pub use Rattle.raw_tree.specs.walk.Walks.{TellsError, outermost_of, wait_behind, whole_span, with_left}
+pub use Rattle.raw_view.specs.Errors.{SaysFault}
+pub use Rattle.raw_view.specs.Frame.{HasNoFrame, Malformed, Utf8}
+pub use Rattle.raw_view.specs.Frame.ElementSteps.{HasRead}
+pub use Rattle.raw_view.specs.Frame.Front.{TellsBorrowed}
+pub use Rattle.raw_view.specs.Frame.Number.{IsLe32}
+pub use Rattle.raw_view.specs.declared.document.RawDocument.{RawDocument}
+pub use Rattle.std.specs.Option.{option_copied}
