@@ -18,7 +18,7 @@ pub use Rattle.raw_tree.specs.validator.OpenKeys.{AreOpenKeys, HasKeysSoFar, Lea
 pub use Rattle.raw_tree.specs.validator.Verdicts.{AllAreJudgedOneWayWithin, FirstVerdict, FirstVerdictTo, IsCanonicalWithin, JudgesFrameAt, JudgesFrontAt, JudgesMeaningAt, JudgesNestedAt}
 pub use Rattle.raw_tree.specs.validator.Verdicts.{TellsVerdict, Verdict, breach_of}
 pub use Rattle.raw_tree.specs.walk.Barriers.{IsBarrier, TellsBarrier, TellsBarrierWithin, step_of, steps_of}
-pub use Rattle.raw_tree.specs.walk.Looking.{AreReadBefore, FailsAt, HasNoneBefore, HasValue, HoldsBytes, HoldsNone, Looks, Sees, TakesFrame, size_of, step_at}
+pub use Rattle.raw_tree.specs.walk.Looking.{AreReadBefore, FailsAt, HasNoneBefore, HasValue, HoldsNone, Looks, Sees, TakesFrame, size_of, step_at}
 pub use Rattle.raw_tree.specs.walk.Places.{AllAreBarredAtOnePlace, BarsFrameAt, BarsFrontAt, BeginsAt, FirstBarrierAt, FirstFaultAt, IsLastStep, IsOffsetOf, Step, last_key}
 pub use Rattle.raw_tree.specs.walk.Rooms.{filled_from}
 pub use Rattle.raw_tree.specs.walk.Waits.{LiesAt, ResumesBehind, StoreEach, Stores, Wait}
