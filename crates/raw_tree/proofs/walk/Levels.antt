@@ -7,7 +7,7 @@ use Rattle.raw_tree.proofs.walk.Common.{Level, LiesAt, Looks, RawDocument, Span,
 use Rattle.raw_tree.proofs.walk.Common.{option_copied, outermost_of, size_of, step_at, wait_behind, whole_span}
 use Rattle.raw_view.proofs.Face.{LeadsTo-bound, LeadsTo-more}
 use Rattle.raw_tree.specs.reader.WithinLimits as within
-use Rattle.raw_tree.proofs.reader.Loops.{nested_beside, valued}
+use Rattle.raw_tree.proofs.reader.Loops.{nested_beside}
 use Rattle.raw_tree.specs.declared.walk.barrier.BarrierKind.TheVariants as kind
 use Rattle.raw_tree.specs.declared.walk.WalkError.TheVariants as error
 use Rattle.raw_tree.specs.walk.Aheads as next
@@ -38,7 +38,7 @@ module _ {inside : ℕ} {d : List ℕ} {old new : Option (List ℕ)} {number : �
       → first + length (bytes_of inner) ≡ offset + size_of f → LiesAt b first (bytes_of inner)
   next_inside_lies inner offset first lies begins holds far =
       nested_lies (bytes_of inner) lies.behind offset first (next_lies offset lies begins) is.frame
-      (nested_last (bytes_of inner) (valued f.kind f.payload is.r v is.frame.payload_is is.means) holds) inner.envelope far
+      (nested_last f.kind f.payload v (bytes_of inner) is.means holds) inner.envelope far
 
   -- what is stored of the level around them
   next_stored : {b : List ℕ} {start : ℕ} (offset behind : ℕ) → LiesAt b start d → offset + left_of old ≡ start + length d → behind ≡ offset + size_of f

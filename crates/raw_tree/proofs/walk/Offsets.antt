@@ -6,7 +6,8 @@ use Rattle.raw_tree.proofs.Common.{ElementType, Frame, HasShape, Holds, IsEnvelo
 use Rattle.raw_tree.proofs.walk.Common.{IsLe32, LiesAt, PathStep, ResumesBehind, Step, StoreEach, Stores, Wait, Waiting, size_of, step_at, step_of}
 use Rattle.raw_view.specs.declared.element_type.ElementType.TheVariants as kind
 use Rattle.raw_view.proofs.Face.{IsFrame-shorter, LeadsTo-bound, front_and_rest}
-use Rattle.raw_tree.proofs.reader.Loops.{Valued, of_array, of_code, of_document, of_single}
+use Rattle.raw_view.specs.Meaning.{MeansValue}
+use Rattle.raw_view.specs.Meaning as raw
 use Rattle.raw_tree.proofs.walk.Frames.{drop_frame, frame_size}
 
 -- what frames lead to is what is behind so many bytes
@@ -57,14 +58,22 @@ frame_more s f r q at =
 abbrev pub EndsWith : List ℕ → List ℕ → Type 0
 EndsWith p d = (front : List ℕ) × (p ≡ front ++ d)
 
-pub nested_last : {k : ElementType} {p : List ℕ} {v : RawValue} (d : List ℕ) → Valued k p v → Holds v d → EndsWith p d
-nested_last d (of_single l) h = absurd h
-nested_last d (of_document env) h = ([], sym h)
-nested_last d (of_array env) h = ([], sym h)
-nested_last d (of_code code scope is utf8 env) h =
-    let rest : List ℕ = string_payload code ++ scope in
-    let len : List ℕ = le32 (pos (4 + length rest)) in
-    rw h (len ++ string_payload code, is.spelled ∙ sym (append_assoc len (string_payload code) scope))
+document_whole : (k : ElementType) (p e : List ℕ) → MeansValue k p (raw.document e) → p ≡ e
+document_whole k p e m = grind arith
+
+array_whole : (k : ElementType) (p e : List ℕ) → MeansValue k p (raw.array e) → p ≡ e
+array_whole k p e m = grind arith
+
+scoped_whole : (k : ElementType) (p code e : List ℕ) → MeansValue k p (raw.scoped code e) → p ≡ le32 (pos (4 + length (string_payload code ++ e))) ++ (string_payload code ++ e)
+scoped_whole k p code e m = grind arith
+
+pub nested_last : (k : ElementType) (p : List ℕ) (v : RawValue) (d : List ℕ) → MeansValue k p v → Holds v d → EndsWith p d
+nested_last k p (raw.single l) d m h = absurd h
+nested_last k p (raw.document e) d m h = ([], document_whole k p e m ∙ sym h)
+nested_last k p (raw.array e) d m h = ([], array_whole k p e m ∙ sym h)
+nested_last k p (raw.scoped code e) d m h =
+    let len : List ℕ = le32 (pos (4 + length (string_payload code ++ e))) in
+    (len ++ string_payload code, scoped_whole k p code e m ∙ sym (append_assoc len (string_payload code) e) ∙ ap (λ (x : List ℕ). (len ++ string_payload code) ++ x) (sym h))
 
 -- what is left of a level, in the document
 pub left_lies : {b d : List ℕ} {start : ℕ} (fs : List Frame) (s : List ℕ) (offset : ℕ) (lies : LiesAt b start d) → LeadsTo (drop 4 d) fs s
