@@ -1,15 +1,14 @@
 -- How many frames are in bytes: some number of levels serves, one frame more, at most half of the bytes, and
 -- only one number.
-use Rattle.std.proofs.Common.{◌≡◌, inl, inr, ◌≤◌, ◌+◌, ◌*◌, ◌-◌, ◌++◌, ◌∷◌, [], ℕ, zero, suc, List, length, drop, arith, ap, refl, sym, ◌∙◌, subst, length-drop}
+use Rattle.std.proofs.Common.{◌≡◌, ◌⊎◌, inl, inr, ◌≤◌, ◌+◌, ◌*◌, ◌-◌, ◌++◌, ◌∷◌, [], ℕ, max, zero, suc, List, length, drop, arith, ap, refl, sym, ◌∙◌, length-drop}
 use Rattle.raw_tree.proofs.Common.{Tree, AreBytes, IsEnvelope, Frame, IsFrame, IsStop, IsWalk, End, LeadsTo, RawValue, KeyedFault, Meaning, Means, value, faulty, AllHaveOneFrameCount, CountsIn}
-use Rattle.raw_tree.proofs.Common.{CountsFrames, HasFrameCountUpTo, HasFrameCount, CountsToFaultAt, HasFramesToFaultUpTo, HasFramesToFault, HasFramesUntilFault, fault_of, Sort}
-use Rattle.raw_tree.proofs.Common.{StandsFor, StandForEach, ReadsUpTo, ReadsAs, Holds, FirstFault}
+use Rattle.raw_tree.proofs.Common.{CountsFrames, HasFrameCountUpTo, HasFrameCount, CountsToFaultAt, HasFramesToFaultUpTo, HasFramesToFault, HasFramesUntilFault, Sort, IsSoDeep, IsGreatestDepth, HasDepthUpTo}
+use Rattle.raw_tree.proofs.Common.{StandsFor, StandForEach, ReadsUpTo, ReadsAs, Holds, FirstFault, FirstFaultOfFrame}
 use Rattle.raw_tree.specs.reader.FrameCount.{stop, own_fault, nested_fault}
 use Rattle.bson_model.proofs.Face.{AreBytes-drop}
-use Rattle.raw_view.specs.Meaning as raw
 use Rattle.raw_view.proofs.Face.{LeadsTo-more, IsFrame-shorter, AreBytes-rest, document_has_walk, has_meaning, one_frame, one_walk, one_meaning, no_frame_at_stop}
 use Rattle.raw_tree.proofs.reader.Loops.{each_read, stand_more, nested_envelope, nested_shorter, nested_beside}
-use Rattle.raw_tree.proofs.reader.OneTree.{BarsAs, FailsAt, one_nested, one_value_of, passed_same, reads_apart, value_nor_fault}
+use Rattle.raw_tree.proofs.reader.OneTree.{IsBlocked, leads_to_end, one_nested, one_value_of, passed_same, tree_or_fault_of_value, value_nor_fault}
 
 -- levels
 
@@ -84,12 +83,16 @@ passed_read levels {pairs = pairs} is = record { frames = is.frames; leads = is.
 abbrev pub Fails : List ℕ → KeyedFault → ℕ → Type 0
 Fails b fault n = FirstFault b fault × HasFramesToFault b n
 
+-- the walk stops here with the fault, or the frame at the front has it first
+abbrev pub FailsAt : List ℕ → KeyedFault → Type 0
+FailsAt s fault = IsStop s fault.fault fault.key ⊎ ((f : Frame) × (r : List ℕ) × IsFrame s f r × FirstFaultOfFrame f fault)
+
 module _ {b s : List ℕ} {pairs : List (List ℕ × Tree)} {n : ℕ} (is : Passed ReadsAs b s pairs n) where
   -- a fault behind the frames that are passed is the first
-  pub fault_behind : (fault : KeyedFault) → FailsAt FirstFault s fault → FirstFault b fault
+  pub fault_behind : (fault : KeyedFault) → FailsAt s fault → FirstFault b fault
   fault_behind fault (inl stops) = (1, (is.frames, pairs, s, is.leads, is.each, inl stops))
   fault_behind fault (inr (f, r, at, inl m)) = (1, (is.frames, pairs, s, is.leads, is.each, inr (f, r, at, inl m)))
-  fault_behind fault (inr (f, r, at, inr v)) = (suc v.4.0, (is.frames, pairs, s, is.leads, is.each, inr (f, r, at, inr (v.0, v.2, (v.1, v.3, v.4.1)))))
+  fault_behind fault (inr (f, r, at, inr (v, m, bad))) = (suc bad.2.0, (is.frames, pairs, s, is.leads, is.each, inr (f, r, at, inr (v, m, (bad.0, bad.1, bad.2.1)))))
 
   -- the walk stops there
   pub fails_at_stop : (fault : KeyedFault) → IsStop s fault.fault fault.key → Fails b fault n
@@ -106,7 +109,7 @@ module _ {b s : List ℕ} {pairs : List (List ℕ × Tree)} {n : ℕ} (is : Pass
   pub fails_inside : (f : Frame) (r : List ℕ) (v : RawValue) (d : List ℕ) (fault : KeyedFault) (inside : ℕ) → IsFrame s f r → Means f (value v) → Holds v d
       → Fails d fault inside → Fails b fault (n + 1 + inside)
   fails_inside f r v d fault inside at m holds bad = (
-    fault_behind fault (inr (f, r, at, inr (v, d, m, holds, bad.0))),
+    fault_behind fault (inr (f, r, at, inr (v, m, (d, holds, bad.0)))),
     (suc bad.1.0, (is.frames, pairs, s, n, is.leads, is.each, is.counts, nested_fault f r v d fault inside at m holds bad.0 bad.1.1 refl)),
   )
 
@@ -121,23 +124,22 @@ value_small : (N : List ℕ → ℕ → Type 0) → AreSmall N → (s : List ℕ
     → Means f (value v) → Holds v d → N d n → 2 * n + length r + 2 ≤ length s
 value_small N small s f r v d n at m holds h = omega (arith, small d n h, nested_beside s f r v d at m holds)
 
+-- the frames in what a frame means are those of nested bytes
+in_nested : (N : List ℕ → ℕ → Type 0) (m : Meaning) (n : ℕ) → CountsIn N m n → (n ≡ 0) ⊎ ((v : RawValue) × (d : List ℕ) × (m ≡ value v) × Holds v d × N d n)
+in_nested N m n h = grind arith
+
 meaning_small : (N : List ℕ → ℕ → Type 0) → AreSmall N → (s : List ℕ) (f : Frame) (r : List ℕ) (m : Meaning) (n : ℕ) → IsFrame s f r → Means f m → CountsIn N m n → 2 * n + length r + 2 ≤ length s
-meaning_small N small s f r (value (raw.single l)) n at is h = omega (arith, h, IsFrame-shorter s f r at)
-meaning_small N small s f r (value (raw.document d)) n at is h = value_small N small s f r (raw.document d) d n at is refl h
-meaning_small N small s f r (value (raw.array d)) n at is h = value_small N small s f r (raw.array d) d n at is refl h
-meaning_small N small s f r (value (raw.scoped code d)) n at is h = value_small N small s f r (raw.scoped code d) d n at is refl h
-meaning_small N small s f r (faulty x) n at is h = omega (arith, h, IsFrame-shorter s f r at)
+meaning_small N small s f r m n at is h =
+    elim (in_nested N m n h) [
+      | inl none ↦ omega (arith, none, IsFrame-shorter s f r at)
+      | inr inside ↦ value_small N small s f r inside.0 inside.1 n at (rw inside.2 at is) inside.3 inside.4
+    ]
 
 -- so do frames that lead on
 passed_small : (N : List ℕ → ℕ → Type 0) → AreSmall N → (s : List ℕ) (fs : List Frame) (r : List ℕ) (n : ℕ) → LeadsTo s fs r → CountsFrames N fs n → 2 * n + length r ≤ length s
 passed_small N small s [] r n l h = omega (arith, h, ap length l)
 passed_small N small s (f ∷ fs) r n l h =
     omega (arith, h.6, meaning_small N small s f l.0 h.0 h.1 l.1 h.3 h.4, passed_small N small l.0 fs r h.2 l.2 h.5)
-
--- a walk leads to its end
-pub leads_to_end : (s : List ℕ) (fs : List Frame) (end : End) → IsWalk s fs end → (r : List ℕ) × LeadsTo s fs r
-leads_to_end s [] end w = (s, refl)
-leads_to_end s (f ∷ fs) end w = let on = leads_to_end w.0 fs end w.2 in (on.0, (w.0, w.1, on.1))
 
 count_small_within : (levels : ℕ) → AreSmall (HasFrameCountUpTo levels)
 count_small_within zero b n h = absurd h
@@ -166,38 +168,39 @@ until_small b n (inr to) = to_fault_small_within to.0 b n to.1
 
 -- a number, and only one
 
--- shorter bytes with an envelope have a frame count
-abbrev HaveCountsWithin : ℕ → Type 0
-HaveCountsWithin n = (d : List ℕ) → length d ≤ n → IsEnvelope d → (k : ℕ) × HasFrameCount d k
+-- shorter bytes with an envelope have such a number
+abbrev HaveWithin : ℕ → (List ℕ → ℕ → Type 0) → Type 0
+HaveWithin n N = (d : List ℕ) → length d ≤ n → IsEnvelope d → (k : ℕ) × N d k
 
-module _ (n : ℕ) (shorter : HaveCountsWithin n) where
-  -- so does a value that holds them
-  value_has_count : (s : List ℕ) (f : Frame) (r : List ℕ) (v : RawValue) (d : List ℕ) → length s ≤ n + 1 → IsFrame s f r → Means f (value v) → Holds v d → (k : ℕ) × HasFrameCount d k
-  value_has_count s f r v d l at m h = shorter d (omega (arith, nested_shorter s f r v d at m h)) (nested_envelope s f r v d at m h)
+-- so has what a frame means
+meaning_counted : (n : ℕ) (N : List ℕ → ℕ → Type 0) → HaveWithin n N → (s : List ℕ) (f : Frame) (r : List ℕ) (m : Meaning) → length s ≤ n + 1 → IsFrame s f r → Means f m → (k : ℕ) × CountsIn N m k
+meaning_counted n N shorter s f r m size at is = grind (arith, nested_envelope, nested_shorter)
 
-  meaning_has_count : (s : List ℕ) (f : Frame) (r : List ℕ) (m : Meaning) → length s ≤ n + 1 → IsFrame s f r → Means f m → (k : ℕ) × CountsIn HasFrameCount m k
-  meaning_has_count s f r (value (raw.single l)) size at is = (0, refl)
-  meaning_has_count s f r (value (raw.document d)) size at is = value_has_count s f r (raw.document d) d size at is refl
-  meaning_has_count s f r (value (raw.array d)) size at is = value_has_count s f r (raw.array d) d size at is refl
-  meaning_has_count s f r (value (raw.scoped code d)) size at is = value_has_count s f r (raw.scoped code d) d size at is refl
-  meaning_has_count s f r (faulty x) size at is = (0, refl)
+meaning_deep : (n : ℕ) (N : List ℕ → ℕ → Type 0) → HaveWithin n N → (s : List ℕ) (f : Frame) (r : List ℕ) (m : Meaning) → length s ≤ n + 1 → IsFrame s f r → Means f m → (k : ℕ) × IsSoDeep N m k
+meaning_deep n N shorter s f r m size at is = grind (arith, nested_envelope, nested_shorter)
 
-  -- and so do the frames of a walk
-  walk_has_count : (s : List ℕ) (frames : List Frame) (end : End) → AreBytes s → length s ≤ n + 1 → IsWalk s frames end → (k : ℕ) × CountsFrames HasFrameCount frames k
-  walk_has_count s [] end bytes size w = (0, refl)
-  walk_has_count s (f ∷ fs) end bytes size w =
-      let m = has_meaning f w.0 s bytes w.1 in
-      let inside = meaning_has_count s f w.0 m.0 size w.1 m.1 in
-      let others = walk_has_count w.0 fs end (AreBytes-rest s f w.0 w.1 bytes) (omega (arith, IsFrame-shorter s f w.0 w.1)) w.2 in
-      (1 + inside.0 + others.0, (m.0, inside.0, others.0, m.1, inside.1, others.1, refl))
+-- and so have the frames of a walk
+walk_measured : (n : ℕ) (C D : List ℕ → ℕ → Type 0) → HaveWithin n C → HaveWithin n D → (s : List ℕ) (frames : List Frame) (end : End) → AreBytes s → length s ≤ n + 1 → IsWalk s frames end
+    → ((k : ℕ) × CountsFrames C frames k) × ((k : ℕ) × IsGreatestDepth D frames k)
+walk_measured n C D counts depths s [] end bytes size w = ((0, refl), (0, refl))
+walk_measured n C D counts depths s (f ∷ fs) end bytes size w =
+    let m = has_meaning f w.0 s bytes w.1 in
+    let inside = meaning_counted n C counts s f w.0 m.0 size w.1 m.1 in
+    let deep = meaning_deep n D depths s f w.0 m.0 size w.1 m.1 in
+    let others = walk_measured n C D counts depths w.0 fs end (AreBytes-rest s f w.0 w.1 bytes) (omega (arith, IsFrame-shorter s f w.0 w.1)) w.2 in (
+      (1 + inside.0 + others.0.0, (m.0, inside.0, others.0.0, m.1, inside.1, others.0.1, refl)),
+      (max deep.0 others.1.0, (m.0, deep.0, others.1.0, m.1, deep.1, others.1.1, refl)),
+    )
 
-has_count_within : (n : ℕ) → HaveCountsWithin n
-has_count_within zero b l env = absurd (omega (arith, env.enough))
-has_count_within (suc n) b l env =
-    let w = document_has_walk b env in
-    let size : length (drop 4 b) ≤ n + 1 = omega (arith, length-drop 4 b) in
-    let k = walk_has_count n (has_count_within n) (drop 4 b) w.0 w.1 (AreBytes-drop 4 b env.bytes) size w.2 in
-    (k.0, count_of_walk b w.0 w.1 k.0 w.2 k.1)
+pub has_measures_within : (n : ℕ) → HaveWithin n (HasFrameCountUpTo n) × HaveWithin n (HasDepthUpTo n)
+has_measures_within zero = ((λ b l env. absurd (omega (arith, env.enough))), (λ b l env. absurd (omega (arith, env.enough))))
+has_measures_within (suc n) =
+    let shorter = has_measures_within n in
+    let walk = λ (b : List ℕ) (w : (frames : List Frame) × (end : End) × IsWalk (drop 4 b) frames end) (l : length b ≤ suc n) (env : IsEnvelope b).
+    walk_measured n (HasFrameCountUpTo n) (HasDepthUpTo n) shorter.0 shorter.1 (drop 4 b) w.0 w.1 (AreBytes-drop 4 b env.bytes) (omega (arith, length-drop 4 b)) w.2 in (
+      (λ b l env. let w = document_has_walk b env in let k = (walk b w l env).0 in (k.0, (w.0, w.1, w.2, k.1))),
+      (λ b l env. let w = document_has_walk b env in let k = (walk b w l env).1 in (1 + k.0, (w.0, w.1, k.0, w.2, k.1, refl))),
+    )
 
 -- bytes that are counted in one way and in another have one count
 abbrev pub AgreeOn : (List ℕ → ℕ → Type 0) → (List ℕ → ℕ → Type 0) → Type 0
@@ -222,13 +225,13 @@ one_count b j k h i = one_count_within h.0 i.0 b j k h.1 i.1
 -- and just one
 pub one_frame_count : AllHaveOneFrameCount
 one_frame_count b env =
-    let k = has_count_within (length b) b (omega arith) env in
-    (k.0, k.1, omega (arith, count_small b k.0 k.1), λ other h. one_count b other k.0 h k.1)
+    let k = (has_measures_within (length b)).0 b (omega arith) env in
+    (k.0, (length b, k.1), omega (arith, count_small b k.0 (length b, k.1)), λ other h. one_count b other k.0 h (length b, k.1))
 
 -- a frame that means a fault isn't one whose value has nested bytes
 own_nor_nested : (r : List ℕ) (f g : Frame) (q p : List ℕ) (fault : KeyedFault) (v : RawValue) → IsFrame r f q → IsFrame r g p → Means f (faulty fault) → Means g (value v) → ⊥
 own_nor_nested r f g q p fault v at there m is =
-    value_nor_fault g v fault is (subst (λ (x : Frame). Means x (faulty fault)) (one_frame r f g q p at there).0 m)
+    value_nor_fault g v fault is (rw (one_frame r f g q p at there).0 at m)
 
 at_fault_same : (N M : List ℕ → ℕ → Type 0) → AgreeOn N M → (r : List ℕ) (before j k : ℕ) → CountsToFaultAt N r before j → CountsToFaultAt M r before k → j ≡ k
 at_fault_same N M same r before j k (stop x stops a) (stop y others b) = a ∙ sym b
@@ -241,16 +244,25 @@ at_fault_same N M same r before j k (nested_fault f q v d x inside at m holds fi
 at_fault_same N M same r before j k (nested_fault f q v d x inside at m holds first h a) (own_fault g p y there is b) = absurd (own_nor_nested r g f p q y v there at is m)
 at_fault_same N M same r before j k (nested_fault f q v d x inside at m holds first h a) (nested_fault g p w e y inner there is holding behind l b) =
     let frames : g ≡ f = (one_frame r g f p q there at).0 in
-    let values : w ≡ v = one_value_of f w v (subst (λ (z : Frame). Means z (value w)) frames is) m in
-    let nested : e ≡ d = one_nested v e d (subst (λ (z : RawValue). Holds z e) values holding) holds in
-    let counts : inside ≡ inner = same d inside inner h (subst (λ (z : List ℕ). M z inner) nested l) in
+    let values : w ≡ v = one_value_of f w v (rw frames at is) m in
+    let counts : inside ≡ inner = same d inside inner h (rw (one_nested v e d (rw values at holding) holds) at l) in
     omega (arith, a, b, counts)
 
 -- where a count ends, there is the fault
-at_fault_fails : (N : List ℕ → ℕ → Type 0) (r : List ℕ) (before n : ℕ) → CountsToFaultAt N r before n → (fault : KeyedFault) × FailsAt FirstFault r fault
+at_fault_fails : (N : List ℕ → ℕ → Type 0) (r : List ℕ) (before n : ℕ) → CountsToFaultAt N r before n → (fault : KeyedFault) × FailsAt r fault
 at_fault_fails N r before n (stop fault stops is) = (fault, inl stops)
 at_fault_fails N r before n (own_fault f q fault at m is) = (fault, inr (f, q, at, inl m))
-at_fault_fails N r before n (nested_fault f q v d fault inside at m holds first h is) = (fault, inr (f, q, at, inr (v, d, m, holds, first)))
+at_fault_fails N r before n (nested_fault f q v d fault inside at m holds first h is) = (fault, inr (f, q, at, inr (v, m, (d, holds, first))))
+
+-- which blocks
+fails_block : (s : List ℕ) (fault : KeyedFault) → FailsAt s fault → IsBlocked ReadsAs s
+fails_block s fault (inl stops) f r v t at m h = no_frame_at_stop s fault.fault fault.key stops f r at
+fails_block s fault (inr (g, q, there, bad)) f r v t at m h =
+    let frames : g ≡ f = (one_frame s g f q r there at).0 in
+    elim bad [
+      | inl own ↦ value_nor_fault f v fault m (rw frames at own)
+      | inr inside ↦ tree_or_fault_of_value v t fault h (rw (one_value_of f inside.0 v (rw frames at inside.1) m) at inside.2)
+    ]
 
 to_fault_same : (n m : ℕ) → AgreeOn (HasFramesToFaultUpTo n) (HasFramesToFaultUpTo m)
 to_fault_same zero m b j k h i = absurd h
@@ -258,11 +270,9 @@ to_fault_same (suc n) zero b j k h i = absurd i
 to_fault_same (suc n) (suc m) b j k h i =
     let x = at_fault_fails (HasFramesToFaultUpTo n) h.2 h.3 j h.7 in
     let y = at_fault_fails (HasFramesToFaultUpTo m) i.2 i.3 k i.7 in
-    let same = passed_same ReadsAs (BarsAs FirstFault) (BarsAs FirstFault) reads_apart reads_apart (drop 4 b) i.0 h.0 i.2 h.2 (i.1, fault_of y.0, i.4, i.5, y.1) (h.1, fault_of x.0, h.4, h.5, x.1) in
-    let there : CountsFrames HasFrameCount h.0 i.3 = subst (λ (fs : List Frame). CountsFrames HasFrameCount fs i.3) same.0 i.6 in
-    let before : i.3 ≡ h.3 = counts_each_same HasFrameCount HasFrameCount one_count h.0 i.3 h.3 there h.6 in
-    let fault : CountsToFaultAt (HasFramesToFaultUpTo m) h.2 i.3 k = subst (λ (r : List ℕ). CountsToFaultAt (HasFramesToFaultUpTo m) r i.3 k) same.1 i.7 in
-    at_fault_same (HasFramesToFaultUpTo n) (HasFramesToFaultUpTo m) (to_fault_same n m) h.2 h.3 j k h.7 (subst (λ (c : ℕ). CountsToFaultAt (HasFramesToFaultUpTo m) h.2 c k) before fault)
+    let same = passed_same ReadsAs (drop 4 b) i.0 h.0 i.1 h.1 i.4 i.5 (fails_block i.2 y.0 y.1) h.4 h.5 (fails_block h.2 x.0 x.1) in
+    let before : i.3 ≡ h.3 = counts_each_same HasFrameCount HasFrameCount one_count h.0 i.3 h.3 (rw same.0 at i.6) h.6 in
+    at_fault_same (HasFramesToFaultUpTo n) (HasFramesToFaultUpTo m) (to_fault_same n m) h.2 h.3 j k h.7 (rw (same.1, before) at i.7)
 
 -- bytes that are counted to a fault have one
 to_fault_fails : (b : List ℕ) (n : ℕ) → HasFramesToFault b n → (fault : KeyedFault) × FirstFault b fault

@@ -1,77 +1,34 @@
 -- What a loop over elements keeps: nested bytes are shorter, some number of levels serves, frames that stand for
 -- trees.
-use Rattle.std.proofs.Common.{◌≡◌, inl, inr, ◌≤◌, ◌+◌, ◌++◌, ◌∷◌, [], ℕ, zero, suc, List, length, drop, arith, ap, refl, length-append, IsUtf8}
-use Rattle.raw_tree.proofs.Common.{Leaf, Tree, Entries, document, IsEnvelope, Frame, IsFrame, HasShape, IsWalk, Done, RawValue, Means, MeansValue, IsCodeWithScope, value, ElementType, Sort}
+use Rattle.std.proofs.Common.{◌≡◌, ◌≤◌, ◌+◌, ◌++◌, ◌∷◌, [], ℕ, zero, suc, List, length, drop, arith, ap, refl, length-append}
+use Rattle.raw_tree.proofs.Common.{Tree, Entries, document, IsEnvelope, Frame, IsFrame, HasShape, IsWalk, Done, RawValue, Means, MeansValue, value, ElementType, Sort}
 use Rattle.raw_tree.proofs.Common.{as_document, tree_of_pairs, StandsFor, StandForEach, ReadsUpTo, ReadsAs, Holds}
-use Rattle.raw_view.specs.Meaning as raw
-use Rattle.raw_view.specs.declared.element_type.ElementType.TheVariants as kind
 
 -- nested bytes
 
--- the value of a payload of this kind: one that holds no others; or the payload is a document, an array or a code and
--- its scope
-pub data Valued : ElementType → List ℕ → RawValue → Type 0 where
-  of_single : {k : ElementType} {p : List ℕ} (l : Leaf) → Valued k p (raw.single l)
-  of_document : {p : List ℕ} → IsEnvelope p → Valued kind.EmbeddedDocument p (raw.document p)
-  of_array : {p : List ℕ} → IsEnvelope p → Valued kind.Array p (raw.array p)
-  of_code : {p : List ℕ} (code scope : List ℕ) → IsCodeWithScope p code scope → IsUtf8 code → IsEnvelope scope → Valued kind.JavaScriptCodeWithScope p (raw.scoped code scope)
+-- they have an envelope and are no longer than the payload
+nested_in : (k : ElementType) (p r : List ℕ) (v : RawValue) (d : List ℕ) → HasShape k p r → MeansValue k p v → Holds v d → IsEnvelope d × (length d ≤ length p)
+nested_in k p r v d x m h = grind (arith, length-append)
 
-single_valued : {k : ElementType} {p : List ℕ} {v : RawValue} {l : Leaf} → v ≡ raw.single l → Valued k p v
-single_valued {l = l} e = rw e (of_single l)
-
-pub valued : (k : ElementType) (p r : List ℕ) (v : RawValue) → HasShape k p r → MeansValue k p v → Valued k p v
-valued kind.EmbeddedDocument p r v x m = rw m (of_document x)
-valued kind.Array p r v x m = rw m (of_array x)
-valued kind.JavaScriptCodeWithScope p r v x m = rw (m.5) (of_code m.0 m.1 m.2 m.3 m.4)
-valued kind.Double p r v x m = single_valued m.2
-valued kind.String p r v x m = single_valued m.2
-valued kind.Binary p r v x m =
-    elim m.3 [
-      | inl a ↦ single_valued a.1
-      | inr b ↦ single_valued b.3
-    ]
-valued kind.Boolean p r v x m = single_valued m.2
-valued kind.DateTime p r v x m = single_valued m.2
-valued kind.RegularExpression p r v x m = single_valued m.3
-valued kind.DbPointer p r v x m = single_valued m.4
-valued kind.JavaScriptCode p r v x m = single_valued m.2
-valued kind.Symbol p r v x m = single_valued m.2
-valued kind.Int32 p r v x m = single_valued m.2
-valued kind.Timestamp p r v x m = single_valued m.3
-valued kind.Int64 p r v x m = single_valued m.2
-valued _ p r v x m = single_valued m
-
--- nested bytes have an envelope and are no longer than the payload
-nested_in : {k : ElementType} {p : List ℕ} {v : RawValue} (d : List ℕ) → Valued k p v → Holds v d → IsEnvelope d × (length d ≤ length p)
-nested_in d v h = grind (arith, length-append)
-
-nested_in_frame : (s : List ℕ) (f : Frame) (r : List ℕ) (v : RawValue) (d : List ℕ) → IsFrame s f r → Means f (value v) → Holds v d → IsEnvelope d × (length d ≤ length f.payload)
-nested_in_frame s f r v d b m h = nested_in d (valued f.kind f.payload r v b.payload_is m) h
-
--- a payload is behind a tag and a 0
-payload_shorter : (s : List ℕ) (f : Frame) (r : List ℕ) → IsFrame s f r → length f.payload + 2 ≤ length s
-payload_shorter s f r b = omega (arith, ap length b.spelled, length-append f.key (0 ∷ (f.payload ++ r)), length-append f.payload r)
-
--- the nested bytes of a frame's value have an envelope
 pub nested_envelope : (s : List ℕ) (f : Frame) (r : List ℕ) (v : RawValue) (d : List ℕ) → IsFrame s f r → Means f (value v) → Holds v d → IsEnvelope d
-nested_envelope s f r v d b m h = (nested_in_frame s f r v d b m h).0
+nested_envelope s f r v d b m h = (nested_in f.kind f.payload r v d b.payload_is m h).0
 
--- and they are shorter by two than the bytes where the frame is
-pub nested_shorter : (s : List ℕ) (f : Frame) (r : List ℕ) (v : RawValue) (d : List ℕ) → IsFrame s f r → Means f (value v) → Holds v d → length d + 2 ≤ length s
-nested_shorter s f r v d b m h = omega (arith, (nested_in_frame s f r v d b m h).1, payload_shorter s f r b)
-
--- and they stand beside what is left behind the frame
+-- they are shorter by two than the bytes where the frame is, beside what is left behind it
 pub nested_beside : (s : List ℕ) (f : Frame) (r : List ℕ) (v : RawValue) (d : List ℕ) → IsFrame s f r → Means f (value v) → Holds v d → length d + length r + 2 ≤ length s
-nested_beside s f r v d b m h = grind (arith, length-append, nested_in_frame)
+nested_beside s f r v d b m h =
+    omega (arith, (nested_in f.kind f.payload r v d b.payload_is m h).1, ap length b.spelled, length-append f.key (0 ∷ (f.payload ++ r)), length-append f.payload r)
+
+pub nested_shorter : (s : List ℕ) (f : Frame) (r : List ℕ) (v : RawValue) (d : List ℕ) → IsFrame s f r → Means f (value v) → Holds v d → length d + 2 ≤ length s
+nested_shorter s f r v d b m h = omega (arith, nested_beside s f r v d b m h)
 
 -- levels
 
 -- where other bytes are read as the same trees, a value stands for the same tree
-stands_on : (N M : Sort → List ℕ → Tree → Type 0) → ((sort : Sort) (b : List ℕ) (t : Tree) → N sort b t → M sort b t) → (v : RawValue) (t : Tree) → StandsFor N v t → StandsFor M v t
+pub stands_on : (N M : Sort → List ℕ → Tree → Type 0) → ((sort : Sort) (b : List ℕ) (t : Tree) → N sort b t → M sort b t) → (v : RawValue) (t : Tree) → StandsFor N v t → StandsFor M v t
 stands_on N M on v t h = grind arith
 
 -- so do the values of frames
-stand_each_on : (N M : Sort → List ℕ → Tree → Type 0) → ((sort : Sort) (b : List ℕ) (t : Tree) → N sort b t → M sort b t)
+pub stand_each_on : (N M : Sort → List ℕ → Tree → Type 0) → ((sort : Sort) (b : List ℕ) (t : Tree) → N sort b t → M sort b t)
     → (fs : List Frame) (pairs : List (List ℕ × Tree)) → StandForEach N fs pairs → StandForEach M fs pairs
 stand_each_on N M on [] pairs h = h
 stand_each_on N M on (f ∷ fs) pairs h = (h.0, h.1, h.2, h.3, stands_on N M on h.0 h.1 h.4, h.5, stand_each_on N M on fs h.2 h.6)

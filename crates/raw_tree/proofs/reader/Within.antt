@@ -2,25 +2,7 @@
 use Rattle.std.proofs.Common.{◌≡◌, inl, inr, ◌≤◌, ◌<◌, ℕ, zero, suc, List, length, Result, IfOk, IfErr, arith, length-drop}
 use Rattle.raw_tree.proofs.Common.{bytes_of, IsEnvelope, KeyedFault, max_length, Error, TellsFrames, AreRead, TellsFramesWithin, TellsReading, fault_of, too_many_bytes, too_deep, FirstFaultWithin}
 use Rattle.raw_tree.proofs.Common.{TellsFirstFaultWithin, FirstFaultUpTo, FirstFault, TellsFirstFault, Contents, Nested}
-use Rattle.raw_view.proofs.Face.{LeadsTo-bound}
-use Rattle.raw_tree.proofs.reader.Loops.{each_read, nested_shorter}
-
--- a fault that is first within a depth is at most so many levels deep
-first_fault_up_to : (n : ℕ) (b : List ℕ) (fault : KeyedFault) → FirstFaultWithin n b (fault_of fault) → FirstFaultUpTo n b fault
-first_fault_up_to zero b fault h = let bad : fault_of fault ≡ too_deep = h in cc
-first_fault_up_to (suc n) b fault (fs, ps, r, l, each, inl stop) = (fs, ps, r, l, each_read n fs ps each, inl stop)
-first_fault_up_to (suc n) b fault (fs, ps, r, l, each, inr (f, q, at, inl m)) = (fs, ps, r, l, each_read n fs ps each, inr (f, q, at, inl m))
-first_fault_up_to (suc n) b fault (fs, ps, r, l, each, inr (f, q, at, inr (v, d, m, holds, bad))) =
-    (fs, ps, r, l, each_read n fs ps each, inr (f, q, at, inr (v, m, (d, holds, first_fault_up_to n d fault bad))))
-
--- and is the first fault
-pub first_fault : (n : ℕ) (b : List ℕ) (fault : KeyedFault) → FirstFaultWithin n b (fault_of fault) → FirstFault b fault
-first_fault n b fault h = (n, first_fault_up_to n b fault h)
-
--- bytes with a level deeper than allowed are at least so many as the levels that are
-deep_long : (n : ℕ) (b : List ℕ) → FirstFaultWithin n b too_deep → n ≤ length b
-deep_long zero b h = omega arith
-deep_long (suc n) b h = grind (arith, LeadsTo-bound, length-drop, nested_shorter, deep_long n)
+use Rattle.raw_tree.proofs.reader.OneTree.{deep_long, first_fault}
 
 -- the bytes aren't counted within a depth
 never_too_many : (n : ℕ) (b : List ℕ) → FirstFaultWithin n b too_many_bytes → ⊥
