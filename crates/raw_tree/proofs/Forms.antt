@@ -1,11 +1,11 @@
 -- The encoding of a tree that is read.
-use Rattle.std.proofs.Common.{◌≡◌, ◌≤◌, ◌∷◌, [], List, ℕ, zero, suc, Result, Ok, Err, IfOk, Vec, Global, map, length, arith, ap, refl, subst}
+use Rattle.std.proofs.Common.{◌≡◌, ◌≤◌, ◌∷◌, [], List, ℕ, zero, suc, Result, Ok, Err, IfOk, Vec, Global, map, length, arith, ap, refl, subst, ◌∙◌}
 use Rattle.raw_tree.proofs.Common.{keep, IsProper, Tree, Trees, Entries, leaf, array, document, code_with_scope, trees, entries, IsEnvelope, Frame, max_length, Error, RawValue, AreBytes}
-use Rattle.raw_tree.proofs.Common.{IsValueCanonical, AreFramesCanonical, IsCanonicalUpTo, IsCanonicalAs, IsSpelling, IsSpelledOneWay, IsEncoded, encoding, encoded_len, entries_bytes, items_bytes}
+use Rattle.raw_tree.proofs.Common.{IsValueCanonical, AreFramesCanonical, IsCanonicalUpTo, IsCanonicalAs, IsSpelling, IsSpelledOneWay, IsEncoded, framed, encoding, encoded_len, entries_bytes, items_bytes}
 use Rattle.raw_tree.proofs.Common.{Sort, as_document, as_array, tree_of_pairs, leaf_in_order, StandsFor, StandForEach, ReadsUpTo, ReadsAs}
-use Rattle.raw_view.proofs.Face.{framed_is_envelope}
+use Rattle.raw_view.proofs.Face.{framed_is_envelope, length-framed}
 use Rattle.raw_view.specs.Meaning as raw
-use Rattle.raw_tree.proofs.writer.Encodings.{length-entries_bytes, length-items_bytes, length-tree_payload}
+use Rattle.raw_tree.proofs.writer.Encodings.{length-tree_payload}
 use Rattle.raw_tree.proofs.reader.ReadTrees.{read_is_proper}
 use Rattle.raw_tree.proofs.Returns.{Returns, document_returns, array_returns}
 use Rattle.raw_tree.proofs.Spelled.{canonical_is_spelled}
@@ -14,18 +14,17 @@ use Rattle.raw_tree.proofs.Spelled.{canonical_is_spelled}
 read_returns : (sort : Sort) (b : List ℕ) (t : Tree) → ReadsAs sort b t → IsProper t → encoded_len t ≤ max_length → Returns sort (encoding t) t
 read_returns sort b t (zero, r) p l = absurd r
 read_returns as_document b t (suc n, r) p l =
-    rw r.2 (document_returns (entries (keep r.0)) (subst IsProper r.2 p) (subst (λ (u : Tree). encoded_len u ≤ max_length) r.2 l))
+    rw r.2 (document_returns (entries (keep r.0)) (rw r.2 at p) (rw r.2 at l))
 read_returns as_array b t (suc n, r) p l =
-    rw r.2 (array_returns (trees (map (λ q. q.1) r.0)) (subst IsProper r.2 p) (subst (λ (u : Tree). encoded_len u ≤ max_length) r.2 l))
+    rw r.2 (array_returns (trees (map (λ q. q.1) r.0)) (rw r.2 at p) (rw r.2 at l))
 
 -- what is canonical is read, where nested bytes that are canonical are
-module _ (N : Sort → List ℕ → Type 0) (M : Sort → List ℕ → Tree → Type 0) (documents : (d : List ℕ) → N as_document d → (es : Entries) × M as_document d (document es))
-    (arrays : (d : List ℕ) → N as_array d → (t : Tree) × M as_array d t) where
+module _ (N : Sort → List ℕ → Type 0) (M : Sort → List ℕ → Tree → Type 0) (nested : (sort : Sort) (d : List ℕ) → N sort d → (pairs : List (List ℕ × Tree)) × M sort d (tree_of_pairs sort pairs)) where
   value_reads : (v : RawValue) → IsValueCanonical N v → (t : Tree) × StandsFor M v t
   value_reads (raw.single l) h = (leaf (leaf_in_order l), refl)
-  value_reads (raw.document d) h = let read = documents d h in (document read.0, read.1)
-  value_reads (raw.array d) h = arrays d h
-  value_reads (raw.scoped code d) h = let read = documents d h in (code_with_scope code read.0, (read.0, read.1, refl))
+  value_reads (raw.document d) h = let read = nested as_document d h in (tree_of_pairs as_document read.0, read.1)
+  value_reads (raw.array d) h = let read = nested as_array d h in (tree_of_pairs as_array read.0, read.1)
+  value_reads (raw.scoped code d) h = let read = nested as_document d h in (code_with_scope code (entries (keep read.0)), (entries (keep read.0), read.1, refl))
 
   frames_read : (fs : List Frame) → AreFramesCanonical N fs → (pairs : List (List ℕ × Tree)) × StandForEach M fs pairs
   frames_read [] h = ([], refl)
@@ -34,27 +33,19 @@ module _ (N : Sort → List ℕ → Type 0) (M : Sort → List ℕ → Tree → 
       let others = frames_read fs h.3 in
       ((f.key, first.0) ∷ others.0, (h.0, first.0, others.0, h.1, first.1, refl, others.1))
 
--- of a document and of an array
-mutual
-  pub document_reads : (n : ℕ) (b : List ℕ) → IsCanonicalUpTo n as_document b → (es : Entries) × ReadsUpTo n as_document b (document es)
-  document_reads zero b c = absurd c
-  document_reads (suc n) b c =
-      let each = frames_read (IsCanonicalUpTo n) (ReadsUpTo n) (document_reads n) (array_reads n) c.0 c.3 in
-      (entries (keep each.0), (each.0, (c.0, c.1, each.1), refl))
+canonical_pairs : (n : ℕ) (sort : Sort) (b : List ℕ) → IsCanonicalUpTo n sort b → (pairs : List (List ℕ × Tree)) × ReadsUpTo n sort b (tree_of_pairs sort pairs)
+canonical_pairs zero sort b c = absurd c
+canonical_pairs (suc n) sort b c =
+    let each = frames_read (IsCanonicalUpTo n) (ReadsUpTo n) (canonical_pairs n) c.0 c.3 in
+    (each.0, (each.0, (c.0, c.1, each.1), refl))
 
-  array_reads : (n : ℕ) (b : List ℕ) → IsCanonicalUpTo n as_array b → (t : Tree) × ReadsUpTo n as_array b t
-  array_reads zero b c = absurd c
-  array_reads (suc n) b c =
-      let each = frames_read (IsCanonicalUpTo n) (ReadsUpTo n) (document_reads n) (array_reads n) c.0 c.3 in
-      (tree_of_pairs as_array each.0, (each.0, (c.0, c.1, each.1), refl))
+-- a document is read as that of some entries
+pub document_reads : (n : ℕ) (b : List ℕ) → IsCanonicalUpTo n as_document b → (es : Entries) × ReadsUpTo n as_document b (document es)
+document_reads n b c = let read = canonical_pairs n as_document b c in (entries (keep read.0), read.1)
 
 -- frames that are canonical
 pub canonical_frames_read : (n : ℕ) (fs : List Frame) → AreFramesCanonical (IsCanonicalUpTo n) fs → (pairs : List (List ℕ × Tree)) × StandForEach (ReadsUpTo n) fs pairs
-canonical_frames_read n fs h = frames_read (IsCanonicalUpTo n) (ReadsUpTo n) (document_reads n) (array_reads n) fs h
-
-canonical_reads : (sort : Sort) (b : List ℕ) → IsCanonicalAs sort b → (t : Tree) × ReadsAs sort b t
-canonical_reads as_document b (n, c) = let read = document_reads n b c in (document read.0, (n, read.1))
-canonical_reads as_array b (n, c) = let read = array_reads n b c in (read.0, (n, read.1))
+canonical_frames_read n fs h = frames_read (IsCanonicalUpTo n) (ReadsUpTo n) (canonical_pairs n) fs h
 
 -- a canonical document is the encoding of its tree, which is of a size in range
 canonical_spelling : (sort : Sort) (b : List ℕ) (t : Tree) → IsEnvelope b → ReadsAs sort b t → IsCanonicalAs sort b → IsSpelling t b
@@ -71,18 +62,21 @@ pub bytes_spelled_one_way : (sort : Sort) (b : List ℕ) → IsEnvelope b → Is
 bytes_spelled_one_way sort b env = record {
   proper = λ t r. read_is_proper sort b t env r;
   unchanged = λ t r. (spelling_canonical sort b t env r, canonical_spelling sort b t env r);
-  canonical_reads = λ c. canonical_reads sort b c;
+  canonical_reads = λ c. let read = canonical_pairs c.0 sort b c.1 in (tree_of_pairs sort read.0, (c.0, read.1));
 }
 
 -- what is written has an envelope
+enveloped : (t : Tree) (inside : List ℕ) → encoding t ≡ framed inside → (result : Result (Vec ℕ Global) Error) → IfOk result (λ out. IsEncoded t out.items)
+    → IfOk result (λ out. AreBytes out.items) → IfOk result (λ out. IsEnvelope out.items)
+enveloped t inside e (Err error) encoded bytes = tt
+enveloped t inside e (Ok out) encoded bytes =
+    let same : out.items ≡ framed inside = encoded.2 ∙ e in
+    rw same (framed_is_envelope inside (rw same at bytes) (omega (arith, ap length e, length-framed inside, length-tree_payload t, encoded.1)))
+
 pub document_enveloped : (es : Entries) (result : Result (Vec ℕ Global) Error) → IfOk result (λ out. IsEncoded (document es) out.items)
     → IfOk result (λ out. AreBytes out.items) → IfOk result (λ out. IsEnvelope out.items)
-document_enveloped es (Err e) encoded bytes = tt
-document_enveloped es (Ok out) encoded bytes =
-    rw encoded.2 (framed_is_envelope (entries_bytes es) (subst AreBytes encoded.2 bytes) (omega (arith, length-entries_bytes es, encoded.1)))
+document_enveloped es = enveloped (document es) (entries_bytes es) refl
 
 pub list_enveloped : (ts : Trees) (result : Result (Vec ℕ Global) Error) → IfOk result (λ out. IsEncoded (array ts) out.items)
     → IfOk result (λ out. AreBytes out.items) → IfOk result (λ out. IsEnvelope out.items)
-list_enveloped ts (Err e) encoded bytes = tt
-list_enveloped ts (Ok out) encoded bytes =
-    rw encoded.2 (framed_is_envelope (items_bytes 0 ts) (subst AreBytes encoded.2 bytes) (omega (arith, length-items_bytes 0 ts, encoded.1)))
+list_enveloped ts = enveloped (array ts) (items_bytes 0 ts) refl

@@ -1,10 +1,10 @@
 -- A proper tree of a size in range is read from its encoding as that very tree, and the encoding is canonical.
-use Rattle.std.proofs.Common.{◌≡◌, ◌≢◌, ◌≤◌, ◌<◌, ◌+◌, ◌%◌, ◌^◌, ◌++◌, ◌∷◌, [], ℕ, zero, suc, List, length, map, drop, decimal, arith, ap, sym, refl, subst, ◌∙◌, append_assoc, length-append, IsUtf8, bytes_eq}
+use Rattle.std.proofs.Common.{◌≡◌, ◌≢◌, ◌≤◌, ◌<◌, ◌+◌, ◌%◌, ◌^◌, ◌++◌, ◌∷◌, [], ℕ, zero, suc, List, length, map, drop, decimal, arith, ap, sym, refl, ◌∙◌, append_assoc, length-append, IsUtf8, bytes_eq}
 use Rattle.raw_tree.proofs.Common.{decimal_by_steps, IsAscii-decimal, All-push, IsUtf8-from_ascii, IsDistinct, AreBytes, NulFree, Leaf, regular_expression, keys_of, keys_in, InTrees, InEntries}
-use Rattle.raw_tree.proofs.Common.{well_formed_parts, nul_free_parts, ascending_parts, proper_subtype_parts, IsWellFormed, IsNulFree, DoOptionsAscend, AreSubtypesProper, IsLeafInRange, IsLeafNulFree, DoLeafOptionsAscend, IsLeafSubtypeProper, IsProper, Tree, Trees}
+use Rattle.raw_tree.proofs.Common.{well_formed_parts, nul_free_parts, ascending_parts, proper_subtype_parts, IsWellFormed, IsNulFree, DoOptionsAscend, AreSubtypesProper, IsLeafInRange, IsLeafNulFree, DoLeafOptionsAscend, IsLeafSubtypeProper, Tree, Trees}
 use Rattle.raw_tree.proofs.Common.{Entries, leaf, array, document, code_with_scope, no_tree, tree_then, no_entry, entry_then, trees, entries, pairs_in, IsEnvelope, string_payload, leaf_payload}
 use Rattle.raw_tree.proofs.Common.{framed, element_of, HasShape, Frame, IsWalk, Done, tag_of, RawValue, MeansValue, max_length, AreDecimalsFrom, AreKeysCanonical, IsValueCanonical, AreFramesCanonical}
-use Rattle.raw_tree.proofs.Common.{IsCanonicalUpTo, IsCanonicalAs, kind_of_tree, tree_payload, items_bytes, entries_bytes, encoding, encoded_len, items_len, entries_len, Sort, as_document, as_array}
+use Rattle.raw_tree.proofs.Common.{IsCanonicalUpTo, IsCanonicalAs, kind_of_tree, tree_payload, items_bytes, entries_bytes, encoded_len, items_len, entries_len, Sort, as_document, as_array, ComesBack}
 use Rattle.raw_tree.proofs.Common.{tree_of_pairs, leaf_in_order, StandsFor, StandForEach, ReadsAs}
 use Rattle.bson_model.proofs.Face.{AreBytes-nil, AreBytes-append, NulFree-nil, NulFree-cons, keep-distinct, sorted_options-same}
 use Rattle.raw_view.specs.Meaning as raw
@@ -94,69 +94,52 @@ abbrev numbered : ℕ → Trees → Entries
 numbered n no_tree = no_entry
 numbered n (tree_then t ts) = entry_then (decimal n) t (numbered (n + 1) ts)
 
--- they are written as the members are
-entries_bytes-numbered : (n : ℕ) (ts : Trees) → items_bytes n ts ≡ entries_bytes (numbered n ts)
-entries_bytes-numbered n no_tree = refl
-entries_bytes-numbered n (tree_then t ts) = ap (λ (x : List ℕ). element_of (kind_of_tree t) (decimal n) (tree_payload t) ++ x) (entries_bytes-numbered (n + 1) ts)
+-- they are written as the members are, their keys are those decimals, and their trees the members
+numbered_are : (n : ℕ) (ts : Trees) → (items_bytes n ts ≡ entries_bytes (numbered n ts)) × AreDecimalsFrom n (keys_in (numbered n ts)) × (trees (map (λ p. p.1) (pairs_in (numbered n ts))) ≡ ts)
+numbered_are n no_tree = (refl, tt, refl)
+numbered_are n (tree_then t ts) =
+    let rest = numbered_are (n + 1) ts in
+    (ap (λ (x : List ℕ). element_of (kind_of_tree t) (decimal n) (tree_payload t) ++ x) rest.0, (refl, rest.1), ap (λ (x : Trees). tree_then t x) rest.2)
 
--- their keys are those decimals
-decimals_in : (n : ℕ) (ts : Trees) → AreDecimalsFrom n (keys_in (numbered n ts))
-decimals_in n no_tree = tt
-decimals_in n (tree_then t ts) = (refl, decimals_in (n + 1) ts)
-
--- their trees are the members
-trees-numbered : (n : ℕ) (ts : Trees) → trees (map (λ p. p.1) (pairs_in (numbered n ts))) ≡ ts
-trees-numbered n no_tree = refl
-trees-numbered n (tree_then t ts) = ap (λ (x : Trees). tree_then t x) (trees-numbered (n + 1) ts)
-
--- pairs are those of their entries
-entries-pairs_in : (es : Entries) → entries (pairs_in es) ≡ es
-entries-pairs_in no_entry = refl
-entries-pairs_in (entry_then key t es) = ap (λ (x : Entries). entry_then key t x) (entries-pairs_in es)
-
--- the keys of the pairs are those of the entries
-keys_of-pairs_in : (es : Entries) → keys_of (pairs_in es) ≡ keys_in es
-keys_of-pairs_in no_entry = refl
-keys_of-pairs_in (entry_then key t es) = ap (λ (x : List (List ℕ)). key ∷ x) (keys_of-pairs_in es)
-
--- and so are the keys of the frames
-keys-frames_in : (es : Entries) → map (λ f. f.key) (frames_in es) ≡ keys_in es
-keys-frames_in no_entry = refl
-keys-frames_in (entry_then key t es) = ap (λ (x : List (List ℕ)). key ∷ x) (keys-frames_in es)
+-- pairs are those of their entries, and their keys those of the entries
+pairs_are : (es : Entries) → (entries (pairs_in es) ≡ es) × (keys_of (pairs_in es) ≡ keys_in es)
+pairs_are no_entry = (refl, refl)
+pairs_are (entry_then key t es) = let rest = pairs_are es in (ap (λ (x : Entries). entry_then key t x) rest.0, ap (λ (x : List (List ℕ)). key ∷ x) rest.1)
 
 -- an element, others and more bytes behind them
 element-append : (tag : ℕ) (key p r e : List ℕ) → ((tag ∷ (key ++ 0 ∷ p)) ++ r) ++ e ≡ tag ∷ (key ++ 0 ∷ (p ++ (r ++ e)))
 element-append tag key p r e = simp append_assoc
 
--- the written elements with a 0 behind them have a walk
-entries_walk : (es : Entries) → AreReturned es → IsWalk (entries_bytes es ++ 0 ∷ []) (frames_in es) Done
-entries_walk no_entry h = refl
-entries_walk (entry_then key t es) h = (
-  entries_bytes es ++ 0 ∷ [],
-  record {
-    spelled = element-append (tag_of (kind_of_tree t)) key (tree_payload t) (entries_bytes es) (0 ∷ []);
-    key_nul_free = h.1;
-    key_utf8 = h.0;
-    payload_is = h.2.shape (entries_bytes es ++ 0 ∷ []);
-  },
-  entries_walk es h.3,
-)
+-- written elements are bytes, and with a 0 behind them have a walk, whose frames have these keys, stand for the pairs and
+-- are canonical
+record AreWritten (es : Entries) : Type 0 where
+  bytes : AreBytes (entries_bytes es)
+  walk : IsWalk (entries_bytes es ++ 0 ∷ []) (frames_in es) Done
+  keys : map (λ f. f.key) (frames_in es) ≡ keys_in es
+  stand : StandForEach ReadsAs (frames_in es) (pairs_in es)
+  canonical : AreFramesCanonical IsCanonicalAs (frames_in es)
 
--- their frames stand for the pairs
-entries_stand : (es : Entries) → AreReturned es → StandForEach ReadsAs (frames_in es) (pairs_in es)
-entries_stand no_entry h = refl
-entries_stand (entry_then key t es) h = (h.2.value, t, pairs_in es, h.2.means, h.2.stands, refl, entries_stand es h.3)
-
--- and are canonical
-entries_canonical : (es : Entries) → AreReturned es → AreFramesCanonical IsCanonicalAs (frames_in es)
-entries_canonical no_entry h = tt
-entries_canonical (entry_then key t es) h = (h.2.value, h.2.means, h.2.canonical, entries_canonical es h.3)
-
--- the written elements are bytes
-entries_are_bytes : (es : Entries) → AreReturned es → AreBytes (entries_bytes es)
-entries_are_bytes no_entry h = AreBytes-nil
-entries_are_bytes (entry_then key t es) h = AreBytes-append (element_of (kind_of_tree t) key (tree_payload t)) (entries_bytes es)
-    (AreBytes-element (kind_of_tree t) key (tree_payload t) h.0 h.2.bytes) (entries_are_bytes es h.3)
+written : (es : Entries) → AreReturned es → AreWritten es
+written no_entry h = record { bytes = AreBytes-nil; walk = refl; keys = refl; stand = refl; canonical = tt }
+written (entry_then key t es) h =
+    let rest = written es h.3 in
+    let behind : List ℕ = entries_bytes es ++ 0 ∷ [] in
+    record {
+      bytes = AreBytes-append (element_of (kind_of_tree t) key (tree_payload t)) (entries_bytes es) (AreBytes-element (kind_of_tree t) key (tree_payload t) h.0 h.2.bytes) rest.bytes;
+      walk = (
+        behind,
+        record {
+          spelled = element-append (tag_of (kind_of_tree t)) key (tree_payload t) (entries_bytes es) (0 ∷ []);
+          key_nul_free = h.1;
+          key_utf8 = h.0;
+          payload_is = h.2.shape behind;
+        },
+        rest.walk,
+      );
+      keys = ap (λ (x : List (List ℕ)). key ∷ x) rest.keys;
+      stand = (h.2.value, t, pairs_in es, h.2.means, h.2.stands, refl, rest.stand);
+      canonical = (h.2.value, h.2.means, h.2.canonical, rest.canonical);
+    }
 
 -- documents and lists
 
@@ -168,33 +151,23 @@ Returns sort b t = IsEnvelope b × ReadsAs sort b t × IsCanonicalAs sort b
 framed_returns : (sort : Sort) (es : Entries) (t : Tree) → tree_of_pairs sort (pairs_in es) ≡ t → AreKeysCanonical sort (keys_in es) → AreReturned es
     → 5 + length (entries_bytes es) ≤ max_length → Returns sort (framed (entries_bytes es)) t
 framed_returns sort es t same keys h l =
-    let w = entries_walk es h in
+    let w = written es h in
     let b : List ℕ = framed (entries_bytes es) in (
-      framed_is_envelope (entries_bytes es) (AreBytes-framed (entries_bytes es) (entries_are_bytes es h)) l,
-      subst (λ (u : Tree). ReadsAs sort b u) same (reads_of sort b (frames_in es) (pairs_in es) w (entries_stand es h)),
-      canonical_of sort b (frames_in es) w (rw (keys-frames_in es) keys) (entries_canonical es h),
+      framed_is_envelope (entries_bytes es) (AreBytes-framed (entries_bytes es) w.bytes) l,
+      rw (← same) (reads_of sort b (frames_in es) (pairs_in es) w.walk w.stand),
+      canonical_of sort b (frames_in es) w.walk (rw w.keys keys) w.canonical,
     )
 
 framed_document : (es : Entries) → IsDistinct bytes_eq (keys_in es) → AreReturned es → 5 + entries_len es ≤ max_length → Returns as_document (framed (entries_bytes es)) (document es)
 framed_document es distinct h l =
-    let same : tree_of_pairs as_document (pairs_in es) ≡ document es =
-    ap (λ ps. document (entries ps)) (keep-distinct (pairs_in es) (rw (keys_of-pairs_in es) distinct)) ∙ ap document (entries-pairs_in es) in
+    let are = pairs_are es in
+    let same : tree_of_pairs as_document (pairs_in es) ≡ document es = ap (λ ps. document (entries ps)) (keep-distinct (pairs_in es) (rw are.1 distinct)) ∙ ap document are.0 in
     framed_returns as_document es (document es) same distinct h (omega (arith, length-entries_bytes es))
 
 framed_array : (ts : Trees) → AreReturned (numbered 0 ts) → 5 + items_len 0 ts ≤ max_length → Returns as_array (framed (items_bytes 0 ts)) (array ts)
 framed_array ts h l =
-    let es : Entries = numbered 0 ts in
-    let written : items_bytes 0 ts ≡ entries_bytes es = entries_bytes-numbered 0 ts in
-    let size : 5 + length (entries_bytes es) ≤ max_length = omega (arith, ap length written, length-items_bytes 0 ts) in
-    subst (λ (x : List ℕ). Returns as_array (framed x) (array ts)) (sym written) (framed_returns as_array es (array ts) (ap array (trees-numbered 0 ts)) (decimals_in 0 ts) h size)
-
--- a nested document returns
-document_returned : (es : Entries) → Returns as_document (framed (entries_bytes es)) (document es) → IsReturned (document es)
-document_returned es h = record { bytes = h.0.bytes; shape = λ r. h.0; value = raw.document (framed (entries_bytes es)); means = refl; stands = h.1; canonical = h.2 }
-
--- so does a nested list
-array_returned : (ts : Trees) → Returns as_array (framed (items_bytes 0 ts)) (array ts) → IsReturned (array ts)
-array_returned ts h = record { bytes = h.0.bytes; shape = λ r. h.0; value = raw.array (framed (items_bytes 0 ts)); means = refl; stands = h.1; canonical = h.2 }
+    let are = numbered_are 0 ts in
+    rw are.0 (framed_returns as_array (numbered 0 ts) (array ts) (ap array are.2) are.1 h (omega (arith, ap length are.0, length-items_bytes 0 ts)))
 
 -- a code returns whose scope does
 code_returned : (code : List ℕ) (es : Entries) → IsUtf8 code → Returns as_document (framed (entries_bytes es)) (document es)
@@ -236,8 +209,12 @@ mutual
   -- a proper tree of a size in range returns
   tree_returned : (t : Tree) → IsTreeProper t → encoded_len t ≤ max_length → IsReturned t
   tree_returned (leaf l) p b = leaf_returned l p.0 p.1 p.2 p.3 b
-  tree_returned (array ts) p b = array_returned ts (framed_array ts (items_returned 0 ts p (omega arith)) b)
-  tree_returned (document es) p b = document_returned es (framed_document es p.0.0 (entries_returned es (p.0.1, p.1.1, p.2.1, p.3.1) (omega arith)) b)
+  tree_returned (array ts) p b =
+      let h = framed_array ts (items_returned 0 ts p (omega arith)) b in
+      record { bytes = h.0.bytes; shape = λ r. h.0; value = raw.array (framed (items_bytes 0 ts)); means = refl; stands = h.1; canonical = h.2 }
+  tree_returned (document es) p b =
+      let h = framed_document es p.0.0 (entries_returned es (p.0.1, p.1.1, p.2.1, p.3.1) (omega arith)) b in
+      record { bytes = h.0.bytes; shape = λ r. h.0; value = raw.document (framed (entries_bytes es)); means = refl; stands = h.1; canonical = h.2 }
   tree_returned (code_with_scope code es) p b = code_returned code es p.0.0 (framed_document es p.0.1 (entries_returned es (p.0.2, p.1.2, p.2.2, p.3.2) (omega arith)) (omega arith)) b
 
   -- so do the members of a list
@@ -257,13 +234,10 @@ mutual
   entries_returned (entry_then key t es) p b =
       (p.0.0, p.1.0, tree_returned t (p.0.1, p.1.1, p.2.1, p.3.1) (omega arith), entries_returned es (p.0.2, p.1.2, p.2.2, p.3.2) (omega arith))
 
--- the encoding of a proper document of a size in range has an envelope, is read as that document, and is
--- canonical
-pub document_returns : (es : Entries) → IsProper (document es) → encoded_len (document es) ≤ max_length
-    → IsEnvelope (encoding (document es)) × ReadsAs as_document (encoding (document es)) (document es) × IsCanonicalAs as_document (encoding (document es))
+-- the encoding of a proper document of a size in range returns
+pub document_returns : (es : Entries) → ComesBack as_document (document es)
 document_returns es p b = framed_document es p.well_formed.0 (entries_returned es (p.well_formed.1, p.nul_free.1, p.options_ascend.1, p.subtypes_proper.1) (omega arith)) b
 
--- so has the encoding of such a list
-pub array_returns : (ts : Trees) → IsProper (array ts) → encoded_len (array ts) ≤ max_length
-    → IsEnvelope (encoding (array ts)) × ReadsAs as_array (encoding (array ts)) (array ts) × IsCanonicalAs as_array (encoding (array ts))
+-- so does that of such a list
+pub array_returns : (ts : Trees) → ComesBack as_array (array ts)
 array_returns ts p b = framed_array ts (items_returned 0 ts (p.well_formed, p.nul_free, p.options_ascend, p.subtypes_proper) (omega arith)) b

@@ -109,7 +109,7 @@ pub fn document_from_raw(alloc: Global, document: RawDocument<'_>) -> Result<Doc
 /// let (tree, steps) = document_from_raw_counted(alloc, document);
 /// assert!(rt; tree.is_ok() && steps.count() == 1);
 /// ```
-#[tactic(auto, using(std::proofs::lemmas::Grind::common_steps, bson_model::proofs::Face::tree_laws, crate::proofs::Laws::documents_read, crate::proofs::Laws::documents_spelled, crate::proofs::reader::OneWay::counted_one_way, crate::proofs::reader::FrameCounts::one_frame_count))]
+#[tactic(auto, using(std::proofs::lemmas::Grind::common_steps, bson_model::proofs::Face::tree_laws, crate::proofs::Laws::documents_read, crate::proofs::Laws::documents_spelled, crate::proofs::reader::OneWay::counted_one_way, crate::proofs::reader::FrameCounts::one_frame_count, crate::proofs::reader::LevelSteps::tells_half))]
 pub fn document_from_raw_counted(
     alloc: Global,
     document: RawDocument<'_>,

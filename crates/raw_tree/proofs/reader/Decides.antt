@@ -120,26 +120,21 @@ decided sort b env =
 
 -- what a loop knows
 
--- frames that lead on are the first of the walk
-rest_of_walk : (s : List ℕ) (passed : List Frame) (r : List ℕ) (frames : List Frame) (end : End) → LeadsTo s passed r → IsWalk s frames end → (others : List Frame) × IsWalk r others end
-rest_of_walk s [] r frames end l w = (frames, subst (λ (x : List ℕ). IsWalk x frames end) l w)
-rest_of_walk s (f ∷ fs) r [] Done l w = absurd (no_frame_at_final s w f l.0 l.1)
-rest_of_walk s (f ∷ fs) r [] (Stopped fault key) l w = absurd (no_frame_at_stop s fault key w f l.0 l.1)
-rest_of_walk s (f ∷ fs) r (g ∷ gs) end l w =
+-- frames that lead on are the first of the walk, and bytes lead on to bytes
+rest_of_walk : (s : List ℕ) (passed : List Frame) (r : List ℕ) (frames : List Frame) (end : End) → LeadsTo s passed r → IsWalk s frames end → AreBytes s → (others : List Frame) × IsWalk r others end × AreBytes r
+rest_of_walk s [] r frames end l w bytes = (frames, rw l at w, rw l at bytes)
+rest_of_walk s (f ∷ fs) r [] Done l w bytes = absurd (no_frame_at_final s w f l.0 l.1)
+rest_of_walk s (f ∷ fs) r [] (Stopped fault key) l w bytes = absurd (no_frame_at_stop s fault key w f l.0 l.1)
+rest_of_walk s (f ∷ fs) r (g ∷ gs) end l w bytes =
     let same : l.0 ≡ w.0 = (one_frame s f g l.0 w.0 l.1 w.1).1 in
-    rest_of_walk w.0 fs r gs end (subst (λ (x : List ℕ). LeadsTo x fs r) same l.2) w.2
-
-AreBytes-behind : (s : List ℕ) (passed : List Frame) (r : List ℕ) → LeadsTo s passed r → AreBytes s → AreBytes r
-AreBytes-behind s [] r l bytes = subst AreBytes l bytes
-AreBytes-behind s (f ∷ fs) r l bytes = AreBytes-behind l.0 fs r l.2 (AreBytes-rest s f l.0 l.1 bytes)
+    rest_of_walk w.0 fs r gs end (rw same at l.2) w.2 (AreBytes-rest s g w.0 w.1 bytes)
 
 module _ (sort : Sort) {b s : List ℕ} {pairs : List (List ℕ × Tree)} {n : ℕ} (env : IsEnvelope b) (is : Passed ReadsAs b s pairs n) where
   counted_on : (frames : List Frame) × (end : End) × IsWalk s frames end × IsCountedFrom sort b (n + least_of frames)
   counted_on =
       let whole = document_has_walk b env in
-      let rest = rest_of_walk (drop 4 b) is.frames s whole.0 whole.1 is.leads whole.2 in
-      let bytes = AreBytes-behind (drop 4 b) is.frames s is.leads (AreBytes-drop 4 b env.bytes) in
-      (rest.0, whole.1, rest.1, along (length s) (λ of_sort d l e. counted of_sort d e) sort rest.0 whole.1 is bytes (omega arith) rest.1)
+      let rest = rest_of_walk (drop 4 b) is.frames s whole.0 whole.1 is.leads whole.2 (AreBytes-drop 4 b env.bytes) in
+      (rest.0, whole.1, rest.1, along (length s) (λ of_sort d l e. counted of_sort d e) sort rest.0 whole.1 is rest.2 (omega arith) rest.1)
 
   -- frames that have been passed are counted
   pub counted_from : IsCountedFrom sort b n

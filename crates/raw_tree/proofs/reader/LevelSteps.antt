@@ -1,6 +1,6 @@
 -- The steps of a loop over levels: an element is put, or its level waits for it; a level is read and goes to the
 -- one that waits; a fault, out of memory or the end is returned; and what is left shrinks.
-use Rattle.std.proofs.Common.{◌≡◌, inl, inr, ◌<◌, ◌≤◌, ◌+◌, ◌-◌, ◌*◌, take, length-take, ◌++◌, ◌∷◌, [], ℕ, suc, List, Option, None, Some, Result, Ok, Err, IfOk, IfErr, length, drop, arith, ap, refl, sym, ◌∙◌, subst, length-drop, length-append, sum_by}
+use Rattle.std.proofs.Common.{◌≡◌, inl, inr, ◌<◌, ◌≤◌, ◌+◌, ◌-◌, ◌/◌, take, length-take, ◌++◌, ◌∷◌, [], ℕ, suc, List, Option, None, Some, Result, Ok, Err, IfOk, IfErr, length, drop, arith, ap, refl, sym, ◌∙◌, subst, length-drop, length-append, sum_by}
 use Rattle.raw_tree.proofs.Common.{sum_by_push, none-some, Tree, tree_of, Bson, Says, TellsMeaning, bytes_of, StepsElement, frame_of, IsOutOfMemory, Frame, Done, RawValue, KeyedFault, Meaning, Means}
 use Rattle.raw_tree.proofs.Common.{value, faulty, max_length, value_of, RawBsonRef, RawElement, Error, CountsIn, HasFrameCount, TellsFrames, sort_of, held_value, holding, tree_of_contents, AreDrafted, IsOneMore}
 use Rattle.raw_tree.proofs.Common.{IsUnread, IsSingle, OpensAs, Finishes, DraftsTree, TellsReading, counted, fault_of, too_deep, FirstFaultWithin, SaysBarrier, tree_of_pairs, StandsFor, ReadsUpTo, ReadsAs}
@@ -237,9 +237,9 @@ went_in {depth = depth} {u = u} {ws = ws} w v are few more inner e unread =
       total = omega (arith, are.total);
     }
 
-pub tells_small : {X : Type 0} (b : List ℕ) (result : Result X Error) (n : ℕ) → TellsFrames b result n → 2 * n ≤ length b - 4
-tells_small b (Ok x) n h = until_small b n h.0
-tells_small b (Err e) n h = omega (arith, until_small b h.0 h.1, h.2)
+pub tells_half : {X : Type 0} (b : List ℕ) (result : Result X Error) (n : ℕ) → TellsFrames b result n → n ≤ (length b - 4) / 2
+tells_half b (Ok x) n h = omega (arith, until_small b n h.0)
+tells_half b (Err e) n h = omega (arith, until_small b h.0 h.1, h.2)
 
 -- the value that a call returns
 pub told_value : (f : Frame) (v : RawBsonRef) → ((m : Meaning) × Means f m × TellsMeaning (Ok v) m) → Means f (value (value_of v))

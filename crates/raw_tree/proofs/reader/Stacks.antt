@@ -25,6 +25,13 @@ no_trees (p ∷ ps) h = absurd (omega (arith, ap length h))
 pub same_none : (old new : Draft) → old.values.items ≡ [] → new.keys.items ≡ [] → new.values.items ≡ [] → IsSameDraft old new
 same_none old new e k v = grind (arith, drafted_none, no_trees)
 
+pub no_values : (vs : List Bson) → length vs ≡ 0 → vs ≡ []
+no_values [] e = refl
+no_values (v ∷ vs) e = absurd (omega arith)
+
+pub map_last : {X Y : Type 0} (f : X → Y) (xs : List X) (x : X) → map f (xs ++ x ∷ []) ≡ map f xs ++ f x ∷ []
+map_last f xs x = map-append f xs (x ∷ [])
+
 -- a column with a pair more
 column_more : {X : Type 0} (f : List ℕ × Tree → X) (xs new : List X) (pairs : List (List ℕ × Tree)) (p : List ℕ × Tree) → new ≡ xs ++ f p ∷ [] → xs ≡ map f pairs → new ≡ map f (pairs ++ p ∷ [])
 column_more f xs new pairs p e h = e ∙ ap (λ x. x ++ f p ∷ []) h ∙ sym (map-append f pairs (p ∷ []))

@@ -1,7 +1,7 @@
 -- Reading to a depth: its first fault is the first fault, and where no level is too deep, each takes bytes.
-use Rattle.std.proofs.Common.{◌≡◌, inl, inr, ◌≤◌, ◌<◌, ℕ, zero, suc, List, length, Result, IfOk, IfErr, arith, length-drop}
-use Rattle.raw_tree.proofs.Common.{bytes_of, IsEnvelope, KeyedFault, max_length, Error, TellsFrames, AreRead, TellsFramesWithin, TellsReading, fault_of, too_many_bytes, too_deep, FirstFaultWithin}
-use Rattle.raw_tree.proofs.Common.{TellsFirstFaultWithin, FirstFaultUpTo, FirstFault, TellsFirstFault, Contents, Nested}
+use Rattle.std.proofs.Common.{◌≡◌, ◌<◌, ℕ, zero, suc, List, Result, IfOk, IfErr, arith}
+use Rattle.raw_tree.proofs.Common.{bytes_of, IsEnvelope, max_length, Error, TellsFrames, AreRead, TellsFramesWithin, TellsReading, too_many_bytes, too_deep, FirstFaultWithin}
+use Rattle.raw_tree.proofs.Common.{TellsFirstFaultWithin, TellsFirstFault, Contents, Nested}
 use Rattle.raw_tree.proofs.reader.OneTree.{deep_long, first_fault}
 
 -- the bytes aren't counted within a depth

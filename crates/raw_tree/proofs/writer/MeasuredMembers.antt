@@ -1,6 +1,6 @@
 -- How a container is measured member by member: what is counted so far and what the members that are left take are the
 -- whole, and no 0 is in it where it may not be exactly where none is in those.
-use Rattle.std.proofs.Common.{◌≡◌, ◌<◌, ◌-◌, ◌^◌, ℕ, ◌+◌, List, [], ◌∷◌, ◌++◌, length, min, sum_by, Option, Some, ap, length-append, arith}
+use Rattle.std.proofs.Common.{◌≡◌, ◌↔◌, ◌<◌, ◌-◌, ◌^◌, ℕ, ◌+◌, List, [], ◌∷◌, ◌++◌, length, min, sum_by, Option, Some, ap, length-append, arith}
 use Rattle.raw_tree.proofs.Common.{sum_by_push, Leaf, IsNulFree, Tree, leaf, RawValue, single, encoded_len, Measures, MemberKey, key_bytes, members, members_len, opening_len, IsKeyFree, AreMembersFree, IsLeafOf}
 use Rattle.raw_tree.proofs.Common.{members_left, tree_of_container, Container, Members}
 use Rattle.raw_tree.proofs.writer.MemberSteps.{container_len, members_free}
@@ -16,29 +16,25 @@ AreWaitingFree (w ∷ ws) = AreMembersFree (members_left w) × AreWaitingFree ws
 len_waiting-last : (ws : List Members) (w : Members) → len_waiting (ws ++ w ∷ []) ≡ len_waiting ws + members_len (members_left w)
 len_waiting-last ws w = sum_by_push (λ (x : Members). members_len (members_left x)) ws w
 
-waiting_free-more : (ws : List Members) (w : Members) → AreWaitingFree ws → AreMembersFree (members_left w) → AreWaitingFree (ws ++ w ∷ [])
-waiting_free-more [] w h free = (free, tt)
-waiting_free-more (x ∷ ws) w h free = (h.0, waiting_free-more ws w h.1 free)
-
-waiting_free-less : (ws : List Members) (w : Members) → AreWaitingFree (ws ++ w ∷ []) → AreWaitingFree ws × AreMembersFree (members_left w)
-waiting_free-less [] w h = (tt, h.0)
-waiting_free-less (x ∷ ws) w h = let less = waiting_free-less ws w h.1 in ((h.0, less.0), less.1)
+waiting_free-last : (ws : List Members) (w : Members) → AreWaitingFree (ws ++ w ∷ []) ↔ (AreWaitingFree ws × AreMembersFree (members_left w))
+waiting_free-last [] w = ((λ h. (tt, h.0)), (λ h. (h.1, tt)))
+waiting_free-last (x ∷ ws) w =
+    let last = waiting_free-last ws w in
+    ((λ h. ((h.0, (last.0 h.1).0), (last.0 h.1).1)), (λ h. (h.0.0, last.1 (h.0.1, h.1))))
 
 -- the tree is measured but for the members that wait and those that are left
 pub record IsMeasuring (t : Tree) (ws : List Members) (left : List (MemberKey × Tree)) (total : ℕ) : Type 0 where
   pub counted : ℕ
   pub total_is : total ≡ min counted (2 ^ 64 - 1)
   pub whole : counted + members_len left + len_waiting ws ≡ encoded_len t
-  pub inward : IsNulFree t → AreWaitingFree ws × AreMembersFree left
-  pub outward : AreWaitingFree ws → AreMembersFree left → IsNulFree t
+  pub free : IsNulFree t ↔ (AreWaitingFree ws × AreMembersFree left)
 
 pub measuring_begins : (c : Container) (total : ℕ) → total ≡ opening_len (tree_of_container c) + 1 → total < 2 ^ 64 → IsMeasuring (tree_of_container c) [] (members (tree_of_container c)) total
 measuring_begins c total e fits = record {
   counted = total;
   total_is = omega arith;
   whole = omega (arith, container_len c);
-  inward = λ h. (tt, (members_free c).0 h);
-  outward = λ waiting h. (members_free c).1 h;
+  free = ((λ h. (tt, (members_free c).0 h)), (λ h. (members_free c).1 h.1));
 }
 
 -- as the code adds up what is counted, a key and a payload of this length
@@ -54,8 +50,7 @@ module _ {t : Tree} {ws : List Members} {m : MemberKey × Tree} {left : List (Me
         counted = is.counted + (2 + length (key_bytes m.0) + encoded_len m.1);
         total_is = omega (arith, before, measured.1);
         whole = omega (arith, is.whole);
-        inward = λ h. let all = is.inward h in (all.0, all.1.2);
-        outward = λ waiting free. is.outward waiting (key, measured.0, free);
+        free = ((λ h. let all = is.free.0 h in (all.0, all.1.2)), (λ h. is.free.1 (h.0, (key, measured.0, h.1))));
       }
 
   -- its own members are measured first
@@ -67,14 +62,16 @@ module _ {t : Tree} {ws : List Members} {m : MemberKey × Tree} {left : List (Me
         counted = is.counted + (2 + length (key_bytes m.0) + len);
         total_is = omega (arith, before);
         whole = omega (arith, is.whole, container_len c, len_waiting-last ws w, ap encoded_len e, ap members_len l);
-        inward = λ h. let all = is.inward h in (waiting_free-more ws w all.0 (rw l all.1.2), (members_free c).0 (rw e at all.1.1));
-        outward = λ waiting free. let less = waiting_free-less ws w waiting in is.outward less.0 (key, rw e ((members_free c).1 free), rw l at less.1);
+        free = (
+          (λ h. let all = is.free.0 h in ((waiting_free-last ws w).1 (all.0, rw l all.1.2), (members_free c).0 (rw e at all.1.1))),
+          (λ h. let less = (waiting_free-last ws w).0 h.0 in is.free.1 (less.0, (key, rw e ((members_free c).1 h.1), rw l at less.1))),
+        );
       }
 
 -- the members of the innermost are measured
 pub measuring_ends : (t : Tree) (ws less : List Members) (w : Members) (left : List (MemberKey × Tree)) (total : ℕ) → IsMeasuring t ws left total → left ≡ []
     → ws ≡ less ++ w ∷ [] → IsMeasuring t less (members_left w) total
-measuring_ends t ws less w left total is none f = grind (arith, len_waiting-last, waiting_free-less, waiting_free-more)
+measuring_ends t ws less w left total is none f = grind (arith, len_waiting-last, waiting_free-last)
 
 -- a leaf is measured by its view
 pub leaf_measured : (t : Tree) (v : RawValue) (r : Option ℕ) → IsLeafOf t v → ((l : Leaf) → v ≡ single l → Measures (leaf l) r) → Measures t r

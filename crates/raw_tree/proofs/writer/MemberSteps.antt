@@ -7,7 +7,7 @@ use Rattle.raw_tree.proofs.Common.{tree_of_container, Container}
 
 -- the members of pairs and of values
 
-pub length-numbered : (n : ℕ) (vs : List Bson) → length (numbered n (trees (map tree_of vs))) ≡ length vs
+length-numbered : (n : ℕ) (vs : List Bson) → length (numbered n (trees (map tree_of vs))) ≡ length vs
 length-numbered n [] = refl
 length-numbered n (v ∷ vs) = ap suc (length-numbered (n + 1) vs)
 
@@ -22,6 +22,9 @@ numbered_at n (u ∷ vs) zero v e = grind arith
 numbered_at n (u ∷ vs) (suc i) v e = grind (arith, numbered_at (n + 1) vs i v)
 
 -- what is looked up of a document, and of a list
+
+pub past_values : (vs : List Bson) (i : ℕ) → length vs ≤ i → length (numbered 0 (trees (map tree_of vs))) ≤ i
+past_values vs i past = omega (arith, length-numbered 0 vs)
 
 pub no_pair : (ps : List (List ℕ × Bson)) (i : ℕ) → slice_get ps i ≡ None → length (keyed (entries (with_trees ps))) ≤ i
 no_pair [] i e = omega arith

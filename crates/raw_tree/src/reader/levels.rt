@@ -120,6 +120,7 @@ impl<'a> Draft<'a> {
     }
 
     /// Where nothing is read yet, takes the room that a spare draft has.
+    #[tactic(auto, using(std::proofs::lemmas::Grind::common_steps, bson_model::proofs::Face::tree_laws, crate::proofs::reader::Stacks::no_values, crate::proofs::reader::Stacks::same_none))]
     #[inline(always)]
     fn take_room(&mut self, spare: &mut Draft<'a>)
         ensures { IsSameDraft self.old self.new }
@@ -133,6 +134,7 @@ impl<'a> Draft<'a> {
     }
 
     /// Puts a pair last; the only error is out of memory.
+    #[tactic(auto, using(std::proofs::lemmas::Grind::common_steps, bson_model::proofs::Face::tree_laws, crate::proofs::reader::Stacks::map_last))]
     #[inline(always)]
     fn put_pair(&mut self, key: &'a str, value: Bson) -> Result<()>
         ensures put { OnOk result (IsPairMore self.old key.now (tree_of value) self.new) }
@@ -144,6 +146,7 @@ impl<'a> Draft<'a> {
     }
 
     /// Puts a value last; the only error is out of memory.
+    #[tactic(auto, using(std::proofs::lemmas::Grind::common_steps, bson_model::proofs::Face::tree_laws, crate::proofs::reader::Stacks::map_last))]
     #[inline(always)]
     fn put_value(&mut self, value: Bson) -> Result<()>
         ensures put { OnOk result (map tree_of self.new.values.items ≡ map tree_of self.old.values.items ++ tree_of value ∷ []) }
@@ -207,6 +210,7 @@ pub(crate) fn put<'a>(
 
 /// What the bytes of a level are read as, once all are. It takes the values with the room that they are in; the
 /// only error is out of memory.
+#[tactic(auto, using(std::proofs::lemmas::Grind::common_steps, bson_model::proofs::Face::tree_laws, crate::proofs::reader::Stacks::array_finished, crate::proofs::reader::Stacks::document_finished, crate::proofs::reader::Stacks::scope_finished))]
 pub(crate) fn finish<'a>(
     alloc: Global,
     holder: Holder<'a>,
@@ -231,6 +235,7 @@ pub(crate) fn finish<'a>(
 
 /// The value that holds the bytes of a level, once all are read; the only error is out of memory. Its
 /// room goes to a later level.
+#[tactic(auto, using(std::proofs::lemmas::Grind::common_steps, bson_model::proofs::Face::tree_laws, crate::proofs::reader::Stacks::ended, crate::proofs::reader::Stacks::same_items))]
 #[inline(always)]
 pub(crate) fn end<'a>(alloc: Global, level: Level<'a>, spare: &mut Draft<'a>) -> Result<Bson>
     ensures ended { IfOk result (DraftsTree level.entry.holder level.entry.draft) }

@@ -39,6 +39,7 @@ pub(crate) struct Members<'a> {
 }
 
 /// The pair at a place of a document, counted from 0.
+#[tactic(auto, using(std::proofs::lemmas::Grind::common_steps, bson_model::proofs::Face::tree_laws, crate::proofs::writer::MemberSteps::keyed_at, crate::proofs::writer::MemberSteps::no_pair))]
 #[inline(always)]
 fn pair_at(document: &Document, place: usize) -> Option<(Key<'_>, &Bson)>
     ensures member { IsMemberAt (members (tree_of_document document.now)) place result }
@@ -49,6 +50,7 @@ fn pair_at(document: &Document, place: usize) -> Option<(Key<'_>, &Bson)>
 }
 
 /// The value at a place of a list, counted from 0.
+#[tactic(auto, using(std::proofs::lemmas::Grind::common_steps, bson_model::proofs::Face::tree_laws, crate::proofs::writer::MemberSteps::found_value, crate::proofs::writer::MemberSteps::past_values))]
 #[inline(always)]
 fn value_at(values: &[Bson], place: usize) -> Option<(Key<'_>, &Bson)>
     ensures member { IsMemberAt (members (tree_of_list values.now)) place result }
@@ -89,6 +91,7 @@ impl<'a> Members<'a> {
     }
 
     /// The first member that is left, which is then passed.
+    #[tactic(auto, using(std::proofs::lemmas::Grind::common_steps, bson_model::proofs::Face::tree_laws, crate::proofs::writer::MemberSteps::left_at, crate::proofs::writer::MemberSteps::none_left))]
     #[inline(always)]
     pub(crate) fn next(&mut self) -> Option<(Key<'a>, &'a Bson)>
         ensures container { self.new.container ≡ self.old.container }
