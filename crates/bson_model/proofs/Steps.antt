@@ -7,10 +7,6 @@ pub items_in-trees : (ts : List Tree) → items_in (trees ts) ≡ ts
 items_in-trees [] = refl
 items_in-trees (t ∷ ts) = ap (λ l. t ∷ l) (items_in-trees ts)
 
-pub entries-pairs_in : (es : Entries) → entries (pairs_in es) ≡ es
-entries-pairs_in no_entry = refl
-entries-pairs_in (entry_then k t es) = ap (λ l. entry_then k t l) (entries-pairs_in es)
-
 map-append : {X Y : Type 0} (f : X → Y) (xs ys : List X) → map f (xs ++ ys) ≡ map f xs ++ map f ys
 map-append f [] ys = refl
 map-append f (x ∷ xs) ys = ap (λ l. f x ∷ l) (map-append f xs ys)

@@ -677,7 +677,7 @@ fn emit<'a, D: Write>(
 {
     match (command, finding) {
         (Command::Check | Command::List | Command::Count | Command::Fields, _)
-        | (_, Finding::Damaged | Finding::TooDeep | Finding::Unjudged) => { Ok(None) }
+        | (_, Finding::Damaged | Finding::TooDeep | Finding::Unjudged) => Ok(None),
         (Command::Sound, Finding::Canonical | Finding::Breached) => {
             put_document(command, origin, bytes, bytes, out, kept)
         }
@@ -872,6 +872,6 @@ fn put_new<'a, D: Write>(
             put_one(document, out, kept)?;
             Ok(None)
         }
-        Added::Repeat(first) => { Ok(first) }
+        Added::Repeat(first) => Ok(first),
     }
 }

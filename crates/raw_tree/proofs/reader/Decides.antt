@@ -121,7 +121,8 @@ decided sort b env =
 -- what a loop knows
 
 -- frames that lead on are the first of the walk, and bytes lead on to bytes
-rest_of_walk : (s : List ℕ) (passed : List Frame) (r : List ℕ) (frames : List Frame) (end : End) → LeadsTo s passed r → IsWalk s frames end → AreBytes s → (others : List Frame) × IsWalk r others end × AreBytes r
+rest_of_walk : (s : List ℕ) (passed : List Frame) (r : List ℕ) (frames : List Frame) (end : End) → LeadsTo s passed r → IsWalk s frames end → AreBytes s
+    → (others : List Frame) × IsWalk r others end × AreBytes r
 rest_of_walk s [] r frames end l w bytes = (frames, rw l at w, rw l at bytes)
 rest_of_walk s (f ∷ fs) r [] Done l w bytes = absurd (no_frame_at_final s w f l.0 l.1)
 rest_of_walk s (f ∷ fs) r [] (Stopped fault key) l w bytes = absurd (no_frame_at_stop s fault key w f l.0 l.1)

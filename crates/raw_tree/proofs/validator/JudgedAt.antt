@@ -124,7 +124,8 @@ module _ {depth : ℕ} {b : List ℕ} {ws : List Wait} {ks : List KeysSoFar} {li
     -- the next level, for which this one waits
     pub judged_inside : {behind : ℕ} {inner : RawDocument} {level : Level} (e : RawElement) (is_array : Bool) (k2 : KeysSoFar) (h : Told new i after (judged.Inside e inner is_array))
         → suc (length ws) < depth → (far : behind ≡ offset + size_of (frame_of e)) → IsOpened behind inner level → HasKeysSoFar k2 after (array_sort is_array) (texts after) []
-        → IsJudgedAt depth b (ws ++ waiting_then at.at new behind e inner (looks (judged.Inside e inner is_array) h) far ∷ []) (ks ++ i ∷ []) after level.elements level.number level.offset level.start k2
+        → IsJudgedAt depth b (ws ++ waiting_then at.at new behind e inner (looks (judged.Inside e inner is_array) h) far ∷ []) (ks ++ i ∷ []) after
+        level.elements level.number level.offset level.start k2
     judged_inside {behind} {inner} {level} e is_array k2 h few far opens has =
         let saw = looks (judged.Inside e inner is_array) h in
         let w : Wait = waiting_then at.at new behind e inner saw far in
