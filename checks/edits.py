@@ -26,9 +26,9 @@ are tried over go on from what `rt check` left in the crates' out/, but with --f
 this folder proves the crates as they are: the edits of a crate begin once the file that is named says that those below it are
 proved, over the libraries that the run left, and only the edited functions are proved. A function of the crate that is not
 edited has a hole for its proof, where its source tells its name, and a body that never returns: of what an edited one calls,
-its proof needs the contract alone. So what has no complaint, and depends on such a hole alone, is still proved. --leave leaves
-what the check of a crate kept, for the crate's build. Two flags prove nothing: --applies sees that each edit applies, and
---compiles that each edited text compiles, many edits in a copy, over the libraries that `rt check` built.
+its proof needs the contract alone. So what has no complaint, and depends on such a hole alone, is still proved. Two flags prove
+nothing: --applies sees that each edit applies, and --compiles that each edited text compiles, many edits in a copy, over the
+libraries that `rt check` built.
 """
 
 import argparse
@@ -300,8 +300,8 @@ def share_work(from_top, to_top, crate, *parts):
 class Prover:
     """Checks copies of the repository, each crate over what the check of the crate as it is left."""
 
-    def __init__(self, top, jobs, keep, from_nothing, leave=None):
-        self.top, self.jobs, self.keep, self.leave, self.checks = top, jobs, keep, leave, 0
+    def __init__(self, top, jobs, keep, from_nothing):
+        self.top, self.jobs, self.keep, self.checks = top, jobs, keep, 0
         # crates whose edits are tried over the libraries of a run beside, with the functions that it proves, and the
         # libraries that were taken for that
         self.over, self.taken = {}, set()
@@ -356,8 +356,6 @@ class Prover:
             return False
         # (a check of a crate above goes on with this work, too)
         share_work(self.proved, self.room / "kept", crate, "incremental")
-        if self.leave and self.leave[0] == crate:
-            shutil.copytree(self.proved / "crates" / crate / "out" / "incremental", self.leave[1])
         return True
 
     def take_library(self, crate):
@@ -420,18 +418,15 @@ class Prover:
 
     def only(self, crate, now):
         """Returns the flags for a check of what these edits change alone, where nothing else of the crate has to be proved here."""
-        if crate not in self.over or (self.leave and self.leave[0] == crate):
+        if crate not in self.over:
             return []
         named = sorted(it.partition("::")[2] for edit in now for it in edit.functions)
         return [word for it in named if not it.rpartition("::")[2].startswith("+") for word in ("--only", it)]
 
     def forget(self, crate):
         """Gives back the room that the crate's edits took."""
-        kept = self.room / "kept" / "crates" / crate
-        if crate in self.over and self.leave and self.leave[0] == crate:
-            shutil.copytree(kept / "out" / "incremental", self.leave[1])
         shutil.rmtree(self.room / f"edited-{crate}", ignore_errors=True)
-        shutil.rmtree(kept)
+        shutil.rmtree(self.room / "kept" / "crates" / crate)
 
 
 def round_of(edits, folder):
@@ -629,9 +624,9 @@ class Beside:
             time.sleep(1)
 
 
-def try_all(top, edits, jobs, at_once, keep, from_nothing, leave, beside):
+def try_all(top, edits, jobs, at_once, keep, from_nothing, beside):
     """Tries the edits of each crate as soon as those below it are proved by a run beside, or it is proved here, with these."""
-    prover = Prover(top, jobs, keep, from_nothing, leave)
+    prover = Prover(top, jobs, keep, from_nothing)
     try:
         with concurrent.futures.ThreadPoolExecutor(at_once) as pool:
             start = lambda crate: pool.submit(try_crate, prover, crate, [it for it in edits if it.crate == crate])
@@ -668,7 +663,6 @@ def main():
     words.add_argument("--anew", action="store_true", help="try each edit, whatever earlier runs kept")
     words.add_argument("--from-nothing", action="store_true", help="take nothing that rt check left in the crates' out/")
     words.add_argument("--beside", type=pathlib.Path, metavar="FILE", help="where a run of rt ci in this folder notes what it proved")
-    words.add_argument("--leave", nargs=2, metavar=("CRATE", "FOLDER"), help="leave in this new folder what the proof of the crate kept")
     words.add_argument("--applies", action="store_true", help="prove nothing, and see that each edit applies")
     words.add_argument("--compiles", action="store_true", help="prove nothing, and see that each edited text compiles")
     words.add_argument("--jobs", type=int, default=1, help="what rt check is given (default: 1)")
@@ -690,7 +684,7 @@ def main():
         left = [it for it in edits if not it.verdict]
         print(f"edits: {len(edits)}, of which {len(edits) - len(left)} were settled before", flush=True)
         if left:
-            checks = try_all(given.top, left, given.jobs, given.at_once, store.keep, given.from_nothing, given.leave, given.beside)
+            checks = try_all(given.top, left, given.jobs, given.at_once, store.keep, given.from_nothing, given.beside)
     wrong = [it for it in edits if it.verdict in (NOT_REFUSED, BAD)]
     spent = resource.getrusage(resource.RUSAGE_CHILDREN)
     print(

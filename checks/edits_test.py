@@ -151,13 +151,6 @@ class Edits(unittest.TestCase):
         (self.top / "noted").write_text(lines)
         return self.tried(edits, "--from-nothing", "--beside", str(self.top / "noted"), *flags)
 
-    def leaving(self, lines, edits):
-        """Returns the same, which has to leave what the check of the crate kept."""
-        kept = self.top / "kept"
-        status, printed = self.beside(lines, edits, "--leave", "tiny", str(kept))
-        self.assertTrue(any(kept.iterdir()), printed)
-        return status, printed
-
     def test_wrong_bodies_are_refused_beside_a_run(self):
         # (the first has to be tried without the last; the second, and then the first, over a hole for the proof of what it calls)
         status, printed = self.beside(PROVED, {
@@ -177,11 +170,6 @@ class Edits(unittest.TestCase):
         }
         self.assertEqual(set(script.functions_of(self.top / "crates/tiny")), {f"tiny::{it}" for it in wanted})
 
-    def test_the_work_of_a_crate_that_the_run_beside_proves_is_left(self):
-        status, printed = self.leaving(PROVED, {"next_is_wrong": edit(NEXT_IS_WRONG, functions="next")})
-        self.assertEqual(status, 0, printed)
-        self.assertIn("edits: 1 of 1 are refused", printed)
-
     def test_a_crate_over_one_that_the_run_beside_did_not_prove_waits_for_a_proof_here(self):
         (self.top / "crates/low/src").mkdir(parents=True)
         (self.top / "crates/low/src/lib.rt").write_text(SOURCE.replace("x + 2 }", "x + 3 }"))
@@ -198,21 +186,19 @@ class Edits(unittest.TestCase):
         self.assertEqual(script.Said("tiny", line).waited_for({"tiny::after_next"}), {"tiny::next"})
 
     def test_a_crate_is_proved_here_before_its_edits(self):
-        kept = self.top / "kept"
         status, printed = self.tried({
             # a wrong callee says nothing of the caller, which is as it was
             "next_is_wrong": edit(NEXT_IS_WRONG, functions="next"),
             "after_next_is_the_same": edit(("next(x) + 1", "1 + next(x)"), functions="after_next"),
             "the_file_is_the_same": edit(("x as u16 + 1", "1 + x as u16")),
             "there_is_no_such_text": edit(("x as u32", "x as u64"), functions="next"),
-        }, "--leave", "tiny", str(kept))
+        })
         self.assertEqual(status, 1, printed)
         self.assertIn("tiny/after_next_is_the_same: NOT REFUSED: ", printed)
         self.assertIn("tiny/the_file_is_the_same: NOT REFUSED: ", printed)
         self.assertIn("tiny/there_is_no_such_text: BAD: ", printed)
         self.assertNotIn("tiny/next_is_wrong: ", printed)
         self.assertIn("edits: 1 of 4 are refused", printed)
-        self.assertTrue(any(kept.iterdir()), printed)
 
     def test_what_a_check_says_of_other_functions_is_no_verdict(self):
         for name, text in {
@@ -251,7 +237,7 @@ class Recorded:
     """A prover that says of an edited text what one said."""
 
     def __init__(self, top):
-        self.top, self.over, self.leave = top, {}, None
+        self.top, self.over = top, {}
 
     def check_edited(self, crate, texts, *flags):
         text = texts["src/lib.rt"]
