@@ -1,6 +1,6 @@
 use crate::fixtures::*;
 use raw_bson::{
-    Cause, Error, ErrorKind, Limits, RawArrayBuf, RawBson, RawDocumentBuf, Reason, Result,
+    Breach, Cause, Error, ErrorKind, Limits, RawArrayBuf, RawBson, RawDocumentBuf, Reason, Result,
 };
 use std::alloc::Global;
 use std::process::Abort;
@@ -58,6 +58,14 @@ fn refusals_of_writing_and_of_limits_are_printed(rt: HostRuntime) {
     }
 }
 
+/// Whether the breach was made, and has this Display text.
+fn is_breach_said(alloc: Global, made: &Result<Breach>, text: &str) -> bool {
+    match made {
+        Ok(breach) => has_display_text(alloc, breach, text),
+        Err(_) => false,
+    }
+}
+
 #[test]
 fn limits_and_breaches_are_printed(rt: HostRuntime) {
     let alloc = rt.alloc();
@@ -68,4 +76,6 @@ fn limits_and_breaches_are_printed(rt: HostRuntime) {
     assert!(rt; has_debug_text(alloc, &limits, "Limits { bytes: 15, depth: 2 }"));
     let text = "Breach { path: [1, 0], cause: RepeatedKey }";
     assert!(rt; is_printed(alloc, breach(alloc, &[1, 0], Cause::RepeatedKey), text));
+    let deep = &breach(alloc, &[4, 0, 12], Cause::RepeatedKey);
+    assert!(rt; is_breach_said(alloc, deep, "repeated-key at 4.0.12"));
 }

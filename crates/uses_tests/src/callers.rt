@@ -1,4 +1,4 @@
-use crate::fixtures::{EMPTY, REPEATED_KEY};
+use crate::fixtures::{A_TWICE, B_ALONE, NOTHING};
 use bson_uses::{
     Dump, MOST, Tally, TallyError, are_equal, check_user, copy_without, count_nulls, find_path,
     keep, normalised_twice, received, set_path, split_dump, tally_of,
@@ -55,9 +55,9 @@ fn is_one_pair(tree: Result<Document>) -> bool {
 
 /// Whether a tree is kept once, and another beside it.
 fn is_kept_once(alloc: Global, shelf: &mut Shelf) -> bool {
-    is_truth(keep(alloc, shelf, REPEATED_KEY), true)
+    is_truth(keep(alloc, shelf, A_TWICE), true)
         && is_truth(keep(alloc, shelf, ITS_CANONICAL_FORM), false)
-        && is_truth(keep(alloc, shelf, EMPTY), true)
+        && is_truth(keep(alloc, shelf, NOTHING), true)
         && shelf.len() == 2
 }
 
@@ -119,9 +119,6 @@ fn is_copy(copy: Result<RawDocumentBuf>, left: &[u8]) -> bool {
 /// The numbers 1, 2 and 3 under `a`, `b` and `a`.
 const AROUND: &[u8] = b"\x1A\0\0\0\x10a\0\x01\0\0\0\x10b\0\x02\0\0\0\x10a\0\x03\0\0\0\0";
 
-/// The number 2 under `b`.
-const B_ALONE: &[u8] = b"\x0C\0\0\0\x10b\0\x02\0\0\0\0";
-
 /// Whether that is left of the document of these bytes.
 fn is_left(alloc: Global, bytes: &[u8], key: &str, left: &[u8]) -> bool {
     match RawDocument::from_bytes(bytes) {
@@ -148,12 +145,12 @@ fn is_set(alloc: Global, bytes: &[u8], path: &[&str], set: &[u8]) -> bool {
 #[test]
 fn callers_of_bytes_have_their_results(rt: HostRuntime) {
     let alloc = rt.alloc();
-    assert!(rt; is_truth(are_equal(alloc, REPEATED_KEY, ITS_CANONICAL_FORM), true));
-    assert!(rt; is_truth(are_equal(alloc, REPEATED_KEY, EMPTY), false));
-    assert!(rt; are_form(normalised_twice(alloc, REPEATED_KEY), ITS_CANONICAL_FORM));
-    assert!(rt; is_one_pair(received(alloc, REPEATED_KEY)));
+    assert!(rt; is_truth(are_equal(alloc, A_TWICE, ITS_CANONICAL_FORM), true));
+    assert!(rt; is_truth(are_equal(alloc, A_TWICE, NOTHING), false));
+    assert!(rt; are_form(normalised_twice(alloc, A_TWICE), ITS_CANONICAL_FORM));
+    assert!(rt; is_one_pair(received(alloc, A_TWICE)));
     assert!(rt; is_kept_once(alloc, &mut Shelf::new(alloc)));
-    assert!(rt; is_whole(&split_dump(alloc, REPEATED_KEY)));
+    assert!(rt; is_whole(&split_dump(alloc, A_TWICE)));
     assert!(rt; is_tally(tally_of(alloc, NUMBERS, "n", MOST)));
 }
 

@@ -1,4 +1,4 @@
-use crate::fixtures::{GREETING, document_of};
+use crate::fixtures::{B_ALONE, buffer_of};
 use raw_bson::RawDocumentBuf;
 use raw_shelf::{PutError, Shelf};
 use std::process::Abort;
@@ -14,7 +14,7 @@ fn is_stored(shelf: &mut Shelf, document: RawDocumentBuf) -> bool {
 // `bin/test` runs this with each request for memory refused in turn, alone.
 #[test]
 fn put_or_out_of_memory(rt: HostRuntime) {
-    if let Ok(greeting) = document_of(rt.alloc(), GREETING) {
-        assert!(rt; is_stored(&mut Shelf::new(rt.alloc()), greeting));
+    if let Ok(document) = buffer_of(rt.alloc(), B_ALONE) {
+        assert!(rt; is_stored(&mut Shelf::new(rt.alloc()), document));
     }
 }

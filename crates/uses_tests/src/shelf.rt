@@ -4,11 +4,14 @@ use raw_shelf::{PutError, Shelf};
 use std::alloc::Global;
 use std::process::Abort;
 
+/// An array of one null, whose key is empty, under `a`.
+const WRONG_ARRAY_KEY: &[u8] = b"\x0F\0\0\0\x04a\0\x07\0\0\0\x0A\0\0\0";
+
 const ITS_CANONICAL_FORM: &[u8] = b"\x10\0\0\0\x04a\0\x08\0\0\0\x0A0\0\0\0";
 
 /// What the put of these bytes returns; out of memory where there was none for the bytes.
 fn put(alloc: Global, shelf: &mut Shelf, bytes: &[u8]) -> std::result::Result<bool, PutError> {
-    match document_of(alloc, bytes) {
+    match buffer_of(alloc, bytes) {
         Ok(document) => shelf.put(document),
         Err(_) => Err(PutError::OutOfMemory),
     }
@@ -58,31 +61,21 @@ fn is_form_put_once(alloc: Global, shelf: &mut Shelf, form: Result<Vec<u8>>) -> 
 /// Whether documents are put, of which two are refused.
 fn are_put(alloc: Global, shelf: &mut Shelf) -> bool {
     shelf.is_empty()
-        && is_put(alloc, shelf, GREETING, true)
-        && is_put(alloc, shelf, GREETING, false)
-        && is_breach(alloc, shelf, REPEATED_KEY, &[1], Cause::RepeatedKey)
-        && is_breach(
-            alloc,
-            shelf,
-            ARRAY_WITH_AN_EMPTY_KEY,
-            &[0, 0],
-            Cause::ArrayKey,
-        )
-        && is_form_put_once(
-            alloc,
-            shelf,
-            canonical_bytes(alloc, ARRAY_WITH_AN_EMPTY_KEY),
-        )
-        && is_put(alloc, shelf, EMPTY, true)
+        && is_put(alloc, shelf, B_ALONE, true)
+        && is_put(alloc, shelf, B_ALONE, false)
+        && is_breach(alloc, shelf, A_TWICE, &[1], Cause::RepeatedKey)
+        && is_breach(alloc, shelf, WRONG_ARRAY_KEY, &[0, 0], Cause::ArrayKey)
+        && is_form_put_once(alloc, shelf, canonical_bytes(alloc, WRONG_ARRAY_KEY))
+        && is_put(alloc, shelf, NOTHING, true)
 }
 
 /// Whether the documents are there then.
 fn are_in_order(shelf: &Shelf) -> bool {
     shelf.len() == 3
         && !shelf.is_empty()
-        && is_at(shelf, 0, Some(GREETING))
+        && is_at(shelf, 0, Some(B_ALONE))
         && is_at(shelf, 1, Some(ITS_CANONICAL_FORM))
-        && is_at(shelf, 2, Some(EMPTY))
+        && is_at(shelf, 2, Some(NOTHING))
         && is_at(shelf, 3, None)
 }
 
@@ -137,35 +130,43 @@ fn ten_thousand_documents_twice(rt: HostRuntime) {
     assert!(rt; are_put_once(rt.alloc(), &mut Shelf::new(rt.alloc())));
 }
 
-/// Whether the breach has this text, and a refusal for it this one, and this `Debug` text.
-fn is_breach_printed(alloc: Global, breach: Breach, text: &str, refusal: (&str, &str)) -> bool {
-    let is_said = has_display_text(alloc, &breach, text);
-    let error = PutError::Breach(breach);
-    is_said
-        && has_display_text(alloc, &error, refusal.0)
-        && has_debug_text(alloc, &error, refusal.1)
+/// Whether the refusal has this text, and this `Debug` text.
+fn is_printed(alloc: Global, error: &PutError, text: &str, debug_text: &str) -> bool {
+    match (format!(in alloc; "{error}"), format!(in alloc; "{error:?}")) {
+        (Ok(printed), Ok(debugged)) => {
+            printed.as_str() == text && debugged.as_str() == debug_text
+        }
+        _ => false,
+    }
 }
 
-/// The same of a breach at a path.
-fn is_refusal_printed(alloc: Global, path: &[usize]) -> bool {
+/// Whether the refusal for a repeated key at this path has its texts.
+fn is_breach_printed(alloc: Global, path: &[usize]) -> bool {
     let text = "not canonical: repeated-key at 4.0.12";
     let debug_text = "Breach(Breach { path: [4, 0, 12], cause: RepeatedKey })";
-    match breach(alloc, path, Cause::RepeatedKey) {
-        Ok(breach) => {
-            is_breach_printed(alloc, breach, "repeated-key at 4.0.12", (text, debug_text))
+    match Vec::from_slice(alloc, path) {
+        Ok(path) => {
+            let cause = Cause::RepeatedKey;
+            is_printed(
+                alloc,
+                &PutError::Breach(Breach { path, cause }),
+                text,
+                debug_text,
+            )
         }
         Err(_) => false,
     }
 }
 
-/// Whether out of memory has its texts.
-fn is_out_of_memory_printed(alloc: Global) -> bool {
-    has_display_text(alloc, &PutError::OutOfMemory, "out of memory")
-        && has_debug_text(alloc, &PutError::OutOfMemory, "OutOfMemory")
-}
-
 #[test]
 fn refusals_in_words(rt: HostRuntime) {
-    assert!(rt; is_refusal_printed(rt.alloc(), &[4, 0, 12]));
-    assert!(rt; is_out_of_memory_printed(rt.alloc()));
+    assert!(rt; is_breach_printed(rt.alloc(), &[4, 0, 12]));
+    assert!(rt;
+        is_printed(
+            rt.alloc(),
+            &PutError::OutOfMemory,
+            "out of memory",
+            "OutOfMemory"
+        )
+    );
 }
