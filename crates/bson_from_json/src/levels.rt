@@ -11,8 +11,7 @@ ghost use Rattle.bson_from_json.specs.Texts.{LeavesOpen};
 
 use crate::error::JsonReason;
 use raw_bson::{ElementType, Limits, RawDocumentBuf, total_len};
-use raw_form::{BarrierKind, first_fault_within};
-use raw_tree::{put_head, put_string, set_len};
+use raw_tree::{BarrierKind, first_fault_within, put_head, put_string, set_len};
 use std::alloc::Global;
 
 /// What holds a level.

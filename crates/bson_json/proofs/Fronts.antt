@@ -14,10 +14,10 @@ use Rattle.raw_view.specs.declared.document.RawDocument.{RawDocument}
 use Rattle.raw_view.specs.declared.element.RawElement.{RawElement}
 use Rattle.raw_view.proofs.Face.{one_meaning}
 use Rattle.raw_tree.specs.Reading.{Holds}
-use Rattle.raw_form.specs.Aheads as next
-use Rattle.raw_form.specs.Looking.{HoldsNone, IsValueOf, Looks}
-use Rattle.raw_form.specs.Waits.{Wait}
-use Rattle.raw_form.specs.Walks.{IsAlong}
+use Rattle.raw_tree.specs.Aheads as next
+use Rattle.raw_tree.specs.Looking.{HoldsNone, IsValueOf, Looks}
+use Rattle.raw_tree.specs.Waits.{Wait}
+use Rattle.raw_tree.specs.Walks.{IsAlong}
 use Rattle.raw_tree.specs.declared.walk.level.Level as walk
 use Rattle.raw_tree.specs.declared.walk.Walk.{Walk}
 use Rattle.bson_json.specs.Json.{before_scope}

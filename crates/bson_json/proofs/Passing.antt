@@ -1,7 +1,7 @@
 -- A text that is written block by block, of a document that may have a barrier.
 use Rattle.std.proofs.Common.{◌≡◌, inl, inr, Bool, true, false, ℕ, List, Some, Result, Ok, Err, IfErr, IsErrAnd, refl, sym, ◌∙◌, subst}
 use Rattle.bson_model.specs.Tree.{Tree}
-use Rattle.raw_form.specs.Barriers.{TellsBarrier}
+use Rattle.raw_tree.specs.Barriers.{TellsBarrier}
 use Rattle.raw_tree.specs.declared.walk.barrier.Barrier.{Barrier}
 use Rattle.raw_tree.specs.WithinLimits.{ReadsWithin}
 use Rattle.raw_tree.specs.declared.reader.limits.Limits.{Limits}

@@ -13,16 +13,16 @@ use Rattle.raw_tree.specs.Reading.{as_document, ReadsUpTo}
 use Rattle.raw_tree.specs.WithinLimits.{ReadsWithin}
 use Rattle.raw_tree.specs.declared.reader.limits.Limits.{Limits}
 use Rattle.raw_tree.proofs.Face.{read_within}
-use Rattle.raw_form.specs.Barriers.{TellsBarrierWithin}
-use Rattle.raw_form.specs.Waits.{Wait}
-use Rattle.raw_form.specs.Walks.{BeginsWithin, Comes, IsAlong, IsFurther, LeavesOrEnds, TellsError}
+use Rattle.raw_tree.specs.Barriers.{TellsBarrierWithin}
+use Rattle.raw_tree.specs.Waits.{Wait}
+use Rattle.raw_tree.specs.Walks.{BeginsWithin, Comes, IsAlong, IsFurther, LeavesOrEnds, TellsError}
 use Rattle.raw_tree.specs.declared.walk.level.Level as walk
 use Rattle.raw_tree.specs.declared.walk.Event.{Event}
 use Rattle.raw_tree.specs.declared.walk.Event.TheVariants as event
 use Rattle.raw_tree.specs.declared.walk.Walk.{Walk}
 use Rattle.raw_tree.specs.declared.walk.WalkError.{WalkError}
 use Rattle.raw_tree.specs.declared.walk.WalkError.TheVariants as error
-use Rattle.raw_form.proofs.Face.{barrier_told}
+use Rattle.raw_tree.proofs.Face.{barrier_told}
 use Rattle.bson_json.specs.Json.{end_text, head_text}
 use Rattle.bson_json.specs.Levels.{Level, PutsEvent, PutsOpening, PutsSingle, Suits, after, error_of, level_sort}
 use Rattle.bson_json.specs.Passing.{Guards, TellsBriefly, TellsPassError, TellsPrintError}

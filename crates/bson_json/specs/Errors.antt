@@ -1,7 +1,7 @@
 -- Why a document isn't printed, or not whole. The bytes b of a document have an envelope.
 use Rattle.std.specs.Prelude.{◌≡◌, ◌⊎◌, ◌≤◌, ℕ, List, length, Option, Some}
 use Rattle.bson_model.specs.Tree.{Tree}
-use Rattle.raw_form.specs.Barriers.{TellsBarrier}
+use Rattle.raw_tree.specs.Barriers.{TellsBarrier}
 use Rattle.raw_tree.specs.WithinLimits.{ReadsWithin}
 use Rattle.raw_tree.specs.declared.reader.limits.Limits.{Limits}
 use Rattle.bson_json.specs.Written.{WroteFront}

@@ -1,7 +1,7 @@
 -- What is known of a document of which a text is written block by block. No public contract cites this file.
 use Rattle.std.specs.Prelude.{◌≡◌, ◌⊎◌, ◌≤◌, ℕ, Bool, true, false, List, length, Some}
 use Rattle.bson_model.specs.Tree.{Tree}
-use Rattle.raw_form.specs.Barriers.{TellsBarrier}
+use Rattle.raw_tree.specs.Barriers.{TellsBarrier}
 use Rattle.raw_tree.specs.declared.walk.barrier.Barrier.{Barrier}
 use Rattle.raw_tree.specs.WithinLimits.{ReadsWithin}
 use Rattle.raw_tree.specs.declared.reader.limits.Limits.{Limits}

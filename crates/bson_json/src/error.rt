@@ -1,7 +1,7 @@
 //! Why a document isn't printed.
 #![tactic(auto)]
 
-use raw_form::Barrier;
+use raw_tree::Barrier;
 use std::io;
 
 /// Why a document isn't printed.

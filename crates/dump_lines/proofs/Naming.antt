@@ -1,8 +1,8 @@
 -- The last step of a path gets a key.
 use Rattle.std.proofs.Common.{arith, ◌≡◌, ◌+◌, ◌∙◌, ℕ, suc, zero, List, [], ◌∷◌, Option, ap, length, map, slice_index_or, slice_set}
 use Rattle.std.specs.Option.{option_copied}
-use Rattle.raw_form.specs.Barriers.{step_of}
-use Rattle.raw_form.specs.Places.{Step}
+use Rattle.raw_tree.specs.Barriers.{step_of}
+use Rattle.raw_tree.specs.Places.{Step}
 use Rattle.raw_tree.specs.declared.walk.place.PathStep.{PathStep}
 use Rattle.dump_lines.specs.Find.{key_or, named_path}
 

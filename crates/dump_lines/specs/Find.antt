@@ -12,11 +12,11 @@ use Rattle.raw_tree.specs.Breaches.{cause_text}
 use Rattle.raw_tree.specs.declared.validator.breach.Cause.{Cause}
 use Rattle.raw_tree.specs.WithinLimits.{Barrier, too_many_bytes, too_deep, fault_of, ReadsWithin}
 use Rattle.raw_tree.specs.declared.reader.limits.Limits.{Limits}
-use Rattle.raw_form.specs.Barriers.{steps_of}
-use Rattle.raw_form.specs.Places.{Step, FirstBarrierAt}
+use Rattle.raw_tree.specs.Barriers.{steps_of}
+use Rattle.raw_tree.specs.Places.{Step, FirstBarrierAt}
 use Rattle.raw_tree.specs.declared.walk.place.Place.{Place}
-use Rattle.raw_form.specs.Verdicts.{Verdict, breach_of, FirstVerdict, IsCanonicalWithin}
-use Rattle.raw_form.specs.Verdicts as verdict
+use Rattle.raw_tree.specs.Verdicts.{Verdict, breach_of, FirstVerdict, IsCanonicalWithin}
+use Rattle.raw_tree.specs.Verdicts as verdict
 use Rattle.dump_lines.specs.declared.find.Finding.{Finding}
 use Rattle.dump_lines.specs.declared.find.Finding.TheVariants as finding
 use Rattle.dump_lines.specs.declared.find.Told.{Told}

@@ -3,7 +3,7 @@ use Rattle.std.specs.Prelude.{◌≡◌, ℕ, List, [], ◌∷◌, ◌++◌, ◌
 use Rattle.json.specs.Print.{print, quoted}
 use Rattle.json.specs.Token.{Token, begin_object, end_object, begin_array, end_array, key, string, number, null}
 use Rattle.json.specs.Written.{Written}
-use Rattle.raw_form.specs.Places.{Step}
+use Rattle.raw_tree.specs.Places.{Step}
 use Rattle.dump_lines.specs.Find.{Account, Explanation, Spot, explanation_text}
 use Rattle.dump_lines.specs.Origins.{Origin, Repeat}
 use Rattle.dump_lines.specs.declared.style.Style.{Style}

@@ -6,17 +6,18 @@ ghost use Rattle.std.specs.Option.{option_copied, option_map};
 ghost use Rattle.raw_view.specs.Document.{bytes_of};
 ghost use Rattle.raw_view.specs.Frame.Envelope.{IsEnvelope, Refuses};
 ghost use Rattle.raw_view.specs.Errors.{IsMalformed};
-ghost use Rattle.raw_form.specs.Barriers.{IsBarrier, steps_of};
-ghost use Rattle.raw_form.specs.Places.{FirstBarrierAt};
-ghost use Rattle.raw_form.specs.Verdicts.{FirstVerdict};
+ghost use Rattle.raw_tree.specs.Barriers.{IsBarrier, steps_of};
+ghost use Rattle.raw_tree.specs.Places.{FirstBarrierAt};
+ghost use Rattle.raw_tree.specs.Verdicts.{FirstVerdict};
 ghost use Rattle.raw_tree.specs.WithinLimits as within;
 ghost use Rattle.raw_tree.specs.declared.reader.limits.Limits.{Limits};
 ghost use Rattle.dump_lines.specs.Find.{account_at, account_of, Finds, MayBeDamaged, SaysBarrier, named_spot, spot_of, usual, verdict_of, verdict_word};
 ghost use Rattle.dump_lines.specs.Find as says;
 
 use crate::reason::{Why, kind_of};
-use raw_form::{Barrier, BarrierKind, Place, ValidateError, first_fault_within, validate_within};
-use raw_tree::{Cause, Limits};
+use raw_tree::{
+    Barrier, BarrierKind, Cause, Limits, Place, ValidateError, first_fault_within, validate_within,
+};
 use raw_view::{ErrorKind, RawDocument};
 use std::alloc::{AllocError, Global};
 

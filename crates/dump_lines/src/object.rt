@@ -5,7 +5,7 @@ ghost use Rattle.std.specs.Prelude.{◌≡◌, ◌++◌, ◌∷◌, [], List, So
 ghost use Rattle.std.specs.Fmt.{signed_decimal};
 ghost use Rattle.std.specs.Option.{option_copied};
 ghost use Rattle.json.specs.Token.{Token, begin_object, end_object, key, number, string};
-ghost use Rattle.raw_form.specs.Barriers.{step_of};
+ghost use Rattle.raw_tree.specs.Barriers.{step_of};
 ghost use Rattle.dump_lines.specs.Told.{error_members, first_members, head_members, key_token, keys_members, members_of, number_member, number_token, numbers_members, object_line, reason_members, report_line, spot_members, text_or_null, Grows};
 ghost use Rattle.dump_lines.specs.Find.{account_of, explanation_of, spot_of};
 ghost use Rattle.dump_lines.specs.Origins.{origin_of};
@@ -15,7 +15,7 @@ use crate::find::Told;
 use crate::origin::Origin;
 use crate::reason::Why;
 use json::Writer;
-use raw_form::{PathStep, Place};
+use raw_tree::{PathStep, Place};
 use std::alloc::{AllocError, Global};
 
 /// An object that is begun.

@@ -5,7 +5,7 @@ ghost use Rattle.std.specs.Prelude.{◌≡◌, ◌++◌, ℕ, List, Some, codes,
 ghost use Rattle.std.specs.Fmt.{signed_decimal};
 ghost use Rattle.std.specs.Option.{option_map};
 ghost use Rattle.json.specs.Print.{quoted};
-ghost use Rattle.raw_form.specs.Barriers.{step_of};
+ghost use Rattle.raw_tree.specs.Barriers.{step_of};
 ghost use Rattle.dump_lines.specs.Find.{account_of, explanation_of, explanation_text, spot_of};
 ghost use Rattle.dump_lines.specs.Told.{first_text, line, path_text, spot_text, step_text, head_text};
 ghost use Rattle.dump_lines.specs.Told as says;
@@ -16,7 +16,7 @@ use crate::origin::Origin;
 use crate::reason::Why;
 use itoa::Buffer;
 use json::Writer;
-use raw_form::{PathStep, Place};
+use raw_tree::{PathStep, Place};
 use std::alloc::{AllocError, Global};
 use std::mem;
 

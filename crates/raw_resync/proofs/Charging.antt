@@ -6,12 +6,11 @@ use Rattle.raw_view.specs.Frame.{HasKey}
 use Rattle.raw_view.specs.Frame.Envelope.{IsEnvelope}
 use Rattle.raw_tree.specs.WithinLimits.{AllAreAnsweredOneWay, Barrier}
 use Rattle.raw_tree.specs.declared.reader.limits.Limits.{Limits}
-use Rattle.raw_form.specs.Barriers.{TellsBarrier, steps_of}
-use Rattle.raw_form.specs.Barriers as barriers
-use Rattle.raw_form.specs.Places.{Step}
-use Rattle.raw_form.specs.Tokens.{last_key}
+use Rattle.raw_tree.specs.Barriers.{TellsBarrier, steps_of}
+use Rattle.raw_tree.specs.Barriers as barriers
+use Rattle.raw_tree.specs.Places.{Step, last_key}
 use Rattle.raw_tree.specs.declared.walk.barrier.Barrier as told
-use Rattle.raw_form.proofs.Face.{barrier_bound}
+use Rattle.raw_tree.proofs.Face.{barrier_bound}
 use Rattle.raw_resync.specs.Pieces.{said_len}
 use Rattle.raw_resync.specs.Resync.{IsSound}
 use Rattle.raw_resync.specs.Charge.{Costs, IsBehindText, IsBehindZero, IsOfText, IsOfValue, LooksAt, LooksAtRegex}

@@ -9,8 +9,7 @@ use Rattle.raw_view.specs.Frame.{HasKey, Utf8}
 use Rattle.raw_view.specs.declared.element_type.ElementType.TheVariants as kind
 use Rattle.raw_tree.specs.WithinLimits.{Barrier, IsFaultWith}
 use Rattle.raw_tree.specs.declared.reader.limits.Limits.{Limits}
-use Rattle.raw_form.specs.Places.{FirstBarrierAt, Step}
-use Rattle.raw_form.specs.Tokens.{last_key}
+use Rattle.raw_tree.specs.Places.{FirstBarrierAt, Step, last_key}
 use Rattle.raw_resync.specs.Pieces.{IsPiece, said_len}
 use Rattle.raw_resync.specs.Resync.{IsSound}
 use Rattle.raw_resync.specs.declared.work.Work.{Work}

@@ -5,12 +5,12 @@ ghost use Rattle.std.specs.Prelude.{◌≡◌, ◌≤◌, ◌<◌, ◌+◌, ◌^
 ghost use Rattle.bson_model.specs.Bytes.{NulFree};
 ghost use Rattle.raw_view.specs.Document.{bytes_of};
 ghost use Rattle.raw_tree.specs.WithinLimits as within;
-ghost use Rattle.raw_form.specs.Barriers.{IsBarrier, steps_of};
+ghost use Rattle.raw_tree.specs.Barriers.{IsBarrier, steps_of};
 ghost use Rattle.raw_resync.specs.Pieces.{said_len};
 ghost use Rattle.raw_resync.specs.Charge.{IsBehindText, IsBehindZero, IsOfText, IsOfValue, LooksAt, LooksAtRegex};
 
 use memchr::memchr;
-use raw_form::{Barrier, BarrierKind};
+use raw_tree::{Barrier, BarrierKind};
 use raw_view::{ErrorKind, RawDocument};
 
 /// The tag of a regular expression.

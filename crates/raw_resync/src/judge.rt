@@ -8,8 +8,7 @@ ghost use Rattle.raw_resync.specs.Seeking.{IsJudged, IsWork, JudgesOrLeaves};
 
 use crate::charge::looked_at;
 use crate::work::Work;
-use raw_form::first_fault_within;
-use raw_tree::Limits;
+use raw_tree::{Limits, first_fault_within};
 use raw_view::RawDocument;
 use std::alloc::{AllocError, Global};
 

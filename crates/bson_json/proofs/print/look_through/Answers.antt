@@ -1,5 +1,5 @@
 use Rattle.std.proofs.Common.{subst}
-use Rattle.raw_form.specs.Barriers.{TellsBarrier}
+use Rattle.raw_tree.specs.Barriers.{TellsBarrier}
 use Rattle.raw_view.specs.Document.{bytes_of}
 use Rattle.bson_json.proofs.print.look_through.Goals as goal
 

@@ -1,6 +1,6 @@
 use Rattle.std.proofs.Common.{subst}
 use Rattle.raw_view.specs.Document.{bytes_of}
-use Rattle.raw_form.specs.Barriers.{TellsBarrier}
+use Rattle.raw_tree.specs.Barriers.{TellsBarrier}
 use Rattle.dump_lines.proofs.find.not_canonical.Goals as goal
 
 pub returns-in-Ok-Some : goal.returns-in-Ok-Some

@@ -1,5 +1,5 @@
 use Rattle.std.proofs.Common.{map, take}
-use Rattle.raw_form.specs.Barriers.{step_of}
+use Rattle.raw_tree.specs.Barriers.{step_of}
 use Rattle.dump_lines.specs.Told.{Grows, key_token}
 use Rattle.dump_lines.proofs.object.push_keys.Given as goal
 

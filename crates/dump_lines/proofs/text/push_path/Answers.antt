@@ -1,8 +1,8 @@
 use Rattle.std.proofs.Common.{◌≡◌, ◌<◌, ◌-◌, ◌++◌, ◌∙◌, ℕ, List, ap, append_assoc, arith, codes, drop, flat_map, length, map, sym, take}
 use Rattle.std.proofs.lemmas.Bool.{cond_below}
 use Rattle.std.proofs.lemmas.List.{drop-map, length-drop, length-map, take-map, take_all}
-use Rattle.raw_form.specs.Barriers.{step_of}
-use Rattle.raw_form.specs.Places.{Step}
+use Rattle.raw_tree.specs.Barriers.{step_of}
+use Rattle.raw_tree.specs.Places.{Step}
 use Rattle.dump_lines.specs.Told.{path_text, step_text}
 use Rattle.dump_lines.proofs.Cases.{on_ok}
 use Rattle.dump_lines.proofs.text.push_path.Goals as goal

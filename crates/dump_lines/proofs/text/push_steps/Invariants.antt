@@ -1,5 +1,5 @@
 use Rattle.std.proofs.Common.{◌≡◌, ◌++◌, flat_map, map, take}
-use Rattle.raw_form.specs.Barriers.{step_of}
+use Rattle.raw_tree.specs.Barriers.{step_of}
 use Rattle.dump_lines.specs.Told.{step_text}
 use Rattle.dump_lines.proofs.text.push_steps.Given as goal
 

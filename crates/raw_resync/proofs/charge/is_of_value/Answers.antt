@@ -1,4 +1,4 @@
-use Rattle.raw_form.specs.Barriers.{steps_of}
+use Rattle.raw_tree.specs.Barriers.{steps_of}
 use Rattle.raw_resync.proofs.Charging.{no_value, of_value}
 use Rattle.raw_resync.proofs.charge.is_of_value.Goals as goal
 use Rattle.std.proofs.Common.{sym}

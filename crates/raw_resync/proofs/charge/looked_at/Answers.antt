@@ -1,6 +1,6 @@
 use Rattle.std.proofs.Common.{rules, ◌≡◌, ◌∷◌, ◌+◌, ◌-◌, MatchBool, drop, length, min, subst, sym, List, ℕ}
 use Rattle.raw_view.specs.Document.{bytes_of}
-use Rattle.raw_form.specs.Barriers.{steps_of}
+use Rattle.raw_tree.specs.Barriers.{steps_of}
 use Rattle.raw_resync.specs.Charge.{IsOfValue, LooksAt}
 use Rattle.raw_resync.proofs.Charging.{looks_all, looks_key, looks_regex, looks_value}
 use Rattle.raw_resync.proofs.charge.looked_at.Goals as goal
