@@ -20,6 +20,3 @@ pub use raw_tree::{
     Barrier, BarrierKind, PathStep, Place, PlacedBreach, ValidateError, first_fault_within,
     validate_within,
 };
-// For `bson_json` alone, which prints what a walk comes to.
-#[doc(hidden)]
-pub use raw_tree::{Event, Level, Walk, WalkError};
