@@ -80,3 +80,5 @@ pub use Rattle.raw_view.specs.declared.error.Error
 pub use Rattle.raw_view.specs.declared.error.ErrorKind
 pub use Rattle.raw_view.specs.declared.error.Reason
 pub use Rattle.raw_view.specs.declared.first_document.NoDocument
+pub use Rattle.raw_view.specs.declared.level.Holder
+pub use Rattle.raw_view.specs.declared.level.RawLevel

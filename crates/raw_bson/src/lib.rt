@@ -33,8 +33,8 @@ pub use raw_tree::{
     total_len, validate,
 };
 pub use raw_view::{
-    BorrowedError, ElementType, Error, ErrorKind, Iter, NoDocument, RawArray, RawArrayIter,
+    BorrowedError, ElementType, Error, ErrorKind, Holder, Iter, NoDocument, RawArray, RawArrayIter,
     RawBinaryRef, RawBsonRef, RawDbPointerRef, RawDocument, RawElement, RawIter,
-    RawJavaScriptCodeWithScopeRef, RawRegexRef, Reason, Result, ValueAccessError,
+    RawJavaScriptCodeWithScopeRef, RawLevel, RawRegexRef, Reason, Result, ValueAccessError,
     ValueAccessErrorKind, ValueAccessResult,
 };

@@ -15,6 +15,7 @@ mod front;
 mod hex_digits;
 mod iter;
 pub mod laws;
+mod level;
 mod value;
 
 pub use access::{ValueAccessError, ValueAccessErrorKind, ValueAccessResult};
@@ -30,3 +31,4 @@ pub use error::{BorrowedError, Error, ErrorKind, Reason, Result};
 pub use first_document::NoDocument;
 pub use hex_digits::HexDigits;
 pub use iter::{Iter, RawArrayIter, RawIter};
+pub use level::{Holder, RawLevel};

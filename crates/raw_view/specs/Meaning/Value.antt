@@ -1,11 +1,14 @@
 -- What borrowed values show.
-use Rattle.std.specs.Prelude.{ℕ, List}
+use Rattle.std.specs.Prelude.{◌≡◌, ℕ, List, Option, None, Some}
 use Rattle.bson_model.specs.Leaf.{double, string, binary, undefined, object_id, boolean, date_time, null, regular_expression, db_pointer, javascript_code, symbol, int32, timestamp, int64, decimal128, max_key, min_key}
 use Rattle.bson_model.specs.Scalars.{bytes_of_object_id, millis_of_date_time, bytes_of_decimal128}
 use Rattle.raw_view.specs.declared.bson_ref.RawBsonRef.{RawBsonRef}
 use Rattle.raw_view.specs.declared.bson_ref.RawBsonRef.TheVariants as ref
 use Rattle.raw_view.specs.declared.bson_ref.RawDbPointerRef.{RawDbPointerRef}
 use Rattle.raw_view.specs.declared.array.RawArray.{RawArray}
+use Rattle.raw_view.specs.declared.level.Holder.{Holder}
+use Rattle.raw_view.specs.declared.level.Holder.TheVariants as holder
+use Rattle.raw_view.specs.declared.level.RawLevel.{RawLevel}
 use Rattle.raw_view.specs.Document.{bytes_of}
 use Rattle.raw_view.specs.Meaning.{RawValue, single, document, array, scoped}
 
@@ -43,3 +46,25 @@ value_of ref.Undefined = single undefined
 value_of ref.MaxKey = single max_key
 value_of ref.MinKey = single min_key
 value_of (ref.DbPointer p) = single (db_pointer (namespace_of p) (id_of p))
+
+-- the value that holds these bytes
+abbrev pub holding : Holder → List ℕ → RawValue
+holding holder.Document d = document d
+holding holder.Array d = array d
+holding (holder.Code code) d = scoped code.now d
+
+-- the value that holds this level
+abbrev pub held_value : RawLevel → RawValue
+held_value level = holding level.holder (bytes_of level.document)
+
+-- the value holds no others
+abbrev pub IsSingle : RawValue → Type 0
+IsSingle (single leaf) = Unit {0}
+IsSingle (document d) = ⊥
+IsSingle (array d) = ⊥
+IsSingle (scoped code d) = ⊥
+
+-- the value holds no level; or it holds this one
+abbrev pub HoldsLevel : RawValue → Option RawLevel → Type 0
+HoldsLevel v None = IsSingle v
+HoldsLevel v (Some level) = v ≡ held_value level
