@@ -1,12 +1,9 @@
 -- What is kept of a level that is rewritten, and what its helpers tell. No public contract cites this file.
 use Rattle.std.specs.Prelude.{◌≡◌, ◌⊎◌, ◌<◌, ◌≤◌, ◌+◌, ◌^◌, ◌++◌, ℕ, List, [], ◌∷◌, Option, None, Some, IsTrue, length, map}
 use Rattle.bson_model.specs.Tree.{Tree, leaf, array, document, code_with_scope, trees, entries}
-use Rattle.raw_view.specs.Document.{bytes_of}
 use Rattle.raw_view.specs.Frame.ElementSteps.{frame_of}
 use Rattle.raw_view.specs.Errors.{IsOutOfMemory, key_of}
 use Rattle.raw_view.specs.Frame.Format.{string_payload}
-use Rattle.raw_view.specs.Meaning.{RawValue}
-use Rattle.raw_view.specs.Meaning as raw
 use Rattle.raw_view.specs.Frame.Number.{max_length}
 use Rattle.raw_view.specs.declared.element.RawElement.{RawElement}
 use Rattle.raw_view.specs.declared.element_type.ElementType.{ElementType}
@@ -14,13 +11,13 @@ use Rattle.raw_view.specs.declared.element_type.ElementType.TheVariants as kind
 use Rattle.raw_view.specs.declared.error.Error.{Error}
 use Rattle.raw_view.specs.declared.error.ErrorKind.TheVariants.{MalformedValue}
 use Rattle.raw_view.specs.declared.error.Reason.TheVariants.{TooLong}
+use Rattle.raw_view.specs.declared.level.Holder.{Holder}
+use Rattle.raw_view.specs.declared.level.Holder.TheVariants as holder
 use Rattle.raw_tree.specs.Payload.{unset}
 use Rattle.raw_tree.specs.Members.{MemberKey, text, number, numbered, keyed, with_len}
 use Rattle.raw_tree.specs.Reading.{ReadsAs, ReadsRest, FrameStandsFor}
 use Rattle.raw_tree.specs.Validating.{left_of}
 use Rattle.raw_form.specs.Staying.{AreNextOwn, IsLeftAt, IsOwnForm}
-use Rattle.raw_form.specs.declared.held.Held.{Held}
-use Rattle.raw_form.specs.declared.held.Held.TheVariants as held
 use Rattle.raw_form.specs.declared.rewritten.Keys.{Keys}
 use Rattle.raw_form.specs.declared.rewritten.Keys.TheVariants as keys
 use Rattle.raw_form.specs.declared.rewritten.Member.{Member}
@@ -38,31 +35,11 @@ IsPlain kind.JavaScriptCodeWithScope = ⊥
 IsPlain kind.RegularExpression = ⊥
 IsPlain k = Unit {0}
 
--- values that hold a level
-
-abbrev pub held_value : Held → RawValue
-held_value (held.Document d) = raw.document (bytes_of d)
-held_value (held.Array d) = raw.array (bytes_of d)
-held_value (held.Code code d) = raw.scoped code.now (bytes_of d)
-
-abbrev pub held_bytes : Held → List ℕ
-held_bytes (held.Document d) = bytes_of d
-held_bytes (held.Array d) = bytes_of d
-held_bytes (held.Code code d) = bytes_of d
-
--- the value holds no level, or this one
-abbrev pub ShowsHeld : RawValue → Option Held → Type 0
-ShowsHeld (raw.single l) h = h ≡ None
-ShowsHeld (raw.document d) None = ⊥
-ShowsHeld (raw.array d) None = ⊥
-ShowsHeld (raw.scoped code d) None = ⊥
-ShowsHeld v (Some h) = v ≡ held_value h
-
--- what its payload begins with, with the lengths not set
-abbrev pub held_opening : Held → List ℕ
-held_opening (held.Document d) = unset
-held_opening (held.Array d) = unset
-held_opening (held.Code code d) = unset ++ string_payload code.now ++ unset
+-- what the payload of a value that holds a level begins with, with the lengths not set
+abbrev pub held_opening : Holder → List ℕ
+held_opening holder.Document = unset
+held_opening holder.Array = unset
+held_opening (holder.Code code) = unset ++ string_payload code.now ++ unset
 
 -- of code with a scope the length of the code, and of other trees none
 abbrev pub HasCode : Tree → Option ℕ → Type 0

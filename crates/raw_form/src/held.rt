@@ -1,46 +1,23 @@
-//! Values that hold a level, and how their payloads are begun and ended.
+//! Elements as they are written, and how those whose values hold a level are begun and ended.
 #![tactic(auto)]
 
 ghost use Rattle.std.specs.Prelude.{◌≡◌, ◌<◌, ◌≤◌, ◌+◌, ◌++◌, ◌∷◌, [], length, vec_capacity, vec_len, IfErr, IsTrue, OnOk};
 ghost use Rattle.bson_model.specs.Leaf.{Leaf};
-ghost use Rattle.raw_form.specs.Rewriting.{FailsFor, IsPlain, ShowsHeld, ended_by, header_len, held_opening, held_value};
+ghost use Rattle.raw_form.specs.Rewriting.{FailsFor, IsPlain, ended_by, header_len, held_opening};
 ghost use Rattle.raw_tree.specs.Payload.{element_bytes};
 ghost use Rattle.raw_tree.specs.Reading.{leaf_in_order};
 ghost use Rattle.raw_view.specs.Frame.ElementSteps.{frame_of};
 ghost use Rattle.raw_view.specs.Frame.Format.{element_of, leaf_payload, tagged};
 ghost use Rattle.raw_view.specs.Frame.Kind.{kind_of_leaf, tag_of};
-ghost use Rattle.raw_view.specs.Meaning.{kind_of_raw, single};
+ghost use Rattle.raw_view.specs.Meaning.{single};
 ghost use Rattle.raw_view.specs.Frame.Number.{max_length};
 ghost use Rattle.raw_view.specs.Meaning.Value.{value_of};
 
 use crate::code_len::CodeLen;
 use bson_model::Regex;
 use raw_tree::{payload_len, put_element, put_head, put_string, put_unset, set_len, total_len};
-use raw_view::{
-    ElementType, Error, RawBsonRef, RawDocument, RawElement, RawRegexRef, Reason, Result,
-};
+use raw_view::{ElementType, Error, Holder, RawBsonRef, RawElement, RawRegexRef, Reason, Result};
 use std::alloc::Global;
-
-/// The level that a value holds: a document, an array as a document, or this code's scope.
-#[derive(Clone, Copy)]
-pub(crate) enum Held<'a> {
-    Document(RawDocument<'a>),
-    Array(RawDocument<'a>),
-    Code(&'a str, RawDocument<'a>),
-}
-
-/// The level that the value holds, if it holds one.
-#[inline(always)]
-pub(crate) fn level_in(value: RawBsonRef<'_>) -> Option<Held<'_>>
-    ensures { ShowsHeld (value_of value.entry) result }
-{
-    match value {
-        RawBsonRef::Document(document) => Some(Held::Document(document)),
-        RawBsonRef::Array(array) => Some(Held::Array(array.as_doc())),
-        RawBsonRef::JavaScriptCodeWithScope(code) => Some(Held::Code(code.code, code.scope)),
-        _ => None,
-    }
-}
 
 /// Makes room for so many bytes more, where that is no more than a document may have.
 #[inline(always)]
@@ -141,54 +118,38 @@ pub(crate) fn put_leaf(
     put_value(out, key, RawBsonRef::RegularExpression(regex))
 }
 
-impl<'a> Held<'a> {
-    /// The tag of the value.
-    fn tag(self) -> u8
-        ensures { result ≡ tag_of (kind_of_raw (held_value self.entry)) }
-    {
-        let kind = match self {
-            Held::Document(_) => ElementType::EmbeddedDocument,
-            Held::Array(_) => ElementType::Array,
-            Held::Code(_, _) => ElementType::JavaScriptCodeWithScope,
-        };
-        kind.to_tag()
-    }
+/// Puts the tag of this kind and a key at the end.
+pub(crate) fn put_start(out: &mut Vec<u8>, key: &str, kind: ElementType) -> Result<()>
+    ensures items { OnOk result (out.new.items ≡ out.old.items ++ tagged (tag_of kind) key.now []) }
+    ensures grows { OnOk result (vec_len out.old < vec_len out.new) }
+    ensures fits { OnOk result (vec_len out.new ≤ max_length) }
+    ensures err { IfErr result (FailsFor (vec_len out.old + (2 + length key.now))) }
+{
+    make_room(out, key.len() + 2)?;
+    put_head(out, kind.to_tag(), key);
+    Ok(())
+}
 
-    /// Puts what the payload begins with at the end; its lengths aren't set.
-    pub(crate) fn put_opening(self, out: &mut Vec<u8>) -> Result<()>
-        ensures items { OnOk result (out.new.items ≡ out.old.items ++ held_opening self.entry) }
-        ensures grows { OnOk result (vec_len out.old < vec_len out.new) }
-        ensures fits { OnOk result (vec_len out.new ≤ max_length) }
-        ensures err { IfErr result (FailsFor (vec_len out.old + length (held_opening self.entry))) }
-    {
-        match self {
-            Held::Document(_) | Held::Array(_) => {
-                make_room(out, 4)?;
-                put_unset(out);
-            }
-            Held::Code(code, _) => {
-                make_room(out, code.len() + 13)?;
-                put_unset(out);
-                put_string(out, code);
-                put_unset(out);
-            }
+/// Puts what the payload of a value that holds a level begins with at the end; its lengths aren't set.
+pub(crate) fn put_opening(out: &mut Vec<u8>, holder: Holder<'_>) -> Result<()>
+    ensures items { OnOk result (out.new.items ≡ out.old.items ++ held_opening holder.entry) }
+    ensures grows { OnOk result (vec_len out.old < vec_len out.new) }
+    ensures fits { OnOk result (vec_len out.new ≤ max_length) }
+    ensures err { IfErr result (FailsFor (vec_len out.old + length (held_opening holder.entry))) }
+{
+    match holder {
+        Holder::Document | Holder::Array => {
+            make_room(out, 4)?;
+            put_unset(out);
         }
-        Ok(())
+        Holder::Code(code) => {
+            make_room(out, code.len() + 13)?;
+            put_unset(out);
+            put_string(out, code);
+            put_unset(out);
+        }
     }
-
-    /// Puts the tag of the value and its key at the end.
-    pub(crate) fn put_head(self, out: &mut Vec<u8>, key: &str) -> Result<()>
-        ensures items { OnOk result
-            (out.new.items
-            ≡ out.old.items ++ tagged (tag_of (kind_of_raw (held_value self.entry))) key.now []) }
-        ensures grows { OnOk result (vec_len out.old < vec_len out.new) }
-        ensures fits { OnOk result (vec_len out.new ≤ max_length) }
-        ensures err { IfErr result (FailsFor (vec_len out.old + (2 + length key.now))) }
-    {
-        make_room(out, key.len() + 2)?;
-        put_head(out, self.tag(), key);
-        Ok(())
-    }
+    Ok(())
 }
 
 /// Ends a payload that starts at this place, with code of this length if it is code with a scope: puts the final 0, and sets

@@ -8,11 +8,11 @@ ghost use Rattle.raw_form.specs.Staying.{IsOwnUpTo};
 ghost use Rattle.raw_tree.specs.Reading.{Reads};
 ghost use Rattle.raw_view.specs.Document.{bytes_of};
 
-use crate::held::{Held, level_in, put_end, put_leaf, put_plain};
+use crate::held::{put_end, put_leaf, put_opening, put_plain, put_start};
 use crate::rewritten::Rewritten;
 use itoa::Buffer;
 use raw_tree::{FIRST, Start};
-use raw_view::{Error, RawDocument, Result};
+use raw_view::{Error, Holder, RawDocument, RawLevel, Result};
 use std::alloc::Global;
 use std::mem;
 
@@ -25,8 +25,11 @@ pub(crate) fn rewrite(alloc: Global, document: RawDocument<'_>, known: Start) ->
     ensures err { IfErr result (RefusesFormOf (bytes_of document.entry)) }
 {
     let mut out = Vec::with_capacity(alloc, document.as_bytes().len())?;
-    let whole = Held::Document(document);
-    whole.put_opening(&mut out)?;
+    let whole = RawLevel {
+        document,
+        holder: Holder::Document,
+    };
+    put_opening(&mut out, whole.holder)?;
     let mut listed = Vec::new(alloc);
     let mut waiting: Vec<Rewritten<'_>> = Vec::new(alloc);
     let mut level = Rewritten::new(alloc, whole, 0, &mut listed, known)?;
@@ -48,13 +51,13 @@ pub(crate) fn rewrite(alloc: Global, document: RawDocument<'_>, known: Start) ->
         let Ok(value) = member.element.resolve() else {
             unreachable!()
         };
-        let Some(inner) = level_in(value) else {
+        let Some(inner) = value.level() else {
             put_leaf(alloc, &mut out, key, value)?;
             continue 'levels;
         };
-        inner.put_head(&mut out, key)?;
+        put_start(&mut out, key, value.element_type())?;
         let start = out.len() as u32;
-        inner.put_opening(&mut out)?;
+        put_opening(&mut out, inner.holder)?;
         let inner = Rewritten::new(alloc, inner, start, &mut listed, FIRST)?;
         let outer = mem::replace(&mut level, inner);
         if waiting.push(outer).is_err() {

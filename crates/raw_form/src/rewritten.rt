@@ -5,7 +5,7 @@ ghost use Rattle.std.specs.Prelude.{◌≡◌, ◌⊎◌, ◌≤◌, ℕ, List, 
 ghost use Rattle.std.specs.List.{IsDistinct};
 ghost use Rattle.std.specs.Str.{bytes_eq};
 ghost use Rattle.bson_model.specs.Tree.{Tree};
-ghost use Rattle.raw_form.specs.Rewriting.{HasCode, IsLater, IsLeft, IsPlain, TakesNext, held_bytes, held_opening, held_value, member_key};
+ghost use Rattle.raw_form.specs.Rewriting.{HasCode, IsLater, IsLeft, IsPlain, TakesNext, held_opening, member_key};
 ghost use Rattle.raw_form.specs.Staying.{IsOwnUpTo};
 ghost use Rattle.raw_tree.specs.Breaches.{keys_of_frames};
 ghost use Rattle.raw_tree.specs.Members.{MemberKey, key_bytes, members};
@@ -15,13 +15,14 @@ ghost use Rattle.raw_view.specs.Errors.{IsOutOfMemory};
 ghost use Rattle.raw_view.specs.Frame.ElementSteps.{frame_of};
 ghost use Rattle.raw_view.specs.Frame.{Done, Frame, IsWalk};
 ghost use Rattle.raw_view.specs.Frame.Number.{max_length};
+ghost use Rattle.raw_view.specs.Meaning.Value.{held_value};
 
 use crate::code_len::CodeLen;
-use crate::held::{Held, is_plain};
+use crate::held::is_plain;
 use crate::last::{LastPlaces, places_of};
 use itoa::Buffer;
 use raw_tree::{Start, next_element};
-use raw_view::{Elements, RawDocument, RawElement, Result};
+use raw_view::{Elements, Holder, RawDocument, RawElement, RawLevel, Result};
 use std::alloc::Global;
 
 /// Which elements of a level stay.
@@ -128,13 +129,13 @@ impl<'a> Rewritten<'a> {
     /// What is before the start in a level that is no array is canonical.
     pub(crate) fn new(
         alloc: Global,
-        held: Held<'a>,
+        held: RawLevel<'a>,
         start: u32,
         listed: &mut Vec<&'a str>,
         known: Start,
     ) -> Result<Rewritten<'a>>
-        requires opening { length (held_opening held) ≤ max_length }
-        requires known { IsOwnUpTo (held_bytes held) known }
+        requires opening { length (held_opening held.holder) ≤ max_length }
+        requires known { IsOwnUpTo (bytes_of held.document) known }
         ensures left { (t : Tree)
             → StandsFor ReadsAs (held_value held.entry) t
             → IfOk result
@@ -142,13 +143,14 @@ impl<'a> Rewritten<'a> {
         ensures start { IfOk result (λ level. level.start ≡ start) }
         ensures err { IfErr result IsOutOfMemory }
     {
-        match held {
-            Held::Document(document) => {
+        let document = held.document;
+        match held.holder {
+            Holder::Document => {
                 let keys = keys_of(alloc, document, listed, known)?;
                 Ok(level(document, keys, start, CodeLen::none()))
             }
-            Held::Array(document) => Ok(level(document, Keys::Numbers(0), start, CodeLen::none())),
-            Held::Code(code, document) => {
+            Holder::Array => Ok(level(document, Keys::Numbers(0), start, CodeLen::none())),
+            Holder::Code(code) => {
                 let keys = keys_of(alloc, document, listed, known)?;
                 let code_len = CodeLen::of(code.len() as u32);
                 Ok(level(document, keys, start, code_len))

@@ -7,7 +7,7 @@ pub use Rattle.raw_tree.specs.Barriers.{step_of, steps_of}
 pub use Rattle.raw_form.specs.Forms.{IsFormOf, RefusesFormOf}
 pub use Rattle.raw_tree.specs.Looking.{AreReadBefore, HasNoneBefore, HoldsNone, Looks, TakesFrame, size_of}
 pub use Rattle.raw_tree.specs.Places.{BeginsAt, Step}
-pub use Rattle.raw_form.specs.Rewriting.{AreLeftOwn, FailsFor, HasCode, IsLater, IsLeft, IsPlain, IsRest, ShowsHeld, TakesNext, TakesPair, ended_by, header_len, held_opening, held_value, member_key}
+pub use Rattle.raw_form.specs.Rewriting.{AreLeftOwn, FailsFor, HasCode, IsLater, IsLeft, IsPlain, IsRest, TakesNext, TakesPair, ended_by, header_len, held_opening, member_key}
 pub use Rattle.raw_form.specs.Staying.{AreNextOwn, AreNumbered, AreOwnBefore, GivesNumber, IsLeftAt, IsOwnForm, IsOwnUpTo, IsWrittenAs, end_of, hash_of, key_cmp, last_places, number_in}
 pub use Rattle.raw_form.specs.Staying.{placed}
 pub use Rattle.raw_form.specs.Tokens.{AreInside, AreTokens, AreTokensOf, HasTokens, IsTokenOf, NestedUpTo, filled_from}
@@ -15,7 +15,6 @@ pub use Rattle.raw_tree.specs.Verdicts.{FirstVerdictTo, JudgesFrontAt, JudgesMea
 pub use Rattle.raw_tree.specs.Waits.{Wait}
 pub use Rattle.raw_tree.specs.Walks.{IsAt, IsAtFinal, IsBehind, IsOpened}
 pub use Rattle.raw_tree.specs.declared.walk.faults.Start.{Start}
-pub use Rattle.raw_form.specs.declared.held.Held.{Held}
 pub use Rattle.raw_form.specs.declared.last.LastPlaces.{LastPlaces}
 pub use Rattle.raw_tree.specs.declared.walk.place.PathStep.{PathStep}
 pub use Rattle.raw_tree.proofs.Face.{IsWriting, answered_one_way, begun_at, bytes_one_way, canonical_form, canonical_frames_read, canonical_is_own_form, document_reads, each_read, left_in, left_with}
@@ -38,8 +37,11 @@ pub use Rattle.raw_view.specs.Frame.Format.{element_of, framed, leaf_payload, sc
 pub use Rattle.raw_view.specs.Frame.Kind.{kind_of_leaf, tag_of}
 pub use Rattle.raw_view.specs.Frame.Number.{max_length}
 pub use Rattle.raw_view.specs.Meaning.{Meaning, Means, MeansValue, RawValue, faulty, kind_of_raw, value}
+pub use Rattle.raw_view.specs.Meaning.Value.{IsSingle, held_value, holding}
 pub use Rattle.raw_view.specs.declared.element.RawElement.{RawElement}
 pub use Rattle.raw_view.specs.declared.error.Error.{Error}
+pub use Rattle.raw_view.specs.declared.level.Holder.{Holder}
+pub use Rattle.raw_view.specs.declared.level.RawLevel.{RawLevel}
 pub use Rattle.std.proofs.lemmas.List.{length-map, map-append, nil_from_length, reverse-append, same_from_push}
 pub use Rattle.std.proofs.lemmas.Slice.Eq.{bytes_eq-Decides}
 pub use Rattle.std.specs.BTreeMap.{BTreeMap, get}

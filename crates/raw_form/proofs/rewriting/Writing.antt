@@ -1,7 +1,7 @@
 -- What the loop that rewrites keeps, and what it tells where it ends.
 use Rattle.std.proofs.Common.{Result, Ok, Err, IfErr, IsErrAnd, ◌≡◌, ◌∙◌, ◌≤◌, ◌+◌, ◌++◌, ◌∷◌, [], inl, inr, zero, suc, ℕ, List, Option, Some, length, arith, ap, refl, sym, length-append, subst}
-use Rattle.raw_form.proofs.canonical.Common.{Begun, Error, FailsFor, HasCode, Held, HoldsTrees, IsFormOf, IsLater, IsLeft, IsWriting, IsWrittenAs, Leaf, Means, MemberKey, RawValue, Reads, ReadsAs}
-use Rattle.raw_form.proofs.canonical.Common.{RefusesFormOf, StandsFor, TakesNext, Tree, begun_at, document, element_of, encoded_len, ended, ended_by, frame_of, header_len, held_opening, held_value}
+use Rattle.raw_form.proofs.canonical.Common.{Begun, Error, FailsFor, HasCode, Holder, HoldsTrees, IsFormOf, IsLater, IsLeft, IsWriting, IsWrittenAs, Leaf, Means, MemberKey, RawLevel, RawValue, Reads, ReadsAs}
+use Rattle.raw_form.proofs.canonical.Common.{RefusesFormOf, StandsFor, TakesNext, Tree, begun_at, bytes_of, element_of, encoded_len, ended, ended_by, frame_of, header_len, held_opening, held_value, holding}
 use Rattle.raw_form.proofs.canonical.Common.{key_bytes, kind_of_leaf, kind_of_raw, kind_of_tree, leaf, leaf_in_order, leaf_payload, left_in, left_with, length-tree_payload, max_length, member_key}
 use Rattle.raw_form.proofs.canonical.Common.{members, members_len, one_value_of, opening, opening_len, room_left, tag_of, tagged, tree_payload, value, writing_done, writing_ends, writing_inside}
 use Rattle.raw_form.proofs.canonical.Common.{writing_leaf}
@@ -9,16 +9,17 @@ use Rattle.raw_form.specs.declared.rewritten.Rewritten.{Rewritten}
 use Rattle.raw_view.specs.declared.element_type.ElementType.{ElementType}
 use Rattle.raw_form.specs.declared.rewritten.Member.{Member}
 use Rattle.raw_view.specs.Meaning as raw
-use Rattle.raw_form.specs.declared.held.Held.TheVariants as held
+use Rattle.raw_view.specs.declared.level.Holder.TheVariants as holder
 
 -- trees that values stand for
 
-pub held_tree : (h : Held) (t : Tree) → StandsFor ReadsAs (held_value h) t → HoldsTrees t × (opening t ≡ held_opening h) × (kind_of_tree t ≡ kind_of_raw (held_value h))
-held_tree (held.Document d) t (zero, h) = absurd h
-held_tree (held.Document d) t (suc n, h) = rw h.2 (tt, refl, refl)
-held_tree (held.Array d) t (zero, h) = absurd h
-held_tree (held.Array d) t (suc n, h) = rw h.2 (tt, refl, refl)
-held_tree (held.Code code d) t h = rw h.2 (tt, refl, refl)
+pub held_tree : (h : Holder) (d : List ℕ) (t : Tree) → StandsFor ReadsAs (holding h d) t
+    → HoldsTrees t × (opening t ≡ held_opening h) × (kind_of_tree t ≡ kind_of_raw (holding h d))
+held_tree holder.Document d t (zero, h) = absurd h
+held_tree holder.Document d t (suc n, h) = rw h.2 (tt, refl, refl)
+held_tree holder.Array d t (zero, h) = absurd h
+held_tree holder.Array d t (suc n, h) = rw h.2 (tt, refl, refl)
+held_tree (holder.Code code) d t h = rw h.2 (tt, refl, refl)
 
 ended_so : (t : Tree) (len : Option ℕ) (start : ℕ) (b : List ℕ) → HasCode t len → ended t start b ≡ ended_by len start b
 ended_so t len start b h = grind arith
@@ -114,21 +115,21 @@ module _ {b : List ℕ} {ws : List Rewritten} {level : Rewritten} {out : List �
             record { tree = is.tree; read = is.read; outer = is.outer; here = left_with is.here next.1; waits = is.waits; begun = passed_on next.1 next.4; writing = writing }
 
       -- or it holds a level
-      module _ (h : Held) (means : Means (frame_of m.element) (value (held_value h))) where
+      module _ (h : RawLevel) (means : Means (frame_of m.element) (value (held_value h))) where
         pub head_fits : length out + (2 + length key) ≤ encoded_len is.tree
         head_fits = omega (arith, room, member_len)
 
         module _ {head : List ℕ} (head_is : head ≡ out ++ tagged (tag_of (kind_of_raw (held_value h))) key []) where
-          pub inside_fits : length head + length (held_opening h) ≤ encoded_len is.tree
+          pub inside_fits : length head + length (held_opening h.holder) ≤ encoded_len is.tree
           inside_fits =
-              let made = held_tree h next.0 (stands (held_value h) means) in
+              let made = held_tree h.holder (bytes_of h.document) next.0 (stands (held_value h) means) in
               let head_len : length head ≡ length out + (2 + length key) = rw head_is (grind (arith, length-append)) in
               omega (arith, room, member_len, head_len, ap length made.1, opening_within next.0 made.0)
 
-          pub rewriting_inside : (inner : Rewritten) (more : List ℕ) → inner.start ≡ length head → more ≡ head ++ held_opening h
+          pub rewriting_inside : (inner : Rewritten) (more : List ℕ) → inner.start ≡ length head → more ≡ head ++ held_opening h.holder
               → HasCode next.0 inner.code_len × IsLeft inner.keys inner.elements (members next.0) → IsRewriting b (ws ++ new ∷ []) inner more
           rewriting_inside inner more start_is more_is left =
-              let made = held_tree h next.0 (stands (held_value h) means) in
+              let made = held_tree h.holder (bytes_of h.document) next.0 (stands (held_value h) means) in
               let waits = begun_more ws new is.outer (left_with is.here next.1) is.waits (passed_on next.1 next.4) in
               let begun : IsBegun inner (begun_at next.0 inner.start) = record { start_is = refl; code = left.0; left = left.1 } in
               let writing = writing_inside is.writing (member_key m, next.0) next.1 next.2 inner.start head more made.0 start_is (rw (made.2, ← member.key_is) head_is)

@@ -1,7 +1,7 @@
 -- What is left of a level that is rewritten.
-use Rattle.std.proofs.Common.{eqb, not, ◌≡◌, ◌≢◌, ◌<◌, ◌-◌, ◌^◌, ◌∷◌, [], zero, suc, ℕ, Bool, List, Option, None, Some, IsTrue, drop, length, arith, ap, refl}
-use Rattle.raw_form.proofs.canonical.Common.{Done, Frame, HasCode, Held, IsFrame-shorter, IsLeft, IsLeftAt, IsOwnUpTo, IsRest, IsWalk, LastPlaces, Leaf, RawElement, RawValue, ReadsAs, ShowsHeld}
-use Rattle.raw_form.proofs.canonical.Common.{StandForEach, Start, TakesFrame, TakesPair, Tree, as_array, as_document, bytes_eq, bytes_of, document, each_read, frame_of, held_value, keep}
+use Rattle.std.proofs.Common.{eqb, not, ◌≡◌, ◌≢◌, ◌<◌, ◌^◌, ◌∷◌, [], zero, suc, ℕ, Bool, List, Option, None, Some, IsTrue, drop, length, arith, ap, refl}
+use Rattle.raw_form.proofs.canonical.Common.{Done, Frame, HasCode, IsFrame-shorter, IsLeft, IsLeftAt, IsOwnUpTo, IsRest, IsSingle, IsWalk, LastPlaces, Leaf, RawElement, RawValue, ReadsAs}
+use Rattle.raw_form.proofs.canonical.Common.{StandForEach, Start, TakesFrame, TakesPair, Tree, as_array, as_document, bytes_eq, bytes_of, each_read, frame_of, keep}
 use Rattle.raw_form.proofs.canonical.Common.{keep-distinct, keys_of, keys_of_frames, last_places, members}
 use Rattle.std.specs.List.{IsDistinct}
 use Rattle.std.proofs.lemmas.Bool.Decides.{nat_tests}
@@ -53,8 +53,5 @@ repeated_begins t known last is same none places (suc n, h) =
     (keep h.0, rw (same, none, places h.1.0 h.1.1) (frames_at known.offset d h.1.0 h.0 h.1.1 (is.before h.1.0 h.1.1) each last.document.envelope.enough), ap members h.2)
 
 -- a value that holds no level is a leaf
-pub shows_leaf : (v : RawValue) → ShowsHeld v None → (l : Leaf) × (v ≡ raw.single l)
+pub shows_leaf : (v : RawValue) → IsSingle v → (l : Leaf) × (v ≡ raw.single l)
 shows_leaf v h = grind arith
-
-pub shows_held : (v : RawValue) (h : Held) → ShowsHeld v (Some h) → v ≡ held_value h
-shows_held v h e = grind arith

@@ -1,12 +1,12 @@
-use Rattle.std.proofs.Common.{IsTrue, ◌⊎◌, inl, inr, rules, ◌≡◌, ◌+◌, ◌++◌, ◌∷◌, [], List, ℕ, length, arith, refl}
-use Rattle.raw_form.proofs.canonical.Common.{IsPlain, IsWrittenAs, Means, begun_at, faulty, frame_of, held_value, key_bytes, member_key, one_meaning, value, writing_begins}
+use Rattle.std.proofs.Common.{IsTrue, ◌⊎◌, inl, inr, rules, ◌≡◌, ◌++◌, ◌∷◌, [], List, ℕ, length, arith, refl}
+use Rattle.raw_form.proofs.canonical.Common.{IsPlain, IsWrittenAs, Means, begun_at, bytes_of, faulty, frame_of, held_value, key_bytes, member_key, one_meaning, value, writing_begins}
 use Rattle.raw_view.specs.Meaning.Value.{value_of}
-use Rattle.raw_form.specs.declared.held.Held.TheVariants as held
+use Rattle.raw_view.specs.declared.level.Holder.TheVariants as holder
 use Rattle.raw_form.proofs.rewritten.KnownFrames.{known_to_first}
-use Rattle.raw_form.proofs.rewritten.Members.{shows_held, shows_leaf}
+use Rattle.raw_form.proofs.rewritten.Members.{shows_leaf}
 use Rattle.raw_form.proofs.rewriting.Plain.{plain_own}
 use Rattle.raw_form.proofs.rewriting.Writing.{IsBegun, IsMember, held_tree, head_fits, header_put, inside_fits, leaf_written, put_fits, refused, rewriting_done, rewriting_ends, rewriting_inside, rewriting_put, room, stands}
-use Rattle.raw_form.proofs.rewriting.rewrite.Goals.{In-Some, In-Some-level_in}
+use Rattle.raw_form.proofs.rewriting.rewrite.Goals.{In-Some, In-Some-level}
 use Rattle.raw_form.proofs.rewriting.rewrite.Goals as goal
 
 -- the next member, and the key under which it is written
@@ -20,13 +20,13 @@ own_of c is (inl known) = (next_of c is).next.5 known (next_of c is).next.0 (nex
 own_of c is (inr plain) = plain_own (frame_of c.in-Some.member.element) plain c.in-Some.member.element.framed (next_of c is).next.0 (next_of c is).next.3
 
 -- the value that it holds
-held_in : (c : In-Some-level_in) → Means (frame_of c.in-Some.member.element) (value (held_value c.in-Some-level_in.inner))
-held_in c = rw (shows_held (value_of c.in-Ok.value) c.in-Some-level_in.inner c.in-Some-level_in.ensures) at c.in-Ok.ensures.value
+held_in : (c : In-Some-level) → Means (frame_of c.in-Some.member.element) (value (held_value c.in-Some-level.inner))
+held_in c = rw c.in-Some-level.ensures at c.in-Ok.ensures.value
 
 pub levels-init : goal.levels-init
 levels-init c =
     let t = c.requires.read.0 in
-    let made = held_tree (held.Document c.args.document) t c.requires.read.1 in
+    let made = held_tree holder.Document (bytes_of c.args.document) t c.requires.read.1 in
     let left = c.in_ok-level.ensures.left t c.requires.read.1 in
     let writing = writing_begins t c.put_opening.new.out.items made.0 (rw (made.1, c.in_ok-put_opening.ensures.items, c.in_ok-out.ensures.items) refl) in
     let begun : IsBegun c.in_ok-level.level (begun_at t 0) = record { start_is = c.in_ok-level.ensures.start; code = left.0; left = left.1 } in
@@ -62,45 +62,45 @@ unreachable-requires c =
 
 pub returns-in_err-put_leaf-clause-err : goal.returns-in_err-put_leaf-clause-err
 returns-in_err-put_leaf-clause-err c =
-    let leaf = shows_leaf (value_of c.in-Ok.value) c.in_default-level_in.ensures in
+    let leaf = shows_leaf (value_of c.in-Ok.value) c.in_default-level.ensures in
     let member = next_of (goal.at.returns-in_err-put_leaf-clause-err c).In-Some c.key-key.ensures in
     let written = leaf_written c.levels.invariant c.next.ensures.later member (value_of c.in-Ok.value) leaf.0 c.in-Ok.ensures.value leaf.1 in
     refused c.levels.invariant c.from_residual-in_err-put_leaf.result _ _ c.from_residual-in_err-put_leaf.ensures.1 (c.in_err-put_leaf.ensures.err leaf.0 leaf.1)
     (omega (arith, put_fits c.levels.invariant c.next.ensures.later member _ _ written, c.levels.out.ok.0))
 
-pub levels-preserved-in_default-level_in : goal.levels-preserved-in_default-level_in
-levels-preserved-in_default-level_in c =
-    let leaf = shows_leaf (value_of c.in-Ok.value) c.in_default-level_in.ensures in
-    let member = next_of (goal.at.levels-preserved-in_default-level_in c).In-Some c.key-key.ensures in
+pub levels-preserved-in_default-level : goal.levels-preserved-in_default-level
+levels-preserved-in_default-level c =
+    let leaf = shows_leaf (value_of c.in-Ok.value) c.in_default-level.ensures in
+    let member = next_of (goal.at.levels-preserved-in_default-level c).In-Some c.key-key.ensures in
     let written = leaf_written c.levels.invariant c.next.ensures.later member (value_of c.in-Ok.value) leaf.0 c.in-Ok.ensures.value leaf.1 in
     rewriting_put c.levels.invariant c.next.ensures.later member _ _ written c.put_leaf.new.out.items (c.in_ok-put_leaf.ensures.items leaf.0 leaf.1)
 
-pub returns-in_err-put_head-clause-err : goal.returns-in_err-put_head-clause-err
-returns-in_err-put_head-clause-err c =
-    let at = goal.at.returns-in_err-put_head-clause-err c in
-    let fits = head_fits c.levels.invariant c.next.ensures.later (next_of at.In-Some c.key-key.ensures) c.in-Some-level_in.inner (held_in at.In-Some-level_in) in
-    refused c.levels.invariant c.from_residual-in_err-put_head.result _ _ c.from_residual-in_err-put_head.ensures.1 c.in_err-put_head.ensures.err
+pub returns-in_err-put_start-clause-err : goal.returns-in_err-put_start-clause-err
+returns-in_err-put_start-clause-err c =
+    let at = goal.at.returns-in_err-put_start-clause-err c in
+    let fits = head_fits c.levels.invariant c.next.ensures.later (next_of at.In-Some c.key-key.ensures) c.in-Some-level.inner (held_in at.In-Some-level) in
+    refused c.levels.invariant c.from_residual-in_err-put_start.result _ _ c.from_residual-in_err-put_start.ensures.1 c.in_err-put_start.ensures.err
     (omega (arith, fits, c.levels.out.ok.0))
 
 pub returns-in_err-put_opening-2-clause-err : goal.returns-in_err-put_opening-2-clause-err
 returns-in_err-put_opening-2-clause-err c =
     let at = goal.at.returns-in_err-put_opening-2-clause-err c in
-    let fits = inside_fits c.levels.invariant c.next.ensures.later (next_of at.In-Some c.key-key.ensures) c.in-Some-level_in.inner (held_in at.In-Some-level_in)
-    c.in_ok-put_head.ensures.items in
+    let fits = inside_fits c.levels.invariant c.next.ensures.later (next_of at.In-Some c.key-key.ensures) c.in-Some-level.inner (held_in at.In-Some-level)
+    (rw (c.element_type.ensures, c.in-Some-level.ensures) at c.in_ok-put_start.ensures.items) in
     refused c.levels.invariant c.from_residual-in_err-put_opening-2.result _ _ c.from_residual-in_err-put_opening-2.ensures.1 c.in_err-put_opening-2.ensures.err
-    (omega (arith, fits, c.put_head.new.out.ok.0))
+    (omega (arith, fits, c.put_start.new.out.ok.0))
 
 pub levels-preserved : goal.levels-preserved
 levels-preserved c =
     let at = goal.at.levels-preserved c in
     let is = c.levels.invariant in
     let member = next_of at.In-Some c.key-key.ensures in
-    let h = c.in-Some-level_in.inner in
+    let h = c.in-Some-level.inner in
     let grown : c.push.new.self.items ≡ c.levels.waiting.items ++ c.next.new.self ∷ [] = search rules in
-    let start : c.in_ok-inner.inner.start ≡ length c.put_head.new.out.items = omega (arith, c.in_ok-inner.ensures.start, c.len-start.ensures, c.put_head.new.out.ok.0) in
-    rw (c.replace-outer.ensures.after, grown) (rewriting_inside is c.next.ensures.later member h (held_in at.In-Some-level_in) c.in_ok-put_head.ensures.items
-    c.in_ok-inner.inner c.put_opening-in-levels.new.out.items start c.in_ok-put_opening-2.ensures.items
-    (c.in_ok-inner.ensures.left member.next.0 (stands is c.next.ensures.later member (held_value h) (held_in at.In-Some-level_in))))
+    let start : c.in_ok-inner.inner.start ≡ length c.put_start.new.out.items = omega (arith, c.in_ok-inner.ensures.start, c.len-start.ensures, c.put_start.new.out.ok.0) in
+    rw (c.replace-outer.ensures.after, grown) (rewriting_inside is c.next.ensures.later member h (held_in at.In-Some-level)
+    (rw (c.element_type.ensures, c.in-Some-level.ensures) at c.in_ok-put_start.ensures.items) c.in_ok-inner.inner c.put_opening-in-levels.new.out.items start c.in_ok-put_opening-2.ensures.items
+    (c.in_ok-inner.ensures.left member.next.0 (stands is c.next.ensures.later member (held_value h) (held_in at.In-Some-level))))
 
 pub new-requires-in-levels-clause-known : goal.new-requires-in-levels-clause-known
 new-requires-in-levels-clause-known c = known_to_first _ _ refl refl
