@@ -18,7 +18,7 @@ use crate::leaf::{
 use crate::put::{put, put_repeated};
 use crate::quote::put_quoted;
 use crate::style::{Format, Layout};
-use raw_view::RawBsonRef;
+use raw_view::{Holder, RawBsonRef};
 use std::io;
 use std::io::Write;
 
@@ -116,20 +116,22 @@ pub(crate) fn put_opening<W: Write>(out: &mut W, value: RawBsonRef<'_>) -> io::R
     requires { (d : List ℕ) × Holds (value_of value) d }
     ensures { IfOk result (PutsOpening (value_of value.entry) (W.contents out.old) (W.contents out.new)) }
 {
-    match value {
-        RawBsonRef::Document(_) => {
+    let Some(level) = value.level() else {
+        unreachable!()
+    };
+    match level.holder {
+        Holder::Document => {
             put(out, b"{")?;
             Ok(Sort::Document)
         }
-        RawBsonRef::Array(_) => {
+        Holder::Array => {
             put(out, b"[")?;
             Ok(Sort::Array)
         }
-        RawBsonRef::JavaScriptCodeWithScope(code) => {
-            put_text(out, "{\"$code\":", code.code, ",\"$scope\":{")?;
+        Holder::Code(code) => {
+            put_text(out, "{\"$code\":", code, ",\"$scope\":{")?;
             Ok(Sort::Scope)
         }
-        _ => unreachable!(),
     }
 }
 
