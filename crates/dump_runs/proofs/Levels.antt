@@ -5,21 +5,20 @@ use Rattle.std.proofs.lemmas.List.Sums.{sum_by_push}
 use Rattle.std.specs.Io.KnownBytes.{Appends}
 use Rattle.std.proofs.KnownBytes.{Appends-nil, Appends-trans}
 use Rattle.std.specs.Option.{option_copied}
-use Rattle.raw_form.specs.Looking.{HoldsBytes}
-use Rattle.raw_tree.specs.Reading.{Holds}
-use Rattle.raw_tree.proofs.Face.{nested_beside}
+use Rattle.raw_tree.proofs.Face.{held_holds, nested_beside}
 use Rattle.raw_view.specs.Document.{bytes_of}
 use Rattle.raw_view.specs.Errors.{SaysFault}
 use Rattle.raw_view.specs.Frame.{Frame, IsStop, IsWalk, LeadsTo, Fault, End, Malformed, Utf8, Done, Stopped}
 use Rattle.raw_view.specs.Frame.ElementSteps.{frame_of}
 use Rattle.raw_view.specs.Frame.Front.{StepsFront, StopsWith}
 use Rattle.raw_view.specs.Meaning.{RawValue}
-use Rattle.raw_view.specs.Meaning as raw
-use Rattle.raw_view.specs.declared.document.RawDocument.{RawDocument}
+use Rattle.raw_view.specs.Meaning.Value.{HoldsLevel, holding}
 use Rattle.raw_view.specs.declared.element.RawElement.{RawElement}
 use Rattle.raw_view.specs.declared.error.BorrowedError.{BorrowedError}
 use Rattle.raw_view.specs.declared.error.ErrorKind.{ErrorKind}
 use Rattle.raw_view.specs.declared.error.ErrorKind.TheVariants as kind
+use Rattle.raw_view.specs.declared.level.Holder.{Holder}
+use Rattle.raw_view.specs.declared.level.RawLevel.{RawLevel}
 use Rattle.raw_view.proofs.Face.{IsFrame-shorter}
 use Rattle.dump_input.specs.Fronts.{AppendsFront, HasFront}
 use Rattle.dump_runs.specs.Listing.{HasLinesFront, HasNextFront, Lists, ListsEnd, ListsFrame, ListsFrames, ListsInside, ListsNext, TellsElement, TellsStop, indented}
@@ -152,29 +151,27 @@ module _ {n depth : ℕ} {d : List ℕ} {a b : Option (List ℕ)} where
 
 module _ (Nested : List ℕ → List ℕ → Type 0) where
   -- the lines of the level that is held, if one is
-  abbrev pub ListsHeld : Option RawDocument → List ℕ → Type 0
+  abbrev pub ListsHeld : Option RawLevel → List ℕ → Type 0
   ListsHeld None text = text ≡ []
-  ListsHeld (Some x) text = Nested (bytes_of x) text
+  ListsHeld (Some x) text = Nested (bytes_of x.document) text
 
-  inside_held : (v : RawValue) (x : Option RawDocument) (text : List ℕ) → HoldsBytes v x → ListsHeld x text → ListsInside Nested v text
-  inside_held (raw.single l) x text h t = subst (λ (y : Option RawDocument). ListsHeld y text) h t
-  inside_held (raw.document d) None text h t = absurd h
-  inside_held (raw.document d) (Some x) text h t = subst (λ (b : List ℕ). Nested b text) h t
-  inside_held (raw.array d) None text h t = absurd h
-  inside_held (raw.array d) (Some x) text h t = subst (λ (b : List ℕ). Nested b text) h t
-  inside_held (raw.scoped code d) None text h t = absurd h
-  inside_held (raw.scoped code d) (Some x) text h t = subst (λ (b : List ℕ). Nested b text) h t
+  inside_holding : (h : Holder) (d text : List ℕ) → Nested d text → ListsInside Nested (holding h d) text
+  inside_holding h d text t = grind arith
 
-  frame_lines : (depth : ℕ) (f : Frame) (line : List ℕ) (x : Option RawDocument) (text : List ℕ) → TellsElement depth f line x → ListsHeld x text
+  inside_held : (v : RawValue) (x : Option RawLevel) (text : List ℕ) → HoldsLevel v x → ListsHeld x text → ListsInside Nested v text
+  inside_held v None text single t = grind arith
+  inside_held v (Some x) text h t = rw h (inside_holding x.holder (bytes_of x.document) text t)
+
+  frame_lines : (depth : ℕ) (f : Frame) (line : List ℕ) (x : Option RawLevel) (text : List ℕ) → TellsElement depth f line x → ListsHeld x text
       → ListsFrame Nested depth f (line ++ text)
   frame_lines depth f line x text (inl (v, shown, means, shows, holds, is)) held =
       inl (v, shown, text, means, shows, inside_held v x text holds held, ap (λ (y : List ℕ). y ++ text) is)
   frame_lines depth f line x text (inr (fault, shown, means, says, none, is)) held =
-      let nothing : text ≡ [] = subst (λ (y : Option RawDocument). ListsHeld y text) none held in
+      let nothing : text ≡ [] = subst (λ (y : Option RawLevel). ListsHeld y text) none held in
       inr (fault, shown, means, says, ap (λ (y : List ℕ). line ++ y) nothing ∙ append-nil line ∙ is)
 
   -- of which nothing is written that is inside
-  frame_line : (depth : ℕ) (f : Frame) (line : List ℕ) (x : Option RawDocument) → TellsElement depth f line x → ListsHeld x [] → ListsFrame Nested depth f line
+  frame_line : (depth : ℕ) (f : Frame) (line : List ℕ) (x : Option RawLevel) → TellsElement depth f line x → ListsHeld x [] → ListsFrame Nested depth f line
   frame_line depth f line x tells held = subst (ListsFrame Nested depth f) (append-nil line) (frame_lines depth f line x [] tells held)
 
 -- of each level nothing is a front
@@ -290,16 +287,16 @@ module _ (here : ℕ) (left new : Option (List ℕ)) (line : List ℕ) where
   line_front m text (inr (e, steps, tells)) front = front_stop m here left new e line text steps tells front
 
   -- a level is inside
-  module _ (inner : RawDocument) (is : ListsNext here left new line (next.Inside inner)) where
-    inside_lines : (Nested : List ℕ → List ℕ → Type 0) (text : List ℕ) → Nested (bytes_of inner) text → ListsFrame Nested here (frame_of is.0) (line ++ text)
+  module _ (inner : RawLevel) (is : ListsNext here left new line (next.Inside inner)) where
+    inside_lines : (Nested : List ℕ → List ℕ → Type 0) (text : List ℕ) → Nested (bytes_of inner.document) text → ListsFrame Nested here (frame_of is.0) (line ++ text)
     inside_lines Nested text h = frame_lines Nested here (frame_of is.0) line (Some inner) text is.2 h
 
     pub inside_front : (m : ℕ) (text : List ℕ) → HasFront line text → HasLeftFront m here left text
     inside_front m text front = front_within m here left new is.0 line text is.1
-        (frame_line (HasLinesFront m (here + 1)) here (frame_of is.0) line (Some inner) is.2 (no_lines m (here + 1) (bytes_of inner))) front
+        (frame_line (HasLinesFront m (here + 1)) here (frame_of is.0) line (Some inner) is.2 (no_lines m (here + 1) (bytes_of inner.document))) front
 
     -- behind the line, a front of those inside
-    pub inside_more : (m : ℕ) (text : List ℕ) → HasLinesFront m (here + 1) (bytes_of inner) text → HasLeftFront m here left (line ++ text)
+    pub inside_more : (m : ℕ) (text : List ℕ) → HasLinesFront m (here + 1) (bytes_of inner.document) text → HasLeftFront m here left (line ++ text)
     inside_more m text h = front_within m here left new is.0 (line ++ text) (line ++ text) is.1 (inside_lines (HasLinesFront m (here + 1)) text h) ([], sym (append-nil (line ++ text)))
 
     -- none of which is listed
@@ -312,12 +309,12 @@ module _ (here : ℕ) (left new : Option (List ℕ)) (line : List ℕ) where
           front = λ text h. front_alone 0 here left ((line ++ deep) ++ text) (front_more 0 here left new is.0 (line ++ deep) text is.1 lines (one_front 0 here new text h));
         }
 
-    enter_front : (m : ℕ) (text : List ℕ) → HasLevelsFront (suc (suc m)) here (new ∷ Some (drop 4 (bytes_of inner)) ∷ []) text
+    enter_front : (m : ℕ) (text : List ℕ) → HasLevelsFront (suc (suc m)) here (new ∷ Some (drop 4 (bytes_of inner.document)) ∷ []) text
         → HasLevelsFront (suc (suc m)) here (left ∷ []) (line ++ text)
     enter_front m text (inl h) =
-        front_alone (suc m) here left (line ++ text) (inside_more (suc m) text (one_front m (here + 1) (Some (drop 4 (bytes_of inner))) text h))
+        front_alone (suc m) here left (line ++ text) (inside_more (suc m) text (one_front m (here + 1) (Some (drop 4 (bytes_of inner.document))) text h))
     enter_front m text (inr (a, rest, levels, h, whole)) =
-        let lines = inside_lines (Lists (suc m) (here + 1)) a (one_level m (here + 1) (Some (drop 4 (bytes_of inner))) a levels) in
+        let lines = inside_lines (Lists (suc m) (here + 1)) a (one_level m (here + 1) (Some (drop 4 (bytes_of inner.document))) a levels) in
         inr (
           [],
           (line ++ a) ++ rest,
@@ -326,10 +323,10 @@ module _ (here : ℕ) (left new : Option (List ℕ)) (line : List ℕ) where
           ap (λ (x : List ℕ). line ++ x) whole ∙ sym (append_assoc line a rest),
         )
 
-    enter_whole : (m : ℕ) (text : List ℕ) → ListsLevels (suc (suc m)) here (new ∷ Some (drop 4 (bytes_of inner)) ∷ []) text
+    enter_whole : (m : ℕ) (text : List ℕ) → ListsLevels (suc (suc m)) here (new ∷ Some (drop 4 (bytes_of inner.document)) ∷ []) text
         → ListsLevels (suc (suc m)) here (left ∷ []) (line ++ text)
     enter_whole m text (a, rest, levels, h, whole) =
-        let lines = inside_lines (Lists (suc m) (here + 1)) a (one_level m (here + 1) (Some (drop 4 (bytes_of inner))) a levels) in (
+        let lines = inside_lines (Lists (suc m) (here + 1)) a (one_level m (here + 1) (Some (drop 4 (bytes_of inner.document))) a levels) in (
           [],
           (line ++ a) ++ rest,
           refl,
@@ -337,7 +334,7 @@ module _ (here : ℕ) (left new : Option (List ℕ)) (line : List ℕ) where
           ap (λ (x : List ℕ). line ++ x) whole ∙ sym (append_assoc line a rest),
         )
 
-    pub advance_inside : (m : ℕ) → IsAdvance (suc (suc m)) here (left ∷ []) (new ∷ Some (drop 4 (bytes_of inner)) ∷ []) line
+    pub advance_inside : (m : ℕ) → IsAdvance (suc (suc m)) here (left ∷ []) (new ∷ Some (drop 4 (bytes_of inner.document)) ∷ []) line
     advance_inside m = record {
       whole = λ text h. enter_whole m text h;
       front = λ text h. enter_front m text h;
@@ -365,24 +362,19 @@ pub line_less : (here : ℕ) (left new : Option (List ℕ)) (line : List ℕ) �
 line_less here left new line (inl (e, steps, tells)) = element_less left new e steps
 line_less here left new line (inr (e, steps, tells)) = stop_less left new e steps
 
-pub inside_less : (here : ℕ) (left new : Option (List ℕ)) (line : List ℕ) (x : RawDocument) → ListsNext here left new line (next.Inside x) → size_left new < size_left left
+pub inside_less : (here : ℕ) (left new : Option (List ℕ)) (line : List ℕ) (x : RawLevel) → ListsNext here left new line (next.Inside x) → size_left new < size_left left
 inside_less here left new line x (e, steps, tells) = element_less left new e steps
 
-held_bytes : (v : RawValue) (x : RawDocument) → HoldsBytes v (Some x) → Holds v (bytes_of x)
-held_bytes (raw.single l) x h = absurd (cc)
-held_bytes (raw.document d) x h = h
-held_bytes (raw.array d) x h = h
-held_bytes (raw.scoped code d) x h = h
-
-enter_less : (here : ℕ) (left new : Option (List ℕ)) (e : RawElement) (line : List ℕ) (x : RawDocument) → StepsFront left (Some (Ok e)) new
-    → TellsElement here (frame_of e) line (Some x) → size_left (Some (drop 4 (bytes_of x))) + size_left new + 1 < size_left left
+enter_less : (here : ℕ) (left new : Option (List ℕ)) (e : RawElement) (line : List ℕ) (x : RawLevel) → StepsFront left (Some (Ok e)) new
+    → TellsElement here (frame_of e) line (Some x) → size_left (Some (drop 4 (bytes_of x.document))) + size_left new + 1 < size_left left
 enter_less here None new e line x (none, gone) tells = absurd (cc)
 enter_less here (Some s) new e line x (r, at, is) (inl (v, shown, means, shows, holds, it)) =
-    rw is (omega (arith, nested_beside s (frame_of e) r v (bytes_of x) at means (held_bytes v x holds), length-drop 4 (bytes_of x), x.envelope.enough))
+    let d = bytes_of x.document in
+    rw is (omega (arith, nested_beside s (frame_of e) r v d at means (rw holds (held_holds x.holder d)), length-drop 4 d, x.document.envelope.enough))
 enter_less here (Some s) new e line x (r, at, is) (inr (fault, shown, means, says, none, it)) = absurd (cc)
 
-pub inside_waits : (here : ℕ) (left new : Option (List ℕ)) (line : List ℕ) (x : RawDocument) (ws : List (Option (List ℕ))) → ListsNext here left new line (next.Inside x)
-    → size_left (Some (drop 4 (bytes_of x))) + size_waiting (ws ++ new ∷ []) < size_left left + size_waiting ws
+pub inside_waits : (here : ℕ) (left new : Option (List ℕ)) (line : List ℕ) (x : RawLevel) (ws : List (Option (List ℕ))) → ListsNext here left new line (next.Inside x)
+    → size_left (Some (drop 4 (bytes_of x.document))) + size_waiting (ws ++ new ∷ []) < size_left left + size_waiting ws
 inside_waits here left new line x ws (e, steps, tells) =
     omega (arith, enter_less here left new e line x steps tells, sum_by_push (λ (w : Option (List ℕ)). size_left w + 1) ws new)
 
@@ -431,22 +423,22 @@ module _ {d : List ℕ} {ws : List (Option (List ℕ))} {l a b : Option (List �
     pub all_listed : ListsNext here l new line next.End → ws ≡ [] → (text : List ℕ) × Lists 500 1 d text × Appends a b text
     all_listed tells none = listing_ends (subst (λ (ls : List (Option (List ℕ))). IsListing 500 1 d ls a b) none (ended tells))
 
-    module _ (x : RawDocument) (tells : ListsNext here l new line (next.Inside x)) where
+    module _ (x : RawLevel) (tells : ListsNext here l new line (next.Inside x)) where
       pub part_inside : (c : Option (List ℕ)) → AppendsFront b c line → IsPart c
       part_inside c front = part_of here front.front c at (inside_front here l new line x tells (499 - length ws) front.front (front.behind, front.whole)) front.put
 
       -- the line is written
       module _ (mid : Option (List ℕ)) (put : Appends b mid line) where
-        part_more : (text : List ℕ) (c : Option (List ℕ)) → HasLinesFront (499 - length ws) (here + 1) (bytes_of x) text → Appends mid c text → IsPart c
+        part_more : (text : List ℕ) (c : Option (List ℕ)) → HasLinesFront (499 - length ws) (here + 1) (bytes_of x.document) text → Appends mid c text → IsPart c
         part_more text c h more = part_of here (line ++ text) c at (inside_more here l new line x tells (499 - length ws) text h) (Appends-trans b mid c line text put more)
 
         pub part_behind : IsPart mid
-        part_behind = part_more [] mid (no_lines (499 - length ws) (here + 1) (bytes_of x)) (Appends-nil mid)
+        part_behind = part_more [] mid (no_lines (499 - length ws) (here + 1) (bytes_of x.document)) (Appends-nil mid)
 
         pub part_deep : (c : Option (List ℕ)) → here ≡ 500 → AppendsFront mid c (indented (here + 1) (codes "too deep")) → IsPart c
         part_deep c most front =
             let none : 0 ≡ 499 - length ws = omega (arith, at, most) in
-            part_more front.front c (subst (λ (m : ℕ). HasLinesFront m (here + 1) (bytes_of x) front.front) none (front.behind, front.whole)) front.put
+            part_more front.front c (subst (λ (m : ℕ). HasLinesFront m (here + 1) (bytes_of x.document) front.front) none (front.behind, front.whole)) front.put
 
         pub goes_deep : (c : Option (List ℕ)) → here ≡ 500 → Appends mid c (indented (here + 1) (codes "too deep")) → IsLooping d ws new a c
         goes_deep c most deep = record {
@@ -455,9 +447,9 @@ module _ {d : List ℕ} {ws : List (Option (List ℕ))} {l a b : Option (List �
               (Appends-trans b mid c line (indented (here + 1) (codes "too deep")) put deep);
         }
 
-        pub goes_inside : here ≢ 500 → IsLooping d (ws ++ new ∷ []) (Some (drop 4 (bytes_of x))) a mid
+        pub goes_inside : here ≢ 500 → IsLooping d (ws ++ new ∷ []) (Some (drop 4 (bytes_of x.document))) a mid
         goes_inside less = record {
           few = omega (arith, is.few, at, less, length-append ws (new ∷ []));
-          listing = subst (λ (ls : List (Option (List ℕ))). IsListing 500 1 d ls a mid) (sym (append_assoc ws (new ∷ []) (Some (drop 4 (bytes_of x)) ∷ [])))
+          listing = subst (λ (ls : List (Option (List ℕ))). IsListing 500 1 d ls a mid) (sym (append_assoc ws (new ∷ []) (Some (drop 4 (bytes_of x.document)) ∷ [])))
               (listing_goes ws mid (omega (arith, is.few, at, less)) at (advance_inside here l new line x tells (498 - length ws)) is.listing put);
         }

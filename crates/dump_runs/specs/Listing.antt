@@ -3,7 +3,6 @@
 use Rattle.std.specs.Prelude.{◌≡◌, ◌⊎◌, ◌*◌, ◌+◌, ℕ, suc, zero, List, [], ◌∷◌, ◌++◌, Option, None, Some, Ok, Err, codes, drop, replicate}
 use Rattle.std.specs.Option.{option_copied}
 use Rattle.json.specs.Print.{quoted}
-use Rattle.raw_form.specs.Looking.{HoldsBytes}
 use Rattle.raw_view.specs.Frame.Envelope.{IsEnvelope, Refuses}
 use Rattle.raw_view.specs.Errors.{IsReadingKind, SaysFault}
 use Rattle.raw_view.specs.Frame.{Frame, IsFrame, IsStop, IsWalk, LeadsTo, Fault, End, Done, Stopped}
@@ -12,11 +11,12 @@ use Rattle.raw_view.specs.Frame.Front.{StepsFront}
 use Rattle.raw_view.specs.Frame.Kind.{kind_text}
 use Rattle.raw_view.specs.Meaning.{RawValue, KeyedFault, Means, value, faulty}
 use Rattle.raw_view.specs.Meaning as raw
-use Rattle.raw_view.specs.declared.document.RawDocument.{RawDocument}
+use Rattle.raw_view.specs.Meaning.Value.{HoldsLevel}
 use Rattle.raw_view.specs.declared.element.RawElement.{RawElement}
 use Rattle.raw_view.specs.declared.error.BorrowedError.{BorrowedError}
 use Rattle.raw_view.specs.declared.error.ErrorKind.{ErrorKind}
 use Rattle.raw_view.specs.declared.error.Reason.{Reason}
+use Rattle.raw_view.specs.declared.level.RawLevel.{RawLevel}
 use Rattle.dump_lines.specs.Find as find
 use Rattle.dump_input.specs.Fronts.{HasFront}
 use Rattle.dump_lines.specs.Values.{ShowsValue}
@@ -98,10 +98,10 @@ HasListingFront b text = (text ≡ []) ⊎ (IsEnvelope b × HasLinesFront 500 1 
 
 -- What the code tells of a line. No public contract cites what follows.
 
--- this is the line of a frame, without those of what is inside: that of its value, which holds these nested bytes or none; or that of its fault
-abbrev pub TellsElement : ℕ → Frame → List ℕ → Option RawDocument → Type 0
+-- this is the line of a frame, without those of what is inside: that of its value, which holds this level or none; or that of its fault
+abbrev pub TellsElement : ℕ → Frame → List ℕ → Option RawLevel → Type 0
 TellsElement depth f line inner =
-    ((v : RawValue) × (shown : List ℕ) × Means f (value v) × ShowsValue v shown × HoldsBytes v inner × (line ≡ element_line depth f.key shown))
+    ((v : RawValue) × (shown : List ℕ) × Means f (value v) × ShowsValue v shown × HoldsLevel v inner × (line ≡ element_line depth f.key shown))
     ⊎ ((fault : KeyedFault) × (shown : List ℕ) × Means f (faulty fault) × ShowsFault fault.fault shown × (inner ≡ None)
     × (line ≡ element_line depth f.key (kind_text f.kind ++ codes ", " ++ shown)))
 

@@ -4,7 +4,6 @@
 ghost use Rattle.std.specs.Prelude.{◌≡◌, ◌*◌, ◌<◌, ◌^◌, ◌∷◌, [], ◌++◌, ℕ, List, Some, codes, drop, replicate, IfErr, IfOk, OnErr, OnOk};
 ghost use Rattle.std.specs.Io.KnownBytes.{Appends};
 ghost use Rattle.json.specs.Print.{quoted};
-ghost use Rattle.raw_form.specs.Looking.{HoldsBytes};
 ghost use Rattle.raw_view.specs.Document.{bytes_of};
 ghost use Rattle.raw_view.specs.Frame.ElementSteps.{frame_of};
 ghost use Rattle.raw_view.specs.Frame.Kind.{kind_text};
@@ -20,7 +19,7 @@ use dump_input::write::put;
 use dump_lines::reason::kind_of;
 use dump_lines::text::{push_quoted, push_why, push_words};
 use dump_lines::value::{push_kind, push_value};
-use raw_view::{BorrowedError, Elements, RawBsonRef, RawDocument, RawElement};
+use raw_view::{BorrowedError, Elements, RawBsonRef, RawDocument, RawElement, RawLevel};
 use std::alloc::{AllocError, Global};
 use std::io::Write;
 use std::mem;
@@ -36,7 +35,7 @@ enum Next<'a> {
     /// a line
     Line,
     /// a line, and the level that its value holds
-    Inside(RawDocument<'a>),
+    Inside(RawLevel<'a>),
 }
 
 /// Writes the lines of a document and of the levels inside it, each line made in the same memory. The levels around the
@@ -71,7 +70,7 @@ pub fn list_levels<W: Write>(
                     deep_line(depth + 1, &mut line)?;
                     put(out, &line)?;
                 } else {
-                    enter(inner, &mut level, &mut waiting)?;
+                    enter(inner.document, &mut level, &mut waiting)?;
                 }
             }
         }
@@ -182,14 +181,14 @@ fn element_line<'a>(
     depth: usize,
     element: RawElement<'a>,
     line: &mut Vec<u8>,
-) -> Result<Option<RawDocument<'a>>, AllocError>
+) -> Result<Option<RawLevel<'a>>, AllocError>
     requires { depth < 2 ^ 32 }
     ensures { IfOk result (TellsElement depth (frame_of element.entry) line.new.items) }
 {
     match element.resolve() {
         Ok(value) => {
             value_line(alloc, depth, element.key(), value, line)?;
-            Ok(inside(value))
+            Ok(value.level())
         }
         Err(error) => {
             fault_line(alloc, depth, element, &error, line)?;
@@ -232,16 +231,4 @@ fn fault_line(
     push_words(line, ", ")?;
     push_fault(line, error)?;
     push_words(line, "\n")
-}
-
-/// The bytes of the level that the value holds.
-fn inside(value: RawBsonRef<'_>) -> Option<RawDocument<'_>>
-    ensures { HoldsBytes (value_of value.entry) result }
-{
-    match value {
-        RawBsonRef::Document(document) => Some(document),
-        RawBsonRef::Array(array) => Some(array.as_doc()),
-        RawBsonRef::JavaScriptCodeWithScope(code) => Some(code.scope),
-        _ => None,
-    }
 }

@@ -33,20 +33,20 @@ pub use Rattle.raw_view.specs.Frame.Front.{StepsFront, StopsWith}
 pub use Rattle.raw_view.specs.Frame.Kind.{kind_of_leaf, tag_of}
 pub use Rattle.raw_view.specs.Meaning.{HasInnerLength, IsBinaryValue, IsCodeWithScope, KeyedFault, Meaning, Means, MeansValue, RawValue, faulty, kind_of_raw, single, value}
 pub use Rattle.raw_view.specs.Frame.Number.{le32, max_length}
-pub use Rattle.raw_view.specs.Meaning.Value.{value_of}
+pub use Rattle.raw_view.specs.Meaning.Value.{IsSingle, held_value, holding, value_of}
 pub use Rattle.raw_view.specs.declared.bson_ref.RawBsonRef.{RawBsonRef}
 pub use Rattle.raw_view.specs.declared.element.RawElement.{RawElement}
 pub use Rattle.raw_view.specs.declared.element_type.ElementType.{ElementType}
 pub use Rattle.raw_view.specs.declared.error.BorrowedError.{BorrowedError}
 pub use Rattle.raw_view.specs.declared.error.Error.{Error}
 pub use Rattle.raw_view.specs.declared.error.ErrorKind.{ErrorKind}
+pub use Rattle.raw_view.specs.declared.level.Holder.{Holder}
+pub use Rattle.raw_view.specs.declared.level.RawLevel.{RawLevel as Nested}
 pub use Rattle.raw_tree.specs.Canonical.{AreDecimalsFrom, AreFramesCanonical, AreKeysCanonical, IsCanonical, IsCanonicalAs, IsCanonicalUpTo, IsValueCanonical}
 pub use Rattle.raw_tree.specs.CanonicalForm.{AllAreSpelledOneWay, ComesBack, IsCanonicalForm, IsSpelledOneWay, IsSpelling}
 pub use Rattle.raw_tree.specs.declared.reader.levels.Contents.{Contents}
 pub use Rattle.raw_tree.specs.declared.reader.levels.Draft.{Draft}
-pub use Rattle.raw_tree.specs.declared.reader.levels.Holder.{Holder}
 pub use Rattle.raw_tree.specs.declared.reader.levels.Level.{Level}
-pub use Rattle.raw_tree.specs.declared.reader.levels.Nested.{Nested}
 pub use Rattle.raw_tree.specs.declared.reader.levels.Opened.{Opened}
 pub use Rattle.raw_tree.specs.declared.reader.levels.Waiting.{Waiting}
 pub use Rattle.raw_tree.specs.declared.reader.limits.Limits.{Limits}
@@ -58,8 +58,8 @@ pub use Rattle.raw_tree.specs.declared.writer.members.Members.{Members}
 pub use Rattle.raw_tree.specs.put.Payload.{element_bytes, payload_of, unset}
 pub use Rattle.raw_tree.specs.reader.FrameCount.{AllAreCountedOneWay, AllHaveOneFrameCount, CountsFrames, CountsIn, CountsToFaultAt, HasFrameCount, HasFrameCountUpTo}
 pub use Rattle.raw_tree.specs.reader.FrameCount.{HasFramesToFault, HasFramesToFaultUpTo, HasFramesUntilFault, TellsFrames}
-pub use Rattle.raw_tree.specs.reader.Levels.{AreDrafted, AreRead, ClosesAs, DraftsTree, Finishes, HoldsNone, IsOneMore, IsPairMore, IsSameDraft, IsUnread, KeepsKeys, OpensAs, TellsFramesWithin, TellsReading}
-pub use Rattle.raw_tree.specs.reader.Levels.{counted, holding, sort_of, texts_of, tree_of_contents}
+pub use Rattle.raw_tree.specs.reader.Levels.{AreDrafted, AreRead, ClosesAs, DraftsTree, Finishes, IsOneMore, IsPairMore, IsSameDraft, IsUnread, KeepsKeys, OpensAs, TellsFramesWithin, TellsReading}
+pub use Rattle.raw_tree.specs.reader.Levels.{counted, sort_of, texts_of, tree_of_contents}
 pub use Rattle.raw_tree.specs.reader.Reading.{AllAreReadOneWay, AreReadOneWay, FailsInFrame, FirstFault, FirstFaultOfFrame, FirstFaultOfValue, FirstFaultUpTo, FrameStandsFor, Holds, IsFrameReadOneWay}
 pub use Rattle.raw_tree.specs.reader.Reading.{IsValueReadOneWay, Reads, ReadsAs, ReadsUpTo, Sort, StandForEach, StandsFor, TellsFirstFault, as_array, as_document, leaf_in_order, tree_of_pairs}
 pub use Rattle.raw_tree.specs.reader.WithinLimits.{AllAreAnsweredOneWay, AllHaveOneDepth, Barrier, BarsFrame, BarsFront, FirstBarrier, FirstFaultWithin, HasDepth, HasDepthUpTo, IsFaultWith}

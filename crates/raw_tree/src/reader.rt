@@ -16,18 +16,20 @@ pub(crate) mod limits;
 pub(crate) mod steps;
 
 use crate::reader::levels::{
-    Contents, Draft, Holder, Nested, Opened, Waiting, begin, close, end, finish, open, put,
+    Contents, Draft, Opened, Waiting, begin, close, end, finish, open, put,
 };
 use crate::reader::steps::Steps;
 use bson_model::{Bson, Document};
-use raw_view::{Error, RawArray, RawBsonRef, RawDocument, RawElement, Reason, Result};
+use raw_view::{
+    Error, Holder, RawArray, RawBsonRef, RawDocument, RawElement, RawLevel, Reason, Result,
+};
 use std::alloc::Global;
 
 /// What these bytes are read as. Those that are nested in them are read as a level of their own, whose result
 /// goes to the level that waits for it. A level deeper than `depth` isn't entered, and no memory is asked for it.
 pub(crate) fn read<'a>(
     alloc: Global,
-    nested: Nested<'a>,
+    nested: RawLevel<'a>,
     depth: usize,
     steps: &mut Steps,
 ) -> Result<Contents<'a>>
@@ -70,7 +72,7 @@ pub(crate) fn read<'a>(
 }
 
 /// What these bytes are read as, however deep they are: no document has so many levels as `usize::MAX`.
-fn read_all<'a>(alloc: Global, nested: Nested<'a>, steps: &mut Steps) -> Result<Contents<'a>>
+fn read_all<'a>(alloc: Global, nested: RawLevel<'a>, steps: &mut Steps) -> Result<Contents<'a>>
     requires fresh { steps.old ≡ 0 }
     ensures tree { IfOk result (AreRead nested.entry.holder (bytes_of nested.entry.document)) }
     ensures fault { IfErr result (TellsFirstFault (bytes_of nested.entry.document)) }
@@ -122,7 +124,7 @@ pub fn document_from_raw_counted(
     ensures bound { result.1 ≤ (length (bytes_of document.entry) - 4) / 2 }
 {
     let mut steps = Steps::new();
-    let nested = Nested {
+    let nested = RawLevel {
         document,
         holder: Holder::Document,
     };
@@ -149,7 +151,7 @@ pub fn list_from_raw(alloc: Global, array: RawArray<'_>) -> Result<Vec<Bson>>
     ensures one_reading { AllAreReadOneWay as_array }
     ensures one_spelling { AllAreSpelledOneWay as_array }
 {
-    let nested = Nested {
+    let nested = RawLevel {
         document: array.as_doc(),
         holder: Holder::Array,
     };

@@ -2,14 +2,14 @@
 -- one that waits; a fault, out of memory or the end is returned; and what is left shrinks.
 use Rattle.std.proofs.Common.{◌≡◌, inl, inr, ◌<◌, ◌≤◌, ◌+◌, ◌-◌, ◌*◌, take, length-take, ◌++◌, ◌∷◌, [], ℕ, suc, List, Option, None, Some, Result, Ok, Err, IfOk, IfErr, length, drop, arith, ap, refl, sym, ◌∙◌, subst, length-drop, length-append, sum_by}
 use Rattle.raw_tree.proofs.Common.{sum_by_push, none-some, Tree, tree_of, Bson, Says, TellsMeaning, bytes_of, StepsElement, frame_of, IsOutOfMemory, Frame, Done, RawValue, KeyedFault, Meaning, Means}
-use Rattle.raw_tree.proofs.Common.{value, faulty, max_length, value_of, RawBsonRef, RawElement, Error, CountsIn, HasFrameCount, TellsFrames, sort_of, holding, tree_of_contents, AreDrafted, IsOneMore}
-use Rattle.raw_tree.proofs.Common.{IsUnread, HoldsNone, OpensAs, Finishes, DraftsTree, TellsReading, counted, fault_of, too_deep, FirstFaultWithin, SaysBarrier, tree_of_pairs, StandsFor, ReadsUpTo, ReadsAs}
+use Rattle.raw_tree.proofs.Common.{value, faulty, max_length, value_of, RawBsonRef, RawElement, Error, CountsIn, HasFrameCount, TellsFrames, sort_of, held_value, holding, tree_of_contents, AreDrafted, IsOneMore}
+use Rattle.raw_tree.proofs.Common.{IsUnread, IsSingle, OpensAs, Finishes, DraftsTree, TellsReading, counted, fault_of, too_deep, FirstFaultWithin, SaysBarrier, tree_of_pairs, StandsFor, ReadsUpTo, ReadsAs}
 use Rattle.raw_tree.proofs.Common.{FirstFault, Contents, Holder, Level, Nested, Opened, Waiting, left_of}
 use Rattle.raw_view.proofs.Face.{LeadsTo-walk, IsFrame-shorter}
 use Rattle.raw_tree.specs.declared.reader.levels.Opened.TheVariants as opened
 use Rattle.raw_tree.proofs.reader.Decides.{IsCountedFrom, counted_until, counted_from, counted_from_frame}
 use Rattle.raw_tree.proofs.reader.FrameCounts.{Fails, count_of_walk, passed_more, passed_read, fails_at_stop, fails_at_frame, until_small}
-use Rattle.raw_tree.proofs.reader.Stacks.{drafted_none, none_stands, held_value, held_within, held_counts, held_holds, IsReading, IsBehind, with_left, bars_at, AreWaiting, none_waits, one_more, inner_barrier, barrier_outward, fault_outward, counted_outward, levels_in, none_inside, waiting_less}
+use Rattle.raw_tree.proofs.reader.Stacks.{drafted_none, none_stands, held_within, held_counts, held_holds, IsReading, IsBehind, with_left, bars_at, AreWaiting, none_waits, one_more, inner_barrier, barrier_outward, fault_outward, counted_outward, levels_in, none_inside, waiting_less}
 use Rattle.raw_tree.proofs.reader.Loops.{nested_beside}
 use Rattle.raw_tree.proofs.reader.OneTree.{tree_or_fault}
 
@@ -56,7 +56,7 @@ level_put : {inside n : ℕ} {u : Nested} {level new : Level} {key : List ℕ} (
 level_put v t m is stands counts more = grind (arith, more_drafted, passed_more)
 
 -- no frame is in a value that holds no nested bytes
-none_counted : (v : RawValue) → HoldsNone v → CountsIn HasFrameCount (value v) 0
+none_counted : (v : RawValue) → IsSingle v → CountsIn HasFrameCount (value v) 0
 none_counted v h = grind arith
 
 -- the levels
@@ -202,7 +202,7 @@ module _ {depth n : ℕ} {u : Nested} {ws : List Waiting} {level : Level} {key :
       (tt, inr (too_deep, deep, says), inl deep)
 
   -- the value holds none, and is put
-  pub put_whole : (v : RawValue) (t : Tree) (on : Level) → AreBehind depth u ws level key (value v) n → HoldsNone v × StandsFor ReadsAs v t → IsOneMore level key t on
+  pub put_whole : (v : RawValue) (t : Tree) (on : Level) → AreBehind depth u ws level key (value v) n → IsSingle v × StandsFor ReadsAs v t → IsOneMore level key t on
       → AreReading depth u ws on n
   put_whole v t on are whole more = record {
     inside = are.inside;

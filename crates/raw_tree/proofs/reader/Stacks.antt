@@ -2,10 +2,10 @@
 -- drafted, and each but the innermost waits for the value of the frame behind them.
 use Rattle.std.proofs.Common.{◌≡◌, Option, None, Some, inl, inr, ◌+◌, ◌++◌, ◌∷◌, [], ℕ, suc, List, length, arith, ap, refl, sym, ◌∙◌, subst, map, length-append, Vec, Global, Bor, zip}
 use Rattle.raw_tree.proofs.Common.{map-append, keep, Tree, document, code_with_scope, entries, tree_of, with_trees, pairs_of, Bson, Document, bytes_of, Frame, IsFrame, RawValue, KeyedFault, Meaning}
-use Rattle.raw_tree.proofs.Common.{Means, value, CountsIn, HasFrameCount, HasFramesToFault, KeepsKeys, sort_of, holding, texts_of, AreDrafted, IsPairMore, IsSameDraft, HoldsNone, ClosesAs, Finishes}
+use Rattle.raw_tree.proofs.Common.{Means, value, CountsIn, HasFrameCount, HasFramesToFault, KeepsKeys, sort_of, held_value, holding, texts_of, AreDrafted, IsPairMore, IsSameDraft, IsSingle, ClosesAs, Finishes}
 use Rattle.raw_tree.proofs.Common.{DraftsTree, Barrier, BarsFront, FirstFaultWithin, Sort, as_document, tree_of_pairs, StandsFor, ReadsUpTo, ReadsAs, Holds, Contents, Draft, Holder, Level, Nested, Waiting}
 use Rattle.raw_tree.specs.declared.reader.levels.Contents.TheVariants as contents
-use Rattle.raw_tree.specs.declared.reader.levels.Holder.TheVariants as of
+use Rattle.raw_view.specs.declared.level.Holder.TheVariants as of
 use Rattle.raw_tree.proofs.reader.Decides.{IsCountedFrom, counted_from}
 use Rattle.raw_tree.proofs.reader.FrameCounts.{Passed, Fails, passed_more, passed_read, fails_inside}
 use Rattle.raw_tree.proofs.reader.Loops.{document_read}
@@ -74,10 +74,6 @@ pub closes_scope : (c : Contents) (held : Option (Bor (List ℕ))) (code : Bor (
     → held ≡ Some code → tree_of t ≡ code_with_scope code.now (entries (with_trees (pairs_of d))) → ClosesAs c t
 closes_scope c held code d t is some same = rw (is, some) (λ b read. (entries (with_trees (pairs_of d)), read, same))
 
--- the value of nested bytes
-abbrev pub held_value : Nested → RawValue
-held_value u = holding u.holder (bytes_of u.document)
-
 -- what holds bytes that are read as a tree stands for one, and the frames of the bytes are in it
 held_stands : (h : Holder) (d : List ℕ) (t : Tree) → ReadsAs (sort_of h) d t → (u : Tree) × StandsFor ReadsAs (holding h d) u
 held_stands of.Document d t read = (t, read)
@@ -93,7 +89,7 @@ pub held_holds : (h : Holder) (d : List ℕ) → Holds (holding h d) d
 held_holds h d = grind arith
 
 -- a value that holds no nested bytes stands for the same tree to any depth
-pub none_stands : (inside : ℕ) (v : RawValue) (t : Tree) → HoldsNone v → StandsFor ReadsAs v t → StandsFor (ReadsUpTo inside) v t
+pub none_stands : (inside : ℕ) (v : RawValue) (t : Tree) → IsSingle v → StandsFor ReadsAs v t → StandsFor (ReadsUpTo inside) v t
 none_stands inside v t none h = grind arith
 
 -- bytes that are read within some levels are read as their one tree within these

@@ -6,19 +6,19 @@ use Rattle.bson_model.specs.Tree.{Tree, tree_of, tree_of_document, tree_of_list}
 use Rattle.bson_model.specs.declared.bson.Bson.{Bson}
 use Rattle.raw_view.specs.Document.{bytes_of}
 use Rattle.raw_view.specs.Meaning.{RawValue}
-use Rattle.raw_view.specs.Meaning as raw
+use Rattle.raw_view.specs.Meaning.Value.{IsSingle, held_value, holding}
 use Rattle.raw_view.specs.declared.element.RawElement.{RawElement}
 use Rattle.raw_view.specs.declared.error.Error.{Error}
+use Rattle.raw_view.specs.declared.level.Holder.{Holder}
+use Rattle.raw_view.specs.declared.level.Holder.TheVariants as of
+use Rattle.raw_view.specs.declared.level.RawLevel.{RawLevel}
 use Rattle.raw_tree.specs.reader.FrameCount.{TellsFrames}
 use Rattle.raw_tree.specs.reader.WithinLimits.{FirstFaultWithin, TellsFirstFaultWithin, too_deep}
 use Rattle.raw_tree.specs.reader.Reading.{Sort, as_document, as_array, tree_of_pairs, StandsFor, ReadsUpTo, ReadsAs}
 use Rattle.raw_tree.specs.declared.reader.levels.Contents.{Contents}
 use Rattle.raw_tree.specs.declared.reader.levels.Contents.TheVariants as contents
 use Rattle.raw_tree.specs.declared.reader.levels.Draft.{Draft}
-use Rattle.raw_tree.specs.declared.reader.levels.Holder.{Holder}
-use Rattle.raw_tree.specs.declared.reader.levels.Holder.TheVariants as of
 use Rattle.raw_tree.specs.declared.reader.levels.Level.{Level}
-use Rattle.raw_tree.specs.declared.reader.levels.Nested.{Nested}
 use Rattle.raw_tree.specs.declared.reader.levels.Opened.{Opened}
 use Rattle.raw_tree.specs.declared.reader.levels.Opened.TheVariants as opened
 
@@ -27,12 +27,6 @@ abbrev pub sort_of : Holder → Sort
 sort_of of.Document = as_document
 sort_of of.Array = as_array
 sort_of (of.Code _) = as_document
-
--- the value that holds these bytes
-abbrev pub holding : Holder → List ℕ → RawValue
-holding of.Document d = raw.document d
-holding of.Array d = raw.array d
-holding (of.Code code) d = raw.scoped code.now d
 
 -- what holds the bytes of which these are the contents
 abbrev pub holder_of : Contents → Holder
@@ -68,7 +62,7 @@ abbrev pub IsPairMore : Draft → List ℕ → Tree → Draft → Type 0
 IsPairMore old key t new = (texts_of new.keys.items ≡ texts_of old.keys.items ++ key ∷ []) × (map tree_of new.values.items ≡ map tree_of old.values.items ++ t ∷ [])
 
 -- nothing is read of the level of these nested bytes
-abbrev pub IsUnread : Nested → Level → Type 0
+abbrev pub IsUnread : RawLevel → Level → Type 0
 IsUnread u level = (level.elements ≡ Some (drop 4 (bytes_of u.document))) × (level.holder ≡ u.holder) × (level.draft.keys.items ≡ []) × (level.draft.values.items ≡ [])
 
 -- new is the level old with a pair more
@@ -77,17 +71,10 @@ IsOneMore old key t new =
     (new.elements ≡ old.elements) × (new.holder ≡ old.holder)
     × ((pairs : List (List ℕ × Tree)) → AreDrafted old.holder old.draft pairs → AreDrafted old.holder new.draft (pairs ++ (key, t) ∷ []))
 
--- the value holds no nested bytes
-abbrev pub HoldsNone : RawValue → Type 0
-HoldsNone (raw.single _) = Unit {0}
-HoldsNone (raw.document _) = ⊥
-HoldsNone (raw.array _) = ⊥
-HoldsNone (raw.scoped _ _) = ⊥
-
 -- the value holds no nested bytes and stands for the tree; or it holds these
 abbrev pub OpensAs : RawValue → Opened → Type 0
-OpensAs v (opened.Whole t) = HoldsNone v × StandsFor ReadsAs v (tree_of t)
-OpensAs v (opened.Nested n) = v ≡ holding n.holder (bytes_of n.document)
+OpensAs v (opened.Whole t) = IsSingle v × StandsFor ReadsAs v (tree_of t)
+OpensAs v (opened.Nested n) = v ≡ held_value n
 
 -- the tree is that of the value which holds bytes that are read as the contents
 abbrev pub ClosesAs : Contents → Bson → Type 0
@@ -114,7 +101,7 @@ abbrev pub TellsFramesWithin : {X : Type 0} → ℕ → List ℕ → Result X Er
 TellsFramesWithin depth b result n = FirstFaultWithin depth b too_deep ⊎ TellsFrames b result n
 
 -- what a call says that reads these nested bytes to a depth and counts so many frames
-abbrev pub TellsReading : ℕ → Nested → Result Contents Error → ℕ → Type 0
+abbrev pub TellsReading : ℕ → RawLevel → Result Contents Error → ℕ → Type 0
 TellsReading depth u result n =
     IfOk result (AreReadUpTo depth u.holder (bytes_of u.document)) × IfErr result (TellsFirstFaultWithin depth (bytes_of u.document))
     × TellsFramesWithin depth (bytes_of u.document) result n

@@ -7,10 +7,8 @@ use Rattle.bson_model.specs.Tree.{Tree}
 use Rattle.raw_view.specs.Frame.{Frame, HasNoFrame, IsFrame, IsStop, LeadsTo}
 use Rattle.raw_view.specs.Frame.Front.{TellsBorrowed}
 use Rattle.raw_view.specs.Meaning.{RawValue, KeyedFault, Means, value, faulty}
-use Rattle.raw_view.specs.Meaning as raw
 use Rattle.raw_view.specs.Meaning.Value.{value_of}
 use Rattle.raw_view.specs.declared.bson_ref.RawBsonRef.{RawBsonRef}
-use Rattle.raw_view.specs.declared.document.RawDocument.{RawDocument}
 use Rattle.raw_view.specs.declared.element.RawElement.{RawElement}
 use Rattle.raw_tree.specs.reader.Reading.{Holds, StandForEach, ReadsUpTo}
 use Rattle.raw_tree.specs.walk.Places.{Step, BeginsAt}
@@ -27,16 +25,6 @@ step_at w = record { number = w.number; key = Some w.key }
 -- how many bytes a frame takes: a tag, its key with a 0, and its payload
 abbrev pub size_of : Frame → ℕ
 size_of f = length f.key + length f.payload + 2
-
--- the value holds no nested bytes, or these
-abbrev pub HoldsBytes : RawValue → Option RawDocument → Type 0
-HoldsBytes (raw.single l) inside = inside ≡ None
-HoldsBytes (raw.document d) None = ⊥
-HoldsBytes (raw.document d) (Some x) = bytes_of x ≡ d
-HoldsBytes (raw.array d) None = ⊥
-HoldsBytes (raw.array d) (Some x) = bytes_of x ≡ d
-HoldsBytes (raw.scoped code d) None = ⊥
-HoldsBytes (raw.scoped code d) (Some x) = bytes_of x ≡ d
 
 -- the value holds no nested bytes
 abbrev pub HoldsNone : RawValue → Type 0

@@ -10,27 +10,12 @@ ghost use Rattle.raw_view.specs.Errors.{IsOutOfMemory};
 ghost use Rattle.raw_view.specs.Meaning.Value.{id_of, namespace_of, value_of};
 
 use bson_model::{Bson, DbPointer, Document, JavaScriptCodeWithScope, Regex};
-use raw_view::{RawBsonRef, RawDbPointerRef, RawDocument, RawIter, Result};
+use raw_view::{Holder, RawBsonRef, RawDbPointerRef, RawIter, RawLevel, Result};
 use std::alloc::Global;
 use std::mem;
 
 /// A level of more values gives them away with the room that they are in; of fewer they are moved to exact room.
 const MOST_MOVED: usize = 256;
-
-/// What holds nested bytes: a document, an array, or this code, whose scope they are.
-#[derive(Clone, Copy)]
-pub(crate) enum Holder<'a> {
-    Document,
-    Array,
-    Code(&'a str),
-}
-
-/// Nested bytes, and what holds them.
-#[derive(Clone, Copy)]
-pub(crate) struct Nested<'a> {
-    pub(crate) document: RawDocument<'a>,
-    pub(crate) holder: Holder<'a>,
-}
 
 /// What bytes are read as: a document, or the scope of this code; or an array.
 #[derive(Drop)]
@@ -65,7 +50,7 @@ pub(crate) struct Waiting<'a> {
 #[derive(Drop)]
 pub(crate) enum Opened<'a> {
     Whole(Bson),
-    Nested(Nested<'a>),
+    Nested(RawLevel<'a>),
 }
 
 /// The pointer with a namespace of its own; the only error is out of memory. BSON 1.1, `element`, DBPointer.
@@ -87,17 +72,12 @@ pub(crate) fn open<'a>(alloc: Global, value: RawBsonRef<'a>) -> Result<Opened<'a
     ensures opened { IfOk result (OpensAs (value_of value.entry)) }
     ensures err { IfErr result IsOutOfMemory }
 {
+    if let Some(nested) = value.level() {
+        return Ok(Opened::Nested(nested));
+    }
     match value {
         RawBsonRef::Double(bits) => Ok(Opened::Whole(Bson::Double(bits))),
         RawBsonRef::String(text) => Ok(Opened::Whole(Bson::String(String::from_str(alloc, text)?))),
-        RawBsonRef::Array(array) => Ok(Opened::Nested(Nested {
-            document: array.as_doc(),
-            holder: Holder::Array,
-        })),
-        RawBsonRef::Document(document) => Ok(Opened::Nested(Nested {
-            document,
-            holder: Holder::Document,
-        })),
         RawBsonRef::Boolean(value) => Ok(Opened::Whole(Bson::Boolean(value))),
         RawBsonRef::Null => Ok(Opened::Whole(Bson::Null)),
         RawBsonRef::RegularExpression(regex) => {
@@ -108,10 +88,6 @@ pub(crate) fn open<'a>(alloc: Global, value: RawBsonRef<'a>) -> Result<Opened<'a
             let code = String::from_str(alloc, text)?;
             Ok(Opened::Whole(Bson::JavaScriptCode(code)))
         }
-        RawBsonRef::JavaScriptCodeWithScope(code) => Ok(Opened::Nested(Nested {
-            document: code.scope,
-            holder: Holder::Code(code.code),
-        })),
         RawBsonRef::Int32(number) => Ok(Opened::Whole(Bson::Int32(number))),
         RawBsonRef::Int64(number) => Ok(Opened::Whole(Bson::Int64(number))),
         RawBsonRef::Timestamp(time) => Ok(Opened::Whole(Bson::Timestamp(time))),
@@ -126,6 +102,8 @@ pub(crate) fn open<'a>(alloc: Global, value: RawBsonRef<'a>) -> Result<Opened<'a
         RawBsonRef::DbPointer(pointer) => {
             Ok(Opened::Whole(Bson::DbPointer(copied_pointer(alloc, pointer)?)))
         }
+        RawBsonRef::Document(_) | RawBsonRef::Array(_) | RawBsonRef::JavaScriptCodeWithScope(_) =>
+            unreachable!(),
     }
 }
 
@@ -198,7 +176,7 @@ impl<'a> Draft<'a> {
 
 /// A level of which nothing is read.
 #[inline(always)]
-pub(crate) fn begin<'a>(alloc: Global, nested: Nested<'a>) -> Level<'a>
+pub(crate) fn begin<'a>(alloc: Global, nested: RawLevel<'a>) -> Level<'a>
     ensures { IsUnread nested.entry result }
 {
     Level {

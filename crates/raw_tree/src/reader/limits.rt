@@ -8,11 +8,11 @@ ghost use Rattle.raw_tree.specs.reader.WithinLimits.{AllAreAnsweredOneWay, AllHa
 ghost use Rattle.raw_tree.specs.reader.Reading.{AllAreReadOneWay, as_document};
 ghost use Rattle.raw_view.specs.Document.{bytes_of};
 
-use crate::reader::levels::{Contents, Holder, Nested};
+use crate::reader::levels::Contents;
 use crate::reader::read;
 use crate::reader::steps::Steps;
 use bson_model::Document;
-use raw_view::{Error, RawDocument, Reason, Result};
+use raw_view::{Error, Holder, RawDocument, RawLevel, Reason, Result};
 use std::alloc::Global;
 
 /// What a document from outside may cost: so many bytes at most, and so many levels. The document is the first
@@ -59,7 +59,7 @@ pub fn document_from_raw_within(
     if document.as_bytes().len() > limits.bytes {
         return Err(Error::malformed(Reason::TooManyBytes));
     }
-    let nested = Nested {
+    let nested = RawLevel {
         document,
         holder: Holder::Document,
     };

@@ -11,7 +11,7 @@ ghost use Rattle.raw_view.specs.Meaning.Value.{value_of};
 use crate::validator::breach::Cause;
 use crate::validator::keys_so_far::KeysSoFar;
 use bson_model::do_options_ascend;
-use raw_view::{Elements, RawBsonRef, RawDocument, RawElement, Result};
+use raw_view::{Elements, Holder, RawBsonRef, RawDocument, RawElement, Result};
 use std::alloc::Global;
 
 /// What is next in a level that is judged.
@@ -43,18 +43,13 @@ pub(crate) enum Held<'a> {
 pub(crate) fn held_by(value: RawBsonRef<'_>) -> Held<'_>
     ensures { HoldsAsTold (value_of value.entry) result }
 {
-    match value {
-        RawBsonRef::Document(document) => Held::Level(document, false),
-        RawBsonRef::Array(array) => Held::Level(array.as_doc(), true),
-        RawBsonRef::JavaScriptCodeWithScope(code) => Held::Level(code.scope, false),
-        RawBsonRef::RegularExpression(regex) => {
-            if do_options_ascend(regex.options) {
-                Held::Nothing
-            } else {
-                Held::Descending
-            }
-        }
-        _ => Held::Nothing,
+    match value.level() {
+        Some(level) => Held::Level(level.document, matches!(level.holder, Holder::Array)),
+        None => match value {
+            RawBsonRef::RegularExpression(regex) if !do_options_ascend(regex.options) =>
+                Held::Descending,
+            _ => Held::Nothing,
+        },
     }
 }
 

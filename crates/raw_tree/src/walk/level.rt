@@ -2,11 +2,10 @@
 #![tactic(auto)]
 
 ghost use Rattle.std.specs.Prelude.{◌≡◌, ◌≤◌, ◌<◌, ◌+◌, ◌^◌, ℕ, List, Some, drop, length};
-ghost use Rattle.raw_tree.specs.walk.Looking.{HasValue, HoldsBytes, Sees, size_of};
+ghost use Rattle.raw_tree.specs.walk.Looking.{HasValue, Sees, size_of};
 ghost use Rattle.raw_tree.specs.walk.Waits.{ResumesBehind, LiesAt, Stores, Wait};
 ghost use Rattle.raw_view.specs.Document.{bytes_of};
 ghost use Rattle.raw_view.specs.Frame.ElementSteps.{frame_of};
-ghost use Rattle.raw_view.specs.Meaning.Value.{value_of};
 
 use raw_view::{BorrowedError, Elements, RawBsonRef, RawDocument, RawElement};
 
@@ -98,19 +97,6 @@ pub(crate) enum Next<'a> {
     Fault(Option<&'a str>, BorrowedError<'a>),
 }
 
-/// The bytes of the level that the value holds.
-#[inline(always)]
-fn inside(value: RawBsonRef<'_>) -> Option<RawDocument<'_>>
-    ensures { HoldsBytes (value_of value.entry) result }
-{
-    match value {
-        RawBsonRef::Document(document) => Some(document),
-        RawBsonRef::Array(array) => Some(array.as_doc()),
-        RawBsonRef::JavaScriptCodeWithScope(code) => Some(code.scope),
-        _ => None,
-    }
-}
-
 /// Looks at what is next in a level.
 #[inline(always)]
 pub(crate) fn look<'a>(elements: &mut Elements<'a>) -> Next<'a>
@@ -126,9 +112,9 @@ pub(crate) fn look<'a>(elements: &mut Elements<'a>) -> Next<'a>
         Err(error) => return Next::Fault(Some(element.key()), error),
         Ok(value) => value,
     };
-    match inside(value) {
+    match value.level() {
         None => Next::Whole(element, value),
-        Some(document) => Next::Inside(element, value, document),
+        Some(level) => Next::Inside(element, value, level.document),
     }
 }
 

@@ -1,9 +1,10 @@
-use Rattle.std.proofs.Common.{Some, Result, subst}
+use Rattle.std.proofs.Common.{Some, Ok, Result, subst}
 use Rattle.raw_view.specs.Frame.Front.{StepsFront}
 use Rattle.raw_view.specs.Meaning.Value.{value_of}
 use Rattle.raw_view.specs.declared.element.RawElement.{RawElement}
 use Rattle.raw_view.specs.declared.error.BorrowedError.{BorrowedError}
-use Rattle.raw_tree.proofs.walk.Fronts.{looks_stop, looks_whole}
+use Rattle.raw_tree.proofs.walk.Fronts.{looks_inside, looks_stop, looks_whole}
+use Rattle.raw_tree.proofs.walk.level.look.Goals.{In-Ok}
 use Rattle.raw_tree.proofs.walk.level.look.Goals as goal
 
 pub returns-in-Some-Err : goal.returns-in-Some-Err
@@ -14,10 +15,19 @@ returns-in-Some-Err c = record {
   value = tt;
 }
 
-pub returns-in-None-inside : goal.returns-in-None-inside
-returns-in-None-inside c = record {
-  sees = looks_whole c.args.elements.now c.next.new.self c.in-Some-Ok.element (value_of c.in-Ok.value) c.inside.result
-      (subst (λ (x : Result RawElement BorrowedError). StepsFront c.args.elements.now (Some x) c.next.new.self) c.in-Some-Ok.field-0-is
-      c.in-Some-Ok.ensures.steps) c.in-Ok.ensures.value c.inside.ensures c.in-None-inside.is;
+steps : (c : In-Ok) → StepsFront c.args.elements.now (Some (Ok c.in-Some-Ok.element)) c.next.new.self
+steps c = subst (λ (x : Result RawElement BorrowedError). StepsFront c.args.elements.now (Some x) c.next.new.self) c.in-Some-Ok.field-0-is c.in-Some-Ok.ensures.steps
+
+pub returns-in-None-level : goal.returns-in-None-level
+returns-in-None-level c = record {
+  sees = looks_whole c.args.elements.now c.next.new.self c.in-Some-Ok.element (value_of c.in-Ok.value) c.level.result
+      (steps (goal.at.returns-in-None-level c).In-Ok) c.in-Ok.ensures.value c.level.ensures c.in-None-level.is;
+  value = c.in-Ok.ensures.value;
+}
+
+pub returns-in-Some : goal.returns-in-Some
+returns-in-Some c = record {
+  sees = looks_inside c.args.elements.now c.next.new.self c.in-Some-Ok.element (value_of c.in-Ok.value) c.level.result c.in-Some.level
+      (steps (goal.at.returns-in-Some c).In-Ok) c.in-Ok.ensures.value c.level.ensures c.in-Some.is;
   value = c.in-Ok.ensures.value;
 }
