@@ -369,8 +369,8 @@ enter_less : (here : ℕ) (left new : Option (List ℕ)) (e : RawElement) (line 
     → TellsElement here (frame_of e) line (Some x) → size_left (Some (drop 4 (bytes_of x.document))) + size_left new + 1 < size_left left
 enter_less here None new e line x (none, gone) tells = absurd (cc)
 enter_less here (Some s) new e line x (r, at, is) (inl (v, shown, means, shows, holds, it)) =
-    let far = nested_beside s (frame_of e) r v (bytes_of x.document) at means (rw holds (held_holds x.holder (bytes_of x.document))) in
-    rw is (omega (arith, far, length-drop 4 (bytes_of x.document), x.document.envelope.enough))
+    let d = bytes_of x.document in
+    rw is (omega (arith, nested_beside s (frame_of e) r v d at means (rw holds (held_holds x.holder d)), length-drop 4 d, x.document.envelope.enough))
 enter_less here (Some s) new e line x (r, at, is) (inr (fault, shown, means, says, none, it)) = absurd (cc)
 
 pub inside_waits : (here : ℕ) (left new : Option (List ℕ)) (line : List ℕ) (x : RawLevel) (ws : List (Option (List ℕ))) → ListsNext here left new line (next.Inside x)
