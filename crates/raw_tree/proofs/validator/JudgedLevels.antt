@@ -147,7 +147,7 @@ module _ {inside : ℕ} {sort : Sort} {d : List ℕ} {below : List (List ℕ)} {
     left_is = left_is ∙ new_is;
     number_is = number_is ∙ is.number_is;
     key_is = key_is;
-    keys = λ refs same. keys_on ks.keys after refs sort below (keys_of_frames is.frames ++ (frame_of e).key ∷ []) has same;
+    keys = λ refs same. keys_on ks after refs sort below (keys_of_frames is.frames ++ (frame_of e).key ∷ []) has same;
     keys_canonical = more;
     canonical = is.canonical;
     means = m;

@@ -1,0 +1,42 @@
+use Rattle.std.proofs.Common.{rules, ◌≡◌, [], length, arith, refl, subst}
+use Rattle.std.specs.List.{IsDistinct}
+use Rattle.std.specs.Str.{bytes_eq}
+use Rattle.raw_form.proofs.canonical.Common.{keep, keys_of, placed}
+use Rattle.raw_tree.specs.References.{texts}
+use Rattle.raw_tree.proofs.Face.{keys_distinct}
+use Rattle.raw_form.proofs.last.Listed.{listed_more, passed_over}
+use Rattle.raw_form.proofs.last.places_of.Goals as goal
+
+pub elements-init : goal.elements-init
+elements-init c =
+    let empty : c.new-places.result.items ≡ [] = search rules in
+    record {
+      passed = record { frames = []; read = rw c.new-elements.ensures refl };
+      below = texts c.truncate.new.self.items;
+      keys = rw c.deref.ensures.value at c.behind-keys.ensures;
+      places_are = empty;
+      most = rw empty (omega arith);
+      apart = λ same. refl;
+      few = omega arith;
+      offset_is = refl;
+      begins = rw c.new-elements.ensures refl;
+    }
+
+pub returns-then-len-number-clause-places : goal.returns-then-len-number-clause-places
+returns-then-len-number-clause-places c frames w =
+    let is = c.elements.invariant in
+    let own = keys_of (keep (placed 4 is.passed.frames)) in
+    let count : length c.elements.places.items ≡ c.elements.number = omega (arith, c.len.ensures, c.elements.places.ok.0, c.if-len-number.true) in
+    rw (passed_over is.passed c.next_element.new.elements c.in_default.ensures frames w)
+    (subst (IsDistinct bytes_eq) (is.apart count) (keys_distinct c.elements.keys c.elements.listed.items is.below own is.keys))
+
+pub returns-in_default-clause-places : goal.returns-in_default-clause-places
+returns-in_default-clause-places c frames w =
+    rw (passed_over c.elements.invariant.passed c.next_element.new.elements c.in_default.ensures frames w) c.elements.invariant.places_are
+
+pub elements-preserved : goal.elements-preserved
+elements-preserved c =
+    let is = c.elements.invariant in
+    listed_more is c.next_element.new.elements c.in-Some.element c.in-Some.ensures c.add.new.self c.add.new.listed.items c.in_ok-known.known
+    c.put_place.new.places.items c.behind-offset.result
+    (rw c.key.ensures at (c.in_ok-known.ensures.adds is.below (keys_of (keep (placed 4 is.passed.frames))) is.keys)) c.in_ok-put_place.ensures.put c.behind-offset.ensures
