@@ -63,6 +63,7 @@ impl<'a> KeySet<'a> {
     }
 
     /// Adds a key, unless it is there; its place among the keys then.
+    #[inline(always)]
     pub fn add(
         &mut self,
         alloc: Global,
