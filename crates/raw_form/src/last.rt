@@ -1,10 +1,13 @@
 //! Where the last element of each key begins in a document with repeated keys.
 #![tactic(auto)]
 
-ghost use Rattle.std.specs.Prelude.{◌≡◌, ◌<◌, List, drop, length, IfOk, IfErr, IfSome, OnOk};
+ghost use Rattle.std.specs.Prelude.{◌≡◌, ◌<◌, List, drop, length, IsTrue, IfOk, IfErr, IfSome, OnOk};
+ghost use Rattle.std.specs.List.{IsDistinct};
 ghost use Rattle.std.specs.Option.{option_map};
+ghost use Rattle.std.specs.Str.{bytes_eq};
 ghost use Rattle.bson_model.specs.Tree.{Tree};
-ghost use Rattle.raw_form.specs.Staying.{HasLastPlaces, IsLeftAt, TakesMember, put_at};
+ghost use Rattle.raw_form.specs.Staying.{HasLastPlaces, IsLeftAt, TakesMember, last_places, put_at};
+ghost use Rattle.raw_tree.specs.Breaches.{keys_of_frames};
 ghost use Rattle.raw_tree.specs.Members.{MemberKey};
 ghost use Rattle.raw_view.specs.Document.{bytes_of};
 ghost use Rattle.raw_view.specs.Errors.{IsOutOfMemory};
@@ -38,6 +41,58 @@ fn put_place(places: &mut Vec<u32>, known: Option<usize>, place: u32) -> Result<
     Ok(())
 }
 
+/// Whether no key is repeated in a document all of whose elements can be read. What is in the list goes out of it. The only error
+/// is out of memory.
+fn are_keys_distinct<'a>(
+    alloc: Global,
+    document: RawDocument<'a>,
+    listed: &mut Vec<&'a str>,
+) -> Result<bool>
+    ensures distinct { (frames : List Frame)
+        → IsWalk (drop 4 (bytes_of document.entry)) frames Done
+        → IfOk result (λ distinct. IsTrue distinct → IsDistinct bytes_eq (keys_of_frames frames)) }
+    ensures err { IfErr result IsOutOfMemory }
+{
+    listed.truncate(0);
+    let mut keys = KeySet::behind(listed);
+    let mut elements = Elements::new(document);
+    'elements: loop {
+        let Some(element) = next_element(&mut elements) else {
+            return Ok(true);
+        };
+        if keys.add(alloc, listed, element.key())?.is_some() {
+            return Ok(false);
+        }
+    }
+}
+
+/// The last place of each key of a document all of whose elements can be read. What is in the list goes out of it. The only error
+/// is out of memory.
+fn list_places<'a>(
+    alloc: Global,
+    document: RawDocument<'a>,
+    listed: &mut Vec<&'a str>,
+) -> Result<Vec<u32>>
+    ensures places { (frames : List Frame)
+        → IsWalk (drop 4 (bytes_of document.entry)) frames Done
+        → IfOk result (λ places. places.items ≡ last_places frames) }
+    ensures err { IfErr result IsOutOfMemory }
+{
+    listed.truncate(0);
+    let mut keys = KeySet::behind(listed);
+    let mut places = Vec::new(alloc);
+    let mut elements = Elements::new(document);
+    let mut offset = 4;
+    'elements: loop {
+        let Some(element) = next_element(&mut elements) else {
+            return Ok(places);
+        };
+        let known = keys.add(alloc, listed, element.key())?;
+        put_place(&mut places, known, offset as u32)?;
+        offset = behind(offset, element);
+    }
+}
+
 /// The last place of each key of a document all of whose elements can be read; `None` where none is repeated. What is in the
 /// list goes out of it. The only error is out of memory.
 pub(crate) fn places_of<'a>(
@@ -50,24 +105,11 @@ pub(crate) fn places_of<'a>(
         → IfOk result (λ places. HasLastPlaces (option_map (λ v. v.items) places) frames) }
     ensures err { IfErr result IsOutOfMemory }
 {
-    listed.truncate(0);
-    let mut keys = KeySet::behind(listed);
-    let mut places = Vec::new(alloc);
-    let mut elements = Elements::new(document);
-    let mut number = 0;
-    let mut offset = 4;
-    'elements: loop {
-        let Some(element) = next_element(&mut elements) else {
-            if places.len() == number {
-                return Ok(None);
-            }
-            return Ok(Some(places));
-        };
-        let known = keys.add(alloc, listed, element.key())?;
-        put_place(&mut places, known, offset as u32)?;
-        number += 1;
-        offset = behind(offset, element);
+    if are_keys_distinct(alloc, document, listed)? {
+        return Ok(None);
     }
+    let places = list_places(alloc, document, listed)?;
+    Ok(Some(places))
 }
 
 impl<'a> LastPlaces<'a> {

@@ -1,8 +1,7 @@
--- The loop over the elements of a document that lists the last places of its keys.
-use Rattle.std.proofs.Common.{◌≡◌, ◌∙◌, ◌≤◌, ◌+◌, ◌++◌, ◌∷◌, [], ℕ, List, Option, None, Some, drop, length, length-append, map, arith, ap, refl, subst, sym}
-use Rattle.std.proofs.lemmas.List.{length-set}
+-- The loops over the elements of a document that look for a repeated key, and that list the last places of its keys.
+use Rattle.std.proofs.Common.{◌≡◌, ◌∙◌, ◌+◌, ◌++◌, ◌∷◌, [], ℕ, List, Option, None, Some, drop, length, map, arith, ap, refl, subst, sym}
 use Rattle.raw_form.proofs.canonical.Common.{Bor, Done, Frame, HasNoFrame, HasRead, IsFrame, IsWalk, LeadsTo, LeadsTo-more, RawElement, TakesFrame, end_of, frame_of, keep, keep-last, keys_of, keys_of_frames}
-use Rattle.raw_form.proofs.canonical.Common.{last_places, left_of, map-append, no_frame_at_final, one_frame, placed, put_at, size_of, with_pair}
+use Rattle.raw_form.proofs.canonical.Common.{last_places, left_of, no_frame_at_final, one_frame, placed, put_at, size_of, with_pair}
 use Rattle.raw_tree.specs.IndexedKeys.{with_key}
 use Rattle.raw_tree.specs.KeySets.{HasKeys, TellsPlace}
 use Rattle.raw_tree.specs.declared.validator.key_set.KeySet.{KeySet}
@@ -36,38 +35,30 @@ passed_more {left = None} is new e h = absurd is.read
 passed_more {d} {left = Some s} is new e (r, at, new_is) =
     rw new_is (LeadsTo-more (drop 4 d) is.frames s (frame_of e) r is.read at, omega (arith, frame_size s (frame_of e) r at))
 
+-- their keys are distinct
+pub record AreApart (d : List ℕ) (set : KeySet) (listed : List (Bor (List ℕ))) (left : Option (List ℕ)) : Type 0 where
+  pub passed : HasPassed d left
+  pub below : List (List ℕ)
+  pub keys : HasKeys set listed below (keys_of_frames passed.frames)
+
 -- the last places of their keys are listed, and what is left begins here
-pub record AreListed (d : List ℕ) (set : KeySet) (listed : List (Bor (List ℕ))) (places : List ℕ) (number : ℕ) (left : Option (List ℕ)) (offset : ℕ) : Type 0 where
+pub record AreListed (d : List ℕ) (set : KeySet) (listed : List (Bor (List ℕ))) (places : List ℕ) (left : Option (List ℕ)) (offset : ℕ) : Type 0 where
   pub passed : HasPassed d left
   pub below : List (List ℕ)
   pub keys : HasKeys set listed below (keys_of (keep (placed 4 passed.frames)))
   pub places_are : places ≡ last_places passed.frames
-  pub most : length places ≤ number
-  pub apart : length places ≡ number → keys_of (keep (placed 4 passed.frames)) ≡ keys_of_frames passed.frames
-  pub few : number ≤ offset
   pub offset_is : offset ≡ end_of 4 passed.frames
   pub begins : offset + left_of left ≡ 4 + length (drop 4 d)
 
--- a place more, and whether there are as many as keys
-
-length_put : (known : Option ℕ) (place : ℕ) (places : List ℕ) → length (put_at known place places) ≤ length places + 1
-length_put None place places = omega (arith, length-append places (place ∷ []))
-length_put (Some n) place places = omega (arith, length-set places n place)
-
-still_apart : (known : Option ℕ) (place : ℕ) (places : List ℕ) (number : ℕ) (own all : List (List ℕ)) (key : List ℕ) → length places ≤ number → (length places ≡ number → own ≡ all)
-    → length (put_at known place places) ≡ number + 1 → with_key own key known ≡ all ++ key ∷ []
-still_apart None place places number own all key most apart e = ap (λ (ks : List (List ℕ)). ks ++ key ∷ []) (apart (omega (arith, e, length-append places (place ∷ []))))
-still_apart (Some n) place places number own all key most apart e = absurd (omega (arith, e, most, length-set places n place))
-
 -- one more of the elements
-module _ {d : List ℕ} {set : KeySet} {listed : List (Bor (List ℕ))} {places : List ℕ} {number : ℕ} {left : Option (List ℕ)} {offset : ℕ}
-    (is : AreListed d set listed places number left offset) (new : Option (List ℕ)) (e : RawElement) (takes : TakesFrame left (Some e) new) where
+module _ {d : List ℕ} {set : KeySet} {listed : List (Bor (List ℕ))} {places : List ℕ} {left : Option (List ℕ)} {offset : ℕ}
+    (is : AreListed d set listed places left offset) (new : Option (List ℕ)) (e : RawElement) (takes : TakesFrame left (Some e) new) where
   left_more : left_of new + size_of (frame_of e) ≡ left_of left
   left_more = (passed_more is.passed new e takes).1
 
   pub listed_more : (after : KeySet) (refs : List (Bor (List ℕ))) (known : Option ℕ) (at : List ℕ) (end : ℕ)
       → TellsPlace is.below (keys_of (keep (placed 4 is.passed.frames))) (frame_of e).key after refs known → at ≡ put_at known offset places → end ≡ offset + size_of (frame_of e)
-      → AreListed d after refs at (number + 1) new end
+      → AreListed d after refs at new end
   listed_more after refs known at end told put far =
       let f = frame_of e in
       let frames = is.passed.frames in
@@ -83,10 +74,6 @@ module _ {d : List ℕ} {set : KeySet} {listed : List (Bor (List ℕ))} {places 
         places_are =
             put ∙ ap (λ (ns : List ℕ). put_at known offset ns) is.places_are ∙ sym (places_with f.key offset pairs known told.place_is)
             ∙ ap (λ (ps : List (List ℕ × ℕ)). map (λ p. p.1) ps) (sym grown);
-        most = omega (arith, ap length put, length_put known offset places, is.most);
-        apart = λ same. keys_grown ∙ still_apart known offset places number (keys_of pairs) (keys_of_frames frames) f.key is.most is.apart (sym (ap length put) ∙ same)
-            ∙ sym (map-append (λ (x : Frame). x.key) frames (f ∷ []));
-        few = omega (arith, is.few, far);
         offset_is = far ∙ ap (λ (n : ℕ). n + size_of f) is.offset_is ∙ sym (end_behind 4 frames f);
         begins = omega (arith, far, is.begins, left_more);
       }

@@ -1,11 +1,8 @@
-use Rattle.std.proofs.Common.{rules, ◌≡◌, [], length, arith, refl, subst}
-use Rattle.std.specs.List.{IsDistinct}
-use Rattle.std.specs.Str.{bytes_eq}
+use Rattle.std.proofs.Common.{rules, ◌≡◌, [], refl}
 use Rattle.raw_form.proofs.canonical.Common.{keep, keys_of, placed}
 use Rattle.raw_tree.specs.References.{texts}
-use Rattle.raw_tree.proofs.Face.{keys_distinct}
 use Rattle.raw_form.proofs.last.Listed.{listed_more, passed_over}
-use Rattle.raw_form.proofs.last.places_of.Goals as goal
+use Rattle.raw_form.proofs.last.list_places.Goals as goal
 
 pub elements-init : goal.elements-init
 elements-init c =
@@ -15,20 +12,9 @@ elements-init c =
       below = texts c.truncate.new.self.items;
       keys = rw c.deref.ensures.value at c.behind-keys.ensures;
       places_are = empty;
-      most = rw empty (omega arith);
-      apart = λ same. refl;
-      few = omega arith;
       offset_is = refl;
       begins = rw c.new-elements.ensures refl;
     }
-
-pub returns-then-len-number-clause-places : goal.returns-then-len-number-clause-places
-returns-then-len-number-clause-places c frames w =
-    let is = c.elements.invariant in
-    let own = keys_of (keep (placed 4 is.passed.frames)) in
-    let count : length c.elements.places.items ≡ c.elements.number = omega (arith, c.len.ensures, c.elements.places.ok.0, c.if-len-number.true) in
-    rw (passed_over is.passed c.next_element.new.elements c.in_default.ensures frames w)
-    (subst (IsDistinct bytes_eq) (is.apart count) (keys_distinct c.elements.keys c.elements.listed.items is.below own is.keys))
 
 pub returns-in_default-clause-places : goal.returns-in_default-clause-places
 returns-in_default-clause-places c frames w =
