@@ -1,3 +1,4 @@
 pub mod KeptPairs
 pub mod Listed
+pub mod Listing
 pub mod Places

@@ -1,19 +1,13 @@
 -- Which frames of a level stay in the canonical form, and what is left of a level that is rewritten. No public contract
 -- cites this file.
-use Rattle.std.specs.Prelude.{◌≡◌, ◌+◌, ◌<◌, ◌≤◌, ℕ, zero, suc, Bool, IsTrue, List, [], ◌∷◌, Option, None, Some, if◌then◌else◌, drop, length, map, option_map}
-use Rattle.std.specs.BTreeMap.{BTreeMap, get, is_at}
-use Rattle.std.specs.Cmp.Lexicographic.{slice_cmp}
-use Rattle.std.specs.Hash.FoldHasher as folding
+use Rattle.std.specs.Prelude.{◌≡◌, ◌+◌, ◌<◌, ◌≤◌, ◌++◌, ℕ, zero, suc, Bool, IsTrue, List, [], ◌∷◌, Option, None, Some, drop, length, map, slice_set}
 use Rattle.std.specs.List.{IsDistinct}
-use Rattle.std.specs.Ordering.{nat_cmp, ordering_then}
 use Rattle.std.specs.Str.{bytes_eq}
-use Rattle.std.specs.declared.cmp.Ordering.{Ordering}
-use denote.Ref.{Bor}
-use Rattle.bson_model.specs.Pairs.{keep, keys_of}
+use Rattle.bson_model.specs.Pairs.{keep}
 use Rattle.bson_model.specs.Tree.{Tree, entries}
 use Rattle.raw_view.specs.Document.{bytes_of}
 use Rattle.raw_view.specs.Frame.ElementSteps.{frame_of}
-use Rattle.raw_view.specs.Frame.{Frame, HasNoFrame, IsFrame, IsWalk, Done}
+use Rattle.raw_view.specs.Frame.{Frame, IsFrame, IsWalk, Done}
 use Rattle.raw_view.specs.declared.element.RawElement.{RawElement}
 use Rattle.raw_view.specs.declared.element_type.ElementType.{ElementType}
 use Rattle.raw_tree.specs.Breaches.{keys_of_frames}
@@ -38,6 +32,11 @@ end_of at (f ∷ fs) = end_of (at + size_of f) fs
 -- where the last frame of each key begins, in the order in which the keys come first
 abbrev pub last_places : List Frame → List ℕ
 last_places frames = map (λ p. p.1) (keep (placed 4 frames))
+
+-- the place is in that of this number, or last
+abbrev pub put_at : Option ℕ → ℕ → List ℕ → List ℕ
+put_at None place places = places ++ place ∷ []
+put_at (Some n) place places = slice_set places n place
 
 -- no key is repeated; or these are the last places of the keys
 abbrev pub HasLastPlaces : Option (List ℕ) → List Frame → Type 0
@@ -93,26 +92,3 @@ TakesMember ms None last = ms ≡ []
 TakesMember ms (Some (e, is_known)) last =
     (t : Tree) × (rest : List (MemberKey × Tree)) × (ms ≡ (text (frame_of e).key, t) ∷ rest) × FrameStandsFor (frame_of e) t × IsLeftAt last rest
     × (IsTrue is_known → IsOwnForm (frame_of e))
-
--- how keys are numbered while their places are listed
-
-abbrev pub hash_of : List ℕ → ℕ
-hash_of key = folding.finish (folding.write folding.initial key)
-
--- how many keys are before the first that is this one
-abbrev pub number_in : List (List ℕ) → List ℕ → Option ℕ
-number_in [] key = None
-number_in (k ∷ keys) key = if bytes_eq key k then Some 0 else option_map (λ n. suc n) (number_in keys key)
-
--- by their hashes, and then as texts
-abbrev pub key_cmp : ℕ × Bor (List ℕ) → ℕ × Bor (List ℕ) → Ordering
-key_cmp x y = ordering_then (nat_cmp x.0 y.0) (slice_cmp nat_cmp x.1.now y.1.now)
-
--- the map numbers the keys of the pairs, and these are their places
-pub record AreNumbered (numbers : BTreeMap (ℕ × Bor (List ℕ)) ℕ) (places : List ℕ) (pairs : List (List ℕ × ℕ)) : Type 0 where
-  pub number : (q : Bor (List ℕ)) → get key_cmp numbers (hash_of q.now, q) ≡ number_in (keys_of pairs) q.now
-  pub place : places ≡ map (λ p. p.1) pairs
-
--- the key has this number in the map, and each other the one that it had
-abbrev pub GivesNumber : BTreeMap (ℕ × Bor (List ℕ)) ℕ → ℕ → Bor (List ℕ) → ℕ → BTreeMap (ℕ × Bor (List ℕ)) ℕ → Type 0
-GivesNumber old hash key n new = (q : ℕ × Bor (List ℕ)) → get key_cmp new q ≡ (if is_at (key_cmp (hash, key)) q then Some n else get key_cmp old q)

@@ -1,25 +1,21 @@
 //! Where the last element of each key begins in a document with repeated keys.
 #![tactic(auto)]
 
-ghost use Rattle.std.specs.Prelude.{◌≡◌, ◌≤◌, ℕ, List, Some, drop, length, IsTrue, IfOk, IfErr};
+ghost use Rattle.std.specs.Prelude.{◌≡◌, ◌<◌, List, drop, length, IsTrue, IfOk, IfErr, IfSome, OnOk};
 ghost use Rattle.std.specs.List.{IsDistinct};
 ghost use Rattle.std.specs.Option.{option_map};
 ghost use Rattle.std.specs.Str.{bytes_eq};
 ghost use Rattle.bson_model.specs.Tree.{Tree};
-ghost use Rattle.raw_form.specs.Staying.{HasLastPlaces, IsLeftAt, TakesMember, last_places};
-ghost use Rattle.raw_tree.specs.Looking.{TakesFrame};
+ghost use Rattle.raw_form.specs.Staying.{HasLastPlaces, IsLeftAt, TakesMember, last_places, put_at};
 ghost use Rattle.raw_tree.specs.Breaches.{keys_of_frames};
 ghost use Rattle.raw_tree.specs.Members.{MemberKey};
 ghost use Rattle.raw_view.specs.Document.{bytes_of};
-ghost use Rattle.raw_view.specs.Frame.ElementSteps.{frame_of};
 ghost use Rattle.raw_view.specs.Errors.{IsOutOfMemory};
-ghost use Rattle.raw_view.specs.Frame.{Done, Frame, IsFrame, IsWalk};
+ghost use Rattle.raw_view.specs.Frame.{Done, Frame, IsWalk};
 
-use crate::numbered::put_place;
-use raw_tree::{KeysSoFar, behind, element_at, next_element};
+use raw_tree::{KeySet, behind, element_at, next_element};
 use raw_view::{Elements, RawDocument, RawElement, Result};
 use std::alloc::Global;
-use std::collections::BTreeMap;
 
 /// A document in which keys are repeated, and where the last element of each key begins, in the order in which the keys come
 /// first. So many of them have been passed. What begins before an offset is canonical.
@@ -31,11 +27,22 @@ pub(crate) struct LastPlaces<'a> {
     pub(crate) known: usize,
 }
 
-/// So many keys are looked through for a repeated one. Keys that were chosen cost more to look through than to number.
-const MOST_LOOKED_THROUGH: usize = 4096;
+/// Puts the place of an element in the place of that of its key, or last where that has none. The only error is out of memory.
+fn put_place(places: &mut Vec<u32>, known: Option<usize>, place: u32) -> Result<()>
+    requires { IfSome known (λ n. n < length places.old.items) }
+    ensures put { OnOk result (places.new.items ≡ put_at known place places.old.items) }
+    ensures err { IfErr result IsOutOfMemory }
+{
+    let Some(number) = known else {
+        places.push(place)?;
+        return Ok(());
+    };
+    places[number] = place;
+    Ok(())
+}
 
-/// Whether there are few keys and none is repeated in a document all of whose elements can be read. What is in the list goes
-/// out of it. The only error is out of memory.
+/// Whether no key is repeated in a document all of whose elements can be read. What is in the list goes out of it. The only error
+/// is out of memory.
 fn are_keys_distinct<'a>(
     alloc: Global,
     document: RawDocument<'a>,
@@ -47,31 +54,32 @@ fn are_keys_distinct<'a>(
     ensures err { IfErr result IsOutOfMemory }
 {
     listed.truncate(0);
-    let mut keys = KeysSoFar::of_document(listed);
-    let mut number = 0;
+    let mut keys = KeySet::behind(listed);
     let mut elements = Elements::new(document);
     'elements: loop {
         let Some(element) = next_element(&mut elements) else {
             return Ok(true);
         };
-        if number == MOST_LOOKED_THROUGH {
+        if keys.add(alloc, listed, element.key())?.is_some() {
             return Ok(false);
         }
-        if keys.add(alloc, listed, number, element.key())?.is_some() {
-            return Ok(false);
-        }
-        number += 1;
     }
 }
 
-/// The last place of each key of a document all of whose elements can be read. The only error is out of memory.
-fn list_places(alloc: Global, document: RawDocument<'_>) -> Result<Vec<u32>>
+/// The last place of each key of a document all of whose elements can be read. What is in the list goes out of it. The only error
+/// is out of memory.
+fn list_places<'a>(
+    alloc: Global,
+    document: RawDocument<'a>,
+    listed: &mut Vec<&'a str>,
+) -> Result<Vec<u32>>
     ensures places { (frames : List Frame)
         → IsWalk (drop 4 (bytes_of document.entry)) frames Done
         → IfOk result (λ places. places.items ≡ last_places frames) }
     ensures err { IfErr result IsOutOfMemory }
 {
-    let mut numbers = BTreeMap::new(alloc);
+    listed.truncate(0);
+    let mut keys = KeySet::behind(listed);
     let mut places = Vec::new(alloc);
     let mut elements = Elements::new(document);
     let mut offset = 4;
@@ -79,29 +87,28 @@ fn list_places(alloc: Global, document: RawDocument<'_>) -> Result<Vec<u32>>
         let Some(element) = next_element(&mut elements) else {
             return Ok(places);
         };
-        put_place(&mut numbers, &mut places, element.key(), offset as u32)?;
+        let known = keys.add(alloc, listed, element.key())?;
+        put_place(&mut places, known, offset as u32)?;
         offset = behind(offset, element);
     }
 }
 
-/// The last place of each key of a document all of whose elements can be read; `None` where they are few and none is
-/// repeated, which is looked for unless one is known to be. What is in the list goes out of it. The only error is out of
-/// memory.
+/// The last place of each key of a document all of whose elements can be read; `None` where none is repeated. What is in the
+/// list goes out of it. The only error is out of memory.
 pub(crate) fn places_of<'a>(
     alloc: Global,
     document: RawDocument<'a>,
     listed: &mut Vec<&'a str>,
-    repeats: bool,
 ) -> Result<Option<Vec<u32>>>
     ensures places { (frames : List Frame)
         → IsWalk (drop 4 (bytes_of document.entry)) frames Done
         → IfOk result (λ places. HasLastPlaces (option_map (λ v. v.items) places) frames) }
     ensures err { IfErr result IsOutOfMemory }
 {
-    if !repeats && are_keys_distinct(alloc, document, listed)? {
+    if are_keys_distinct(alloc, document, listed)? {
         return Ok(None);
     }
-    let places = list_places(alloc, document)?;
+    let places = list_places(alloc, document, listed)?;
     Ok(Some(places))
 }
 

@@ -6,7 +6,6 @@ mod code_len;
 mod flatten;
 mod held;
 mod last;
-mod numbered;
 mod rewriting;
 mod rewritten;
 mod token;

@@ -51,7 +51,6 @@ pub use Rattle.raw_tree.specs.declared.reader.levels.Opened.{Opened}
 pub use Rattle.raw_tree.specs.declared.reader.levels.Waiting.{Waiting}
 pub use Rattle.raw_tree.specs.declared.reader.limits.Limits.{Limits}
 pub use Rattle.raw_tree.specs.declared.validator.breach.Cause.{Cause}
-pub use Rattle.raw_tree.specs.declared.validator.keys.Keys.{Keys}
 pub use Rattle.raw_tree.specs.declared.writer.Payload.{Payload}
 pub use Rattle.raw_tree.specs.declared.writer.members.Container.{Container}
 pub use Rattle.raw_tree.specs.declared.writer.members.Members.{Members}
@@ -66,7 +65,7 @@ pub use Rattle.raw_tree.specs.reader.WithinLimits.{AllAreAnsweredOneWay, AllHave
 pub use Rattle.raw_tree.specs.reader.WithinLimits.{IsGreatestDepth, IsSoDeep, ReadsWithin, SaysBarrier, TellsFirstBarrier, TellsFirstFaultWithin, fault_of, too_deep, too_many_bytes}
 pub use Rattle.raw_tree.specs.validator.Breaches.{AllAreJudgedOneWay, BreachesFrame, BreachesFront, BreachesKeys, BreachesMeaning, HasBreachAs, HasBreachUpTo, IsJudgedOneWay, keys_of_frames}
 pub use Rattle.raw_tree.specs.validator.References.{texts}
-pub use Rattle.raw_tree.specs.validator.Validating.{HasKeys, HasPassed, HoldsAs, LeavesKeys, TellsOwnKey, left_of}
+pub use Rattle.raw_tree.specs.validator.Validating.{HasPassed, HoldsAs, left_of}
 pub use Rattle.raw_tree.specs.writer.Encoding.{IsEncoded, IsRefused, encoded_len, encoding, entries_bytes, entries_len, items_bytes, items_len, kind_of_tree, tree_payload}
 pub use Rattle.raw_tree.specs.writer.Measuring.{HasRoomFor, Measures}
 pub use Rattle.raw_tree.specs.writer.Members.{AreMembersFree, Begun, HoldsTrees, IsKeyFree, IsLeafOf, MemberKey, begun_of, ended, key_bytes, key_of, keyed, members, members_bytes, members_left}

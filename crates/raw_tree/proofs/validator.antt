@@ -4,6 +4,8 @@ pub mod Fingerprinting
 pub mod JudgedAt
 pub mod JudgedLevels
 pub mod KeyOrder
+pub mod KeyPlaces
+pub mod KeySets
 pub mod LevelKeys
 pub mod NotCanonical
 pub mod OneBreach

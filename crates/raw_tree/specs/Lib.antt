@@ -13,7 +13,8 @@ pub use Rattle.raw_tree.specs.reader.WithinLimits
 pub use Rattle.raw_tree.specs.writer.Encoding
 pub use Rattle.raw_tree.specs.writer.Members
 pub use Rattle.raw_tree.specs.validator.Breaches
-pub use Rattle.raw_tree.specs.validator.OpenKeys
+pub use Rattle.raw_tree.specs.validator.IndexedKeys
+pub use Rattle.raw_tree.specs.validator.KeySets
 pub use Rattle.raw_tree.specs.validator.References
 pub use Rattle.raw_tree.specs.validator.Validating
 pub use Rattle.raw_tree.specs.validator.Judging

@@ -1,4 +1,5 @@
 pub mod Breaches
+pub mod IndexedKeys
 pub mod KeySets
 pub mod Fingerprints
 pub mod KeyFilter

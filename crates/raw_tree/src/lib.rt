@@ -22,7 +22,7 @@ pub use reader::{
 pub use validator::breach::{Breach, Cause};
 // For `raw_form` alone: the list that its levels share is its caller's to keep.
 #[doc(hidden)]
-pub use validator::keys_so_far::KeysSoFar;
+pub use validator::key_set::KeySet;
 pub use validator::validate;
 pub use validator::verdict::{PlacedBreach, ValidateError, validate_within};
 // For `raw_form` alone, which goes on from where a validation ends.

@@ -11,10 +11,11 @@ ghost use Rattle.raw_view.specs.Errors.{IsOutOfMemory};
 pub(crate) mod breach;
 pub(crate) mod filter;
 pub(crate) mod fingerprints;
+pub(crate) mod indexed_keys;
 pub(crate) mod judge;
 pub(crate) mod key_set;
-pub(crate) mod keys;
 pub(crate) mod keys_so_far;
+pub(crate) mod listed;
 pub(crate) mod verdict;
 
 use crate::validator::breach::Breach;

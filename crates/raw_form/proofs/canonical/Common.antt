@@ -8,7 +8,7 @@ pub use Rattle.raw_form.specs.Forms.{IsFormOf, RefusesFormOf}
 pub use Rattle.raw_tree.specs.Looking.{AreReadBefore, HasNoneBefore, HoldsNone, Looks, TakesFrame, size_of}
 pub use Rattle.raw_tree.specs.Places.{BeginsAt, Step}
 pub use Rattle.raw_form.specs.Rewriting.{AreLeftOwn, FailsFor, HasCode, IsLater, IsLeft, IsPlain, IsRest, TakesNext, TakesPair, ended_by, header_len, held_opening, member_key}
-pub use Rattle.raw_form.specs.Staying.{AreNextOwn, AreNumbered, AreOwnBefore, GivesNumber, IsLeftAt, IsOwnForm, IsOwnUpTo, IsWrittenAs, end_of, hash_of, key_cmp, last_places, number_in}
+pub use Rattle.raw_form.specs.Staying.{AreNextOwn, AreOwnBefore, IsLeftAt, IsOwnForm, IsOwnUpTo, IsWrittenAs, end_of, last_places, put_at}
 pub use Rattle.raw_form.specs.Staying.{placed}
 pub use Rattle.raw_form.specs.Tokens.{AreInside, AreTokens, AreTokensOf, HasTokens, IsTokenOf, NestedUpTo, filled_from}
 pub use Rattle.raw_tree.specs.Verdicts.{FirstVerdictTo, JudgesFrontAt, JudgesMeaningAt, Verdict}
@@ -44,7 +44,5 @@ pub use Rattle.raw_view.specs.declared.level.Holder.{Holder}
 pub use Rattle.raw_view.specs.declared.level.RawLevel.{RawLevel}
 pub use Rattle.std.proofs.lemmas.List.{length-map, map-append, nil_from_length, reverse-append, same_from_push}
 pub use Rattle.std.proofs.lemmas.Slice.Eq.{bytes_eq-Decides}
-pub use Rattle.std.specs.BTreeMap.{BTreeMap, get}
-pub use Rattle.std.specs.Option.{unwrap_or}
 pub use Rattle.std.specs.Str.{bytes_eq}
 pub use denote.Ref.{Bor}

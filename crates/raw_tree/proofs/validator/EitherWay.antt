@@ -8,7 +8,8 @@ use Rattle.raw_view.specs.Meaning as raw
 use Rattle.raw_view.proofs.Face.{IsFrame-shorter, has_meaning, AreBytes-rest, document_has_walk}
 use Rattle.raw_tree.specs.declared.validator.breach.Cause.TheVariants as cause
 use Rattle.raw_tree.proofs.validator.Passed.{none_passed, one_passed, all_passed, breach_behind}
-use Rattle.raw_tree.proofs.validator.LevelKeys.{Contains-found, not_found, document_key, array_key}
+use Rattle.raw_tree.proofs.validator.KeyPlaces.{Contains-found, not_found}
+use Rattle.raw_tree.proofs.validator.LevelKeys.{document_key, array_key}
 use Rattle.raw_tree.proofs.reader.Loops.{nested_envelope, nested_shorter}
 
 -- bytes are canonical, or have a first breach

@@ -1,12 +1,14 @@
 -- Fingerprints of keys in a table: what a free slot says, and that fingerprints stay.
-use Rattle.std.proofs.Common.{zero, suc, nat_cmp, ◌≡◌, ◌≢◌, ◌<◌, ◌≤◌, ◌++◌, ◌∷◌, [], ℕ, List, Some, length, arith, ap, refl, sym, ◌∙◌, Bool, true, false}
+use Rattle.std.proofs.Common.{zero, suc, nat_cmp, ◌≡◌, ◌≢◌, ◌<◌, ◌≤◌, ◌++◌, ◌∷◌, [], ℕ, List, Option, None, Some, length, arith, ap, refl, sym, ◌∙◌}
 use Rattle.std.proofs.Math.ListN.{set, length-set}
 use Rattle.std.proofs.lemmas.Cmp.{by_ranked, ranked}
 use Rattle.std.proofs.lemmas.List.{get_or-set_same}
 use Rattle.std.proofs.lemmas.Option.{slice_get-get_or}
-use Rattle.std.specs.List.{slice_get}
-use Rattle.raw_tree.specs.validator.KeySets.{InsertsKey}
+use Rattle.std.specs.List.{position, slice_get}
+use Rattle.std.specs.Str.{bytes_eq}
+use Rattle.raw_tree.specs.validator.IndexedKeys.{InsertsKey}
 use Rattle.raw_tree.specs.validator.Fingerprints.{fingerprint_of, HaveFingerprints, AreTaken, IsFingerprintAt, HasFingerprint}
+use Rattle.raw_tree.proofs.validator.KeyPlaces.{nowhere_placed}
 use Rattle.raw_tree.proofs.validator.References.{each_more}
 use Rattle.raw_tree.specs.declared.validator.fingerprints.Fingerprints.{Fingerprints}
 
@@ -55,6 +57,10 @@ module _ (old new : Fingerprints) (keys after : List (List ℕ)) (kept : (k : Li
   pub fingerprints_more : (key : List ℕ) → after ≡ keys ++ key ∷ [] → HasFingerprint new key → HaveFingerprints new after
   fingerprints_more key more here = rw more (each_more (HasFingerprint old) (HasFingerprint new) keys key were kept here)
 
-  pub fingerprints_inserted : (key : List ℕ) (b : Bool) → InsertsKey keys key b after → HasFingerprint new key → HaveFingerprints new after
-  fingerprints_inserted key true inserts here = fingerprints_more key inserts.1 here
-  fingerprints_inserted key false inserts here = rw inserts.1 (λ k c. kept k (were k c))
+  pub fingerprints_inserted : (key : List ℕ) (place : Option ℕ) → InsertsKey keys key place after → HasFingerprint new key → HaveFingerprints new after
+  fingerprints_inserted key None inserts here = fingerprints_more key inserts.1 here
+  fingerprints_inserted key (Some n) inserts here = rw inserts.1 (λ k c. kept k (were k c))
+
+-- keys with fingerprints of which that of the key is none
+pub fingerprint_new : (fingerprints : Fingerprints) (keys : List (List ℕ)) (key : List ℕ) → HaveFingerprints fingerprints keys → ¬ HasFingerprint fingerprints key → None ≡ position (bytes_eq key) keys
+fingerprint_new fingerprints keys key have new = sym (nowhere_placed keys key (λ there. new (have key there)))

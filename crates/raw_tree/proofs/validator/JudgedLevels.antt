@@ -201,7 +201,7 @@ module _ {inside : ℕ} {i : Keyed} {listed : List (Bor (List ℕ))} {left : Opt
               begins = refl;
               ends = omega (arith, waits.ends, ap left_of new_is);
             };
-            keys = λ refs same. keys_on ks.keys after refs i.span.sort i.below (keys_of_frames is.frames ++ (frame_of e).key ∷ []) has same;
+            keys = λ refs same. keys_on ks after refs i.span.sort i.below (keys_of_frames is.frames ++ (frame_of e).key ∷ []) has same;
             keys_canonical = more;
             canonical = subst (λ (x : ℕ). AreFramesCanonical (IsCanonicalUpTo x) is.frames) same is.canonical;
           }

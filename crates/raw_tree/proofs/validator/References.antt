@@ -1,15 +1,13 @@
 -- The texts of references, and what holds of each key.
-use Rattle.std.proofs.Common.{inl, inr, ◌<◌, ◌≤◌, ◌≡◌, ◌+◌, ◌++◌, ◌∷◌, [], ℕ, List, Bor, length, drop, take, get_or, ap, refl, sym, subst, ◌∙◌, bytes_eq}
+use Rattle.std.proofs.Common.{inl, inr, ◌<◌, ◌≤◌, ◌≡◌, ◌+◌, ◌++◌, ◌∷◌, [], ℕ, List, Bor, length, drop, take, get_or, ap, sym, subst, ◌∙◌}
 use Rattle.std.proofs.Math.Seq.{drop-append_seam, take-append_seam}
-use Rattle.std.proofs.lemmas.Cmp.{nat_list_eq_equiv}
-use Rattle.std.proofs.lemmas.List.{drop-map, map-append, take-map, take_more, take_all}
+use Rattle.std.proofs.lemmas.List.{drop-map, length-map, map-append, take-map, take_more, take_all}
 use Rattle.std.proofs.lemmas.List.Elements.{Contains-push_cases}
-use Rattle.std.specs.List.{Contains, list_any}
+use Rattle.std.specs.List.{Contains}
 use Rattle.raw_tree.specs.validator.References.{texts}
 
-pub texts_found : (refs : List (Bor (List ℕ))) (key : List ℕ) → list_any (λ k. bytes_eq k.now key) refs ≡ list_any (bytes_eq key) (texts refs)
-texts_found [] key = refl
-texts_found (k ∷ refs) key = rw (nat_list_eq_equiv.symm key k.now, texts_found refs key) refl
+pub length_texts : (refs : List (Bor (List ℕ))) → length (texts refs) ≡ length refs
+length_texts refs = length-map refs (λ (k : Bor (List ℕ)). k.now)
 
 pub texts_behind : (refs : List (Bor (List ℕ))) (below own : List (List ℕ)) (first : ℕ) → first ≡ length below → texts refs ≡ below ++ own → texts (drop first refs) ≡ own
 texts_behind refs below own first f e =

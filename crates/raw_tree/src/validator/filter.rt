@@ -1,10 +1,12 @@
 //! A filter of keys: one of 64 bits for each, so that a key whose bit isn't set is none of them.
 #![tactic(auto)]
 
-ghost use Rattle.std.specs.Prelude.{◌≡◌, ◌<◌, ◌↔◌, ℕ, IsTrue};
-ghost use Rattle.std.specs.List.{Contains};
+ghost use Rattle.std.specs.Prelude.{◌≡◌, ◌<◌, ◌↔◌, ℕ, IsTrue, position};
+ghost use Rattle.std.specs.Str.{bytes_eq};
 ghost use Rattle.raw_tree.specs.validator.KeyFilter.{filter_bit, AreInFilter, IsInFilter};
 ghost use Rattle.raw_tree.specs.validator.References.{texts};
+
+use crate::validator::listed::place_of;
 
 /// Which bit a key has. What keys mostly differ in makes it: the last two bytes, the first and the length.
 #[inline(always)]
@@ -50,13 +52,17 @@ pub(crate) fn filter_of(keys: &[&str]) -> u64
     filter
 }
 
-/// Whether a key, which has this bit, is one of these, which have this filter.
+/// The place of a key, which has this bit, among these, which have this filter.
 #[inline(always)]
-pub(crate) fn is_among(keys: &[&str], filter: u64, bit: u32, key: &str) -> bool
+pub(crate) fn place_among(keys: &[&str], filter: u64, bit: u32, key: &str) -> Option<usize>
     requires filtered { AreInFilter filter (texts keys.now) }
     requires bit { bit ≡ filter_bit key.now }
     requires within { bit < 64 }
-    ensures { IsTrue result ↔ Contains (texts keys.now) key.now }
+    ensures { result ≡ position (bytes_eq key.now) (texts keys.now) }
 {
-    has_bit(filter, bit) && keys.contains(&key)
+    if has_bit(filter, bit) {
+        place_of(keys, key)
+    } else {
+        None
+    }
 }

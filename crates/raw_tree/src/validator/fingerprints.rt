@@ -31,7 +31,7 @@ pub(crate) struct Fingerprints {
     collisions: usize,
 }
 
-fn hash_of(key: &str) -> u64
+pub(crate) fn hash_of(key: &str) -> u64
     ensures { result ≡ hash_of key.now }
 {
     let mut hasher = FoldHasher::default();

@@ -1,47 +1,53 @@
-//! The keys of a level that is judged, for crates above.
+//! The keys of a level that is judged.
 #![tactic(auto)]
 
-ghost use Rattle.std.specs.Prelude.{◌≡◌, [], IfOk, IfErr};
+ghost use Rattle.std.specs.Prelude.{◌≡◌, ◌↔◌, [], decimal, IsTrue, IfOk, IfErr};
 ghost use Rattle.raw_tree.specs.validator.OpenKeys.{AddsOpenKey, AreOpenKeys, HasKeysSoFar, LeavesOpenKeys};
 ghost use Rattle.raw_tree.specs.reader.Reading.{as_array, as_document};
 ghost use Rattle.raw_tree.specs.validator.References.{texts};
 ghost use Rattle.raw_view.specs.Errors.{IsOutOfMemory};
 
 use crate::validator::breach::Cause;
-use crate::validator::keys::Keys;
+use crate::validator::key_set::KeySet;
+use itoa::Buffer;
 use raw_view::Result;
 use std::alloc::Global;
 
-/// The keys of a level whose elements are judged one after the other. Levels inside one another share a list, in which
-/// those of a level are behind those of the levels around it.
+/// The keys of a level whose elements are judged one after the other.
 #[derive(Drop)]
-pub struct KeysSoFar<'a> {
-    keys: Keys<'a>,
+pub(crate) enum KeysSoFar<'a> {
+    /// those of an array, which are known by their number, and take no place in the list
+    Numbers,
+    /// those of a document
+    Distinct(KeySet<'a>),
+}
+
+/// Whether the key is the decimal of the number.
+fn is_decimal(key: &str, number: usize) -> bool
+    ensures { IsTrue result ↔ (key.now ≡ decimal number) }
+{
+    key == Buffer::new().format(number)
 }
 
 impl<'a> KeysSoFar<'a> {
     /// Those of a document of which no element is judged.
-    pub fn of_document(listed: &[&'a str]) -> KeysSoFar<'a>
+    pub(crate) fn of_document(listed: &[&'a str]) -> KeysSoFar<'a>
         ensures { HasKeysSoFar result listed.now as_document (texts listed.now) [] }
     {
-        KeysSoFar {
-            keys: Keys::Ascending(listed.len()),
-        }
+        KeysSoFar::Distinct(KeySet::behind(listed))
     }
 
-    /// Those of an array of which no element is judged; they take no place in the list.
-    pub fn of_array(listed: &[&'a str]) -> KeysSoFar<'a>
+    /// Those of an array of which no element is judged.
+    pub(crate) fn of_array(listed: &[&'a str]) -> KeysSoFar<'a>
         ensures { HasKeysSoFar result listed.now as_array (texts listed.now) [] }
     {
-        KeysSoFar {
-            keys: Keys::Numbers,
-        }
+        KeysSoFar::Numbers
     }
 
     /// Adds the key of the next element, which has this number; or returns why the key breaches, and adds nothing. The
     /// only error is out of memory.
     #[inline(always)]
-    pub fn add(
+    pub(crate) fn add(
         &mut self,
         alloc: Global,
         listed: &mut Vec<&'a str>,
@@ -53,13 +59,28 @@ impl<'a> KeysSoFar<'a> {
             (AddsOpenKey self.old listed.old.items number key.now self.new listed.new.items) }
         ensures err { IfErr result IsOutOfMemory }
     {
-        Ok(self.keys.add(alloc, listed, number, key)?)
+        match self {
+            KeysSoFar::Numbers => {
+                if is_decimal(key, number) {
+                    return Ok(None);
+                }
+                Ok(Some(Cause::ArrayKey))
+            }
+            KeysSoFar::Distinct(keys) => {
+                if let Some(_) = keys.add(alloc, listed, key)? {
+                    return Ok(Some(Cause::RepeatedKey));
+                }
+                Ok(None)
+            }
+        }
     }
 
     /// Takes the keys of this level from the list, of which it is the innermost.
-    pub fn leave(&self, listed: &mut Vec<&'a str>)
+    pub(crate) fn leave(&self, listed: &mut Vec<&'a str>)
         ensures { LeavesOpenKeys self.now listed.old.items listed.new.items }
     {
-        self.keys.leave(listed);
+        if let KeysSoFar::Distinct(keys) = self {
+            keys.leave(listed);
+        }
     }
 }

@@ -1,29 +1,27 @@
-use Rattle.std.proofs.Common.{◌≡◌, ◌++◌, ◌∷◌, None, Bool, Option, [], false, is_some, length, length-append, arith, ap, refl}
-use Rattle.raw_form.proofs.canonical.Common.{Frame, as_document, frame_of, keys_of_frames, map-append}
+use Rattle.std.proofs.Common.{◌≡◌, ◌++◌, ◌∷◌, None, Bool, Option, [], false, is_some, arith, refl}
+use Rattle.raw_form.proofs.canonical.Common.{Frame, frame_of, keys_of_frames, map-append}
 use Rattle.raw_tree.specs.References.{texts}
-use Rattle.std.specs.List.{IsDistinct}
+use Rattle.raw_tree.proofs.Face.{keys_distinct}
 use Rattle.raw_form.proofs.last.Listed.{passed_more, passed_over}
 use Rattle.raw_form.proofs.last.are_keys_distinct.Goals as goal
 
 pub elements-init : goal.elements-init
-unfolding IsDistinct
 elements-init c = record {
   passed = record { frames = []; read = rw c.new-elements.ensures refl };
-  apart = tt;
   below = texts c.truncate.new.self.items;
-  keys = rw c.deref.ensures.value at c.of_document-keys.ensures;
-  count = refl;
-  fits = rw c.new-elements.ensures (omega arith);
+  keys = rw c.deref.ensures.value at c.behind-keys.ensures;
 }
 
 pub returns-in_default-clause-distinct : goal.returns-in_default-clause-distinct
 returns-in_default-clause-distinct c frames w = λ _.
-    rw (passed_over c.elements.invariant.passed c.next_element.new.elements c.in_default.ensures frames w) c.elements.invariant.apart
+    let is = c.elements.invariant in
+    rw (passed_over is.passed c.next_element.new.elements c.in_default.ensures frames w)
+    (keys_distinct c.elements.keys c.elements.listed.items is.below (keys_of_frames is.passed.frames) is.keys)
 
 pub elements-smaller : goal.elements-smaller
 elements-smaller c = omega (arith, (passed_more c.elements.invariant.passed c.next_element.new.elements c.in-Some.element c.in-Some.ensures).1)
 
--- a key that breaches nothing
+-- a key that has no place
 none_added : {T : Type 0} (o : Option T) (some : Bool) → some ≡ is_some o → some ≡ false → o ≡ None
 none_added o some e is_false = grind arith
 
@@ -33,14 +31,7 @@ elements-preserved c =
     let frames = is.passed.frames in
     let more = passed_more is.passed c.next_element.new.elements c.in-Some.element c.in-Some.ensures in
     let none = none_added c.in_ok-add.field-0 c.is_some.result c.is_some.ensures c.if-is_some.false in
-    let told = rw none at (c.in_ok-add.ensures.adds as_document is.below (keys_of_frames frames) is.keys is.apart is.count) in
+    let told = rw none at (c.in_ok-add.ensures.adds is.below (keys_of_frames frames) is.keys) in
     let grown : keys_of_frames (frames ++ frame_of c.in-Some.element ∷ []) ≡ keys_of_frames frames ++ c.key.result.now ∷ [] =
     rw (map-append (λ (x : Frame). x.key) frames (frame_of c.in-Some.element ∷ []), c.key.ensures) refl in
-    record {
-      passed = record { frames = frames ++ frame_of c.in-Some.element ∷ []; read = more.0 };
-      apart = rw grown told.1;
-      below = is.below;
-      keys = rw grown told.0;
-      count = omega (arith, is.count, ap length grown, length-append (keys_of_frames frames) (c.key.result.now ∷ []));
-      fits = omega (arith, is.fits, more.1);
-    }
+    record { passed = record { frames = frames ++ frame_of c.in-Some.element ∷ []; read = more.0 }; below = is.below; keys = rw grown told.keys }

@@ -3,7 +3,7 @@ use Rattle.raw_form.proofs.last.Listed.{AreApart}
 use Rattle.raw_form.proofs.last.are_keys_distinct.Given as goal
 
 abbrev pub invariant-elements : goal.invariant-elements
-invariant-elements l = AreApart (bytes_of l.fn.document) l.elements l.keys l.listed.items l.number
+invariant-elements l = AreApart (bytes_of l.fn.document) l.keys l.listed.items l.elements
 
 abbrev pub decreases-elements : goal.decreases-elements
 decreases-elements l = left_of l.elements

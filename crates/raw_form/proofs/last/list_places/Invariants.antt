@@ -3,7 +3,7 @@ use Rattle.raw_form.proofs.last.Listed.{AreListed}
 use Rattle.raw_form.proofs.last.list_places.Given as goal
 
 abbrev pub invariant-elements : goal.invariant-elements
-invariant-elements l = AreListed (bytes_of l.fn.document) l.numbers l.places.items l.elements l.offset
+invariant-elements l = AreListed (bytes_of l.fn.document) l.keys l.listed.items l.places.items l.elements l.offset
 
 abbrev pub decreases-elements : goal.decreases-elements
 decreases-elements l = left_of l.elements

@@ -1,0 +1,28 @@
+use Rattle.std.proofs.Common.{sym, ◌∙◌}
+use Rattle.std.proofs.lemmas.Result.{IfOk-weaker}
+use Rattle.raw_tree.proofs.validator.KeySets.{listed_found, listed_more, moved_listed, own_filtered}
+use Rattle.raw_tree.proofs.validator.key_set.KeySet.add_listed.Goals as goal
+
+pub place_among-requires-clause-filtered : goal.place_among-requires-clause-filtered
+place_among-requires-clause-filtered c =
+    let r = c.requires.are in
+    rw c.deref.ensures.value (own_filtered c.args.first c.args.listed.now.items c.args.filter r.0 r.1 r.2)
+
+pub returns-in-Some : goal.returns-in-Some
+returns-in-Some c = record {
+  adds = rw c.requires.is (listed_found c.args.first c.args.listed.now.items c.args.filter c.args.key.now c.in-Some.place (sym c.in-Some.is ∙ (rw c.deref.ensures.value at c.place_among.ensures)));
+}
+
+pub returns-then-own-lt-MOST_LISTED : goal.returns-then-own-lt-MOST_LISTED
+returns-then-own-lt-MOST_LISTED c =
+    let here = rw c.filter_bit-bit.ensures.bit at c.with_bit.ensures.filtered in
+    record {
+      adds = rw c.in_ok-list.ensures.listed (listed_more c.args.first c.args.listed.now.items c.args.filter c.with_bit.result c.args.key
+          (sym c.in_default.is ∙ (rw c.deref.ensures.value at c.place_among.ensures)) c.with_bit.ensures.kept here);
+    }
+
+pub returns : goal.returns
+returns c = record {
+  adds = IfOk-weaker c.add_indexed.result _ _
+      (moved_listed c.args.first c.args.filter c.args.listed.now.items c.args.key.now c.add_indexed.new.self c.add_indexed.new.listed.items) c.add_indexed.ensures.moves;
+}

@@ -1,0 +1,12 @@
+use Rattle.std.proofs.Common.{sym}
+use Rattle.std.proofs.lemmas.List.{append-nil}
+use Rattle.std.specs.List.{IsDistinct}
+use Rattle.raw_tree.specs.validator.References.{texts}
+use Rattle.raw_tree.proofs.validator.References.{length_texts}
+use Rattle.raw_tree.proofs.validator.key_set.KeySet.behind.Goals as goal
+
+pub returns : goal.returns
+unfolding IsDistinct
+returns c =
+    let refs = c.args.listed.now in
+    (tt, sym (length_texts refs), sym (append-nil (texts refs)), tt)
