@@ -12,7 +12,7 @@ ghost use Rattle.raw_view.specs.Document.{bytes_of};
 ghost use Rattle.raw_view.specs.Errors.{IsOutOfMemory};
 
 use crate::rewriting::rewrite;
-use raw_tree::{Barrier, BarrierKind, FIRST, Limits, Start, first_behind, judge_to_depth};
+use raw_tree::{Barrier, BarrierKind, Cause, FIRST, Limits, Start, first_behind, judge_to_depth};
 use raw_view::{Error, RawDocument, Reason, Result};
 use std::alloc::Global;
 
@@ -43,6 +43,7 @@ fn start_of(alloc: Global, document: RawDocument<'_>, depth: usize) -> Result<Op
     Ok(Some(Start {
         number: path[0].number,
         offset: found.outermost,
+        repeats: path.len() == 1 && matches!(found.cause, Some(Cause::RepeatedKey)),
     }))
 }
 

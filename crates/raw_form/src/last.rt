@@ -93,19 +93,20 @@ fn list_places<'a>(
     }
 }
 
-/// The last place of each key of a document all of whose elements can be read; `None` where none is repeated. What is in the
-/// list goes out of it. The only error is out of memory.
+/// The last place of each key of a document all of whose elements can be read; `None` where none is repeated, which is
+/// looked for unless one is known to be. What is in the list goes out of it. The only error is out of memory.
 pub(crate) fn places_of<'a>(
     alloc: Global,
     document: RawDocument<'a>,
     listed: &mut Vec<&'a str>,
+    repeats: bool,
 ) -> Result<Option<Vec<u32>>>
     ensures places { (frames : List Frame)
         → IsWalk (drop 4 (bytes_of document.entry)) frames Done
         → IfOk result (λ places. HasLastPlaces (option_map (λ v. v.items) places) frames) }
     ensures err { IfErr result IsOutOfMemory }
 {
-    if are_keys_distinct(alloc, document, listed)? {
+    if !repeats && are_keys_distinct(alloc, document, listed)? {
         return Ok(None);
     }
     let places = list_places(alloc, document, listed)?;

@@ -91,7 +91,7 @@ fn keys_of<'a>(
         → IfOk result (λ keys. IsLeft keys (Some (drop 4 (bytes_of document.entry))) (members t)) }
     ensures err { IfErr result IsOutOfMemory }
 {
-    let Some(places) = places_of(alloc, document, listed)? else {
+    let Some(places) = places_of(alloc, document, listed, known.repeats)? else {
         return Ok(Keys::Distinct(known.number));
     };
     let last = LastPlaces {
@@ -125,8 +125,8 @@ fn level<'a>(
 
 impl<'a> Rewritten<'a> {
     /// The level that a value holds, which can be read as a tree, where its payload starts there. Its opening fits into a
-    /// document. The only error is out of memory. The list is used to see which keys are repeated. What is before the start in a
-    /// level that is no array is canonical.
+    /// document. The only error is out of memory. The list is used to see which keys are repeated, unless one is known to be.
+    /// What is before the start in a level that is no array is canonical.
     pub(crate) fn new(
         alloc: Global,
         held: RawLevel<'a>,

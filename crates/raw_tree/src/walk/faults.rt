@@ -26,12 +26,15 @@ pub struct Start {
     pub number: usize,
     /// where it is, counted from the document's first byte
     pub offset: usize,
+    /// whether its key is known to be repeated
+    pub repeats: bool,
 }
 
 /// The first element.
 pub const FIRST: Start = Start {
     number: 0,
     offset: 4,
+    repeats: false,
 };
 
 /// The first barrier within a depth, depth first in byte order, where none is before this start. A level that is too deep
