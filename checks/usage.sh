@@ -72,6 +72,7 @@ for part in checks/from_json.sh checks/edits.sh rt checks/c.sh checks/recovery.s
     for _ in $(seq 100); do
         sleep 0.1
         sleeps=$(cat /proc/[0-9]*/stat 2>/dev/null | awk -v group="$group" '$2 == "(sleep)" && $6 == group && $3 != "Z" { print $1 }')
+        sleeps=$(for it in $sleeps; do tr '\0' ' ' 2>/dev/null <"/proc/$it/cmdline" | grep -x 'sleep 100 '; done)
         [ -z "$sleeps" ] || break
     done
     [ -n "$sleeps" ] || fails "$part isn't run in ten seconds"
