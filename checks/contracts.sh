@@ -46,7 +46,7 @@ mkdir "$work/crates"
 git ls-files -z crates | grep -zE '^crates/[a-z_]*/(src|specs)/' | xargs -0 cp --parents -t "$work"
 differs 's/    pub fn is_empty(self)/    pub fn is_void(self)/' raw_view/src/array.rt
 differs 's/^    pub fn is_empty(self)/    pub fn is_new(self) {}\n&/' raw_view/src/array.rt
-differs 's/^pub fn validate_within/pub fn checked_within/' raw_tree/src/validator/verdict.rt
+differs 's/^pub fn validate_within/pub fn checked_within/' raw_tree/src/validator/within.rt
 differs 's/^    \/\/\/ A view of the document with this number/    \/\/\/ The document/' raw_shelf/src/shelf.rt
 differs '/^impl From<NoMemory> for AnyError/,/^}/d' raw_bson/src/any_error.rt
 differs 's/^impl std::error::Error for AnyError/impl Eq for AnyError/' raw_bson/src/any_error.rt

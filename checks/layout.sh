@@ -1,7 +1,7 @@
 #!/bin/sh
 # Whether each file is laid out as `rt fmt` writes it, whether each edit applies to its file and is in edits/,
-# whether tests alone may end the process, and whether specs and proofs keep to what proofs.py asks: what the gate would
-# refuse only after minutes, and the last `rt check` never.
+# whether tests alone may end the process, and whether specs and proofs keep to what proofs.py and proofs.txt ask: what the gate
+# would refuse only after minutes, and the last `rt check` never.
 # It works on a copy of the sources, and first sees that what it looks for is found. It prints what isn't right, and gives
 # 0 where all is.
 set -u
@@ -55,10 +55,11 @@ mkdir -p "$work/tried/crates/tried/proofs"
     printf '%0200d\n' 0
     printf '%0201d\n' 0
 } >"$work/tried/crates/tried/proofs/Tried.antt"
-tried=$(said "$work/tried" && aborting "$work/tried" && dear "$work/tried")$(checks/proofs.py "$work/tried/crates")$(checks/edits.sh --applies --top "$work/tried")
+echo 'tried 7' >"$work/limits"
+tried=$(said "$work/tried" && aborting "$work/tried" && dear "$work/tried")$(checks/proofs.py "$work/tried/crates" "$work/limits")$(checks/edits.sh --applies --top "$work/tried")
 for word in 'formatted src/lib.rt' 'bson_uses/tried: BAD: an old text' 'bson_uses/must-fail would' 'src/tried.rt may end the process' \
     'Tried.antt:8: 201 columns' 'Tried.antt:1: lemma has 9 premises' 'Tried.antt:5: thirteen has 13 explicit arguments' \
-    'Tried.antt:5: nothing cites thirteen'; do
+    'Tried.antt:5: nothing cites thirteen' 'tried: 8 lines of proofs; limits allows 7'; do
     case $tried in
     *"$word"*) ;;
     *)
@@ -69,7 +70,7 @@ for word in 'formatted src/lib.rt' 'bson_uses/tried: BAD: an old text' 'bson_use
 done
 
 found=$(said "$work/all" && aborting "$work/all" && dear "$work/all")
-long=$(checks/proofs.py crates) || found=$found$long
+long=$(checks/proofs.py crates checks/proofs.txt) || found=$found$long
 applying=$(checks/edits.sh --applies) || found=$found$applying
 [ -z "$found" ] && exit 0
 printf '%s\n' "$found"

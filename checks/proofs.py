@@ -1,10 +1,11 @@
 #!/usr/bin/env python3
-"""proofs.py FOLDER: what is too long to read in the specs and proofs of the crates in FOLDER, and what nothing cites.
+"""proofs.py FOLDER LIMITS: what is too long to read in the specs and proofs of the crates in FOLDER, and what nothing cites.
 
 That is a line of more than 200 columns, imports left out, a lemma of more than eight premises or of more than twelve
 explicit arguments, and a lemma that nothing cites: no proof, no face, no code and no comment of specs. A premise is what an
 arrow of the statement follows, unless it binds names alone: a record with named fields holds those that belong together.
 The explicit arguments are the premises and the names in parentheses, those of the modules around the lemma included.
+LIMITS has a line for each crate with proofs: its name, and how many lines of proofs it has at most.
 It prints a line for each, and gives 0 where there is none.
 """
 
@@ -111,11 +112,24 @@ def words(lines, comments=False):
     return Counter(word for line in lines for word in WORD.findall(line if comments else line.split("--")[0]))
 
 
+def over_limits(files, folder, limits):
+    """Yields a line for each crate that has more lines of proofs than allowed."""
+    allowed = {name: int(most) for name, most in (line.split() for line in limits.read_text(encoding="utf-8").splitlines() if line[:1] not in ("", "#"))}
+    counts = Counter()
+    for path, lines in files.items():
+        crate, kind = path.relative_to(folder).parts[:2]
+        # (the last line of a file ends in a line feed, behind which nothing is)
+        counts[crate] += (len(lines) - 1) * (kind == "proofs")
+    for crate, count in sorted(counts.items()):
+        if count > allowed.get(crate, 0):
+            yield f"{folder / crate}: {count} lines of proofs; {limits.name} allows {allowed.get(crate, 'none')}"
+
+
 def main():
-    folder = Path(sys.argv[1])
+    folder, limits = map(Path, sys.argv[1:])
     files = {path: path.read_text(encoding="utf-8").split("\n") for path in sorted(path for kind in ("specs", "proofs") for path in folder.glob(f"*/{kind}/**/*.antt"))}
     code = words(line for path in folder.glob("*/src/**/*.rt") for line in re.sub("::", " ", path.read_text(encoding="utf-8")).split("\n"))
-    found = []
+    found = [*over_limits(files, folder, limits)]
     everywhere = sum((words((line for line in lines if not re.match("use ", line)), "specs" in path.parts) for path, lines in files.items()), Counter())
     for path, lines in files.items():
         kind = path.relative_to(folder).parts[1]

@@ -12,6 +12,7 @@
 #define FAR (((size_t)1 << 32) + 19) /* more than 32 bits say */
 #define LEVELS 2000000u
 #define STACK (256u * 1024)
+#define ROOM (16u * 1024 * 1024) /* for a document of so many levels, its form or its text */
 
 static int status;
 
@@ -77,6 +78,41 @@ static void *look_at_deepest(void *memory) {
     return NULL;
 }
 
+/* A document of very many levels, each but the innermost holding the next under the empty key, that one these many nulls under one
+ * key. Returns its length. */
+static uint32_t nest(uint8_t *bytes, uint32_t nulls) {
+    uint8_t *at = bytes;
+    uint32_t inside;
+    for (inside = LEVELS - 1; inside > 0; inside--, at += 6) {
+        put_32(at, 5 + 3 * nulls + 7 * inside);
+        at[4] = 3;
+        at[5] = 0;
+    }
+    put_32(at, 5 + 3 * nulls);
+    for (at += 4; nulls > 0; nulls--, at += 3) memcpy(at, "\12a", 3);
+    memset(at, 0, LEVELS);
+    return (uint32_t)(at - bytes) + LEVELS;
+}
+
+/* What is written of such documents: of one that is canonical, and of one that differs from its form in its innermost level. */
+static void *write_deepest(void *memory) {
+    uint8_t *bytes = memory, *wanted = bytes + ROOM, *form = wanted + ROOM;
+    char *text = (char *)(form + ROOM);
+    uint32_t form_len = nest(wanted, 1), nulls;
+    struct bsonraw_report r;
+    uint64_t path[1];
+    for (nulls = 1; nulls <= 2; nulls++) {
+        uint32_t len = nest(bytes, nulls), text_len = 5 * (LEVELS - 1) + 9 * nulls + 1;
+        expect(bsonraw_canonical(bytes, len, len, LEVELS, form, ROOM, &r, path, 1) == BSONRAW_OK && r.count == form_len, "the deepest form");
+        expect(memcmp(form, wanted, form_len) == 0, "its bytes");
+        expect(bsonraw_canonical(bytes, len, len, LEVELS - 1, form, ROOM, &r, path, 1) == BSONRAW_TOO_DEEP, "a form that is too deep");
+        expect(bsonraw_json(bytes, len, len, LEVELS, 0, 0, (uint8_t *)text, ROOM, &r, path, 1) == BSONRAW_OK && r.count == text_len, "the deepest text");
+        expect(memcmp(text, "{\"\":{\"\":", 8) == 0 && memcmp(text + text_len - 8, "}}}}}}}}", 8) == 0, "its braces");
+        expect(memcmp(text + 4 * (LEVELS - 1), nulls == 1 ? "{\"a\":null}" : "{\"a\":null,", 10) == 0, "its innermost level");
+    }
+    return NULL;
+}
+
 static void on_a_small_stack(void *(*look)(void *), void *memory) {
     pthread_attr_t small;
     pthread_t thread;
@@ -117,7 +153,8 @@ int main(void) {
     }
     look_at_longest(bytes);
     on_a_small_stack(look_at_deepest, bytes);
+    on_a_small_stack(write_deepest, bytes);
     look_at_far(bytes);
-    if (status == 0) printf("documents and dumps are read up to the greatest lengths, and 2,000,000 levels on a small stack\n");
+    if (status == 0) printf("documents and dumps are read up to the greatest lengths, and 2,000,000 levels are read and written on a small stack\n");
     return status;
 }

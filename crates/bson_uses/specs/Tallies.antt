@@ -10,7 +10,7 @@ use Rattle.raw_bson.specs.Leaf.{int64}
 use Rattle.raw_bson.specs.Limits.{Limits}
 use Rattle.raw_bson.specs.Meaning.{RawValue, single}
 use Rattle.raw_bson.specs.NoDocument.{NoDocument}
-use Rattle.raw_form.specs.Verdicts.{IsCanonicalWithin}
+use Rattle.raw_form.specs.Violations.{IsCanonicalWithin}
 use Rattle.bson_uses.specs.declared.tally.Tally.{Tally}
 use Rattle.bson_uses.specs.declared.tally.TallyError.{TallyError}
 use Rattle.bson_uses.specs.declared.tally.TallyError.TheVariants as error

@@ -3,7 +3,7 @@ ghost use Rattle.std.specs.Int.{w64};
 ghost use Rattle.raw_bson.specs.Document.{bytes_of};
 ghost use Rattle.raw_bson.specs.EachItem.{value_in};
 ghost use Rattle.raw_bson.specs.Folds.{ReadsDump};
-ghost use Rattle.raw_form.specs.Verdicts.{IsCanonicalWithin};
+ghost use Rattle.raw_form.specs.Violations.{IsCanonicalWithin};
 ghost use Rattle.bson_uses.specs.Tallies.{AddsDocument, CountsOneMore, IsOutOfMemory, PlusOne, RefusesPlus, RefusesTally, Steps, TellsNumber, none, number_in};
 
 use raw_bson::{Error, Limits, NoDocument, RawBsonRef, RawDocument};

@@ -4,7 +4,7 @@ use Rattle.bson_model.specs.Tree.{document}
 use Rattle.raw_bson.specs.Envelope.{IsEnvelope}
 use Rattle.raw_bson.specs.Limits.{Limits}
 use Rattle.raw_form.specs.FormsWithin.{IsFormWithin}
-use Rattle.raw_form.specs.Verdicts.{IsCanonicalWithin}
+use Rattle.raw_form.specs.Violations.{IsCanonicalWithin}
 use Rattle.raw_tree.proofs.Face.{canonical_is_own_form, document_reads, read_within}
 
 pub own_form : (limits : Limits) (b : List ℕ) → IsEnvelope b → IsCanonicalWithin limits b → IsFormWithin limits b b

@@ -9,7 +9,7 @@ use Rattle.raw_resync.specs.declared.search.Places.{Places}
 use Rattle.raw_resync.specs.declared.search.Sought.{Sought}
 use Rattle.raw_resync.specs.declared.search.Sought.TheVariants as sought
 use Rattle.raw_resync.specs.declared.work.Work.{Work}
-use Rattle.raw_resync.proofs.Face.{charges_on, disbelieved, spent_more, unjudged_on}
+use Rattle.raw_resync.proofs.Face.{charges_on, disbelieved, spent_more, unprobed_on}
 use Rattle.bsonraw_c.specs.Resync.{BeginsPiece, Costs, FindsFirst, GoesOnIn, GoesOnward, HasNoLength, FollowsOrUnknown, IsBelieved, IsFirstPlace, IsOnward, LeavesWork, work_of}
 use Rattle.bsonraw_c.specs.declared.reader.Reader.{Reader}
 use Rattle.bsonraw_c.specs.declared.resync.Onward.{Onward}
@@ -96,7 +96,7 @@ believed_behind limits total len s old new true false piece behind more over = r
 believed_behind limits total len s old new false all piece behind more over = record {
   piece = piece;
   believed = λ is. let impossible : ⊥ = cc in absurd impossible;
-  left_out = λ is. (len, omega arith, inl (unjudged_on limits total (drop len s) old new more behind));
+  left_out = λ is. (len, omega arith, inl (unprobed_on limits total (drop len s) old new more behind));
 }
 
 module _ (limits : Limits) (at : ℕ) (s : List ℕ) (last : Bool) where

@@ -10,7 +10,7 @@ pub mod FromJson
 pub mod Iters
 pub mod Json
 pub mod Values
-pub mod Verdicts
+pub mod Violations
 pub mod Reports
 pub mod Resync
 pub mod Texts

@@ -3,7 +3,7 @@ use Rattle.std.specs.Prelude.{◌≡◌, ◌⊎◌, ◌<◌, ◌≤◌, ◌+◌,
 use Rattle.raw_bson.specs.Limits.{Limits}
 use Rattle.raw_resync.specs.Pieces.{IsPiece}
 use Rattle.raw_resync.specs.Resync.{EndsOrBegins, GoesOn, IsDisbelieved}
-use Rattle.raw_resync.specs.Charge.{Charges, IsBounded, IsLeftOut, IsUnjudged}
+use Rattle.raw_resync.specs.Charge.{Charges, IsBounded, IsLeftOut, IsUnprobed}
 use Rattle.raw_resync.specs.Seeking.{LacksPiece, PassesOver}
 use Rattle.raw_resync.specs.declared.check.Part.{Part}
 use Rattle.raw_resync.specs.declared.work.Work.{Work}
@@ -108,7 +108,7 @@ FindsFirst limits at s old new onward =
 -- the end of the input is at t, or a document without damage; or it isn't known
 abbrev pub FollowsOrUnknown : Limits → (total : ℕ) → List ℕ → Work → (is_known : Bool) → Type 0
 FollowsOrUnknown limits total t work true = EndsOrBegins limits t
-FollowsOrUnknown limits total t work false = IsUnjudged limits total t work
+FollowsOrUnknown limits total t work false = IsUnprobed limits total t work
 
 -- what is left of a search for the next
 abbrev pub LeavesWork : Onward → Work → Resync → Type 0

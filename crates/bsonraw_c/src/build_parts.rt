@@ -63,7 +63,7 @@ pub fn is_c_text(text: &[u8]) -> bool
 
 /// Nothing, or this status.
 #[inline(always)]
-fn verdict(good: bool, status: Status) -> Result<(), Status>
+fn unless(good: bool, status: Status) -> Result<(), Status>
     ensures good { IsOk result ↔ IsTrue good }
     ensures refused { IfErr result (λ s. s ≡ status) }
 {
@@ -159,24 +159,24 @@ impl Layout {
 
     /// Whether the parts are as this layout wants them, or why not.
     #[inline(always)]
-    pub fn judge(self, one: &[u8], two: &[u8]) -> Result<(), Status>
+    pub fn validate(self, one: &[u8], two: &[u8]) -> Result<(), Status>
         ensures good { IfOk result (λ _. AreParts self one.now two.now) }
         ensures refused { IfErr result (RefusesParts self one.now two.now) }
     {
         match self {
-            Layout::Fixed(len) => verdict(one.len() == len, Status::OtherKind),
-            Layout::Flag => verdict(is_flag(one), Status::OtherKind),
-            Layout::Text => verdict(is_text(one), Status::Fault),
-            Layout::Nested => verdict(is_document(one), Status::NoDocument),
-            Layout::Binary => verdict(two.len() == 1, Status::OtherKind),
-            Layout::Regex => verdict(is_c_text(one) && is_c_text(two), Status::Fault),
+            Layout::Fixed(len) => unless(one.len() == len, Status::OtherKind),
+            Layout::Flag => unless(is_flag(one), Status::OtherKind),
+            Layout::Text => unless(is_text(one), Status::Fault),
+            Layout::Nested => unless(is_document(one), Status::NoDocument),
+            Layout::Binary => unless(two.len() == 1, Status::OtherKind),
+            Layout::Regex => unless(is_c_text(one) && is_c_text(two), Status::Fault),
             Layout::Pointer => {
-                verdict(two.len() == 12, Status::OtherKind)?;
-                verdict(is_text(one), Status::Fault)
+                unless(two.len() == 12, Status::OtherKind)?;
+                unless(is_text(one), Status::Fault)
             }
             Layout::Scoped => {
-                verdict(is_text(one), Status::Fault)?;
-                verdict(is_document(two), Status::NoDocument)
+                unless(is_text(one), Status::Fault)?;
+                unless(is_document(two), Status::NoDocument)
             }
         }
     }
@@ -193,7 +193,7 @@ impl<'a> Parts<'a> {
             return Err(Status::OtherKind);
         };
         let layout = Layout::of(kind);
-        layout.judge(one, two)?;
+        layout.validate(one, two)?;
         Ok(Parts {
             kind,
             layout,

@@ -1,4 +1,4 @@
-ghost use Rattle.bsonraw_c.specs.Verdicts.{JudgesBytes, JudgesIn};
+ghost use Rattle.bsonraw_c.specs.Violations.{ValidatesBytes, ValidatesIn};
 ghost use Rattle.raw_bson.specs.Document.{bytes_of};
 
 use crate::answers::FaultCode;
@@ -20,7 +20,7 @@ pub extern "C" fn bsonraw_check(
     report: &mut Report,
     path: &mut [usize],
 ) -> i32
-    ensures { JudgesBytes (record { bytes = max_bytes; depth = max_depth })
+    ensures { ValidatesBytes (record { bytes = max_bytes; depth = max_depth })
         bytes.now path.old path.new report.new result }
 {
     let limits = Limits {
@@ -28,7 +28,7 @@ pub extern "C" fn bsonraw_check(
         depth: max_depth,
     };
     match document_of(bytes) {
-        Ok(document) => judge_in(alloc, document, limits, report, path).number(),
+        Ok(document) => validate_in(alloc, document, limits, report, path).number(),
         Err(reason) => {
             *report = Report::no_document(bytes.len(), reason);
             Status::NoDocument.number()
@@ -37,14 +37,14 @@ pub extern "C" fn bsonraw_check(
 }
 
 /// Whether this document is canonical.
-fn judge_in(
+fn validate_in(
     alloc: Global,
     document: RawDocument<'_>,
     limits: Limits,
     report: &mut Report,
     path: &mut [usize],
 ) -> Status
-    ensures { JudgesIn limits (bytes_of document.entry) path.old path.new report.new result }
+    ensures { ValidatesIn limits (bytes_of document.entry) path.old path.new report.new result }
 {
     let end = document.as_bytes().len();
     *report = Report::none(end);

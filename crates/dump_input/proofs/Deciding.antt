@@ -5,7 +5,7 @@ use Rattle.std.proofs.Math.Seq.{take-length}
 use Rattle.std.specs.Io.KnownBytes.{Consumes, IsAtEnd}
 use Rattle.raw_tree.specs.declared.reader.limits.Limits.{Limits}
 use Rattle.raw_resync.specs.Resync.{EndsOrBegins, IsSound}
-use Rattle.raw_resync.specs.Charge.{Charges, IsBounded, IsUnjudged}
+use Rattle.raw_resync.specs.Charge.{Charges, IsBounded, IsUnprobed}
 use Rattle.raw_resync.specs.Seeking.{ChecksBehind, IsWork, MayFollow, PassesOver, Seeks, TellsBehind, TellsSought, Works}
 use Rattle.raw_resync.specs.declared.check.Check.{Check}
 use Rattle.raw_resync.specs.declared.check.Check.TheVariants as check
@@ -301,9 +301,9 @@ stops_behind s at len w false stops is = stops
 stops_behind s at len w true goes is = let impossible : ⊥ = cc in absurd impossible
 
 goes_behind : {limits : Limits} (s : List ℕ) (at len : ℕ) (w w' : Work) (goes : Bool) → w.spent ≤ w'.spent → GoesOnBehind limits s at len w goes → goes ≡ true
-    → EndsOrBegins limits (drop len s) ⊎ IsUnjudged limits (at + length s) (drop len s) w'
+    → EndsOrBegins limits (drop len s) ⊎ IsUnprobed limits (at + length s) (drop len s) w'
 goes_behind s at len w w' true more (inl there) is = inl there
-goes_behind {limits} s at len w w' true more (inr left) is = inr (face.unjudged_on limits (at + length s) (drop len s) w w' more left)
+goes_behind {limits} s at len w w' true more (inr left) is = inr (face.unprobed_on limits (at + length s) (drop len s) w w' more left)
 goes_behind s at len w w' false more stops is = let impossible : ⊥ = cc in absurd impossible
 
 reach_is : (len end : ℕ) (goes : Bool) → MatchBool goes (end ≡ len) (end ≡ 0) → end ≡ cond goes len 0

@@ -2,7 +2,7 @@
 use Rattle.std.specs.Prelude.{◌≡◌, ◌⊎◌, ◌<◌, ◌≤◌, ◌+◌, ◌-◌, ℕ, List, [], Bool, true, false, Option, Some, drop, length, take}
 use Rattle.std.specs.Io.KnownBytes.{Consumes, IsAtEnd}
 use Rattle.raw_resync.specs.Resync.{EndsOrBegins, GoesOn, GoesOnWith, IsDisbelieved, IsSound}
-use Rattle.raw_resync.specs.Charge.{Charges, IsBounded, IsLeftOut, IsUnjudged}
+use Rattle.raw_resync.specs.Charge.{Charges, IsBounded, IsLeftOut, IsUnprobed}
 use Rattle.raw_resync.specs.Seeking.{IsWork, PassesOver}
 use Rattle.raw_resync.specs.declared.work.Work.{Work}
 use Rattle.raw_tree.specs.declared.reader.limits.Limits.{Limits}
@@ -69,7 +69,7 @@ pub record Searches (limits : Limits) (old new : Option (List ℕ)) (window_old 
 -- Whether behind so many bytes of s, the end of an input from this offset on, the input ends or a document without damage begins. It
 -- counts as if, where what is there was left out.
 abbrev pub GoesOnBehind : Limits → List ℕ → (at len : ℕ) → Work → Bool → Type 0
-GoesOnBehind limits s at len work true = EndsOrBegins limits (drop len s) ⊎ IsUnjudged limits (at + length s) (drop len s) work
+GoesOnBehind limits s at len work true = EndsOrBegins limits (drop len s) ⊎ IsUnprobed limits (at + length s) (drop len s) work
 GoesOnBehind limits s at len work false = ¬ EndsOrBegins limits (drop len s)
 
 -- so it is of all that was to be read

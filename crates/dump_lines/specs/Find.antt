@@ -15,8 +15,8 @@ use Rattle.raw_tree.specs.declared.reader.limits.Limits.{Limits}
 use Rattle.raw_tree.specs.Barriers.{steps_of}
 use Rattle.raw_tree.specs.Places.{Step, FirstBarrierAt}
 use Rattle.raw_tree.specs.declared.walk.place.Place.{Place}
-use Rattle.raw_tree.specs.Verdicts.{Verdict, breach_of, FirstVerdict, IsCanonicalWithin}
-use Rattle.raw_tree.specs.Verdicts as verdict
+use Rattle.raw_tree.specs.Violations.{Violation, breach_of, FirstViolation, IsCanonicalWithin}
+use Rattle.raw_tree.specs.Violations as violation
 use Rattle.dump_lines.specs.declared.find.Finding.{Finding}
 use Rattle.dump_lines.specs.declared.find.Finding.TheVariants as finding
 use Rattle.dump_lines.specs.declared.find.Told.{Told}
@@ -141,14 +141,14 @@ SaysBarrier too_deep spot told = told ≡ account_at (codes "too deep") spot
 SaysBarrier (fault_of fault) spot told = (why : ErrorKind) × SaysFault why fault.fault × IsReadingKind why × (told ≡ account_of_damage (Some (named_spot fault.key spot)) (kind_explained why))
 
 -- why a document isn't canonical, in a word
-abbrev pub verdict_word : Verdict → List ℕ
-verdict_word verdict.too_deep = codes "too deep"
-verdict_word (breach_of why) = cause_text why
+abbrev pub violation_word : Violation → List ℕ
+violation_word violation.too_deep = codes "too deep"
+violation_word (breach_of why) = cause_text why
 
--- the verdict of this cause; of none, that a level is too deep
-abbrev pub verdict_of : Option Cause → Verdict
-verdict_of None = verdict.too_deep
-verdict_of (Some why) = breach_of why
+-- the violation of this cause; of none, that a level is too deep
+abbrev pub violation_of : Option Cause → Violation
+violation_of None = violation.too_deep
+violation_of (Some why) = breach_of why
 
 -- what is found where this ends the reading: that a level is too deep; else damage
 abbrev pub finding_of : Barrier → Finding
@@ -168,14 +168,14 @@ abbrev pub Finds : Limits → List ℕ → Finding → Option Account → Type 0
 Finds limits b finding.Canonical told = IsEnvelope b × IsCanonicalWithin limits b × (told ≡ None)
 Finds limits b finding.Breached told =
     IsEnvelope b × ((t : Tree) × ReadsWithin limits b t)
-    × ((x : Verdict) × (spot : Spot) × FirstVerdict limits b x spot.path spot.offset × (told ≡ Some (account_at (verdict_word x) spot)))
+    × ((x : Violation) × (spot : Spot) × FirstViolation limits b x spot.path spot.offset × (told ≡ Some (account_at (violation_word x) spot)))
 Finds limits b finding.Damaged told = IsBarred limits b finding.Damaged told ⊎ ((why : Reason) × Refuses b why × (told ≡ Some (account_of_damage None (reason_explained why))))
 Finds limits b finding.TooDeep told = IsBarred limits b finding.TooDeep told
-Finds limits b finding.Unjudged told = ⊥
+Finds limits b finding.Unvalidated told = ⊥
 
 -- a document in which this is found isn't known to be read to its end
 abbrev pub MayBeDamaged : Finding → Type 0
-MayBeDamaged found = (found ≡ finding.Damaged) ⊎ (found ≡ finding.TooDeep) ⊎ (found ≡ finding.Unjudged)
+MayBeDamaged found = (found ≡ finding.Damaged) ⊎ (found ≡ finding.TooDeep) ⊎ (found ≡ finding.Unvalidated)
 
 -- what a place shows
 abbrev pub spot_of : Place → Spot

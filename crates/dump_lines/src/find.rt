@@ -8,10 +8,10 @@ ghost use Rattle.raw_view.specs.Frame.Envelope.{IsEnvelope, Refuses};
 ghost use Rattle.raw_view.specs.Errors.{IsMalformed};
 ghost use Rattle.raw_tree.specs.Barriers.{IsBarrier, steps_of};
 ghost use Rattle.raw_tree.specs.Places.{FirstBarrierAt};
-ghost use Rattle.raw_tree.specs.Verdicts.{FirstVerdict};
+ghost use Rattle.raw_tree.specs.Violations.{FirstViolation};
 ghost use Rattle.raw_tree.specs.WithinLimits as within;
 ghost use Rattle.raw_tree.specs.declared.reader.limits.Limits.{Limits};
-ghost use Rattle.dump_lines.specs.Find.{account_at, account_of, Finds, MayBeDamaged, SaysBarrier, named_spot, spot_of, usual, verdict_of, verdict_word};
+ghost use Rattle.dump_lines.specs.Find.{account_at, account_of, Finds, MayBeDamaged, SaysBarrier, named_spot, spot_of, usual, violation_of, violation_word};
 ghost use Rattle.dump_lines.specs.Find as says;
 
 use crate::reason::{Why, kind_of};
@@ -32,8 +32,8 @@ pub enum Finding {
     Damaged,
     /// it is too deep
     TooDeep,
-    /// it isn't judged
-    Unjudged,
+    /// it isn't validated
+    Unvalidated,
 }
 
 impl Finding {
@@ -43,7 +43,7 @@ impl Finding {
     {
         matches!(
             self,
-            Finding::Damaged | Finding::TooDeep | Finding::Unjudged
+            Finding::Damaged | Finding::TooDeep | Finding::Unvalidated
         )
     }
 }
@@ -85,7 +85,7 @@ pub fn find(alloc: Global, limits: Limits, bytes: &[u8]) -> Result<Found<'_>, Al
         (λ found. Finds limits bytes.now found.finding (option_map account_of found.told)) }
 {
     match RawDocument::from_bytes(bytes) {
-        Ok(document) => judge(alloc, limits, document),
+        Ok(document) => validate(alloc, limits, document),
         Err(error) => Ok(without_envelope(&error.kind)),
     }
 }
@@ -105,7 +105,11 @@ fn without_envelope<'a>(kind: &ErrorKind) -> Found<'a>
     }
 }
 
-fn judge(alloc: Global, limits: Limits, document: RawDocument<'_>) -> Result<Found<'_>, AllocError>
+fn validate(
+    alloc: Global,
+    limits: Limits,
+    document: RawDocument<'_>,
+) -> Result<Found<'_>, AllocError>
     requires { length (bytes_of document) ≤ limits.bytes }
     ensures { IfOk result
         (λ found. Finds limits (bytes_of document.entry) found.finding (option_map account_of found.told)) }
@@ -130,7 +134,7 @@ fn judge(alloc: Global, limits: Limits, document: RawDocument<'_>) -> Result<Fou
     }
 }
 
-/// What is found in a document that isn't canonical: what ends its reading; else this verdict.
+/// What is found in a document that isn't canonical: what ends its reading; else this violation.
 fn not_canonical<'a>(
     alloc: Global,
     limits: Limits,
@@ -138,7 +142,7 @@ fn not_canonical<'a>(
     cause: Option<Cause>,
     place: Place<'a>,
 ) -> Result<Found<'a>, AllocError>
-    ensures { FirstVerdict limits (bytes_of document.entry) (verdict_of cause) (steps_of place.entry) place.entry.offset
+    ensures { FirstViolation limits (bytes_of document.entry) (violation_of cause) (steps_of place.entry) place.entry.offset
         → IfOk result (λ found. Finds limits (bytes_of document.entry) found.finding (option_map account_of found.told)) }
 {
     match first_fault_within(alloc, document, limits) {
@@ -213,7 +217,7 @@ fn key_or<'a>(key: Option<&'a str>, other: Option<&'a str>) -> Option<&'a str>
 }
 
 fn cause_words(cause: Option<Cause>) -> &'static str
-    ensures { result.now ≡ verdict_word (verdict_of cause) }
+    ensures { result.now ≡ violation_word (violation_of cause) }
 {
     match cause {
         None => "too deep",

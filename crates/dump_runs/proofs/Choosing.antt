@@ -63,7 +63,7 @@ documents_counted n (piece e ∷ ps) =
       | finding.Breached ↦ refl
       | finding.Damaged ↦ refl
       | finding.TooDeep ↦ refl
-      | finding.Unjudged ↦ refl
+      | finding.Unvalidated ↦ refl
     ] in
     let more : (count_part n (piece e)).documents ≡ n.documents + 1 = one e.finding (record n { documents = n.documents + 1; bytes = n.bytes + length e.bytes; findings = n.findings + e.findings }) in
     let rest : (fold count_part n (piece e ∷ ps)).documents ≡ (count_part n (piece e)).documents + length (documents_of_parts ps) = documents_counted (count_part n (piece e)) ps in

@@ -27,7 +27,7 @@ use Rattle.dump_runs.specs.declared.run.Outcome.{Outcome}
 use Rattle.dump_lines.specs.declared.style.Style.{Style}
 use Rattle.dump_input.specs.declared.window.Next.TheVariants as next
 use Rattle.dump_input.specs.declared.window.Window.{Window}
-use Rattle.dump_runs.proofs.Judging.{judges_sound}
+use Rattle.dump_runs.proofs.Findings.{finds_sound}
 use Rattle.dump_input.proofs.Face.{tells_document}
 use Rattle.dump_runs.proofs.Passing.{HasPassed, gap_of, input_behind}
 
@@ -103,7 +103,7 @@ module _ {limits : Limits} (c : Command) (style : Style) (resync : Bool) (name :
       → HaltsNext limits c style resync name r x v k d d' w w'
   halts_clean (work, is) t (inl same) = inl same
   halts_clean (work, is) t (inr (f, told, found, clean, inside)) =
-      let sound : resync ≡ true → IsSound limits (take len (ahead_of y)) = λ asked. judges_sound c (take len (ahead_of y)) f told t.is.1 found (clean (ap not asked)) in
+      let sound : resync ≡ true → IsSound limits (take len (ahead_of y)) = λ asked. finds_sound c (take len (ahead_of y)) f told t.is.1 found (clean (ap not asked)) in
       halts_taken (not resync) (subst (λ (u : Work). TellsPart limits resync r r' x y v u (next.Document len)) (sym is) (tells_document resync r r' x y v len work sound t))
       (inr (f, told, found, clean, inside))
 

@@ -1,4 +1,4 @@
-mod Judging
+mod Findings
 mod Digesting
 mod Repeating
 mod Writing

@@ -5,7 +5,7 @@ use Rattle.std.proofs.lemmas.List.{take-append-drop}
 use Rattle.std.specs.Io.KnownBytes.{Consumes, Appends}
 use Rattle.std.proofs.KnownBytes.{Appends-nil, Appends-trans}
 use Rattle.raw_tree.specs.declared.reader.limits.Limits.{Limits}
-use Rattle.dump_runs.proofs.Judging.{judges_sound}
+use Rattle.dump_runs.proofs.Findings.{finds_sound}
 use Rattle.dump_input.proofs.Face.{place_since, tells_document, tells_other, read_behind}
 use Rattle.dump_runs.proofs.Repeating.{firsts_more, firsts_none, repeats_more, repeats_none}
 use Rattle.dump_runs.proofs.Writing.{writes_none, writes_more}
@@ -239,7 +239,7 @@ module _ {limits : Limits} {c : Command} {style : Style} {name : List ℕ} {r r'
       → PassesNext limits c style resync name r r' x z v v d d' w w' n n' k k' (next.Document len)
   next_passed resync v work t p =
       let sound : resync ≡ true → IsSound limits (take len (ahead_of y)) = λ asked.
-      judges_sound c (take len (ahead_of y)) p.outcome.finding p.passed.0.0 t.is.1 p.passed.0.1 (p.clean (ap not asked)) in
+      finds_sound c (take len (ahead_of y)) p.outcome.finding p.passed.0.0 t.is.1 p.passed.0.1 (p.clean (ap not asked)) in
       (not resync, y, tells_document resync r r' x y v len work sound t, p)
 
 -- the one whose length is believed

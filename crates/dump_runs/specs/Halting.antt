@@ -6,7 +6,7 @@ use Rattle.raw_resync.specs.declared.work.Work.{Work}
 use Rattle.raw_tree.specs.declared.reader.limits.Limits.{Limits}
 use Rattle.dump_input.specs.Cut.{EndsWith, IsPiece}
 use Rattle.dump_lines.specs.Find.{Account, MayBeDamaged}
-use Rattle.dump_runs.specs.Judging.{FindsFor}
+use Rattle.dump_runs.specs.Findings.{FindsFor}
 use Rattle.dump_runs.specs.Fields.{tabled, with_document}
 use Rattle.dump_input.specs.Fronts.{AppendsFront, HasFront, WritesFront}
 use Rattle.dump_runs.specs.Listing.{HasListingFront}

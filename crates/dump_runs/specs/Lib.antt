@@ -1,4 +1,4 @@
-pub mod Judging
+pub mod Findings
 pub mod Endings
 pub mod Summary
 pub mod Unique

@@ -15,7 +15,7 @@ use Rattle.dump_input.specs.declared.window.Next.{Next}
 use Rattle.dump_input.specs.declared.window.Next.TheVariants as next
 use Rattle.dump_input.specs.declared.window.Window.{Window}
 use Rattle.dump_lines.specs.Find.{Account, MayBeDamaged}
-use Rattle.dump_runs.specs.Judging.{FindsFor}
+use Rattle.dump_runs.specs.Findings.{FindsFor}
 use Rattle.dump_runs.specs.Fields.{CountsFields, Document, HasFields, tabled, with_document}
 use Rattle.dump_runs.specs.Listing.{ListsDocument}
 use Rattle.dump_runs.specs.Pick.{IsPickedAs}
@@ -79,14 +79,14 @@ MakesForm c b _ made = made ≡ []
 abbrev pub MakesJson : json.Style → List ℕ → Finding → List Made → Type 0
 MakesJson style b finding.Damaged made = made ≡ []
 MakesJson style b finding.TooDeep made = made ≡ []
-MakesJson style b finding.Unjudged made = made ≡ []
+MakesJson style b finding.Unvalidated made = made ≡ []
 MakesJson style b _ made = (text : List ℕ) × IsJson style b text × (made ≡ plain (text ++ codes "\n") ∷ [])
 
 -- the document that is picked of a piece b in which this is found, unless it is damaged or too deep, or isn't judged; or its line
 abbrev pub MakesPicked : Picking → List ℕ → Finding → List Made → Type 0
 MakesPicked picking b finding.Damaged made = made ≡ []
 MakesPicked picking b finding.TooDeep made = made ≡ []
-MakesPicked picking b finding.Unjudged made = made ≡ []
+MakesPicked picking b finding.Unvalidated made = made ≡ []
 MakesPicked picking b _ made = (picked : List ℕ) × IsPickedAs picking b picked × (made ≡ plain picked ∷ [])
 
 -- what a command makes of a piece b in which this is found: check, list, count and fields nothing; sound the piece itself, unless it is damaged or too deep; canon
@@ -98,7 +98,7 @@ Makes command.Count b found made = made ≡ []
 Makes command.Fields b found made = made ≡ []
 Makes command.Sound b finding.Damaged made = made ≡ []
 Makes command.Sound b finding.TooDeep made = made ≡ []
-Makes command.Sound b finding.Unjudged made = made ≡ []
+Makes command.Sound b finding.Unvalidated made = made ≡ []
 Makes command.Sound b _ made = made ≡ plain b ∷ []
 Makes command.Canon b found made = MakesForm command.Canon b found made
 Makes (command.Unique spelling) b found made = MakesForm (command.Unique spelling) b found made
@@ -284,7 +284,7 @@ count_finding finding.Canonical n = n
 count_finding finding.Breached n = record n { breached = n.breached + 1 }
 count_finding finding.Damaged n = record n { damaged = n.damaged + 1 }
 count_finding finding.TooDeep n = record n { too_deep = n.too_deep + 1 }
-count_finding finding.Unjudged n = n
+count_finding finding.Unvalidated n = n
 
 -- one more document
 abbrev pub count_entry : Counts → Entry → Counts

@@ -59,7 +59,7 @@ impl Counts {
             ..self
         };
         match finding {
-            Finding::Canonical | Finding::Unjudged => Some(read),
+            Finding::Canonical | Finding::Unvalidated => Some(read),
             Finding::Breached => Some(Counts {
                 breached: read.breached.checked_add(1)?,
                 ..read

@@ -5,7 +5,7 @@ mod batch;
 mod command;
 mod counts;
 mod fields;
-mod judge;
+mod finding;
 mod kept;
 mod listing;
 mod paths;

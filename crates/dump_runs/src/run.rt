@@ -5,7 +5,7 @@ ghost use Rattle.std.specs.Prelude.{◌≡◌, ℕ, List, Option, [], ◌∷◌,
 ghost use Rattle.std.specs.Option.{option_copied, option_map};
 ghost use Rattle.std.specs.Io.KnownBytes.{Appends, Keeps};
 ghost use Rattle.dump_input.specs.Cut.{EndsWith, IsPiece};
-ghost use Rattle.dump_runs.specs.Judging.{FindsFor};
+ghost use Rattle.dump_runs.specs.Findings.{FindsFor};
 ghost use Rattle.dump_input.specs.Reading.{GoesAhead, IsReadBehind, IsWindow, Stays, ahead_of};
 ghost use Rattle.raw_resync.specs.Seeking.{IsWork};
 ghost use Rattle.dump_input.specs.Fronts.{AppendsFront, WritesFront};
@@ -32,7 +32,7 @@ ghost use Rattle.dump_runs.specs.declared.command.Spelling as spells;
 use crate::command::{Command, Spelling};
 use crate::counts::Counts;
 use crate::fields::tokens_of;
-use crate::judge::judged;
+use crate::finding::found_in;
 use crate::kept::{Added, Kept};
 use crate::listing::list_levels;
 use crate::pick::{Picking, picked};
@@ -110,7 +110,7 @@ impl Outcome {
     {
         let found = match (command, self.finding) {
             (_, Finding::Damaged | Finding::TooDeep) | (Command::Check, Finding::Breached) => 1,
-            (_, Finding::Canonical | Finding::Breached | Finding::Unjudged) => 0,
+            (_, Finding::Canonical | Finding::Breached | Finding::Unvalidated) => 0,
         };
         found + u64::from(self.repeats)
     }
@@ -403,7 +403,7 @@ fn pass<'a, D: Write, W: Write>(
     ensures failed { IfErr result (λ failure. ¬ IsReading failure) }
 {
     let limits = asked.limits;
-    let found = judged(alloc, asked.command, limits, bytes)?;
+    let found = found_in(alloc, asked.command, limits, bytes)?;
     if !any && found.finding.may_be_damaged() {
         return Ok(None);
     }
@@ -486,7 +486,7 @@ fn report_found<W: Write>(
         (_, Finding::Damaged | Finding::TooDeep) | (Command::Check, Finding::Breached) => {
             put_told(alloc, style, name, offset, &found.told, report)
         }
-        (Command::Check, Finding::Canonical | Finding::Unjudged)
+        (Command::Check, Finding::Canonical | Finding::Unvalidated)
         | (
             Command::Canon
             | Command::Sound
@@ -495,7 +495,7 @@ fn report_found<W: Write>(
             | Command::Pick(_)
             | Command::Count
             | Command::Fields,
-            Finding::Canonical | Finding::Breached | Finding::Unjudged,
+            Finding::Canonical | Finding::Breached | Finding::Unvalidated,
         ) => Ok(()),
     }
 }
@@ -677,7 +677,7 @@ fn emit<'a, D: Write>(
 {
     match (command, finding) {
         (Command::Check | Command::List | Command::Count | Command::Fields, _)
-        | (_, Finding::Damaged | Finding::TooDeep | Finding::Unjudged) => Ok(None),
+        | (_, Finding::Damaged | Finding::TooDeep | Finding::Unvalidated) => Ok(None),
         (Command::Sound, Finding::Canonical | Finding::Breached) => {
             put_document(command, origin, bytes, bytes, out, kept)
         }

@@ -10,7 +10,7 @@ pub use Rattle.raw_tree.specs.Aheads
 pub use Rattle.raw_tree.specs.Barriers
 pub use Rattle.raw_tree.specs.Looking
 pub use Rattle.raw_tree.specs.Places
-pub use Rattle.raw_tree.specs.Verdicts
+pub use Rattle.raw_tree.specs.Violations
 pub use Rattle.raw_tree.specs.Waits
 pub use Rattle.raw_tree.specs.Walks
 -- its types that clauses speak of
@@ -20,5 +20,5 @@ pub use Rattle.raw_form.specs.declared.flatten.FlattenError
 pub use Rattle.raw_tree.specs.declared.walk.place.PathStep
 pub use Rattle.raw_tree.specs.declared.walk.place.Place
 pub use Rattle.raw_form.specs.declared.token.Token
-pub use Rattle.raw_tree.specs.declared.validator.verdict.PlacedBreach
-pub use Rattle.raw_tree.specs.declared.validator.verdict.ValidateError
+pub use Rattle.raw_tree.specs.declared.validator.within.PlacedBreach
+pub use Rattle.raw_tree.specs.declared.validator.within.ValidateError

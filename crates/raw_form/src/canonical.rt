@@ -12,7 +12,9 @@ ghost use Rattle.raw_view.specs.Document.{bytes_of};
 ghost use Rattle.raw_view.specs.Errors.{IsOutOfMemory};
 
 use crate::rewriting::rewrite;
-use raw_tree::{Barrier, BarrierKind, Cause, FIRST, Limits, Start, first_behind, judge_to_depth};
+use raw_tree::{
+    Barrier, BarrierKind, Cause, FIRST, Limits, Start, first_behind, validate_to_depth,
+};
 use raw_view::{Error, RawDocument, Reason, Result};
 use std::alloc::Global;
 
@@ -33,7 +35,7 @@ fn start_of(alloc: Global, document: RawDocument<'_>, depth: usize) -> Result<Op
     ensures start { IfOk result (TellsStart depth (bytes_of document.entry)) }
     ensures err { IfErr result IsOutOfMemory }
 {
-    let Some(found) = judge_to_depth(alloc, document, depth)? else {
+    let Some(found) = validate_to_depth(alloc, document, depth)? else {
         return Ok(None);
     };
     let path = found.place.path.as_slice();

@@ -3,7 +3,7 @@ use Rattle.std.proofs.Common.{◌≡◌, ℕ, ◌-◌, ◌<◌, ◌≤◌, ◌�
 use Rattle.std.proofs.lemmas.Bool.{cases_lt}
 use Rattle.raw_tree.specs.declared.reader.limits.Limits.{Limits}
 use Rattle.raw_resync.specs.Resync.{EndsOrBegins, GoesOnWith, IsDisbelieved}
-use Rattle.raw_resync.specs.Charge.{IsLeftOut, IsUnjudged}
+use Rattle.raw_resync.specs.Charge.{IsLeftOut, IsUnprobed}
 use Rattle.raw_resync.specs.Seeking.{PassesOver}
 use Rattle.raw_resync.specs.declared.work.Work.{Work}
 use Rattle.raw_resync.proofs.Joining.{both_true, one_false}
@@ -43,7 +43,7 @@ disbelieved limits s len end place false stops is low high on =
 
 -- they go on at no such place, but where one was left out
 pub believed : (limits : Limits) (total : ℕ) (s : List ℕ) (len end : ℕ) (w : Work) (goes all : Bool)
-    → (goes ≡ true → EndsOrBegins limits (drop len s) ⊎ IsUnjudged limits total (drop len s) w) → end ≡ cond goes len 0 → PassesOver limits total s 1 len end w all
+    → (goes ≡ true → EndsOrBegins limits (drop len s) ⊎ IsUnprobed limits total (drop len s) w) → end ≡ cond goes len 0 → PassesOver limits total s 1 len end w all
     → IsDisbelieved limits s len → (j : ℕ) × (j ≤ len) × IsLeftOut limits total s w j
 believed limits total s len end w true all behind is over (j, low, high, inl reaches) =
     elim (over.each j low high) [

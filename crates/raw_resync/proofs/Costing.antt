@@ -5,8 +5,8 @@ use Rattle.std.proofs.lemmas.List.Sums.{fold-append}
 use Rattle.std.specs.List.{All}
 use Rattle.raw_tree.specs.declared.reader.limits.Limits.{Limits}
 use Rattle.raw_resync.specs.Pieces.{IsPiece}
-use Rattle.raw_resync.specs.Charge.{Charges, Costs, IsBounded, IsCostIn, IsLeftOut, IsUnjudged}
-use Rattle.raw_resync.specs.Seeking.{IsJudged, IsWork, JudgesOrLeaves, Works}
+use Rattle.raw_resync.specs.Charge.{Charges, Costs, IsBounded, IsCostIn, IsLeftOut, IsUnprobed}
+use Rattle.raw_resync.specs.Seeking.{IsProbed, IsWork, ProbesOrLeaves, Works}
 use Rattle.raw_resync.specs.declared.work.Work.{Work}
 
 -- nothing is charged
@@ -36,24 +36,24 @@ costs_behind limits front s (n ∷ ns) all =
 pub charges_behind : (limits : Limits) (front s : List ℕ) (old new : Work) → Charges limits s old new → Charges limits (front ++ s) old new
 charges_behind limits front s old new p = record { costs = p.costs; each = costs_behind limits front s p.costs p.each; spent = p.spent }
 
--- a judged piece has a cost
-judged_cost : (limits : Limits) (b : List ℕ) (is : Bool) (n : ℕ) → IsJudged limits b is n → Costs limits b n
-judged_cost limits b true n (sound, len) = inl (sound, len)
-judged_cost limits b false n (damaged, costs) = costs
+-- a probed piece has a cost
+probed_cost : (limits : Limits) (b : List ℕ) (is : Bool) (n : ℕ) → IsProbed limits b is n → Costs limits b n
+probed_cost limits b true n (sound, len) = inl (sound, len)
+probed_cost limits b false n (damaged, costs) = costs
 
-pub charges_judged : (limits : Limits) (front b rest s : List ℕ) (end : ℕ) (old new : Work) (judged : Option Bool) → s ≡ front ++ (b ++ rest) → IsPiece limits.bytes b
-    → JudgesOrLeaves limits b end old new judged → Charges limits s old new
-charges_judged limits front b rest s end old new None split is (same, few) = subst (Charges limits s old) (sym same) (charges_none limits s old)
-charges_judged limits front b rest s end old new (Some j) split is (n, judged, spent, reach) = record {
+pub charges_probed : (limits : Limits) (front b rest s : List ℕ) (end : ℕ) (old new : Work) (probed : Option Bool) → s ≡ front ++ (b ++ rest) → IsPiece limits.bytes b
+    → ProbesOrLeaves limits b end old new probed → Charges limits s old new
+charges_probed limits front b rest s end old new None split is (same, few) = subst (Charges limits s old) (sym same) (charges_none limits s old)
+charges_probed limits front b rest s end old new (Some j) split is (n, probed, spent, reach) = record {
   costs = n ∷ [];
-  each = All-cons (IsCostIn limits s) n [] (front, b, rest, split, is, judged_cost limits b j n judged) (All-nil (IsCostIn limits s));
+  each = All-cons (IsCostIn limits s) n [] (front, b, rest, split, is, probed_cost limits b j n probed) (All-nil (IsCostIn limits s));
   spent = spent;
 }
 
-pub bounded_judged : (limits : Limits) (total end : ℕ) (b : List ℕ) (old new : Work) (judged : Option Bool) → end ≤ total → IsWork new → JudgesOrLeaves limits b end old new judged
+pub bounded_probed : (limits : Limits) (total end : ℕ) (b : List ℕ) (old new : Work) (probed : Option Bool) → end ≤ total → IsWork new → ProbesOrLeaves limits b end old new probed
     → IsBounded total old → IsBounded total new
-bounded_judged limits total end b old new None within work (same, few) bound = subst (IsBounded total) (sym same) bound
-bounded_judged limits total end b old new (Some j) within work (n, judged, spent, reach) bound =
+bounded_probed limits total end b old new None within work (same, few) bound = subst (IsBounded total) (sym same) bound
+bounded_probed limits total end b old new (Some j) within work (n, probed, spent, reach) bound =
     let eight : new.spent ≤ 8 * new.reach = work.0 in
     let far : old.reach ≤ total = bound.1 in
     (eight, omega (arith, reach))
@@ -68,12 +68,12 @@ fold_more n (c ∷ cs) =
 pub spent_more : (limits : Limits) (s : List ℕ) (old new : Work) → Charges limits s old new → old.spent ≤ new.spent
 spent_more limits s old new p = subst (λ n. old.spent ≤ n) (sym p.spent) (fold_more old.spent p.costs)
 
-pub unjudged_on : (limits : Limits) (total : ℕ) (t : List ℕ) (old new : Work) → old.spent ≤ new.spent → IsUnjudged limits total t old → IsUnjudged limits total t new
-unjudged_on limits total t old new more (b, rest, end, is, split, at, few) = (b, rest, end, is, split, at, omega (arith, few, more))
+pub unprobed_on : (limits : Limits) (total : ℕ) (t : List ℕ) (old new : Work) → old.spent ≤ new.spent → IsUnprobed limits total t old → IsUnprobed limits total t new
+unprobed_on limits total t old new more (b, rest, end, is, split, at, few) = (b, rest, end, is, split, at, omega (arith, few, more))
 
 pub left_on : (limits : Limits) (total : ℕ) (s : List ℕ) (old new : Work) (j : ℕ) → old.spent ≤ new.spent → IsLeftOut limits total s old j → IsLeftOut limits total s new j
-left_on limits total s old new j more (inl here) = inl (unjudged_on limits total (drop j s) old new more here)
-left_on limits total s old new j more (inr (c, rest, is, split, next)) = inr (c, rest, is, split, unjudged_on limits total rest old new more next)
+left_on limits total s old new j more (inl here) = inl (unprobed_on limits total (drop j s) old new more here)
+left_on limits total s old new j more (inr (c, rest, is, split, next)) = inr (c, rest, is, split, unprobed_on limits total rest old new more next)
 
 -- a look, and another
 pub works_none : (limits : Limits) (bytes : List ℕ) (last : Bool) (at : ℕ) (w : Work) → Works limits bytes last at w w

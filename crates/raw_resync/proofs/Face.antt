@@ -3,7 +3,7 @@
 -- the piece in front
 pub use Rattle.raw_resync.proofs.Fronts.{begins, is_sound}
 -- what is charged, one after the other
-pub use Rattle.raw_resync.proofs.Costing.{charges_none, charges_on, spent_more, unjudged_on, left_on}
+pub use Rattle.raw_resync.proofs.Costing.{charges_none, charges_on, spent_more, unprobed_on, left_on}
 -- places that are passed, one after the other
 pub use Rattle.raw_resync.proofs.Passing.{passes_none, passes_since}
 pub use Rattle.raw_resync.proofs.Joining.{charges_further, left_further, passes_join}

@@ -5,14 +5,14 @@ use Rattle.std.proofs.lemmas.Bool.{cases_lt}
 use Rattle.raw_tree.specs.declared.reader.limits.Limits.{Limits}
 use Rattle.raw_resync.specs.Pieces.{IsPiece}
 use Rattle.raw_resync.specs.Resync.{GoesOnWith}
-use Rattle.raw_resync.specs.Charge.{Charges, IsLeftOut, IsUnjudged}
+use Rattle.raw_resync.specs.Charge.{Charges, IsLeftOut, IsUnprobed}
 use Rattle.raw_resync.specs.Seeking.{PassesOver}
 use Rattle.raw_resync.specs.declared.work.Work.{Work}
 use Rattle.raw_resync.proofs.Costing.{charges_behind}
 
 -- a place of t is left out
 abbrev IsLeftOutAt : Limits → ℕ → Work → List ℕ → Type 0
-IsLeftOutAt limits total w t = IsUnjudged limits total t w ⊎ ((c : List ℕ) × (rest : List ℕ) × IsPiece limits.bytes c × (t ≡ c ++ rest) × IsUnjudged limits total rest w)
+IsLeftOutAt limits total w t = IsUnprobed limits total t w ⊎ ((c : List ℕ) × (rest : List ℕ) × IsPiece limits.bytes c × (t ≡ c ++ rest) × IsUnprobed limits total rest w)
 
 -- one that is left out behind n bytes
 pub left_further : (limits : Limits) (total n j : ℕ) (s : List ℕ) (w : Work) → IsLeftOut limits total (drop n s) w j → IsLeftOut limits total s w (n + j)

@@ -5,14 +5,14 @@ use Rattle.raw_view.specs.Frame.Envelope.{IsEnvelope}
 use Rattle.raw_tree.specs.declared.reader.limits.Limits.{Limits}
 use Rattle.raw_resync.specs.Pieces.{IsPiece}
 use Rattle.raw_resync.specs.Resync.{EndsOrBegins, GoesOnWith, IsSound}
-use Rattle.raw_resync.specs.Charge.{IsUnjudged}
-use Rattle.raw_resync.specs.Seeking.{Checks, ChecksBehind, IsWork, JudgesPiece, JudgesOrLeaves, MayFollow, TellsBehind, TellsCheck, TellsFront, TellsPiece, check_of}
+use Rattle.raw_resync.specs.Charge.{IsUnprobed}
+use Rattle.raw_resync.specs.Seeking.{Checks, ChecksBehind, IsWork, ProbesPiece, ProbesOrLeaves, MayFollow, TellsBehind, TellsCheck, TellsFront, TellsPiece, check_of}
 use Rattle.raw_resync.specs.declared.check.Check.{Check}
 use Rattle.raw_resync.specs.declared.check.Check.TheVariants as check
 use Rattle.raw_resync.specs.declared.check.Front.TheVariants as front
 use Rattle.raw_resync.specs.declared.work.Work.{Work}
 use Rattle.raw_resync.proofs.Fronts.{begins, front_len, goes_begins, goes_on, goes_only, is_sound, left_behind, none_behind, split_front, told_some}
-use Rattle.raw_resync.proofs.Costing.{bounded_judged, charges_judged, works_none, works_on}
+use Rattle.raw_resync.proofs.Costing.{bounded_probed, charges_probed, works_none, works_on}
 
 pub if_ok : {A E : Type 0} (P Q : A → Type 0) (r : Result A E) → ((x : A) → P x → Q x) → IfOk r P → IfOk r Q
 if_ok P Q (Ok x) on is = on x is
@@ -23,48 +23,48 @@ whole_split : (place len : ℕ) (bytes rest : List ℕ) → place + len ≤ leng
     → bytes ++ rest ≡ take place (bytes ++ rest) ++ (take len (drop place bytes) ++ drop (place + len) (bytes ++ rest))
 whole_split place len bytes rest within = sym (take-append-drop place (bytes ++ rest)) ∙ ap (λ l. take place (bytes ++ rest) ++ l) (split_front place len bytes rest within)
 
--- a piece without an envelope is judged
-pub judges_none : (limits : Limits) (bytes : List ℕ) (last : Bool) (at place len : ℕ) (w : Work) → ¬ IsEnvelope (take len (drop place bytes))
-    → JudgesPiece limits bytes last at place len w w (Some false)
-judges_none limits bytes last at place len w none = record { works = works_none limits bytes last at w; tells = λ sound. none sound.envelope }
+-- a piece without an envelope is probed
+pub probes_none : (limits : Limits) (bytes : List ℕ) (last : Bool) (at place len : ℕ) (w : Work) → ¬ IsEnvelope (take len (drop place bytes))
+    → ProbesPiece limits bytes last at place len w w (Some false)
+probes_none limits bytes last at place len w none = record { works = works_none limits bytes last at w; tells = λ sound. none sound.envelope }
 
-told_judged : (limits : Limits) (b : List ℕ) (end : ℕ) (old new : Work) (judged : Option Bool) → JudgesOrLeaves limits b end old new judged
-    → TellsPiece limits b end new judged
-told_judged limits b end old new None (same, few) = let spent : new.spent ≡ old.spent = ap (λ (w : Work). w.spent) same in omega (arith, few, spent)
-told_judged limits b end old new (Some true) (n, (sound, len), spent, reach) = sound
-told_judged limits b end old new (Some false) (n, (damaged, costs), spent, reach) = damaged
+told_probed : (limits : Limits) (b : List ℕ) (end : ℕ) (old new : Work) (probed : Option Bool) → ProbesOrLeaves limits b end old new probed
+    → TellsPiece limits b end new probed
+told_probed limits b end old new None (same, few) = let spent : new.spent ≡ old.spent = ap (λ (w : Work). w.spent) same in omega (arith, few, spent)
+told_probed limits b end old new (Some true) (n, (sound, len), spent, reach) = sound
+told_probed limits b end old new (Some false) (n, (damaged, costs), spent, reach) = damaged
 
--- another is judged, or left out
-pub judges_piece : (limits : Limits) (bytes : List ℕ) {last : Bool} (at place len : ℕ) (old new : Work) (judged : Option Bool) → place + len ≤ length bytes
-    → IsPiece limits.bytes (take len (drop place bytes)) → IsWork new → JudgesOrLeaves limits (take len (drop place bytes)) (at + (place + len)) old new judged
-    → JudgesPiece limits bytes last at place len old new judged
-judges_piece limits bytes {last} at place len old new judged within is work judges = record {
+-- another is probed, or left out
+pub probes_piece : (limits : Limits) (bytes : List ℕ) {last : Bool} (at place len : ℕ) (old new : Work) (probed : Option Bool) → place + len ≤ length bytes
+    → IsPiece limits.bytes (take len (drop place bytes)) → IsWork new → ProbesOrLeaves limits (take len (drop place bytes)) (at + (place + len)) old new probed
+    → ProbesPiece limits bytes last at place len old new probed
+probes_piece limits bytes {last} at place len old new probed within is work probes = record {
   works = record {
     charges = λ rest may.
-        charges_judged limits (take place (bytes ++ rest)) (take len (drop place bytes)) (drop (place + len) (bytes ++ rest)) (bytes ++ rest) (at + (place + len))
-        old new judged (whole_split place len bytes rest within) is judges;
+        charges_probed limits (take place (bytes ++ rest)) (take len (drop place bytes)) (drop (place + len) (bytes ++ rest)) (bytes ++ rest) (at + (place + len))
+        old new probed (whole_split place len bytes rest within) is probes;
     bounded = λ rest may bound.
         let size : length (bytes ++ rest) ≡ length bytes + length rest = length-append bytes rest in
-        bounded_judged limits (at + length (bytes ++ rest)) (at + (place + len)) (take len (drop place bytes)) old new judged (omega (arith, within, size)) work judges bound;
+        bounded_probed limits (at + length (bytes ++ rest)) (at + (place + len)) (take len (drop place bytes)) old new probed (omega (arith, within, size)) work probes bound;
   };
-  tells = told_judged limits (take len (drop place bytes)) (at + (place + len)) old new judged judges;
+  tells = told_probed limits (take len (drop place bytes)) (at + (place + len)) old new probed probes;
 }
 
 -- a piece that is left out, of all that is left
-unjudged : (limits : Limits) (bytes rest : List ℕ) (at place len : ℕ) (w : Work) → place + len ≤ length bytes → IsPiece limits.bytes (take len (drop place bytes))
-    → 8 * (at + (place + len)) ≤ w.spent + length (take len (drop place bytes)) → IsUnjudged limits (at + length (bytes ++ rest)) (drop place (bytes ++ rest)) w
-unjudged limits bytes rest at place len w within is few =
+unprobed : (limits : Limits) (bytes rest : List ℕ) (at place len : ℕ) (w : Work) → place + len ≤ length bytes → IsPiece limits.bytes (take len (drop place bytes))
+    → 8 * (at + (place + len)) ≤ w.spent + length (take len (drop place bytes)) → IsUnprobed limits (at + length (bytes ++ rest)) (drop place (bytes ++ rest)) w
+unprobed limits bytes rest at place len w within is few =
     let all : length (bytes ++ rest) ≡ length bytes + length rest = length-append bytes rest in
     let size : length (drop (place + len) (bytes ++ rest)) ≡ length (bytes ++ rest) - (place + len) = length-drop (place + len) (bytes ++ rest) in
     (take len (drop place bytes), drop (place + len) (bytes ++ rest), at + (place + len), is, split_front place len bytes rest within, omega (arith, all, size, within), few)
 
 -- what is behind so many bytes is told by a piece
-pub behind_piece : (limits : Limits) (bytes : List ℕ) (last : Bool) (at place len : ℕ) (old new : Work) (judged : Option Bool) → place + len ≤ length bytes
-    → IsPiece limits.bytes (take len (drop place bytes)) → JudgesPiece limits bytes last at place len old new judged
-    → ChecksBehind limits bytes last at place old new (check_of judged)
+pub behind_piece : (limits : Limits) (bytes : List ℕ) (last : Bool) (at place len : ℕ) (old new : Work) (probed : Option Bool) → place + len ≤ length bytes
+    → IsPiece limits.bytes (take len (drop place bytes)) → ProbesPiece limits bytes last at place len old new probed
+    → ChecksBehind limits bytes last at place old new (check_of probed)
 behind_piece limits bytes last at place len old new None within is p = record {
   works = p.works;
-  tells = λ rest may. unjudged limits bytes rest at place len new within is p.tells;
+  tells = λ rest may. unprobed limits bytes rest at place len new within is p.tells;
 }
 behind_piece limits bytes last at place len old new (Some true) within is p = record {
   works = p.works;
@@ -137,34 +137,34 @@ module _ {limits : Limits} {bytes : List ℕ} {place len : ℕ} (p : IsPieceIn l
       record { works = works_none limits bytes last at w; tells = λ rest may. (not, more, omega (arith, few, bound, size p)) }
 
   -- it is all that is left
-  pub is_last_piece : (old new : Work) (judged : Option Bool) → TellsFront limits.bytes bytes last (place + len) front.End → JudgesPiece limits bytes last at place len old new judged
-      → Checks limits bytes last at place len old new (check_of judged)
-  is_last_piece old new None (ends, none) q = record { works = q.works; tells = λ rest may. (some p, inl (unjudged limits bytes rest at place len new p.within p.is q.tells)) }
+  pub is_last_piece : (old new : Work) (probed : Option Bool) → TellsFront limits.bytes bytes last (place + len) front.End → ProbesPiece limits bytes last at place len old new probed
+      → Checks limits bytes last at place len old new (check_of probed)
+  is_last_piece old new None (ends, none) q = record { works = q.works; tells = λ rest may. (some p, inl (unprobed limits bytes rest at place len new p.within p.is q.tells)) }
   is_last_piece old new (Some true) (ends, none) q =
       record { works = q.works; tells = λ rest may. goes p rest len (omega arith) q.tells (inl (nothing_left (place + len) last bytes rest p.within ends none may)) }
   is_last_piece old new (Some false) (ends, none) q = record { works = q.works; tells = λ rest may. (some p, λ there. q.tells ((only p rest len there).0)) }
 
   -- it is damaged, or left out, and what is behind it says nothing
-  pub first_alone : (old new : Work) (judged : Option Bool) → ¬ (judged ≡ Some true) → JudgesPiece limits bytes last at place len old new judged
-      → Checks limits bytes last at place len old new (check_of judged)
-  first_alone old new None not q = record { works = q.works; tells = λ rest may. (some p, inl (unjudged limits bytes rest at place len new p.within p.is q.tells)) }
+  pub first_alone : (old new : Work) (probed : Option Bool) → ¬ (probed ≡ Some true) → ProbesPiece limits bytes last at place len old new probed
+      → Checks limits bytes last at place len old new (check_of probed)
+  first_alone old new None not q = record { works = q.works; tells = λ rest may. (some p, inl (unprobed limits bytes rest at place len new p.within p.is q.tells)) }
   first_alone old new (Some true) not q = absurd (not refl)
   first_alone old new (Some false) not q = record { works = q.works; tells = λ rest may. (some p, λ there. q.tells ((only p rest len there).0)) }
 
   -- what is behind it tells, where it is without damage
-  second : (rest : List ℕ) (w : Work) (judged : Option Bool) → IsSound limits (take len (drop place bytes))
-      → TellsBehind limits bytes last (at + length (bytes ++ rest)) (bytes ++ rest) (place + len) w (check_of judged)
-      → TellsCheck limits bytes last (at + length (bytes ++ rest)) (bytes ++ rest) place len w (check_of judged)
+  second : (rest : List ℕ) (w : Work) (probed : Option Bool) → IsSound limits (take len (drop place bytes))
+      → TellsBehind limits bytes last (at + length (bytes ++ rest)) (bytes ++ rest) (place + len) w (check_of probed)
+      → TellsCheck limits bytes last (at + length (bytes ++ rest)) (bytes ++ rest) place len w (check_of probed)
   second rest w None sound told = (some p, inr (take len (drop place bytes), drop (place + len) (bytes ++ rest), p.is, split_front place len bytes rest p.within, told))
   second rest w (Some true) sound told = goes p rest len (omega arith) sound told
   second rest w (Some false) sound told = (some p, λ there. told ((only p rest len there).1))
 
   -- another piece is behind it
-  pub two_pieces : {more : ℕ} {old mid new : Work} (judged : Option Bool) → IsPieceIn limits bytes (place + len) more → JudgesPiece limits bytes last at place len old mid (Some true)
-      → JudgesPiece limits bytes last at (place + len) more mid new judged → Checks limits bytes last at place len old new (check_of judged)
-  two_pieces {more} {old} {mid} {new} judged second_is first q =
-      let behind = behind_piece limits bytes last at (place + len) more mid new judged second_is.within second_is.is q in
-      record { works = works_on limits bytes last at old mid new first.works q.works; tells = λ rest may. second rest new judged first.tells (behind.tells rest may) }
+  pub two_pieces : {more : ℕ} {old mid new : Work} (probed : Option Bool) → IsPieceIn limits bytes (place + len) more → ProbesPiece limits bytes last at place len old mid (Some true)
+      → ProbesPiece limits bytes last at (place + len) more mid new probed → Checks limits bytes last at place len old new (check_of probed)
+  two_pieces {more} {old} {mid} {new} probed second_is first q =
+      let behind = behind_piece limits bytes last at (place + len) more mid new probed second_is.within second_is.is q in
+      record { works = works_on limits bytes last at old mid new first.works q.works; tells = λ rest may. second rest new probed first.tells (behind.tells rest may) }
 
   -- it is as long as is asked for
   long_told : (rest : List ℕ) (least : ℕ) (w : Work) (told : Check) → least ≤ len

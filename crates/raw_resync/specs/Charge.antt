@@ -78,11 +78,11 @@ IsBounded total work = (work.spent ≤ 8 * work.reach) × (work.reach ≤ total)
 
 -- The piece in front of t, the end of an input of so many bytes, was left out: with it as many bytes would be charged as eight
 -- times those in front of its end.
-abbrev pub IsUnjudged : Limits → (total : ℕ) → List ℕ → Work → Type 0
-IsUnjudged limits total t work =
+abbrev pub IsUnprobed : Limits → (total : ℕ) → List ℕ → Work → Type 0
+IsUnprobed limits total t work =
     (b : List ℕ) × (rest : List ℕ) × (end : ℕ) × IsPiece limits.bytes b × (t ≡ b ++ rest) × (end + length rest ≡ total) × (8 * end ≤ work.spent + length b)
 
 -- the piece that is so many bytes behind the front of s was left out, or the one behind it
 abbrev pub IsLeftOut : Limits → (total : ℕ) → List ℕ → Work → ℕ → Type 0
 IsLeftOut limits total s work j =
-    IsUnjudged limits total (drop j s) work ⊎ ((c : List ℕ) × (rest : List ℕ) × IsPiece limits.bytes c × (drop j s ≡ c ++ rest) × IsUnjudged limits total rest work)
+    IsUnprobed limits total (drop j s) work ⊎ ((c : List ℕ) × (rest : List ℕ) × IsPiece limits.bytes c × (drop j s ≡ c ++ rest) × IsUnprobed limits total rest work)

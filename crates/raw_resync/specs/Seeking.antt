@@ -6,7 +6,7 @@ use Rattle.raw_view.specs.declared.element_type.ElementType.{ElementType}
 use Rattle.raw_tree.specs.declared.reader.limits.Limits.{Limits}
 use Rattle.raw_resync.specs.Pieces.{IsPiece, said_len}
 use Rattle.raw_resync.specs.Resync.{EndsOrBegins, GoesOnWith, IsSound}
-use Rattle.raw_resync.specs.Charge.{Charges, Costs, IsBounded, IsLeftOut, IsUnjudged}
+use Rattle.raw_resync.specs.Charge.{Charges, Costs, IsBounded, IsLeftOut, IsUnprobed}
 use Rattle.raw_resync.specs.declared.check.Check.{Check}
 use Rattle.raw_resync.specs.declared.check.Check.TheVariants as check
 use Rattle.raw_resync.specs.declared.check.Front.{Front}
@@ -25,14 +25,14 @@ abbrev pub IsWork : Work → Type 0
 IsWork w = (w.spent ≤ 8 * w.reach) × (w.reach < 2 ^ 66)
 
 -- whether a piece b is a document without damage, and what it costs
-abbrev pub IsJudged : Limits → List ℕ → Bool → ℕ → Type 0
-IsJudged limits b true n = IsSound limits b × (n ≡ length b)
-IsJudged limits b false n = (¬ IsSound limits b) × Costs limits b n
+abbrev pub IsProbed : Limits → List ℕ → Bool → ℕ → Type 0
+IsProbed limits b true n = IsSound limits b × (n ≡ length b)
+IsProbed limits b false n = (¬ IsSound limits b) × Costs limits b n
 
--- a piece b that ends at this offset of the input is judged, or left out
-abbrev pub JudgesOrLeaves : Limits → List ℕ → ℕ → (old new : Work) → Option Bool → Type 0
-JudgesOrLeaves limits b end old new None = (new ≡ old) × (8 * end ≤ old.spent + length b)
-JudgesOrLeaves limits b end old new (Some is) = (n : ℕ) × IsJudged limits b is n × (new.spent ≡ old.spent + n) × (new.reach ≡ max old.reach end)
+-- a piece b that ends at this offset of the input is probed, or left out
+abbrev pub ProbesOrLeaves : Limits → List ℕ → ℕ → (old new : Work) → Option Bool → Type 0
+ProbesOrLeaves limits b end old new None = (new ≡ old) × (8 * end ≤ old.spent + length b)
+ProbesOrLeaves limits b end old new (Some is) = (n : ℕ) × IsProbed limits b is n × (new.spent ≡ old.spent + n) × (new.reach ≡ max old.reach end)
 
 -- no piece is in front of t: it is shorter than its length says, and the last; or no document has this length
 abbrev pub LacksPiece : ℕ → Bool → List ℕ → Type 0
@@ -70,7 +70,7 @@ TellsCheck limits bytes is_last total s place least work (check.Wants n) = Wants
 abbrev pub TellsBehind : Limits → List ℕ → Bool → (total : ℕ) → List ℕ → (place : ℕ) → Work → Check → Type 0
 TellsBehind limits bytes is_last total s place work check.GoesOn = EndsOrBegins limits (drop place s)
 TellsBehind limits bytes is_last total s place work check.Stops = ¬ EndsOrBegins limits (drop place s)
-TellsBehind limits bytes is_last total s place work check.LeftOut = IsUnjudged limits total (drop place s) work
+TellsBehind limits bytes is_last total s place work check.LeftOut = IsUnprobed limits total (drop place s) work
 TellsBehind limits bytes is_last total s place work (check.Wants n) = Wants limits bytes is_last place n
 
 -- rest may be behind bytes
@@ -107,17 +107,17 @@ TellsSought limits bytes is_last total s p work (sought.Nowhere all) = (p.until 
 TellsSought limits bytes is_last total s p work (sought.Wants place n all) =
     (p.from ≤ place) × (place < p.until) × (place ≤ length bytes) × Wants limits bytes is_last place n × PassesOver limits total s p.from place p.end work all
 
--- a piece of so many bytes is judged, or left out
+-- a piece of so many bytes is probed, or left out
 abbrev pub TellsPiece : Limits → List ℕ → (end : ℕ) → Work → Option Bool → Type 0
 TellsPiece limits b end work None = 8 * end ≤ work.spent + length b
 TellsPiece limits b end work (Some true) = IsSound limits b
 TellsPiece limits b end work (Some false) = ¬ IsSound limits b
 
-pub record JudgesPiece (limits : Limits) (bytes : List ℕ) (is_last : Bool) (at place len : ℕ) (old new : Work) (judged : Option Bool) : Type 0 where
+pub record ProbesPiece (limits : Limits) (bytes : List ℕ) (is_last : Bool) (at place len : ℕ) (old new : Work) (probed : Option Bool) : Type 0 where
   pub works : Works limits bytes is_last at old new
-  pub tells : TellsPiece limits (take len (drop place bytes)) (at + (place + len)) new judged
+  pub tells : TellsPiece limits (take len (drop place bytes)) (at + (place + len)) new probed
 
--- what is found at a place whose last piece is judged so
+-- what is found at a place whose last piece is probed so
 abbrev pub check_of : Option Bool → Check
 check_of None = check.LeftOut
 check_of (Some true) = check.GoesOn

@@ -6,9 +6,9 @@ ghost use Rattle.raw_tree.specs.declared.reader.limits.Limits.{Limits};
 ghost use Rattle.raw_view.specs.Frame.Envelope.{IsEnvelope};
 ghost use Rattle.raw_resync.specs.Pieces.{IsPiece};
 ghost use Rattle.raw_resync.specs.Resync.{IsSound};
-ghost use Rattle.raw_resync.specs.Seeking.{Checks, ChecksBehind, IsWork, JudgesPiece, LacksTag, TellsFront, check_of};
+ghost use Rattle.raw_resync.specs.Seeking.{Checks, ChecksBehind, IsWork, ProbesPiece, LacksTag, TellsFront, check_of};
 
-use crate::judge::judge;
+use crate::probe::probe;
 use crate::work::Work;
 use raw_tree::Limits;
 use raw_view::{ElementType, RawDocument};
@@ -138,11 +138,11 @@ fn check_piece(
         return Ok(Check::Stops);
     }
     match front_at(part, end) {
-        Front::End => Ok(told(judge_piece(alloc, part, place, len, work)?)),
+        Front::End => Ok(told(probe_piece(alloc, part, place, len, work)?)),
         Front::NoPiece => Ok(Check::Stops),
         Front::Wants(count) => Ok(Check::Wants(count)),
-        Front::Piece(more) => match judge_piece(alloc, part, place, len, work)? {
-            Some(true) => Ok(told(judge_piece(alloc, part, end, more, work)?)),
+        Front::Piece(more) => match probe_piece(alloc, part, place, len, work)? {
+            Some(true) => Ok(told(probe_piece(alloc, part, end, more, work)?)),
             Some(false) => Ok(Check::Stops),
             None => Ok(Check::LeftOut),
         },
@@ -172,11 +172,11 @@ fn ends_with_zero(piece: &[u8]) -> bool
     }
 }
 
-/// What is found at a place whose last piece is judged so.
-fn told(judged: Option<bool>) -> Check
-    ensures { result ≡ check_of judged }
+/// What is found at a place whose last piece is probed so.
+fn told(probed: Option<bool>) -> Check
+    ensures { result ≡ check_of probed }
 {
-    match judged {
+    match probed {
         Some(true) => Check::GoesOn,
         Some(false) => Check::Stops,
         None => Check::LeftOut,
@@ -185,7 +185,7 @@ fn told(judged: Option<bool>) -> Check
 
 /// Whether a piece of so many bytes behind so many of these bytes is a document without damage; `None` where it could cost too
 /// much to know.
-fn judge_piece(
+fn probe_piece(
     alloc: Global,
     part: Part<'_>,
     place: usize,
@@ -194,13 +194,13 @@ fn judge_piece(
 ) -> Result<Option<bool>, AllocError>
     requires { IsWork work.old × (place + len ≤ length part.bytes.now) × IsPiece part.limits.bytes (take len (drop place part.bytes.now)) }
     ensures work { IsWork work.new }
-    ensures judged { IfOk result (JudgesPiece part.entry.limits part.entry.bytes.now part.entry.is_last part.entry.at place len work.old work.new) }
+    ensures probed { IfOk result (ProbesPiece part.entry.limits part.entry.bytes.now part.entry.is_last part.entry.at place len work.old work.new) }
 {
     let Ok(document) = RawDocument::from_bytes(&part.bytes[place..place + len]) else {
         return Ok(Some(false));
     };
     let end = part.at as u128 + (place + len) as u128;
-    judge(alloc, part.limits, document, end, work)
+    probe(alloc, part.limits, document, end, work)
 }
 
 /// Whether behind so many of these bytes the input ends, or a document without damage begins.
@@ -218,6 +218,6 @@ pub fn check_behind(
         Front::End => Ok(Check::GoesOn),
         Front::NoPiece => Ok(Check::Stops),
         Front::Wants(count) => Ok(Check::Wants(count)),
-        Front::Piece(len) => Ok(told(judge_piece(alloc, part, place, len, work)?)),
+        Front::Piece(len) => Ok(told(probe_piece(alloc, part, place, len, work)?)),
     }
 }

@@ -3,7 +3,7 @@
 
 mod charge;
 mod check;
-mod judge;
+mod probe;
 mod search;
 mod work;
 

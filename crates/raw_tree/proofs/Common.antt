@@ -63,7 +63,7 @@ pub use Rattle.raw_tree.specs.reader.Reading.{AllAreReadOneWay, AreReadOneWay, F
 pub use Rattle.raw_tree.specs.reader.Reading.{IsValueReadOneWay, Reads, ReadsAs, ReadsUpTo, Sort, StandForEach, StandsFor, TellsFirstFault, as_array, as_document, leaf_in_order, tree_of_pairs}
 pub use Rattle.raw_tree.specs.reader.WithinLimits.{AllAreAnsweredOneWay, AllHaveOneDepth, Barrier, BarsFrame, BarsFront, FirstBarrier, FirstFaultWithin, HasDepth, HasDepthUpTo, IsFaultWith}
 pub use Rattle.raw_tree.specs.reader.WithinLimits.{IsGreatestDepth, IsSoDeep, ReadsWithin, SaysBarrier, TellsFirstBarrier, TellsFirstFaultWithin, fault_of, too_deep, too_many_bytes}
-pub use Rattle.raw_tree.specs.validator.Breaches.{AllAreJudgedOneWay, BreachesFrame, BreachesFront, BreachesKeys, BreachesMeaning, HasBreachAs, HasBreachUpTo, IsJudgedOneWay, keys_of_frames}
+pub use Rattle.raw_tree.specs.validator.Breaches.{AllAreValidatedOneWay, BreachesFrame, BreachesFront, BreachesKeys, BreachesMeaning, HasBreachAs, HasBreachUpTo, IsValidatedOneWay, keys_of_frames}
 pub use Rattle.raw_tree.specs.validator.References.{texts}
 pub use Rattle.raw_tree.specs.validator.Validating.{HasPassed, HoldsAs, left_of}
 pub use Rattle.raw_tree.specs.writer.Encoding.{IsEncoded, IsRefused, encoded_len, encoding, entries_bytes, entries_len, items_bytes, items_len, kind_of_tree, tree_payload}

@@ -12,8 +12,8 @@ pub use Rattle.raw_tree.proofs.reader.Limited.{read_within, answered_one_way}
 pub use Rattle.raw_tree.proofs.CanonicalForms.{canonical_form, canonical_is_own_form, one_form}
 pub use Rattle.raw_tree.proofs.Forms.{document_reads, canonical_frames_read}
 pub use Rattle.raw_tree.proofs.writer.WrittenMembers.{IsWriting, begun_at, left_in, left_with, room_left, writing_begins, writing_leaf, writing_inside, writing_done, writing_ends}
--- walks over all levels, first barriers and verdicts
-pub use Rattle.raw_tree.proofs.walk.Bounds.{barrier_bound, verdict_bound}
+-- walks over all levels, first barriers and violations
+pub use Rattle.raw_tree.proofs.walk.Bounds.{barrier_bound, violation_bound}
 pub use Rattle.raw_tree.proofs.walk.Frames.{drop_frame, frame_size, item_at, walk_over, walk_step}
 pub use Rattle.raw_tree.proofs.walk.Levels.{IsWalking, at_within, told_there}
 pub use Rattle.raw_tree.proofs.walk.Offsets.{envelope_fits}

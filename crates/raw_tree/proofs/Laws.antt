@@ -1,7 +1,7 @@
 -- What contracts say of all documents and of all arrays.
-use Rattle.raw_tree.proofs.Common.{AllAreJudgedOneWay, AllAreSpelledOneWay, AllAreReadOneWay, as_document, as_array}
+use Rattle.raw_tree.proofs.Common.{AllAreValidatedOneWay, AllAreSpelledOneWay, AllAreReadOneWay, as_document, as_array}
 use Rattle.raw_tree.proofs.Forms.{bytes_spelled_one_way}
-use Rattle.raw_tree.proofs.validator.OneBreach.{judged_one_way}
+use Rattle.raw_tree.proofs.validator.OneBreach.{validated_one_way}
 use Rattle.raw_tree.proofs.reader.OneWay.{bytes_one_way}
 
 pub documents_read : AllAreReadOneWay as_document
@@ -16,5 +16,5 @@ documents_spelled = bytes_spelled_one_way as_document
 pub arrays_spelled : AllAreSpelledOneWay as_array
 arrays_spelled = bytes_spelled_one_way as_array
 
-pub documents_judged : AllAreJudgedOneWay as_document
-documents_judged = judged_one_way as_document
+pub documents_validated : AllAreValidatedOneWay as_document
+documents_validated = validated_one_way as_document

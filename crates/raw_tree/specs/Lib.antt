@@ -17,8 +17,8 @@ pub use Rattle.raw_tree.specs.validator.IndexedKeys
 pub use Rattle.raw_tree.specs.validator.KeySets
 pub use Rattle.raw_tree.specs.validator.References
 pub use Rattle.raw_tree.specs.validator.Validating
-pub use Rattle.raw_tree.specs.validator.Judging
-pub use Rattle.raw_tree.specs.validator.Verdicts
+pub use Rattle.raw_tree.specs.validator.ValidationSteps
+pub use Rattle.raw_tree.specs.validator.Violations
 pub use Rattle.raw_tree.specs.walk.Aheads
 pub use Rattle.raw_tree.specs.walk.Barriers
 pub use Rattle.raw_tree.specs.walk.Looking

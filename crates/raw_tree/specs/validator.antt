@@ -6,5 +6,5 @@ pub mod KeyFilter
 pub mod OpenKeys
 pub mod References
 pub mod Validating
-pub mod Judging
-pub mod Verdicts
+pub mod ValidationSteps
+pub mod Violations

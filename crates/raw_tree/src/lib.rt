@@ -24,10 +24,10 @@ pub use validator::breach::{Breach, Cause};
 #[doc(hidden)]
 pub use validator::key_set::KeySet;
 pub use validator::validate;
-pub use validator::verdict::{PlacedBreach, ValidateError, validate_within};
+pub use validator::within::{PlacedBreach, ValidateError, validate_within};
 // For `raw_form` alone, which goes on from where a validation ends.
 #[doc(hidden)]
-pub use validator::verdict::{Found, judge_to_depth};
+pub use validator::within::{Found, validate_to_depth};
 pub use walk::barrier::{Barrier, BarrierKind};
 #[doc(hidden)]
 pub use walk::element::{element_at, next_element};

@@ -2,7 +2,7 @@
 #![tactic(auto)]
 
 ghost use Rattle.std.specs.Prelude.{◌≡◌, map, IfOk, IfErr, OnOk};
-ghost use Rattle.raw_tree.specs.validator.Breaches.{AllAreJudgedOneWay, TellsBreach};
+ghost use Rattle.raw_tree.specs.validator.Breaches.{AllAreValidatedOneWay, TellsBreach};
 ghost use Rattle.raw_tree.specs.CanonicalForm.{AllAreSpelledOneWay};
 ghost use Rattle.raw_tree.specs.reader.Reading.{as_document};
 ghost use Rattle.raw_view.specs.Document.{bytes_of};
@@ -12,14 +12,14 @@ pub(crate) mod breach;
 pub(crate) mod filter;
 pub(crate) mod fingerprints;
 pub(crate) mod indexed_keys;
-pub(crate) mod judge;
 pub(crate) mod key_set;
 pub(crate) mod keys_so_far;
 pub(crate) mod listed;
-pub(crate) mod verdict;
+pub(crate) mod step;
+pub(crate) mod within;
 
 use crate::validator::breach::Breach;
-use crate::validator::verdict::judge_to_depth;
+use crate::validator::within::validate_to_depth;
 use crate::walk::place::PathStep;
 use raw_view::{RawDocument, Result};
 use std::alloc::Global;
@@ -39,7 +39,7 @@ fn numbers_of(alloc: Global, steps: &[PathStep<'_>]) -> Result<Vec<usize>>
 
 /// Whether a document is canonical: `None` exactly where it is, and it then has a tree, which is written back as its
 /// own bytes; else the first place, depth first in byte order, where it fails to be, and why. At each element the key
-/// is judged first, then the value, then what is inside. The only error is out of memory. BSON 1.1, `document`.
+/// is validated first, then the value, then what is inside. The only error is out of memory. BSON 1.1, `document`.
 ///
 /// No clause says so: no tree is built, and no depth fills the stack. Memory is taken for the keys of the levels that are open,
 /// for the levels that wait and for the path.
@@ -48,14 +48,14 @@ fn numbers_of(alloc: Global, steps: &[PathStep<'_>]) -> Result<Vec<usize>>
 /// let Some(breach) = validate(alloc, document)? else { unreachable!() };
 /// assert_eq!(rt; (breach.cause, breach.path.as_slice()), (Cause::RepeatedKey, [1].as_slice()));
 /// ```
-#[tactic(auto, using(crate::proofs::Laws::documents_judged, crate::proofs::Laws::documents_spelled))]
+#[tactic(auto, using(crate::proofs::Laws::documents_validated, crate::proofs::Laws::documents_spelled))]
 pub fn validate(alloc: Global, document: RawDocument<'_>) -> Result<Option<Breach>>
     ensures breach { IfOk result (TellsBreach (bytes_of document.entry)) }
     ensures err { IfErr result IsOutOfMemory }
-    ensures one_judgement { AllAreJudgedOneWay as_document }
+    ensures one_validation { AllAreValidatedOneWay as_document }
     ensures one_spelling { AllAreSpelledOneWay as_document }
 {
-    let Some(found) = judge_to_depth(alloc, document, usize::MAX)? else {
+    let Some(found) = validate_to_depth(alloc, document, usize::MAX)? else {
         return Ok(None);
     };
     let Some(cause) = found.cause else {

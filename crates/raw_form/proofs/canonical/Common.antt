@@ -11,7 +11,7 @@ pub use Rattle.raw_form.specs.Rewriting.{AreLeftOwn, FailsFor, HasCode, IsLater,
 pub use Rattle.raw_form.specs.Staying.{AreNextOwn, AreOwnBefore, IsLeftAt, IsOwnForm, IsOwnUpTo, IsWrittenAs, end_of, last_places, put_at}
 pub use Rattle.raw_form.specs.Staying.{placed}
 pub use Rattle.raw_form.specs.Tokens.{AreInside, AreTokens, AreTokensOf, HasTokens, IsTokenOf, NestedUpTo, filled_from}
-pub use Rattle.raw_tree.specs.Verdicts.{FirstVerdictTo, JudgesFrontAt, JudgesMeaningAt, Verdict}
+pub use Rattle.raw_tree.specs.Violations.{FirstViolationTo, ValidatesFrontAt, ValidatesMeaningAt, Violation}
 pub use Rattle.raw_tree.specs.Waits.{Wait}
 pub use Rattle.raw_tree.specs.Walks.{IsAt, IsAtFinal, IsBehind, IsOpened}
 pub use Rattle.raw_tree.specs.declared.walk.faults.Start.{Start}

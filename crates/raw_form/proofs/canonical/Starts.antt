@@ -1,21 +1,21 @@
 -- A search for the first barrier may begin at the element of the outermost level that breaches or holds what breaches, and what
 -- is before that is written as it is.
 use Rattle.std.proofs.Common.{◌≡◌, ◌≢◌, ◌∙◌, ◌≤◌, ◌-◌, ◌∷◌, [], ℕ, zero, suc, List, Option, None, Some, ◌⊎◌, ◌<◌, map, slice_index_or, length, drop, arith, ap, refl, sym, length-drop}
-use Rattle.raw_form.proofs.canonical.Common.{AreFramesCanonical, AreReadBefore, BeginsAt, FirstVerdictTo, Frame, HasNoneBefore, IsAt, IsBehind, IsCanonicalUpTo, IsEnvelope, JudgesFrontAt}
-use Rattle.raw_form.proofs.canonical.Common.{JudgesMeaningAt, LeadsTo, LeadsTo-bound, Meaning, PathStep, Sort, Start, Step, Verdict, Wait, as_document, canonical_frames_read, one_frame, step_of}
+use Rattle.raw_form.proofs.canonical.Common.{AreFramesCanonical, AreReadBefore, BeginsAt, FirstViolationTo, Frame, HasNoneBefore, IsAt, IsBehind, IsCanonicalUpTo, IsEnvelope, ValidatesFrontAt}
+use Rattle.raw_form.proofs.canonical.Common.{ValidatesMeaningAt, LeadsTo, LeadsTo-bound, Meaning, PathStep, Sort, Start, Step, Violation, Wait, as_document, canonical_frames_read, one_frame, step_of}
 use Rattle.raw_form.proofs.canonical.Common.{steps_of}
-use Rattle.raw_tree.specs.Judging.{TellsFound, TellsOutermost, verdict_of}
+use Rattle.raw_tree.specs.ValidationSteps.{TellsFound, TellsOutermost, violation_of}
 use Rattle.raw_form.specs.Staying.{TellsStart}
-use Rattle.raw_tree.specs.declared.validator.verdict.Found.{Found}
+use Rattle.raw_tree.specs.declared.validator.within.Found.{Found}
 use Rattle.raw_form.proofs.rewritten.KnownFrames.{known_to, known_to_first}
 
-module _ (P : Sort → List ℕ → Type 0) (N : Sort → List ℕ → Verdict → List Step → ℕ → Type 0) where
-  meaning_begins : (b s : List ℕ) (step here : Step) (more : List Step) (q : List ℕ) (m : Meaning) (x : Verdict) (offset : ℕ)
-      → JudgesMeaningAt P N b s step q m x (here ∷ more) offset → here.number ≡ step.number
+module _ (P : Sort → List ℕ → Type 0) (N : Sort → List ℕ → Violation → List Step → ℕ → Type 0) where
+  meaning_begins : (b s : List ℕ) (step here : Step) (more : List Step) (q : List ℕ) (m : Meaning) (x : Violation) (offset : ℕ)
+      → ValidatesMeaningAt P N b s step q m x (here ∷ more) offset → here.number ≡ step.number
   meaning_begins b s step here more q m x offset h = grind arith
 
-  front_begins : (sort : Sort) (keys : List (List ℕ)) (b s : List ℕ) (number : ℕ) (here : Step) (more : List Step) (x : Verdict) (offset : ℕ)
-      → JudgesFrontAt P N sort keys b s number x (here ∷ more) offset → here.number ≡ number
+  front_begins : (sort : Sort) (keys : List (List ℕ)) (b s : List ℕ) (number : ℕ) (here : Step) (more : List Step) (x : Violation) (offset : ℕ)
+      → ValidatesFrontAt P N sort keys b s number x (here ∷ more) offset → here.number ≡ number
   front_begins sort keys b s number here more x offset h = grind (arith, meaning_begins)
 
 -- so many frames of the document b are canonical, within so many levels
@@ -26,11 +26,11 @@ record AreCanonicalBefore (inside : ℕ) (b : List ℕ) (number : ℕ) : Type 0 
   pub each : AreFramesCanonical (IsCanonicalUpTo inside) frames
   pub number_is : number ≡ length frames
 
--- those before the element of the outermost level that has the verdict, or holds what has it
-verdict_begins : (n : ℕ) (b : List ℕ) (here : Step) (more : List Step) (x : Verdict) (offset : ℕ) → FirstVerdictTo (suc n) as_document b x (here ∷ more) offset
+-- those before the element of the outermost level that has the violation, or holds what has it
+violation_begins : (n : ℕ) (b : List ℕ) (here : Step) (more : List Step) (x : Violation) (offset : ℕ) → FirstViolationTo (suc n) as_document b x (here ∷ more) offset
     → AreCanonicalBefore n b here.number
-verdict_begins n b here more x offset (passed, s, reaches, keys, canonical, front) =
-    let number = front_begins (IsCanonicalUpTo n) (FirstVerdictTo n) as_document _ b s (length passed) here more x offset front in
+violation_begins n b here more x offset (passed, s, reaches, keys, canonical, front) =
+    let number = front_begins (IsCanonicalUpTo n) (FirstViolationTo n) as_document _ b s (length passed) here more x offset front in
     record { frames = passed; s = s; reaches = reaches; each = canonical; number_is = number }
 
 -- no barrier is before that element, and what is before it is written as it is
@@ -61,7 +61,7 @@ found_begins zero b found (p ∷ path) start told outermost same some number off
     cc
 found_begins (suc n) b found (p ∷ path) start told outermost same some number offset enough =
     let steps : steps_of found.place ≡ step_of p ∷ map step_of path = sym (ap (map step_of) same) in
-    let is : AreCanonicalBefore n b p.number = verdict_begins n b (step_of p) (map step_of path) (verdict_of found.cause) found.place.offset (rw steps at told) in
+    let is : AreCanonicalBefore n b p.number = violation_begins n b (step_of p) (map step_of path) (violation_of found.cause) found.place.offset (rw steps at told) in
     let here : AreCanonicalBefore n b start.number = rw number is in
     let there : IsBehind b p.number found.outermost = rw steps at outermost in
     let left = led_same (drop 4 b) there.frames here.frames there.s here.s there.reaches here.reaches (omega (arith, there.number_is, here.number_is, number)) in

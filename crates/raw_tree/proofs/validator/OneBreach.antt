@@ -1,12 +1,12 @@
 -- Bytes are canonical or have one first breach, and never both.
 use Rattle.std.proofs.Common.{◌≡◌, inl, inr, ◌++◌, ◌∷◌, [], ℕ, zero, suc, List, Option, None, Some, length, drop, ap, refl, sym, ◌∙◌, arith}
-use Rattle.raw_tree.proofs.Common.{BreachesFrame, BreachesMeaning, Cause, Fault, Frame, HasBreachUpTo, IsCanonicalAs, IsCanonicalUpTo, IsEnvelope, IsJudgedOneWay, IsStop, IsValueCanonical, Meaning}
+use Rattle.raw_tree.proofs.Common.{BreachesFrame, BreachesMeaning, Cause, Fault, Frame, HasBreachUpTo, IsCanonicalAs, IsCanonicalUpTo, IsEnvelope, IsValidatedOneWay, IsStop, IsValueCanonical, Meaning}
 use Rattle.raw_tree.proofs.Common.{RawValue, Sort, keys_of_frames, value}
 use Rattle.raw_view.proofs.Face.{one_meaning}
 use Rattle.raw_tree.specs.declared.validator.breach.Cause.TheVariants as cause
 use Rattle.raw_tree.proofs.validator.EitherWay.{either_way}
 use Rattle.raw_tree.proofs.validator.LevelKeys.{key_nor_breach}
-use Rattle.raw_tree.proofs.validator.OneVerdict.{AreCanonical, IsAmong, among, one_of_keys}
+use Rattle.raw_tree.proofs.validator.OneViolation.{AreCanonical, IsAmong, among, one_of_keys}
 use Rattle.raw_tree.proofs.walk.OneEnd.{IsEnd, nor_both, one_end, one_some, walk_leads}
 use Rattle.raw_tree.proofs.Returns.{frames_canonical_on}
 
@@ -90,8 +90,8 @@ one_breach zero (suc m) sort b None y h g = one_deeper 0 m (one_breach zero m) s
 one_breach (suc n) zero sort b x None h g = one_deeper n 0 (one_breach n zero) sort b x None h g
 one_breach (suc n) (suc m) sort b x y h g = one_deeper n m (one_breach n m) sort b x y h g
 
-pub judged_one_way : (sort : Sort) (b : List ℕ) → IsEnvelope b → IsJudgedOneWay sort b
-judged_one_way sort b env = record {
+pub validated_one_way : (sort : Sort) (b : List ℕ) → IsEnvelope b → IsValidatedOneWay sort b
+validated_one_way sort b env = record {
   either = either_way sort b env;
   not_both = λ path why h. apart h.0 0 (one_breach h.0 0) sort b path why h.1;
   one_breach = λ path other why cause h g. one_nested h.0 g.0 (one_breach h.0 g.0) sort b path other why cause h.1 g.1;

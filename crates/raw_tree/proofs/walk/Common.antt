@@ -1,9 +1,9 @@
--- The names of definitions that most proofs on walks and verdicts cite, passed on from one place. It declares nothing.
-pub use Rattle.raw_tree.specs.declared.validator.judge.Judged.{Judged}
+-- The names of definitions that most proofs on walks and violations cite, passed on from one place. It declares nothing.
+pub use Rattle.raw_tree.specs.declared.validator.step.Validated.{Validated}
 pub use Rattle.raw_tree.specs.declared.validator.keys_so_far.KeysSoFar.{KeysSoFar}
-pub use Rattle.raw_tree.specs.declared.validator.verdict.Found.{Found}
-pub use Rattle.raw_tree.specs.declared.validator.verdict.PlacedBreach.{PlacedBreach}
-pub use Rattle.raw_tree.specs.declared.validator.verdict.ValidateError.{ValidateError}
+pub use Rattle.raw_tree.specs.declared.validator.within.Found.{Found}
+pub use Rattle.raw_tree.specs.declared.validator.within.PlacedBreach.{PlacedBreach}
+pub use Rattle.raw_tree.specs.declared.validator.within.ValidateError.{ValidateError}
 pub use Rattle.raw_tree.specs.declared.walk.Walk.{Walk}
 pub use Rattle.raw_tree.specs.declared.walk.WalkError.{WalkError}
 pub use Rattle.raw_tree.specs.declared.walk.barrier.Barrier.{Barrier}
@@ -12,11 +12,11 @@ pub use Rattle.raw_tree.specs.declared.walk.level.Level.{Level}
 pub use Rattle.raw_tree.specs.declared.walk.level.Waiting.{Waiting}
 pub use Rattle.raw_tree.specs.declared.walk.place.PathStep.{PathStep}
 pub use Rattle.raw_tree.specs.declared.walk.place.Place.{Place}
-pub use Rattle.raw_tree.specs.validator.Judging.{BreachesHere, BreachesItself, EndsTooDeep, HoldsAsTold, IsSingleWith, Judges, TellsFound, TellsJudged, TellsOutermost, array_sort, first_number}
-pub use Rattle.raw_tree.specs.validator.Judging.{verdict_of}
+pub use Rattle.raw_tree.specs.validator.ValidationSteps.{BreachesHere, BreachesItself, EndsTooDeep, HoldsAsTold, IsSingleWith, Validates, TellsFound, TellsValidated, TellsOutermost, array_sort, first_number}
+pub use Rattle.raw_tree.specs.validator.ValidationSteps.{violation_of}
 pub use Rattle.raw_tree.specs.validator.OpenKeys.{AreOpenKeys, HasKeysSoFar, LeavesOpenKeys, TellsOpenKey}
-pub use Rattle.raw_tree.specs.validator.Verdicts.{AllAreJudgedOneWayWithin, FirstVerdict, FirstVerdictTo, IsCanonicalWithin, JudgesFrameAt, JudgesFrontAt, JudgesMeaningAt, JudgesNestedAt}
-pub use Rattle.raw_tree.specs.validator.Verdicts.{TellsVerdict, Verdict, breach_of}
+pub use Rattle.raw_tree.specs.validator.Violations.{AllAreValidatedOneWayWithin, FirstViolation, FirstViolationTo, IsCanonicalWithin, ValidatesFrameAt, ValidatesFrontAt, ValidatesMeaningAt, ValidatesNestedAt}
+pub use Rattle.raw_tree.specs.validator.Violations.{TellsViolation, Violation, breach_of}
 pub use Rattle.raw_tree.specs.walk.Barriers.{IsBarrier, TellsBarrier, TellsBarrierWithin, step_of, steps_of}
 pub use Rattle.raw_tree.specs.walk.Looking.{AreReadBefore, FailsAt, HasNoneBefore, HasValue, HoldsNone, Looks, Sees, TakesFrame, size_of, step_at}
 pub use Rattle.raw_tree.specs.walk.Places.{AllAreBarredAtOnePlace, BarsFrameAt, BarsFrontAt, BeginsAt, FirstBarrierAt, FirstFaultAt, IsLastStep, IsOffsetOf, Step, last_key}

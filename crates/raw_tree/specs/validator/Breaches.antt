@@ -34,7 +34,7 @@ module _ (Nested : Sort → List ℕ → List ℕ → Cause → Type 0) where
   BreachesMeaning (value (raw.array d)) path why = Nested as_array d path why
   BreachesMeaning (value (raw.scoped code d)) path why = Nested as_document d path why
 
-  -- a frame behind frames with these keys has this breach: its key is judged first, and then what it means
+  -- a frame behind frames with these keys has this breach: its key is validated first, and then what it means
   abbrev pub BreachesFrame : Sort → List (List ℕ) → Frame → List ℕ → Cause → Type 0
   BreachesFrame sort keys f path why =
       (BreachesKeys sort keys f.key why × (path ≡ []))
@@ -80,11 +80,11 @@ TellsBreach b None = IsCanonical b
 TellsBreach b (Some breach) = HasBreach b breach
 
 -- bytes are canonical or have a first breach, never both, and no other breach is their first
-pub record IsJudgedOneWay (sort : Sort) (b : List ℕ) : Type 0 where
+pub record IsValidatedOneWay (sort : Sort) (b : List ℕ) : Type 0 where
   pub either : IsCanonicalAs sort b ⊎ ((path : List ℕ) × (why : Cause) × HasBreachAs sort b path why)
   pub not_both : (path : List ℕ) (why : Cause) → HasBreachAs sort b path why → ¬ IsCanonicalAs sort b
   pub one_breach : (path other_path : List ℕ) (why other_why : Cause) → HasBreachAs sort b path why → HasBreachAs sort b other_path other_why → (other_path ≡ path) × (other_why ≡ why)
 
 -- so it is of all bytes with an envelope
-abbrev pub AllAreJudgedOneWay : Sort → Type 0
-AllAreJudgedOneWay sort = (b : List ℕ) → IsEnvelope b → IsJudgedOneWay sort b
+abbrev pub AllAreValidatedOneWay : Sort → Type 0
+AllAreValidatedOneWay sort = (b : List ℕ) → IsEnvelope b → IsValidatedOneWay sort b

@@ -1,4 +1,4 @@
--- The keys of a level that is judged. No public contract cites this file.
+-- The keys of a level that is validated. No public contract cites this file.
 use Rattle.std.specs.Prelude.{◌≡◌, ◌++◌, ◌∷◌, [], ℕ, List, Option, None, Some, length}
 use denote.Ref.{Bor}
 use Rattle.raw_tree.specs.Canonical.{AreKeysCanonical}

@@ -1,4 +1,4 @@
-//! The keys of a level that is judged.
+//! The keys of a level that is validated.
 #![tactic(auto)]
 
 ghost use Rattle.std.specs.Prelude.{◌≡◌, ◌↔◌, [], decimal, IsTrue, IfOk, IfErr};
@@ -13,7 +13,7 @@ use itoa::Buffer;
 use raw_view::Result;
 use std::alloc::Global;
 
-/// The keys of a level whose elements are judged one after the other.
+/// The keys of a level whose elements are validated one after the other.
 #[derive(Drop)]
 pub(crate) enum KeysSoFar<'a> {
     /// those of an array, which are known by their number, and take no place in the list
@@ -30,14 +30,14 @@ fn is_decimal(key: &str, number: usize) -> bool
 }
 
 impl<'a> KeysSoFar<'a> {
-    /// Those of a document of which no element is judged.
+    /// Those of a document of which no element is validated.
     pub(crate) fn of_document(listed: &[&'a str]) -> KeysSoFar<'a>
         ensures { HasKeysSoFar result listed.now as_document (texts listed.now) [] }
     {
         KeysSoFar::Distinct(KeySet::behind(listed))
     }
 
-    /// Those of an array of which no element is judged.
+    /// Those of an array of which no element is validated.
     pub(crate) fn of_array(listed: &[&'a str]) -> KeysSoFar<'a>
         ensures { HasKeysSoFar result listed.now as_array (texts listed.now) [] }
     {

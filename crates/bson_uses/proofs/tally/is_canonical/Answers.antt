@@ -6,11 +6,11 @@ use Rattle.bson_uses.proofs.tally.is_canonical.Goals as goal
 pub returns-in-Ok-Some-clause-told : goal.returns-in-Ok-Some-clause-told
 returns-in-Ok-Some-clause-told c = (
   λ never. let bad : false ≡ true = never in cc,
-  λ canonical. absurd (breach_not_canonical (bytes_of c.args.document) c.in-Ok-Some.ensures.one_verdict c.in-Ok-Some.ensures.verdict c.in-Ok-Some.field-0-is canonical),
+  λ canonical. absurd (breach_not_canonical (bytes_of c.args.document) c.in-Ok-Some.ensures.one_violation c.in-Ok-Some.ensures.violation c.in-Ok-Some.field-0-is canonical),
 )
 
 pub returns-in-Err-TooDeep-clause-told : goal.returns-in-Err-TooDeep-clause-told
 returns-in-Err-TooDeep-clause-told c = (
   λ never. let bad : false ≡ true = never in cc,
-  λ canonical. absurd (too_deep_not_canonical (bytes_of c.args.document) c.in-Err-TooDeep.ensures.one_verdict c.in-Err-TooDeep.ensures.verdict c.in-Err-TooDeep.field-0-is canonical),
+  λ canonical. absurd (too_deep_not_canonical (bytes_of c.args.document) c.in-Err-TooDeep.ensures.one_violation c.in-Err-TooDeep.ensures.violation c.in-Err-TooDeep.field-0-is canonical),
 )

@@ -10,8 +10,8 @@ pub returns-in-Ok-Some : goal.returns-in-Ok-Some
 returns-in-Ok-Some c =
     let b = bytes_of c.as_ref.result in
     let breach : HasBreach b c.in-Ok-Some.breach = subst (TellsBreach b) c.in-Ok-Some.field-0-is c.in-Ok-Some.ensures.breach in
-    let judged = c.in-Ok-Some.ensures.one_judgement b c.as_ref.result.envelope in (
-      λ canonical. judged.not_both c.in-Ok-Some.breach.path.items c.in-Ok-Some.breach.cause breach (subst IsCanonical (sym c.as_ref.ensures) canonical),
+    let validated = c.in-Ok-Some.ensures.one_validation b c.as_ref.result.envelope in (
+      λ canonical. validated.not_both c.in-Ok-Some.breach.path.items c.in-Ok-Some.breach.cause breach (subst IsCanonical (sym c.as_ref.ensures) canonical),
       subst (λ (x : List ℕ). HasBreach x c.in-Ok-Some.breach) c.as_ref.ensures breach,
       refl,
     )

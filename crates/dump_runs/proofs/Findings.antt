@@ -6,7 +6,7 @@ use Rattle.raw_tree.proofs.Face.{document_reads, read_within}
 use Rattle.raw_resync.specs.Resync.{IsSound}
 use Rattle.dump_input.specs.Cut.{IsPiece}
 use Rattle.dump_lines.specs.Find.{Account, Finds, MayBeDamaged}
-use Rattle.dump_runs.specs.Judging.{FindsFor}
+use Rattle.dump_runs.specs.Findings.{FindsFor}
 use Rattle.dump_runs.specs.declared.command.Command.{Command}
 use Rattle.dump_runs.specs.declared.command.Command.TheVariants as command
 use Rattle.dump_lines.specs.declared.find.Finding.{Finding}
@@ -19,15 +19,15 @@ finds_sound {limits} b finding.Canonical told piece (envelope, (few, canonical),
 finds_sound b finding.Breached told piece (envelope, (tree, reads), first) clean = record { piece = piece; envelope = envelope; tree = tree; reads = reads }
 finds_sound b finding.Damaged told piece found clean = absurd (clean (inl refl))
 finds_sound b finding.TooDeep told piece found clean = absurd (clean (inr (inl refl)))
-finds_sound b finding.Unjudged told piece found clean = absurd found
+finds_sound b finding.Unvalidated told piece found clean = absurd found
 
-pub judges_sound : {limits : Limits} (c : Command) (b : List ℕ) (f : Finding) (told : Option Account) → IsPiece limits.bytes b → FindsFor limits c b f told → ¬ MayBeDamaged f → IsSound limits b
-judges_sound command.Count b f told piece found clean = absurd (clean (inr (inr found.0)))
-judges_sound command.Check b f told piece found clean = finds_sound b f told piece found clean
-judges_sound command.List b f told piece found clean = finds_sound b f told piece found clean
-judges_sound command.Canon b f told piece found clean = finds_sound b f told piece found clean
-judges_sound command.Sound b f told piece found clean = finds_sound b f told piece found clean
-judges_sound command.Fields b f told piece found clean = finds_sound b f told piece found clean
-judges_sound (command.Unique spelling) b f told piece found clean = finds_sound b f told piece found clean
-judges_sound (command.Json style) b f told piece found clean = finds_sound b f told piece found clean
-judges_sound (command.Pick picking) b f told piece found clean = finds_sound b f told piece found clean
+pub finds_sound : {limits : Limits} (c : Command) (b : List ℕ) (f : Finding) (told : Option Account) → IsPiece limits.bytes b → FindsFor limits c b f told → ¬ MayBeDamaged f → IsSound limits b
+finds_sound command.Count b f told piece found clean = absurd (clean (inr (inr found.0)))
+finds_sound command.Check b f told piece found clean = finds_sound b f told piece found clean
+finds_sound command.List b f told piece found clean = finds_sound b f told piece found clean
+finds_sound command.Canon b f told piece found clean = finds_sound b f told piece found clean
+finds_sound command.Sound b f told piece found clean = finds_sound b f told piece found clean
+finds_sound command.Fields b f told piece found clean = finds_sound b f told piece found clean
+finds_sound (command.Unique spelling) b f told piece found clean = finds_sound b f told piece found clean
+finds_sound (command.Json style) b f told piece found clean = finds_sound b f told piece found clean
+finds_sound (command.Pick picking) b f told piece found clean = finds_sound b f told piece found clean

@@ -9,5 +9,5 @@ use Rattle.dump_lines.specs.Find.{Account, Finds}
 
 -- what a command finds in a piece b, and what is told of it: count judges none
 abbrev pub FindsFor : Limits → Command → List ℕ → Finding → Option Account → Type 0
-FindsFor limits command.Count b found told = (found ≡ finding.Unjudged) × (told ≡ None)
+FindsFor limits command.Count b found told = (found ≡ finding.Unvalidated) × (told ≡ None)
 FindsFor limits _ b found told = Finds limits b found told

@@ -4,7 +4,7 @@
 ghost use Rattle.std.specs.Prelude.{◌≡◌, ◌≤◌, ◌<◌, ◌^◌, IfOk, length};
 ghost use Rattle.raw_view.specs.Document.{bytes_of};
 ghost use Rattle.raw_resync.specs.Pieces.{IsPiece};
-ghost use Rattle.raw_resync.specs.Seeking.{IsJudged, IsWork, JudgesOrLeaves};
+ghost use Rattle.raw_resync.specs.Seeking.{IsProbed, IsWork, ProbesOrLeaves};
 
 use crate::charge::looked_at;
 use crate::work::Work;
@@ -17,7 +17,7 @@ const MOST_FOR_EACH: u128 = 8;
 
 /// Whether a piece that ends at this offset of the input is a document without damage; `None` where it could cost too much
 /// to know.
-pub(crate) fn judge(
+pub(crate) fn probe(
     alloc: Global,
     limits: Limits,
     document: RawDocument<'_>,
@@ -26,41 +26,37 @@ pub(crate) fn judge(
 ) -> Result<Option<bool>, AllocError>
     requires { IsPiece limits.bytes (bytes_of document) × IsWork work.old × (end < 2 ^ 66) }
     ensures work { IsWork work.new }
-    ensures judged { IfOk result (JudgesOrLeaves limits (bytes_of document.entry) end work.old work.new) }
+    ensures probed { IfOk result (ProbesOrLeaves limits (bytes_of document.entry) end work.old work.new) }
 {
     let len = document.as_bytes().len() as u128;
     let reach = work.reach.max(end);
     if MOST_FOR_EACH * reach <= work.spent + len {
         return Ok(None);
     }
-    let verdict = verdict_on(alloc, limits, document)?;
+    let probed = probed_on(alloc, limits, document)?;
     work.reach = reach;
-    work.spent += verdict.cost as u128;
-    Ok(Some(verdict.is_sound))
+    work.spent += probed.cost as u128;
+    Ok(Some(probed.is_sound))
 }
 
 /// Whether a document is without damage, and what is charged for that.
 #[derive(Clone, Copy)]
-struct Verdict {
+struct Probed {
     is_sound: bool,
     cost: usize,
 }
 
-fn verdict_on(
-    alloc: Global,
-    limits: Limits,
-    document: RawDocument<'_>,
-) -> Result<Verdict, AllocError>
+fn probed_on(alloc: Global, limits: Limits, document: RawDocument<'_>) -> Result<Probed, AllocError>
     requires { IsPiece limits.bytes (bytes_of document) }
-    ensures judged { IfOk result (λ verdict. IsJudged limits (bytes_of document.entry) verdict.is_sound verdict.cost) }
-    ensures within { IfOk result (λ verdict. verdict.cost ≤ length (bytes_of document.entry)) }
+    ensures probed { IfOk result (λ probed. IsProbed limits (bytes_of document.entry) probed.is_sound probed.cost) }
+    ensures within { IfOk result (λ probed. probed.cost ≤ length (bytes_of document.entry)) }
 {
     match first_fault_within(alloc, document, limits) {
-        Ok(None) => Ok(Verdict {
+        Ok(None) => Ok(Probed {
             is_sound: true,
             cost: document.as_bytes().len(),
         }),
-        Ok(Some(barrier)) => Ok(Verdict {
+        Ok(Some(barrier)) => Ok(Probed {
             is_sound: false,
             cost: barrier.place.offset + looked_at(document, &barrier),
         }),

@@ -3,22 +3,23 @@ use Rattle.std.proofs.Common.{◌≡◌, ◌∙◌, ◌≤◌, ◌<◌, ◌+◌,
 use Rattle.std.proofs.lemmas.List.{same_from_push}
 use Rattle.std.proofs.lemmas.Simd.{map-map}
 use Rattle.raw_tree.proofs.Common.{Cause, IsCanonicalUpTo, RawElement, RawValue, as_document, bytes_of, frame_of, keys_of_frames, left_of, length-map, map-append, texts}
-use Rattle.raw_tree.proofs.walk.Common.{AreLinked, AreOpenKeys, FirstVerdictTo, HasKeysSoFar, HoldsNone, IsAt, IsOpened, IsSingleWith, Judged, Judges, KeysSoFar, LeavesOpenKeys, Level, Looks}
-use Rattle.raw_tree.proofs.walk.Common.{RawDocument, Step, StoreEach, TellsJudged, Verdict, Wait, Walk, array_sort, breach_of, option_copied, size_of, step_at, whole_span}
+use Rattle.raw_tree.proofs.walk.Common.{AreLinked, AreOpenKeys, FirstViolationTo, HasKeysSoFar, HoldsNone, IsAt, IsOpened, IsSingleWith, Validated, Validates, KeysSoFar, LeavesOpenKeys, Level, Looks}
+use Rattle.raw_tree.proofs.walk.Common.{RawDocument, Step, StoreEach, TellsValidated, Violation, Wait, Walk, array_sort, breach_of, option_copied, size_of, step_at, whole_span}
 use Rattle.raw_view.specs.Meaning as raw
 use Rattle.raw_view.proofs.Face.{LeadsTo-bound}
-use Rattle.raw_tree.specs.validator.Verdicts.{too_deep}
-use Rattle.raw_tree.specs.declared.validator.judge.Judged.TheVariants as judged
+use Rattle.raw_tree.specs.validator.Violations.{too_deep}
+use Rattle.raw_tree.specs.declared.validator.step.Validated.TheVariants as validated
 use Rattle.raw_tree.specs.walk.Aheads.{Ahead}
 use Rattle.raw_tree.specs.walk.Aheads as next
-use Rattle.raw_tree.proofs.validator.JudgedLevels.{WaitsBehind, IsHeld, IsInFront, IsJudged, IsJudgedThere, Keyed, begun, held_judged, numbered, passed_breach, passed_deep, passed_end, passed_inside, passed_whole, resumed}
+use Rattle.raw_tree.proofs.validator.ValidatedLevels.{WaitsBehind, IsHeld, IsInFront, IsValidated, IsValidatedThere, Keyed, begun, held_validated, numbered, passed_breach, passed_deep, passed_end, passed_inside, passed_whole, resumed}
 use Rattle.raw_tree.proofs.walk.Levels.{IsWalking, at_inside, at_inside_size, at_whole, at_whole_size, waiting_then}
 use Rattle.raw_tree.proofs.walk.Linked.{IsOutward, last_link, none_linked, outward}
 use Rattle.raw_tree.proofs.walk.Passed.{as_held}
 
--- the levels are those that first faults are looked for in; and the innermost judges some bytes, for which the others wait,
+-- the levels are those that first faults are looked for in; and the innermost validates some bytes, for which the others wait,
 -- with their keys
-pub record IsJudgedAt (depth : ℕ) (b : List ℕ) (ws : List Wait) (ks : List KeysSoFar) (listed : List (Bor (List ℕ))) (left : Option (List ℕ)) (number offset start : ℕ) (k : KeysSoFar) : Type 0 where
+pub record IsValidatedAt (depth : ℕ) (b : List ℕ) (ws : List Wait) (ks : List KeysSoFar) (listed : List (Bor (List ℕ))) (left : Option (List ℕ)) (number offset start : ℕ)
+    (k : KeysSoFar) : Type 0 where
   pub at : IsAt depth b ws left number offset start
   pub inside : ℕ
   pub many : ℕ
@@ -27,25 +28,25 @@ pub record IsJudgedAt (depth : ℕ) (b : List ℕ) (ws : List Wait) (ks : List K
   pub waits_are : ws ≡ map (λ (w : Wait × KeysSoFar). w.0) waits
   pub keys_are : ks ≡ map (λ (w : Wait × KeysSoFar). w.1) waits
   pub held : AreLinked IsHeld many inside (record { span = whole_span b; below = [] }) waits here
-  pub is : IsJudged inside here listed left number k
+  pub is : IsValidated inside here listed left number k
   pub levels : suc (length waits + inside) ≡ depth
   pub begins : offset + left_of left ≡ here.span.end
 
--- what is judged is ahead of a level
-abbrev pub IsAhead : (Ahead → Type 0) → Judged → Type 0
-IsAhead P (judged.Whole e) = P (next.Whole e)
-IsAhead P (judged.Inside e inner is_array) = P (next.Inside e inner)
-IsAhead P judged.End = P next.End
-IsAhead P (judged.Breach key why) = Unit {0}
+-- what is validated is ahead of a level
+abbrev pub IsAhead : (Ahead → Type 0) → Validated → Type 0
+IsAhead P (validated.Whole e) = P (next.Whole e)
+IsAhead P (validated.Inside e inner is_array) = P (next.Inside e inner)
+IsAhead P validated.End = P next.End
+IsAhead P (validated.Breach key why) = Unit {0}
 
 holds_none : (v : RawValue) → IsSingleWith (λ A. A) v → HoldsNone v
 holds_none v h d k = grind arith
 
-pub judged_begin : {depth : ℕ} {b : List ℕ} {left : Option (List ℕ)} {number offset start : ℕ} (most : ℕ) (ks : List KeysSoFar) (listed : List (Bor (List ℕ)))
+pub validated_begin : {depth : ℕ} {b : List ℕ} {left : Option (List ℕ)} {number offset start : ℕ} (most : ℕ) (ks : List KeysSoFar) (listed : List (Bor (List ℕ)))
     (k : KeysSoFar) → IsAt depth b [] left number offset start → suc most ≡ depth → ks ≡ [] → listed ≡ []
     → left ≡ Some (drop 4 b) → number ≡ 0 → offset + length (drop 4 b) ≡ length b → HasKeysSoFar k listed as_document (texts listed) []
-    → IsJudgedAt depth b [] ks listed left number offset start k
-judged_begin {b = b} {left = left} {number = number} most ks listed k at whole no_keys empty e first begins has =
+    → IsValidatedAt depth b [] ks listed left number offset start k
+validated_begin {b = b} {left = left} {number = number} most ks listed k at whole no_keys empty e first begins has =
     let here : Keyed = record { span = whole_span b; below = [] } in
     record {
       at = at;
@@ -62,7 +63,7 @@ judged_begin {b = b} {left = left} {number = number} most ks listed k at whole n
     }
 
 module _ {depth : ℕ} {b : List ℕ} {ws : List Wait} {ks : List KeysSoFar} {listed : List (Bor (List ℕ))} {left : Option (List ℕ)} {number offset start : ℕ}
-    {k : KeysSoFar} (at : IsJudgedAt depth b ws ks listed left number offset start k) where
+    {k : KeysSoFar} (at : IsValidatedAt depth b ws ks listed left number offset start k) where
   waits_many : length ws ≡ length at.waits
   waits_many = ap length at.waits_are ∙ length-map at.waits (λ (w : Wait × KeysSoFar). w.0)
 
@@ -74,22 +75,22 @@ module _ {depth : ℕ} {b : List ℕ} {ws : List Wait} {ks : List KeysSoFar} {li
   open_keys = (at.here.span.sort, at.here.below, keys_of_frames at.is.frames, at.is.keys, at.is.keys_canonical)
 
   -- what is told of this level
-  abbrev pub Told : Option (List ℕ) → KeysSoFar → List (Bor (List ℕ)) → Judged → Type 0
-  Told new i after answer = TellsJudged at.here.span.sort at.here.below (keys_of_frames at.is.frames) at.is.rest new i after answer
+  abbrev pub Told : Option (List ℕ) → KeysSoFar → List (Bor (List ℕ)) → Validated → Type 0
+  Told new i after answer = TellsValidated at.here.span.sort at.here.below (keys_of_frames at.is.frames) at.is.rest new i after answer
 
-  pub told : (new : Option (List ℕ)) (i : KeysSoFar) (after : List (Bor (List ℕ))) (answer : Judged) → Judges left k listed number new i after answer → Told new i after answer
-  told new i after answer judges =
-      subst (λ (x : Option (List ℕ)). Judges x k listed number new i after answer) at.is.left_is judges at.here.span.sort at.here.below
+  pub told : (new : Option (List ℕ)) (i : KeysSoFar) (after : List (Bor (List ℕ))) (answer : Validated) → Validates left k listed number new i after answer → Told new i after answer
+  told new i after answer validates =
+      subst (λ (x : Option (List ℕ)). Validates x k listed number new i after answer) at.is.left_is validates at.here.span.sort at.here.below
       (keys_of_frames at.is.frames) at.is.keys at.is.keys_canonical (numbered at.is)
 
-  -- a verdict in front of what is left of the innermost level is that on b, at the offset of what is left
-  front_outward : (x : Verdict) (step : Step) → IsInFront at.inside at.here.span left x step → FirstVerdictTo depth as_document b x (map step_at ws ++ step ∷ []) offset
-  front_outward x step judges =
+  -- a violation in front of what is left of the innermost level is that on b, at the offset of what is left
+  front_outward : (x : Violation) (step : Step) → IsInFront at.inside at.here.span left x step → FirstViolationTo depth as_document b x (map step_at ws ++ step ∷ []) offset
+  front_outward x step validates =
       let there : length at.here.span.bytes - left_of left + left_of left ≡ length at.here.span.bytes = omega (arith, ends) in
-      let told : IsOutward IsHeld (IsJudgedThere x offset) (λ (w : Wait × KeysSoFar). step_at w.0) = record { out = held_judged x offset } in
+      let told : IsOutward IsHeld (IsValidatedThere x offset) (λ (w : Wait × KeysSoFar). step_at w.0) = record { out = held_validated x offset } in
       let (u, is, far) = outward told at.many at.inside depth
       (record { span = whole_span b; below = [] }) at.waits at.here step [] at.levels at.held
-      (length at.here.span.bytes - left_of left, judges (length at.here.span.bytes - left_of left) there, omega (arith, there, at.begins)) in
+      (length at.here.span.bytes - left_of left, validates (length at.here.span.bytes - left_of left) there, omega (arith, there, at.begins)) in
       let same : offset ≡ u = omega (arith, far) in
       rw (same, at.waits_are, map-map step_at (λ (w : Wait × KeysSoFar). w.0) at.waits) is
     where
@@ -97,16 +98,17 @@ module _ {depth : ℕ} {b : List ℕ} {ws : List Wait} {ks : List KeysSoFar} {li
       ends = rw (at.is.left_is) (omega (arith, LeadsTo-bound (drop 4 at.here.span.bytes) at.is.frames at.is.rest at.is.reaches, length-drop 4 at.here.span.bytes))
 
   module _ (new : Option (List ℕ)) (i : KeysSoFar) (after : List (Bor (List ℕ))) where
-    pub looks : (answer : Judged) → Told new i after answer → IsAhead (Looks left new) answer
-    looks (judged.Whole e) (r, v, frame, m, new_is, has, more, single) = rw (at.is.left_is) (r, v, frame, m, holds_none v single, new_is)
-    looks (judged.Inside e inner is_array) (r, v, frame, m, new_is, has, more, holds) =
+    pub looks : (answer : Validated) → Told new i after answer → IsAhead (Looks left new) answer
+    looks (validated.Whole e) (r, v, frame, m, new_is, has, more, single) = rw (at.is.left_is) (r, v, frame, m, holds_none v single, new_is)
+    looks (validated.Inside e inner is_array) (r, v, frame, m, new_is, has, more, holds) =
         rw (at.is.left_is) (r, v, frame, m, as_held v (array_sort is_array) (bytes_of inner) holds, new_is)
-    looks judged.End h = rw (at.is.left_is) (h.0)
-    looks (judged.Breach key why) h = tt
+    looks validated.End h = rw (at.is.left_is) (h.0)
+    looks (validated.Breach key why) h = tt
 
-    pub judged_whole : (e : RawElement) (behind : ℕ) → Told new i after (judged.Whole e) → behind ≡ offset + size_of (frame_of e) → IsJudgedAt depth b ws ks after new (number + 1) behind start i
-    judged_whole e behind h far =
-        let saw = looks (judged.Whole e) h in
+    pub validated_whole : (e : RawElement) (behind : ℕ) → Told new i after (validated.Whole e) → behind ≡ offset + size_of (frame_of e)
+        → IsValidatedAt depth b ws ks after new (number + 1) behind start i
+    validated_whole e behind h far =
+        let saw = looks (validated.Whole e) h in
         record {
           at = at_whole at.at new behind e saw far;
           inside = at.inside;
@@ -122,12 +124,12 @@ module _ {depth : ℕ} {b : List ℕ} {ws : List Wait} {ks : List KeysSoFar} {li
         }
 
     -- the next level, for which this one waits
-    pub judged_inside : {behind : ℕ} {inner : RawDocument} {level : Level} (e : RawElement) (is_array : Bool) (k2 : KeysSoFar) (h : Told new i after (judged.Inside e inner is_array))
+    pub validated_inside : {behind : ℕ} {inner : RawDocument} {level : Level} (e : RawElement) (is_array : Bool) (k2 : KeysSoFar) (h : Told new i after (validated.Inside e inner is_array))
         → suc (length ws) < depth → (far : behind ≡ offset + size_of (frame_of e)) → IsOpened behind inner level → HasKeysSoFar k2 after (array_sort is_array) (texts after) []
-        → IsJudgedAt depth b (ws ++ waiting_then at.at new behind e inner (looks (judged.Inside e inner is_array) h) far ∷ []) (ks ++ i ∷ []) after
+        → IsValidatedAt depth b (ws ++ waiting_then at.at new behind e inner (looks (validated.Inside e inner is_array) h) far ∷ []) (ks ++ i ∷ []) after
         level.elements level.number level.offset level.start k2
-    judged_inside {behind} {inner} {level} e is_array k2 h few far opens has =
-        let saw = looks (judged.Inside e inner is_array) h in
+    validated_inside {behind} {inner} {level} e is_array k2 h few far opens has =
+        let saw = looks (validated.Inside e inner is_array) h in
         let w : Wait = waiting_then at.at new behind e inner saw far in
         let less : ℕ = at.inside - 1 in
         let more : at.inside ≡ suc less = omega (arith, at.levels, few, waits_many) in
@@ -148,29 +150,29 @@ module _ {depth : ℕ} {b : List ℕ} {ws : List Wait} {ks : List KeysSoFar} {li
           begins = rw (opens.left_is) (opens.begins);
         }
 
-    pub judged_breach : (key : Option (Bor (List ℕ))) (why : Cause) → Told new i after (judged.Breach key why)
-        → FirstVerdictTo depth as_document b (breach_of why) (map step_at ws ++ record { number = number; key = option_copied key } ∷ []) offset
-    judged_breach key why h = front_outward (breach_of why) (record { number = number; key = option_copied key }) (passed_breach at.is (option_copied key) why h)
+    pub validated_breach : (key : Option (Bor (List ℕ))) (why : Cause) → Told new i after (validated.Breach key why)
+        → FirstViolationTo depth as_document b (breach_of why) (map step_at ws ++ record { number = number; key = option_copied key } ∷ []) offset
+    validated_breach key why h = front_outward (breach_of why) (record { number = number; key = option_copied key }) (passed_breach at.is (option_copied key) why h)
 
-    pub judged_deep : (e : RawElement) (inner : RawDocument) (is_array : Bool) → Told new i after (judged.Inside e inner is_array) → depth ≤ suc (length ws)
-        → FirstVerdictTo depth as_document b too_deep (map step_at ws ++ record { number = number; key = Some (frame_of e).key } ∷ []) offset
-    judged_deep e inner is_array h many = front_outward too_deep (record { number = number; key = Some (frame_of e).key })
+    pub validated_deep : (e : RawElement) (inner : RawDocument) (is_array : Bool) → Told new i after (validated.Inside e inner is_array) → depth ≤ suc (length ws)
+        → FirstViolationTo depth as_document b too_deep (map step_at ws ++ record { number = number; key = Some (frame_of e).key } ∷ []) offset
+    validated_deep e inner is_array h many = front_outward too_deep (record { number = number; key = Some (frame_of e).key })
         (passed_deep at.is new after i e inner is_array h (omega (arith, at.levels, many, waits_many)))
 
-    pub judged_end : Told new i after judged.End → length ws ≡ 0 → IsCanonicalUpTo depth as_document b
-    judged_end h none =
+    pub validated_end : Told new i after validated.End → length ws ≡ 0 → IsCanonicalUpTo depth as_document b
+    validated_end h none =
         let empty : length at.waits ≡ 0 = omega (arith, none, waits_many) in
         let same = none_linked IsHeld at.many at.inside (record { span = whole_span b; below = [] }) at.waits at.here empty at.held in
         let depth_is : depth ≡ suc at.inside = omega (arith, at.levels, empty) in
         rw depth_is (subst (λ (x : Keyed). IsCanonicalUpTo (suc at.inside) x.span.sort x.span.bytes) (sym same) (passed_end at.is new after i h))
 
 -- the level that waits for the innermost goes on
-pub judged_resumed : {depth : ℕ} {b : List ℕ} {listed : List (Bor (List ℕ))} {left : Option (List ℕ)} {number offset start : ℕ} {k : KeysSoFar}
+pub validated_resumed : {depth : ℕ} {b : List ℕ} {listed : List (Bor (List ℕ))} {left : Option (List ℕ)} {number offset start : ℕ} {k : KeysSoFar}
     (ws : List Wait) (w : Wait) (ks : List KeysSoFar) (j : KeysSoFar)
-    (at : IsJudgedAt depth b (ws ++ w ∷ []) (ks ++ j ∷ []) listed left number offset start k) (new : Option (List ℕ)) (i : KeysSoFar)
-    (after left_list : List (Bor (List ℕ))) → Told at new i after judged.End → LeavesOpenKeys i after left_list → IsAt depth b ws w.elements (w.number + 1) w.offset w.start
-    → IsJudgedAt depth b ws ks left_list w.elements (w.number + 1) w.offset w.start j
-judged_resumed {b = b} ws w ks j at new i after left_list h leaves goes_on =
+    (at : IsValidatedAt depth b (ws ++ w ∷ []) (ks ++ j ∷ []) listed left number offset start k) (new : Option (List ℕ)) (i : KeysSoFar)
+    (after left_list : List (Bor (List ℕ))) → Told at new i after validated.End → LeavesOpenKeys i after left_list → IsAt depth b ws w.elements (w.number + 1) w.offset w.start
+    → IsValidatedAt depth b ws ks left_list w.elements (w.number + 1) w.offset w.start j
+validated_resumed {b = b} ws w ks j at new i after left_list h leaves goes_on =
     let some : 0 < length at.waits = omega (arith, waits_many at, length-append ws (w ∷ [])) in
     let (many, outer, z, o, same, link, held) = last_link IsHeld at.many at.inside (record { span = whole_span b; below = [] }) at.waits at.here some at.held in
     let waits = same_from_push ws (map (λ (x : Wait × KeysSoFar). x.0) outer) w z.0
@@ -178,7 +180,7 @@ judged_resumed {b = b} ws w ks j at new i after left_list h leaves goes_on =
     let keys = same_from_push ks (map (λ (x : Wait × KeysSoFar). x.1) outer) j z.1
     (at.keys_are ∙ ap (map (λ (x : Wait × KeysSoFar). x.1)) same ∙ map-append (λ (x : Wait × KeysSoFar). x.1) outer (z ∷ [])) in
     let below : texts left_list ≡ at.here.below = leaves at.here.span.sort at.here.below (keys_of_frames at.is.frames) h.1 in
-    let judged : IsJudged (suc at.inside) o left_list z.0.elements (z.0.number + 1) z.1 = resumed left_list link (passed_end at.is new after i h) below in
+    let validated : IsValidated (suc at.inside) o left_list z.0.elements (z.0.number + 1) z.1 = resumed left_list link (passed_end at.is new after i h) below in
     record {
       at = goes_on;
       inside = suc at.inside;
@@ -188,22 +190,22 @@ judged_resumed {b = b} ws w ks j at new i after left_list h leaves goes_on =
       waits_are = waits.0;
       keys_are = keys.0;
       held = held;
-      is = subst (λ (x : Wait). IsJudged (suc at.inside) o left_list x.elements (x.number + 1) j) (sym waits.1)
-          (subst (λ (x : KeysSoFar). IsJudged (suc at.inside) o left_list z.0.elements (z.0.number + 1) x) (sym keys.1) judged);
+      is = subst (λ (x : Wait). IsValidated (suc at.inside) o left_list x.elements (x.number + 1) j) (sym waits.1)
+          (subst (λ (x : KeysSoFar). IsValidated (suc at.inside) o left_list z.0.elements (z.0.number + 1) x) (sym keys.1) validated);
       levels = omega (arith, at.levels, ap length same, length-append outer (z ∷ []));
       begins = omega (arith, link.nested.ends, ap left_of link.nested.left_is, ap (λ (x : Wait). x.offset + left_of x.elements) waits.1);
     }
 
 -- so it is for a walk over this document within this depth
-pub record IsJudgedAlong (document : RawDocument) (depth : ℕ) (walk : Walk) (level : Level) (ks : List KeysSoFar) (listed : List (Bor (List ℕ))) (k : KeysSoFar) : Type 0 where
+pub record IsValidatedAlong (document : RawDocument) (depth : ℕ) (walk : Walk) (level : Level) (ks : List KeysSoFar) (listed : List (Bor (List ℕ))) (k : KeysSoFar) : Type 0 where
   pub waits : List Wait
   pub are_stored : StoreEach (bytes_of walk.document) walk.waiting.items waits
-  pub at : IsJudgedAt (suc walk.most_waiting) (bytes_of walk.document) waits ks listed level.elements level.number level.offset level.start k
+  pub at : IsValidatedAt (suc walk.most_waiting) (bytes_of walk.document) waits ks listed level.elements level.number level.offset level.start k
   pub document_is : walk.document ≡ document
   pub depth_is : suc walk.most_waiting ≡ depth
 
 module _ {document : RawDocument} {depth : ℕ} {walk : Walk} {level : Level} {ks : List KeysSoFar} {listed : List (Bor (List ℕ))} {k : KeysSoFar}
-    (is : IsJudgedAlong document depth walk level ks listed k) where
+    (is : IsValidatedAlong document depth walk level ks listed k) where
   -- it is a walk over all levels
   pub walks : IsWalking document walk.most_waiting walk level
   walks = record { waits = is.waits; along = record { are_stored = is.are_stored; at = is.at.at }; document_is = is.document_is; most_is = refl }

@@ -1,27 +1,27 @@
 use Rattle.std.proofs.Common.{arith, ◌≡◌, ◌++◌, ◌∷◌, [], List, ℕ, Bor, Option, Result, None, Some, Ok, Err, length, refl, subst, inr}
 use Rattle.raw_tree.proofs.Common.{AreKeysCanonical, BorrowedError, Cause, ErrorKind, Fault, IsFrame, IsStop, RawElement, RawValue, Sort, StepsFront, StopsWith, faulty, frame_of, value, value_of}
-use Rattle.raw_tree.proofs.walk.Common.{BreachesItself, HasKeysSoFar, HoldsAsTold, IsSingleWith, Judged, Judges, KeysSoFar, Malformed, TellsJudged, TellsOpenKey, Utf8, option_copied}
+use Rattle.raw_tree.proofs.walk.Common.{BreachesItself, HasKeysSoFar, HoldsAsTold, IsSingleWith, Validated, Validates, KeysSoFar, Malformed, TellsValidated, TellsOpenKey, Utf8, option_copied}
 use Rattle.raw_view.specs.Meaning as raw
 use Rattle.raw_view.specs.declared.error.ErrorKind.TheVariants as kind
 use Rattle.raw_tree.specs.declared.validator.breach.Cause.TheVariants as cause
-use Rattle.raw_tree.specs.declared.validator.judge.Judged.TheVariants as judged
+use Rattle.raw_tree.specs.declared.validator.step.Validated.TheVariants as validated
 use Rattle.raw_tree.proofs.walk.Fronts.{stop_of}
-use Rattle.raw_tree.proofs.validator.judge.judge.Goals as goal
+use Rattle.raw_tree.proofs.validator.step.validate_next.Goals as goal
 
-judges_stop : (old new : Option (List ℕ)) (e : BorrowedError) (ks k : KeysSoFar) (before after : List (Bor (List ℕ))) (number : ℕ)
-    → StepsFront old (Some (Err e)) new → Judges old ks before number new k after (judged.Breach None cause.Stop)
-judges_stop None new e ks k before after number st = tt
-judges_stop (Some s) new e ks k before after number st =
+validates_stop : (old new : Option (List ℕ)) (e : BorrowedError) (ks k : KeysSoFar) (before after : List (Bor (List ℕ))) (number : ℕ)
+    → StepsFront old (Some (Err e)) new → Validates old ks before number new k after (validated.Breach None cause.Stop)
+validates_stop None new e ks k before after number st = tt
+validates_stop (Some s) new e ks k before after number st =
     let stop = stop_of e.kind (option_copied e.key) s st.0 in
     λ sort below own h canonical n. (stop.0.fault, stop.0.key, stop.1, refl)
 
 -- an element is next
-judges_next : (old new : Option (List ℕ)) (e : RawElement) (ks k : KeysSoFar) (before after : List (Bor (List ℕ))) (number : ℕ) (answer : Judged) → StepsFront old (Some (Ok e)) new
+validates_next : (old new : Option (List ℕ)) (e : RawElement) (ks k : KeysSoFar) (before after : List (Bor (List ℕ))) (number : ℕ) (answer : Validated) → StepsFront old (Some (Ok e)) new
     → ((s r : List ℕ) (sort : Sort) (below own : List (List ℕ)) → IsFrame s (frame_of e) r → HasKeysSoFar ks before sort below own → AreKeysCanonical sort own
-    → number ≡ length own → TellsJudged sort below own s new k after answer)
-    → Judges old ks before number new k after answer
-judges_next None new e ks k before after number answer st f = tt
-judges_next (Some s) new e ks k before after number answer st f = λ sort below own h canonical n. f s st.0 sort below own st.1 h canonical n
+    → number ≡ length own → TellsValidated sort below own s new k after answer)
+    → Validates old ks before number new k after answer
+validates_next None new e ks k before after number answer st f = tt
+validates_next (Some s) new e ks k before after number answer st f = λ sort below own h canonical n. f s st.0 sort below own st.1 h canonical n
 
 -- the key of the element is canonical
 key_more : (sort : Sort) (below own : List (List ℕ)) (key same : List ℕ) (k : KeysSoFar) (refs : List (Bor (List ℕ))) (answer : Option Cause) → key ≡ same
@@ -33,31 +33,31 @@ key_more sort below own key same k refs answer e none h =
 descends : (v : RawValue) → IsSingleWith (λ A. ¬ A) v → BreachesItself (value v) cause.Options
 descends v h = grind arith
 
-pub returns-in-Some-Err-clause-judges : goal.returns-in-Some-Err-clause-judges
-returns-in-Some-Err-clause-judges c =
-    judges_stop c.args.elements.now c.next.new.self c.in-Some-Err.field-0-0 c.args.keys.now c.args.keys.now c.args.listed.now.items c.args.listed.now.items
+pub returns-in-Some-Err-clause-validates : goal.returns-in-Some-Err-clause-validates
+returns-in-Some-Err-clause-validates c =
+    validates_stop c.args.elements.now c.next.new.self c.in-Some-Err.field-0-0 c.args.keys.now c.args.keys.now c.args.listed.now.items c.args.listed.now.items
     c.args.number (rw c.in-Some-Err.field-0-is at c.in-Some-Err.ensures.steps)
 
-pub returns-in_default-resolve-clause-judges : goal.returns-in_default-resolve-clause-judges
-returns-in_default-resolve-clause-judges c =
+pub returns-in_default-resolve-clause-validates : goal.returns-in_default-resolve-clause-validates
+returns-in_default-resolve-clause-validates c =
     let e = c.in-Some-Ok.element in
     let st = rw c.in-Some-Ok.field-0-is at c.in-Some-Ok.ensures.steps in
-    judges_next c.args.elements.now c.next.new.self e c.args.keys.now c.add.new.self c.args.listed.now.items c.add.new.listed.items c.args.number
-    (judged.Breach (Some c.key-key.result) cause.Value) st (λ s r sort below own frame h canonical n.
+    validates_next c.args.elements.now c.next.new.self e c.args.keys.now c.add.new.self c.args.listed.now.items c.add.new.listed.items c.args.number
+    (validated.Breach (Some c.key-key.result) cause.Value) st (λ s r sort below own frame h canonical n.
     let more = key_more sort below own c.key-key.result.now
     (frame_of e).key c.add.new.self c.add.new.listed.items c.in_ok-cause.field-0 c.key-key.ensures c.in_default.is
     (c.in_ok-cause.ensures.adds sort below own h canonical n) in
     let fault = c.in_default-resolve.ensures.fault in
     (frame_of e, r, frame, c.key-key.ensures, inr (more, faulty fault.0, fault.1, refl)))
 
-pub returns-in-Descending-clause-judges : goal.returns-in-Descending-clause-judges
-returns-in-Descending-clause-judges c =
+pub returns-in-Descending-clause-validates : goal.returns-in-Descending-clause-validates
+returns-in-Descending-clause-validates c =
     let e = c.in-Some-Ok.element in
     let v = value_of c.in-Ok.value in
     let st = rw c.in-Some-Ok.field-0-is at c.in-Some-Ok.ensures.steps in
     let holds = subst (HoldsAsTold v) c.in-Descending.is c.held_by.ensures in
-    judges_next c.args.elements.now c.next.new.self e c.args.keys.now c.add.new.self c.args.listed.now.items c.add.new.listed.items c.args.number
-    (judged.Breach (Some c.key-key.result) cause.Options) st (λ s r sort below own frame h canonical n.
+    validates_next c.args.elements.now c.next.new.self e c.args.keys.now c.add.new.self c.args.listed.now.items c.add.new.listed.items c.args.number
+    (validated.Breach (Some c.key-key.result) cause.Options) st (λ s r sort below own frame h canonical n.
     let more = key_more sort below own c.key-key.result.now
     (frame_of e).key c.add.new.self c.add.new.listed.items c.in_ok-cause.field-0 c.key-key.ensures c.in_default.is
     (c.in_ok-cause.ensures.adds sort below own h canonical n) in

@@ -4,7 +4,7 @@
 ghost use Rattle.std.specs.Prelude.{◌≤◌, IfOk, length};
 ghost use Rattle.std.specs.Option.{option_map};
 ghost use Rattle.dump_lines.specs.Find.{account_of};
-ghost use Rattle.dump_runs.specs.Judging.{FindsFor};
+ghost use Rattle.dump_runs.specs.Findings.{FindsFor};
 
 use crate::command::Command;
 use dump_lines::find::{Finding, Found, find};
@@ -12,7 +12,7 @@ use raw_tree::Limits;
 use std::alloc::{AllocError, Global};
 
 /// What a command finds in the bytes of a document, within limits: `count` judges none.
-pub fn judged<'a>(
+pub fn found_in<'a>(
     alloc: Global,
     command: Command<'_>,
     limits: Limits,
@@ -24,7 +24,7 @@ pub fn judged<'a>(
 {
     match command {
         Command::Count => Ok(Found {
-            finding: Finding::Unjudged,
+            finding: Finding::Unvalidated,
             told: None,
         }),
         Command::Check

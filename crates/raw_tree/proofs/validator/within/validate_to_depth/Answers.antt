@@ -1,17 +1,17 @@
 use Rattle.std.proofs.Common.{rules, ◌≡◌, ◌≤◌, ◌<◌, Bool, ◌+◌, ◌++◌, ◌∷◌, ◌∙◌, [], List, ℕ, suc, Bor, Option, None, Some, Result, Ok, Err, IfOk, arith, map, length, drop, length-append, length-drop, ap, refl, sym, subst}
 use Rattle.raw_tree.proofs.Common.{Error, IsCanonicalUpTo, RawElement, as_document, bytes_of, frame_of, texts}
-use Rattle.raw_tree.proofs.walk.Common.{EndsTooDeep, FirstVerdictTo, Found, HasKeysSoFar, IsAlong, IsAt, IsBehind, IsLooked, IsTooDeep, Judged, Judges, KeysSoFar, Level, Looks, Place, RawDocument}
-use Rattle.raw_tree.proofs.walk.Common.{Step, TellsFound, TellsOutermost, Verdict, Wait, Walk, WalkError, array_sort, breach_of, first_number, option_copied, size_of, step_at, steps_of, verdict_of}
+use Rattle.raw_tree.proofs.walk.Common.{EndsTooDeep, FirstViolationTo, Found, HasKeysSoFar, IsAlong, IsAt, IsBehind, IsLooked, IsTooDeep, Validated, Validates, KeysSoFar, Level, Looks, Place, RawDocument}
+use Rattle.raw_tree.proofs.walk.Common.{Step, TellsFound, TellsOutermost, Violation, Wait, Walk, WalkError, array_sort, breach_of, first_number, option_copied, size_of, step_at, steps_of, violation_of}
 use Rattle.raw_tree.proofs.walk.Common.{with_left}
-use Rattle.raw_tree.specs.validator.Verdicts.{too_deep}
-use Rattle.raw_tree.specs.declared.validator.judge.Judged.TheVariants as judged
+use Rattle.raw_tree.specs.validator.Violations.{too_deep}
+use Rattle.raw_tree.specs.declared.validator.step.Validated.TheVariants as validated
 use Rattle.raw_tree.specs.walk.Aheads as next
 use Rattle.raw_tree.specs.declared.walk.WalkError.TheVariants as error
 use Rattle.raw_tree.proofs.walk.Starts.{first_behind}
-use Rattle.raw_tree.proofs.validator.JudgedAt.{IsJudgedAt, Told, as_many, judged_begin, judged_breach, judged_deep, judged_end, judged_inside, judged_resumed, judged_whole, IsAhead, looks, open_keys, told, told_of, walks}
+use Rattle.raw_tree.proofs.validator.ValidatedAt.{IsValidatedAt, Told, as_many, validated_begin, validated_breach, validated_deep, validated_end, validated_inside, validated_resumed, validated_whole, IsAhead, looks, open_keys, told, told_of, walks}
 use Rattle.raw_tree.proofs.walk.Levels.{at_outermost, waiting_then, walks_nearer}
-use Rattle.raw_tree.proofs.validator.verdict.judge_to_depth.Goals as goal
-use Rattle.raw_tree.proofs.validator.verdict.judge_to_depth.Goals.{In_ok-element, In_ok-place-in-Breach}
+use Rattle.raw_tree.proofs.validator.within.validate_to_depth.Goals as goal
+use Rattle.raw_tree.proofs.validator.within.validate_to_depth.Goals.{In_ok-element, In_ok-place-in-Breach}
 
 -- what is told of the level that was too deep is told of what is found
 deep_found : (P : Option Found → Type 0) (walk : Walk) (from : Level) (ws : List Wait) (e : RawElement) (outermost : ℕ)
@@ -24,11 +24,11 @@ deep_found P walk from ws e outermost tells (error.Barrier b) (Ok None) deep end
 deep_found P walk from ws e outermost tells (error.Barrier b) (Ok (Some found)) (full, (kind_is, steps_is, offset_is)) (cause_is, place_is, outermost_is) =
     tells found full cause_is (ap steps_of place_is ∙ steps_is) (ap (λ (p : Place). p.offset) place_is ∙ offset_is) outermost_is
 
--- what is told of the element that was judged
-told_as : (c : In_ok-element) (x : Judged) → c.in_ok-element.field-0 ≡ x → Told c.elements.invariant.at c.judge.new.elements c.judge.new.keys c.judge.new.listed.items x
-told_as c x is = told c.elements.invariant.at c.judge.new.elements c.judge.new.keys c.judge.new.listed.items x
-    (subst (λ (y : Judged). Judges c.elements.level.elements c.elements.keys c.elements.listed.items c.elements.level.number c.judge.new.elements c.judge.new.keys
-    c.judge.new.listed.items y) is c.in_ok-element.ensures.judges)
+-- what is told of the element that was validated
+told_as : (c : In_ok-element) (x : Validated) → c.in_ok-element.field-0 ≡ x → Told c.elements.invariant.at c.validate_next.new.elements c.validate_next.new.keys c.validate_next.new.listed.items x
+told_as c x is = told c.elements.invariant.at c.validate_next.new.elements c.validate_next.new.keys c.validate_next.new.listed.items x
+    (subst (λ (y : Validated). Validates c.elements.level.elements c.elements.keys c.elements.listed.items c.elements.level.number c.validate_next.new.elements c.validate_next.new.keys
+    c.validate_next.new.listed.items y) is c.in_ok-element.ensures.validates)
 
 pub elements-init : goal.elements-init
 elements-init c =
@@ -44,32 +44,32 @@ elements-init c =
       waits = [];
       are_stored = c.new-walk.ensures.along.are_stored;
       at = rw (ap bytes_of begun.document_is)
-          (judged_begin c.new-walk.result.0.most_waiting c.new-outer_keys.result.items c.new-listed.result.items c.of_document-keys.result
+          (validated_begin c.new-walk.result.0.most_waiting c.new-outer_keys.result.items c.new-listed.result.items c.of_document-keys.result
           (rw (ap bytes_of begun.document_is) at c.new-walk.ensures.along.at) refl c.new-outer_keys.ensures.items c.new-listed.ensures.items begun.left_is c.new-walk.ensures.number begins has);
       document_is = begun.document_is;
       depth_is = whole;
     }
 
 -- and what the walk saw then
-saw : (c : In_ok-element) (x : Judged) → c.in_ok-element.field-0 ≡ x
-    → IsAhead (IsLooked c.elements.walk (with_left c.judge.new.elements c.elements.level) c.elements.level.elements c.elements.invariant.waits) x
-saw c x is = looked x (looks c.elements.invariant.at c.judge.new.elements c.judge.new.keys c.judge.new.listed.items x (told_as c x is))
+saw : (c : In_ok-element) (x : Validated) → c.in_ok-element.field-0 ≡ x
+    → IsAhead (IsLooked c.elements.walk (with_left c.validate_next.new.elements c.elements.level) c.elements.level.elements c.elements.invariant.waits) x
+saw c x is = looked x (looks c.elements.invariant.at c.validate_next.new.elements c.validate_next.new.keys c.validate_next.new.listed.items x (told_as c x is))
   where
-    along : IsAlong c.elements.walk (with_left c.elements.level.elements (with_left c.judge.new.elements c.elements.level)) c.elements.invariant.waits
+    along : IsAlong c.elements.walk (with_left c.elements.level.elements (with_left c.validate_next.new.elements c.elements.level)) c.elements.invariant.waits
     along = record { are_stored = c.elements.invariant.are_stored; at = c.elements.invariant.at.at }
 
-    looked : (y : Judged) → IsAhead (Looks c.elements.level.elements c.judge.new.elements) y
-        → IsAhead (IsLooked c.elements.walk (with_left c.judge.new.elements c.elements.level) c.elements.level.elements c.elements.invariant.waits) y
-    looked (judged.Whole e) h = record { along = along; looks = h }
-    looked (judged.Inside e inner is_array) h = record { along = along; looks = h }
-    looked judged.End h = record { along = along; looks = h }
-    looked (judged.Breach key why) h = tt
+    looked : (y : Validated) → IsAhead (Looks c.elements.level.elements c.validate_next.new.elements) y
+        → IsAhead (IsLooked c.elements.walk (with_left c.validate_next.new.elements c.elements.level) c.elements.level.elements c.elements.invariant.waits) y
+    looked (validated.Whole e) h = record { along = along; looks = h }
+    looked (validated.Inside e inner is_array) h = record { along = along; looks = h }
+    looked validated.End h = record { along = along; looks = h }
+    looked (validated.Breach key why) h = tt
 
 pub returns-in_default-clause-outermost : goal.returns-in_default-clause-outermost
 returns-in_default-clause-outermost c = rw (c.whole.ensures.path) (first_behind (bytes_of c.args.document) c.args.document.envelope.enough)
 
-pub judge-requires : goal.judge-requires
-judge-requires c = open_keys c.elements.invariant.at
+pub validate_next-requires : goal.validate_next-requires
+validate_next-requires c = open_keys c.elements.invariant.at
 
 pub pass-requires : goal.pass-requires
 pass-requires c = (c.elements.invariant.waits, c.elements.level.elements, saw (goal.at.pass-requires c).In_ok-element _ c.in-Whole.is)
@@ -95,7 +95,7 @@ elements-preserved-in-Whole c =
       waits = is.waits;
       are_stored = is.are_stored;
       at = rw (c.pass.ensures.elements, c.pass.ensures.number, came.3)
-          (judged_whole is.at c.judge.new.elements c.judge.new.keys c.judge.new.listed.items c.in-Whole.element c.pass.new.level.offset
+          (validated_whole is.at c.validate_next.new.elements c.validate_next.new.keys c.validate_next.new.listed.items c.in-Whole.element c.pass.new.level.offset
           (told_as at.In_ok-element _ c.in-Whole.is) came.2);
       document_is = is.document_is;
       depth_is = is.depth_is;
@@ -107,7 +107,8 @@ returns-in-Err-clause-found c =
     let is = c.elements.invariant in
     told_of is (λ n b. IfOk c.too_deep.result (TellsFound n b))
     (deep_found _ c.elements.walk c.elements.level is.waits c.in-Inside.element c.outermost-outermost.result (λ found full cause_is steps_is offset_is outermost_is.
-    rw (ap verdict_of cause_is, steps_is, offset_is) (judged_deep is.at c.judge.new.elements c.judge.new.keys c.judge.new.listed.items c.in-Inside.element c.in-Inside.inner
+    rw (ap violation_of cause_is, steps_is, offset_is) (validated_deep is.at c.validate_next.new.elements c.validate_next.new.keys c.validate_next.new.listed.items
+    c.in-Inside.element c.in-Inside.inner
     c.in-Inside.is_array tells (omega (arith, full)))) c.in-Err.error c.too_deep.result (c.in-Err.ensures.ends is.waits is.are_stored) c.too_deep.ensures.found)
 
 pub returns-in-Err-clause-outermost : goal.returns-in-Err-clause-outermost
@@ -124,28 +125,29 @@ elements-smaller-else-is_err c =
     let saw = saw (goal.at.elements-smaller-else-is_err c).In_ok-element _ c.in-Inside.is in
     walks_nearer (walks is) _ c.enter.new.self c.enter.new.level (c.in_default-enter.ensures.entered is.waits c.elements.level.elements saw).0 c.enter.ensures.document
 
--- the level that waits is the one that was judged, behind the element
+-- the level that waits is the one that was validated, behind the element
 pub elements-preserved-else-is_err : goal.elements-preserved-else-is_err
 elements-preserved-else-is_err c =
     let at = goal.at.elements-preserved-else-is_err c in
     let is = c.elements.invariant in
     let tells = told_as at.In_ok-element _ c.in-Inside.is in
-    let looks = looks is.at c.judge.new.elements c.judge.new.keys c.judge.new.listed.items (judged.Inside c.in-Inside.element c.in-Inside.inner c.in-Inside.is_array) tells in
+    let looks = looks is.at c.validate_next.new.elements c.validate_next.new.keys c.validate_next.new.listed.items
+    (validated.Inside c.in-Inside.element c.in-Inside.inner c.in-Inside.is_array) tells in
     let came = c.in_default-enter.ensures.entered is.waits c.elements.level.elements (record { along = record { are_stored = is.are_stored; at = is.at.at }; looks = looks }) in
-    let after = c.judge.new.listed.items in
-    let keys_grown : c.push.new.self.items ≡ c.elements.outer_keys.items ++ c.judge.new.keys ∷ [] = search rules in
+    let after = c.validate_next.new.listed.items in
+    let keys_grown : c.push.new.self.items ≡ c.elements.outer_keys.items ++ c.validate_next.new.keys ∷ [] = search rules in
     let has : HasKeysSoFar c.keys_of.result after (array_sort c.in-Inside.is_array) (texts after) [] =
     subst (λ (xs : List (Bor (List ℕ))). HasKeysSoFar c.keys_of.result xs (array_sort c.in-Inside.is_array) (texts xs) []) c.deref-in-Inside.ensures.value
     c.keys_of.ensures in
     let behind : ℕ = c.elements.level.offset + size_of (frame_of c.in-Inside.element) in
-    let w : Wait = waiting_then is.at.at c.judge.new.elements behind c.in-Inside.element c.in-Inside.inner looks refl in
+    let w : Wait = waiting_then is.at.at c.validate_next.new.elements behind c.in-Inside.element c.in-Inside.inner looks refl in
     let few : suc (length is.waits) < suc c.elements.walk.most_waiting =
     omega (arith, came.0.along.at.levels, length-append is.waits (w ∷ []), c.enter.ensures.most) in
     record {
       waits = is.waits ++ w ∷ [];
       are_stored = came.0.along.are_stored;
       at = rw (ap bytes_of c.enter.ensures.document, c.enter.ensures.most, keys_grown, c.replace-keys.ensures.after)
-          (judged_inside is.at c.judge.new.elements c.judge.new.keys after c.in-Inside.element c.in-Inside.is_array c.keys_of.result
+          (validated_inside is.at c.validate_next.new.elements c.validate_next.new.keys after c.in-Inside.element c.in-Inside.is_array c.keys_of.result
           tells few refl came.3 has);
       document_is = c.enter.ensures.document ∙ is.document_is;
       depth_is = ap suc c.enter.ensures.most ∙ is.depth_is;
@@ -162,9 +164,9 @@ pub returns-in-Breach-clause-found : goal.returns-in-Breach-clause-found
 returns-in-Breach-clause-found c =
     let at = goal.at.returns-in-Breach-clause-found c in
     let is = c.elements.invariant in
-    let bad = told_of is (λ n b. FirstVerdictTo n as_document b (breach_of c.in-Breach.cause)
+    let bad = told_of is (λ n b. FirstViolationTo n as_document b (breach_of c.in-Breach.cause)
     (map step_at is.waits ++ record { number = c.elements.level.number; key = option_copied c.in-Breach.key } ∷ []) c.elements.level.offset)
-    (judged_breach is.at c.judge.new.elements c.judge.new.keys c.judge.new.listed.items c.in-Breach.key c.in-Breach.cause (told_as at.In_ok-element _ c.in-Breach.is)) in
+    (validated_breach is.at c.validate_next.new.elements c.validate_next.new.keys c.validate_next.new.listed.items c.in-Breach.key c.in-Breach.cause (told_as at.In_ok-element _ c.in-Breach.is)) in
     rw (breach_at at.In_ok-place-in-Breach, c.in_ok-place-in-Breach.ensures.offset) bad
 
 pub returns-in-Breach-clause-outermost : goal.returns-in-Breach-clause-outermost
@@ -179,7 +181,7 @@ returns-in_default-pop-clause-found c =
     let tells = told_as (goal.at.returns-in_default-pop-clause-found c).In_ok-element _ c.in-End.is in
     let is = c.elements.invariant in
     let none : length is.waits ≡ 0 = omega (arith, as_many is.at, c.elements.outer_keys.ok.0, c.in_default-pop.ensures.cases.0) in
-    told_of is (λ n b. IsCanonicalUpTo n as_document b) (judged_end is.at c.judge.new.elements c.judge.new.keys c.judge.new.listed.items tells none)
+    told_of is (λ n b. IsCanonicalUpTo n as_document b) (validated_end is.at c.validate_next.new.elements c.validate_next.new.keys c.validate_next.new.listed.items tells none)
 
 pub returns-then-not-leave-clause-found : goal.returns-then-not-leave-clause-found
 returns-then-not-leave-clause-found c =
@@ -187,7 +189,7 @@ returns-then-not-leave-clause-found c =
     let is = c.elements.invariant in
     let came = c.if-not-leave.ensures.left is.waits c.elements.level.elements (saw at.In_ok-element _ c.in-End.is) in
     told_of is (λ n b. IsCanonicalUpTo n as_document b)
-    (judged_end is.at c.judge.new.elements c.judge.new.keys c.judge.new.listed.items (told_as at.In_ok-element _ c.in-End.is) (ap length came.2))
+    (validated_end is.at c.validate_next.new.elements c.validate_next.new.keys c.validate_next.new.listed.items (told_as at.In_ok-element _ c.in-End.is) (ap length came.2))
 
 pub elements-smaller : goal.elements-smaller
 elements-smaller c =
@@ -205,21 +207,22 @@ elements-preserved c =
     let b = bytes_of c.elements.walk.document in
     let ks = c.pop.new.self.items in
     let j = c.in-Some-pop.outer_key in
-    let held : IsJudgedAt most b is.waits (ks ++ j ∷ []) c.elements.listed.items level.elements level.number level.offset level.start c.elements.keys =
-    subst (λ (x : List KeysSoFar). IsJudgedAt most b is.waits x c.elements.listed.items level.elements level.number level.offset level.start c.elements.keys)
+    let held : IsValidatedAt most b is.waits (ks ++ j ∷ []) c.elements.listed.items level.elements level.number level.offset level.start c.elements.keys =
+    subst (λ (x : List KeysSoFar). IsValidatedAt most b is.waits x c.elements.listed.items level.elements level.number level.offset level.start c.elements.keys)
     c.in-Some-pop.ensures.items is.at in
-    let both : IsJudgedAt most b (came.0 ++ came.1 ∷ []) (ks ++ j ∷ []) c.elements.listed.items level.elements level.number level.offset level.start c.elements.keys =
-    subst (λ (x : List Wait). IsJudgedAt most b x (ks ++ j ∷ []) c.elements.listed.items level.elements level.number level.offset level.start c.elements.keys) came.2 held in
-    let judges = subst (λ (x : Judged). Judges level.elements c.elements.keys c.elements.listed.items level.number c.judge.new.elements c.judge.new.keys
-    c.judge.new.listed.items x) c.in-End.is c.in_ok-element.ensures.judges in
-    let over = told both c.judge.new.elements c.judge.new.keys c.judge.new.listed.items judged.End judges in
+    let both : IsValidatedAt most b (came.0 ++ came.1 ∷ []) (ks ++ j ∷ []) c.elements.listed.items level.elements level.number level.offset level.start c.elements.keys =
+    subst (λ (x : List Wait). IsValidatedAt most b x (ks ++ j ∷ []) c.elements.listed.items level.elements level.number level.offset level.start c.elements.keys) came.2 held in
+    let validates = subst (λ (x : Validated). Validates level.elements c.elements.keys c.elements.listed.items level.number c.validate_next.new.elements c.validate_next.new.keys
+    c.validate_next.new.listed.items x) c.in-End.is c.in_ok-element.ensures.validates in
+    let over = told both c.validate_next.new.elements c.validate_next.new.keys c.validate_next.new.listed.items validated.End validates in
     let goes_on : IsAt most b came.0 came.1.elements (came.1.number + 1) came.1.offset came.1.start =
     rw (ap bytes_of c.leave.ensures.document, c.leave.ensures.most, goes.elements_are, goes.number_is, goes.offset_is, goes.start_is) at came.3.along.at in
     record {
       waits = came.0;
       are_stored = came.3.along.are_stored;
       at = rw (ap bytes_of c.leave.ensures.document, c.leave.ensures.most, goes.elements_are, goes.number_is, goes.offset_is, goes.start_is)
-          (judged_resumed came.0 came.1 ks j both c.judge.new.elements c.judge.new.keys c.judge.new.listed.items c.leave-in-End.new.listed.items over c.leave-in-End.ensures goes_on);
+          (validated_resumed came.0 came.1 ks j both c.validate_next.new.elements c.validate_next.new.keys c.validate_next.new.listed.items
+          c.leave-in-End.new.listed.items over c.leave-in-End.ensures goes_on);
       document_is = c.leave.ensures.document ∙ is.document_is;
       depth_is = ap suc c.leave.ensures.most ∙ is.depth_is;
     }

@@ -18,13 +18,13 @@ use Rattle.raw_tree.specs.declared.validator.breach.Cause.TheVariants as cause
 use Rattle.raw_tree.specs.declared.validator.keys_so_far.KeysSoFar.{KeysSoFar}
 use Rattle.raw_tree.specs.walk.Barriers.{steps_of}
 use Rattle.raw_tree.specs.walk.Places.{Step}
-use Rattle.raw_tree.specs.validator.Verdicts.{Verdict, too_deep, breach_of, FirstVerdictTo}
+use Rattle.raw_tree.specs.validator.Violations.{Violation, too_deep, breach_of, FirstViolationTo}
 use Rattle.raw_tree.specs.walk.Walks.{IsBehind}
-use Rattle.raw_tree.specs.declared.validator.judge.Held.{Held}
-use Rattle.raw_tree.specs.declared.validator.judge.Held.TheVariants as held
-use Rattle.raw_tree.specs.declared.validator.judge.Judged.{Judged}
-use Rattle.raw_tree.specs.declared.validator.judge.Judged.TheVariants as judged
-use Rattle.raw_tree.specs.declared.validator.verdict.Found.{Found}
+use Rattle.raw_tree.specs.declared.validator.step.Held.{Held}
+use Rattle.raw_tree.specs.declared.validator.step.Held.TheVariants as held
+use Rattle.raw_tree.specs.declared.validator.step.Validated.{Validated}
+use Rattle.raw_tree.specs.declared.validator.step.Validated.TheVariants as validated
+use Rattle.raw_tree.specs.declared.validator.within.Found.{Found}
 use Rattle.raw_tree.specs.declared.walk.WalkError.{WalkError}
 use Rattle.raw_tree.specs.declared.walk.WalkError.TheVariants as error
 
@@ -61,31 +61,31 @@ BreachesHere sort own s (Some key) why =
     × (BreachesKeys sort own f.key why ⊎ (AreKeysCanonical sort (own ++ f.key ∷ []) × (m : Meaning) × Means f m × BreachesItself m why))
 
 -- how k and the list go on is told where they are those of a level with its own keys so far
-abbrev pub TellsJudged : Sort → List (List ℕ) → List (List ℕ) → List ℕ → Option (List ℕ) → KeysSoFar → List (Bor (List ℕ)) → Judged → Type 0
-TellsJudged sort below own s new k listed judged.End = (s ≡ 0 ∷ []) × HasKeysSoFar k listed sort below own
-TellsJudged sort below own s new k listed (judged.Whole e) =
+abbrev pub TellsValidated : Sort → List (List ℕ) → List (List ℕ) → List ℕ → Option (List ℕ) → KeysSoFar → List (Bor (List ℕ)) → Validated → Type 0
+TellsValidated sort below own s new k listed validated.End = (s ≡ 0 ∷ []) × HasKeysSoFar k listed sort below own
+TellsValidated sort below own s new k listed (validated.Whole e) =
     (r : List ℕ) × (v : RawValue) × IsFrame s (frame_of e) r × Means (frame_of e) (value v) × (new ≡ Some r)
     × HasKeysSoFar k listed sort below (own ++ (frame_of e).key ∷ []) × AreKeysCanonical sort (own ++ (frame_of e).key ∷ []) × IsSingleWith (λ A. A) v
-TellsJudged sort below own s new k listed (judged.Inside e inner is_array) =
+TellsValidated sort below own s new k listed (validated.Inside e inner is_array) =
     (r : List ℕ) × (v : RawValue) × IsFrame s (frame_of e) r × Means (frame_of e) (value v) × (new ≡ Some r)
     × HasKeysSoFar k listed sort below (own ++ (frame_of e).key ∷ []) × AreKeysCanonical sort (own ++ (frame_of e).key ∷ []) × HoldsAs v (array_sort is_array) (bytes_of inner)
-TellsJudged sort below own s new k listed (judged.Breach key why) = BreachesHere sort own s (option_copied key) why
+TellsValidated sort below own s new k listed (validated.Breach key why) = BreachesHere sort own s (option_copied key) why
 
 -- so it is for the level, whichever it is
-abbrev pub Judges : Option (List ℕ) → KeysSoFar → List (Bor (List ℕ)) → ℕ → Option (List ℕ) → KeysSoFar → List (Bor (List ℕ)) → Judged → Type 0
-Judges None keys before number new k after answer = Unit {0}
-Judges (Some s) keys before number new k after answer =
+abbrev pub Validates : Option (List ℕ) → KeysSoFar → List (Bor (List ℕ)) → ℕ → Option (List ℕ) → KeysSoFar → List (Bor (List ℕ)) → Validated → Type 0
+Validates None keys before number new k after answer = Unit {0}
+Validates (Some s) keys before number new k after answer =
     (sort : Sort) (below own : List (List ℕ)) → HasKeysSoFar keys before sort below own → AreKeysCanonical sort own → number ≡ length own
-    → TellsJudged sort below own s new k after answer
+    → TellsValidated sort below own s new k after answer
 
 -- what was found within a depth
-abbrev pub verdict_of : Option Cause → Verdict
-verdict_of None = too_deep
-verdict_of (Some why) = breach_of why
+abbrev pub violation_of : Option Cause → Violation
+violation_of None = too_deep
+violation_of (Some why) = breach_of why
 
 abbrev pub TellsFound : ℕ → List ℕ → Option Found → Type 0
 TellsFound depth b None = IsCanonicalUpTo depth as_document b
-TellsFound depth b (Some found) = FirstVerdictTo depth as_document b (verdict_of found.cause) (steps_of found.place) found.place.offset
+TellsFound depth b (Some found) = FirstViolationTo depth as_document b (violation_of found.cause) (steps_of found.place) found.place.offset
 
 -- what is found is the level that was too deep, at its place, inside the element that begins here
 abbrev pub EndsTooDeep : (outermost : ℕ) → WalkError → Option Found → Type 0

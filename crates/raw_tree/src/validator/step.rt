@@ -2,7 +2,7 @@
 #![tactic(auto)]
 
 ghost use Rattle.std.specs.Prelude.{[], IfOk, IfErr};
-ghost use Rattle.raw_tree.specs.validator.Judging.{HoldsAsTold, Judges, array_sort};
+ghost use Rattle.raw_tree.specs.validator.ValidationSteps.{HoldsAsTold, Validates, array_sort};
 ghost use Rattle.raw_tree.specs.validator.OpenKeys.{AreOpenKeys, HasKeysSoFar};
 ghost use Rattle.raw_tree.specs.validator.References.{texts};
 ghost use Rattle.raw_view.specs.Errors.{IsOutOfMemory};
@@ -14,9 +14,9 @@ use bson_model::do_options_ascend;
 use raw_view::{Elements, Holder, RawBsonRef, RawDocument, RawElement, Result};
 use std::alloc::Global;
 
-/// What is next in a level that is judged.
+/// What is next in a level that is validated.
 #[derive(Drop)]
-pub(crate) enum Judged<'a> {
+pub(crate) enum Validated<'a> {
     /// the final 0
     End,
     /// an element that is canonical
@@ -53,7 +53,7 @@ pub(crate) fn held_by(value: RawBsonRef<'_>) -> Held<'_>
     }
 }
 
-/// The keys of a level of which no element is judged.
+/// The keys of a level of which no element is validated.
 pub(crate) fn keys_of<'a>(is_array: bool, listed: &[&'a str]) -> KeysSoFar<'a>
     ensures { HasKeysSoFar result listed.now (array_sort is_array) (texts listed.now) [] }
 {
@@ -64,36 +64,36 @@ pub(crate) fn keys_of<'a>(is_array: bool, listed: &[&'a str]) -> KeysSoFar<'a>
     }
 }
 
-/// Judges what is next in a level in front of which so many elements are: a key, then its value. The only error is out of
+/// Validates what is next in a level in front of which so many elements are: a key, then its value. The only error is out of
 /// memory.
 #[inline(always)]
-pub(crate) fn judge<'a>(
+pub(crate) fn validate_next<'a>(
     alloc: Global,
     elements: &mut Elements<'a>,
     keys: &mut KeysSoFar<'a>,
     listed: &mut Vec<&'a str>,
     number: usize,
-) -> Result<Judged<'a>>
+) -> Result<Validated<'a>>
     requires { AreOpenKeys keys.old listed.old.items }
-    ensures judges { IfOk result
-        (Judges elements.old keys.old listed.old.items number elements.new keys.new listed.new.items) }
+    ensures validates { IfOk result
+        (Validates elements.old keys.old listed.old.items number elements.new keys.new listed.new.items) }
     ensures err { IfErr result IsOutOfMemory }
 {
     let element = match elements.next() {
-        None => return Ok(Judged::End),
-        Some(Err(_)) => return Ok(Judged::Breach(None, Cause::Stop)),
+        None => return Ok(Validated::End),
+        Some(Err(_)) => return Ok(Validated::Breach(None, Cause::Stop)),
         Some(Ok(element)) => element,
     };
     let key = element.key();
     if let Some(cause) = keys.add(alloc, listed, number, key)? {
-        return Ok(Judged::Breach(Some(key), cause));
+        return Ok(Validated::Breach(Some(key), cause));
     }
     let Ok(value) = element.resolve() else {
-        return Ok(Judged::Breach(Some(key), Cause::Value));
+        return Ok(Validated::Breach(Some(key), Cause::Value));
     };
     match held_by(value) {
-        Held::Nothing => Ok(Judged::Whole(element)),
-        Held::Descending => Ok(Judged::Breach(Some(key), Cause::Options)),
-        Held::Level(inner, is_array) => Ok(Judged::Inside(element, inner, is_array)),
+        Held::Nothing => Ok(Validated::Whole(element)),
+        Held::Descending => Ok(Validated::Breach(Some(key), Cause::Options)),
+        Held::Level(inner, is_array) => Ok(Validated::Inside(element, inner, is_array)),
     }
 }

@@ -2,15 +2,15 @@
 #![tactic(auto)]
 
 ghost use Rattle.std.specs.Prelude.{◌<◌, IfOk, IfErr};
-ghost use Rattle.raw_tree.specs.validator.Judging.{EndsTooDeep, TellsFound, TellsOutermost};
-ghost use Rattle.raw_tree.specs.validator.Verdicts.{AllAreJudgedOneWayWithin, TellsVerdict};
+ghost use Rattle.raw_tree.specs.validator.ValidationSteps.{EndsTooDeep, TellsFound, TellsOutermost};
+ghost use Rattle.raw_tree.specs.validator.Violations.{AllAreValidatedOneWayWithin, TellsViolation};
 ghost use Rattle.raw_view.specs.Document.{bytes_of};
 ghost use Rattle.raw_view.specs.Errors.{IsOutOfMemory};
 
 use crate::reader::limits::Limits;
 use crate::validator::breach::Cause;
-use crate::validator::judge::{Judged, judge, keys_of};
 use crate::validator::keys_so_far::KeysSoFar;
+use crate::validator::step::{Validated, keys_of, validate_next};
 use crate::walk::faults::FIRST;
 use crate::walk::place::{Place, place_in};
 use crate::walk::{Walk, WalkError};
@@ -32,7 +32,7 @@ pub struct PlacedBreach<'a> {
     pub place: Place<'a>,
 }
 
-/// Why a document isn't judged within limits.
+/// Why a document isn't validated within limits.
 /// ```
 /// let document = RawDocument::from_bytes(b"\x0C\0\0\0\x10a\0\x01\0\0\0\0")?;
 /// let few = Limits { bytes: 5, depth: 10 };
@@ -61,7 +61,7 @@ pub struct Found<'a> {
 }
 
 /// The first breach or level that is too deep. The only error is out of memory.
-pub fn judge_to_depth<'a>(
+pub fn validate_to_depth<'a>(
     alloc: Global,
     document: RawDocument<'a>,
     depth: usize,
@@ -84,9 +84,9 @@ pub fn judge_to_depth<'a>(
     let mut keys = KeysSoFar::of_document(&listed);
     'elements: loop {
         let number = level.number;
-        match judge(alloc, &mut level.elements, &mut keys, &mut listed, number)? {
-            Judged::Whole(element) => walk.pass(&mut level, element),
-            Judged::Inside(element, inner, is_array) => {
+        match validate_next(alloc, &mut level.elements, &mut keys, &mut listed, number)? {
+            Validated::Whole(element) => walk.pass(&mut level, element),
+            Validated::Inside(element, inner, is_array) => {
                 let outermost = walk.outermost(level.offset);
                 if let Err(error) = walk.enter(alloc, &mut level, element, inner) {
                     return too_deep(error, outermost);
@@ -96,7 +96,7 @@ pub fn judge_to_depth<'a>(
                     return Err(Error::out_of_memory());
                 }
             }
-            Judged::Breach(key, cause) => {
+            Validated::Breach(key, cause) => {
                 // the path may take the memory of the keys
                 drop(listed);
                 drop(outer_keys);
@@ -107,7 +107,7 @@ pub fn judge_to_depth<'a>(
                     outermost: walk.outermost(level.offset),
                 }));
             }
-            Judged::End => {
+            Validated::End => {
                 let Some(outer_key) = outer_keys.pop() else {
                     return Ok(None);
                 };
@@ -138,7 +138,7 @@ fn too_deep(error: WalkError<'_>, outermost: usize) -> Result<Option<Found<'_>>>
 
 /// Whether a document is canonical within limits: `None` exactly where it is, has no more bytes than allowed and no deeper
 /// level. More bytes than allowed are an error before all others. Else it is the first, depth first in byte order, of a
-/// breach and of the entry into a level that is too deep, which is an error: at each element its key is judged first, then
+/// breach and of the entry into a level that is too deep, which is an error: at each element its key is validated first, then
 /// the value, then what is inside. Both are told with their place. BSON 1.1, `document`.
 ///
 /// No clause says so: no tree is built, no key is copied, and no depth fills the stack. Memory is taken for the keys of the
@@ -154,13 +154,13 @@ pub fn validate_within<'a>(
     document: RawDocument<'a>,
     limits: Limits,
 ) -> std::result::Result<Option<PlacedBreach<'a>>, ValidateError<'a>>
-    ensures verdict { TellsVerdict limits (bytes_of document.entry) result }
-    ensures one_verdict { AllAreJudgedOneWayWithin limits }
+    ensures violation { TellsViolation limits (bytes_of document.entry) result }
+    ensures one_violation { AllAreValidatedOneWayWithin limits }
 {
     if document.as_bytes().len() > limits.bytes {
         return Err(ValidateError::TooManyBytes);
     }
-    match judge_to_depth(alloc, document, limits.depth) {
+    match validate_to_depth(alloc, document, limits.depth) {
         Ok(None) => Ok(None),
         Ok(Some(found)) => match found.cause {
             Some(cause) => Ok(Some(PlacedBreach {
