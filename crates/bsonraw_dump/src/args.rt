@@ -202,38 +202,82 @@ fn fields<'a>(alloc: Global) -> Result<clap::Command<'a>, AllocError> {
     reading(alloc, command)
 }
 
-/// The command line as a whole.
-pub fn command_line<'a>(alloc: Global) -> Result<clap::Command<'a>, AllocError> {
-    let check = clap::Command::new(alloc, "check").about(
+/// The command that judges documents.
+fn checks<'a>(alloc: Global) -> Result<clap::Command<'a>, AllocError> {
+    let command = clap::Command::new(alloc, "check").about(
         "Names each document that isn't canonical, and counts",
     );
-    let list = clap::Command::new(alloc, "list").about(
+    reading(alloc, findings(alloc, command)?)
+}
+
+/// The command that lists elements.
+fn lists<'a>(alloc: Global) -> Result<clap::Command<'a>, AllocError> {
+    let command = clap::Command::new(alloc, "list").about(
         "Lists the elements of each document, at every level",
     );
-    let count = clap::Command::new(alloc, "count").about(
+    reading(alloc, command)
+}
+
+/// The command that counts documents.
+fn counts<'a>(alloc: Global) -> Result<clap::Command<'a>, AllocError> {
+    let command = clap::Command::new(alloc, "count").about(
         "Counts documents and bytes by lengths alone, and judges none",
     );
-    let canon = clap::Command::new(alloc, "canon").about(
+    reading(alloc, findings(alloc, command)?)
+}
+
+/// The command that writes canonical forms.
+fn forms<'a>(alloc: Global) -> Result<clap::Command<'a>, AllocError> {
+    let command = clap::Command::new(alloc, "canon").about(
         "Writes the canonical form of each document without damage",
     );
-    let sound = clap::Command::new(alloc, "sound").about(
+    writing(alloc, command)
+}
+
+/// The command that leaves out damaged documents.
+fn sounds<'a>(alloc: Global) -> Result<clap::Command<'a>, AllocError> {
+    let command = clap::Command::new(alloc, "sound").about(
         "Writes each document without damage, unchanged",
     );
-    clap::Command::new(alloc, "bsonraw-dump")
+    writing(alloc, command)
+}
+
+/// A command line with the commands that print what they find.
+fn with_reports<'a>(
+    alloc: Global,
+    line: clap::Command<'a>,
+) -> Result<clap::Command<'a>, AllocError> {
+    line.subcommand(checks(alloc)?)?
+        .subcommand(lists(alloc)?)?
+        .subcommand(counts(alloc)?)?
+        .subcommand(fields(alloc)?)
+}
+
+/// A command line with the commands that write documents anew, as BSON.
+fn with_copies<'a>(
+    alloc: Global,
+    line: clap::Command<'a>,
+) -> Result<clap::Command<'a>, AllocError> {
+    line.subcommand(forms(alloc)?)?
+        .subcommand(sounds(alloc)?)?
+        .subcommand(uniques(alloc)?)
+}
+
+/// A command line with the commands that write or read JSON.
+fn with_json<'a>(alloc: Global, line: clap::Command<'a>) -> Result<clap::Command<'a>, AllocError> {
+    line.subcommand(documents_as_json(alloc)?)?
+        .subcommand(picks(alloc)?)?
+        .subcommand(texts(alloc)?)
+}
+
+/// The command line as a whole.
+pub fn command_line<'a>(alloc: Global) -> Result<clap::Command<'a>, AllocError> {
+    let line = clap::Command::new(alloc, "bsonraw-dump")
         .bin_name("bsonraw-dump")?
         .version(VERSION)
         .about("Checks dumps: BSON documents one behind the other")
-        .subcommand_required(true)
-        .subcommand(reading(alloc, findings(alloc, check)?)?)?
-        .subcommand(reading(alloc, list)?)?
-        .subcommand(reading(alloc, findings(alloc, count)?)?)?
-        .subcommand(fields(alloc)?)?
-        .subcommand(writing(alloc, canon)?)?
-        .subcommand(writing(alloc, sound)?)?
-        .subcommand(uniques(alloc)?)?
-        .subcommand(documents_as_json(alloc)?)?
-        .subcommand(picks(alloc)?)?
-        .subcommand(texts(alloc)?)
+        .subcommand_required(true);
+    with_json(alloc, with_copies(alloc, with_reports(alloc, line)?)?)
 }
 
 fn style_of(matches: &ArgMatches<'_>) -> Style {
@@ -369,41 +413,31 @@ fn text_task<'a>(alloc: Global, matches: &ArgMatches<'a>) -> Result<Task<'a>, Er
     })
 }
 
+/// The command of this name, which reads dumps, with what was given to it; none of the one that reads texts.
+fn command_of<'a>(name: &str, matches: &ArgMatches<'a>) -> Option<Command<'a>> {
+    match name {
+        "check" => Some(Command::Check),
+        "list" => Some(Command::List),
+        "count" => Some(Command::Count),
+        "fields" => Some(Command::Fields),
+        "canon" => Some(Command::Canon),
+        "sound" => Some(Command::Sound),
+        "unique" => Some(Command::Unique(spelling_of(matches))),
+        "json" => Some(Command::Json(json_style_of(matches))),
+        "pick" => Some(Command::Pick(picking_of(matches))),
+        _ => None,
+    }
+}
+
 /// What the words of a command line ask for.
 pub fn parsed<'a>(alloc: Global, words: &'a [String]) -> Result<Option<Task<'a>>, Error> {
     let matches = command_line(alloc)?.try_get_matches_from(words)?;
-    if let Some(inner) = matches.subcommand_matches("check") {
-        return Ok(Some(task_of(alloc, Command::Check, inner)?));
-    }
-    if let Some(inner) = matches.subcommand_matches("list") {
-        return Ok(Some(task_of(alloc, Command::List, inner)?));
-    }
-    if let Some(inner) = matches.subcommand_matches("count") {
-        return Ok(Some(task_of(alloc, Command::Count, inner)?));
-    }
-    if let Some(inner) = matches.subcommand_matches("fields") {
-        return Ok(Some(task_of(alloc, Command::Fields, inner)?));
-    }
-    if let Some(inner) = matches.subcommand_matches("canon") {
-        return Ok(Some(task_of(alloc, Command::Canon, inner)?));
-    }
-    if let Some(inner) = matches.subcommand_matches("sound") {
-        return Ok(Some(task_of(alloc, Command::Sound, inner)?));
-    }
-    if let Some(inner) = matches.subcommand_matches("unique") {
-        let command = Command::Unique(spelling_of(inner));
-        return Ok(Some(task_of(alloc, command, inner)?));
-    }
-    if let Some(inner) = matches.subcommand_matches("json") {
-        let command = Command::Json(json_style_of(inner));
-        return Ok(Some(task_of(alloc, command, inner)?));
-    }
-    if let Some(inner) = matches.subcommand_matches("pick") {
-        let command = Command::Pick(picking_of(inner));
-        return Ok(Some(task_of(alloc, command, inner)?));
-    }
-    if let Some(inner) = matches.subcommand_matches("bson") {
-        return Ok(Some(text_task(alloc, inner)?));
-    }
-    Ok(None)
+    let Some((name, inner)) = matches.subcommand() else {
+        return Ok(None);
+    };
+    let task = match command_of(name, inner) {
+        Some(command) => task_of(alloc, command, inner)?,
+        None => text_task(alloc, inner)?,
+    };
+    Ok(Some(task))
 }
