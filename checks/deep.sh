@@ -1,19 +1,20 @@
 #!/bin/sh
-# Documents of very many levels, each but the innermost holding the next under the empty key: what the program prints of
-# them on a stack of 8 MB, and that canon asks for memory no more often for 2,000,000 levels than for 501, beside what
+# Documents of very many levels, each but the innermost holding the next under the empty key: what the programs print of
+# them on a stack of 256 KiB, and that canon asks for memory no more often for 2,000,000 levels than for 501, beside what
 # list asks for to read the text. Then the tests of deep trees, on such a stack: all that they were given is released,
-# and to drop a tree asks for nothing. It takes the program and the tests as they were built last, by bin/test or by
+# and to drop a tree asks for nothing. It takes the programs and the tests as they were built last, by bin/test or by
 # `rt run` and `rt test`.
 set -u
 cd "$(dirname "$(realpath "$0")")/.." || exit 1
 program=crates/bsonraw/out/bsonraw
-for built in "$program" crates/bson_tests/out/bson_tests_tests; do
+dump=crates/bsonraw_dump/out/bsonraw_dump
+for built in "$program" "$dump" crates/bson_tests/out/bson_tests_tests; do
     if [ ! -x "$built" ]; then
         echo "deep: $built isn't built" >&2
         exit 1
     fi
 done
-ulimit -s 8192 || exit 1
+ulimit -s 256 || exit 1
 ulimit -c 0 # a program that fills its stack is killed, and leaves no core file
 work=$(mktemp -d) || exit 1
 trap 'rm -rf "$work"' EXIT
@@ -94,6 +95,26 @@ if [ "$more" -gt "$few" ]; then
     failed=1
 fi
 prints check 0 canonical
+
+# dumped COMMAND BYTES: the dump of that document has no fault for a command, which writes so many bytes
+dumped() {
+    "$dump" "$1" --max-depth 2000000 -o "$work/output" "$work/document" 2>"$work/said"
+    status=$?
+    bytes=$(wc -c <"$work/output")
+    [ "$status" = 0 ] && [ "$bytes" = "$2" ] && return
+    echo "deep: bsonraw-dump $1 of 2000000 levels: status $status, $bytes bytes" >&2
+    failed=1
+}
+
+xxd -r -p "$work/text" >"$work/document" || exit 1
+"$dump" check --max-depth 2000000 "$work/document" >"$work/said" 2>&1 || {
+    echo "deep: bsonraw-dump check of 2000000 levels: $(head -c 300 "$work/said")" >&2
+    failed=1
+}
+dumped canon 13999998
+cmp -s "$work/document" "$work/output" || { echo "deep: another form of 2000000 levels" >&2 && failed=1; }
+# a brace, two quotes, a colon and a brace for each level but the innermost, that one's braces and a line feed
+dumped json 9999998
 n=2400000
 levels "$n"
 prints canon 1 "refused 6"

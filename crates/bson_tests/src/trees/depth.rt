@@ -6,8 +6,8 @@ use std::alloc::{AllocError, Global};
 use std::mem;
 use std::process::Abort;
 
-// A stack of 8 MB has eight bytes for each of a million levels, so what works for a million takes none for a level.
-// `bin/test` also counts what these tests ask for, and that all of it is released. `rt try --test` needs a greater stack
+// `bin/test` runs these on a stack of 256 KiB, which has less than a byte for each of a million levels. It
+// also counts what these tests ask for, and that all of it is released. `rt try --test` needs a greater stack
 // and minutes for them.
 
 const MILLION: usize = 1_000_000;

@@ -1,4 +1,4 @@
-//! Documents of many levels. `bin/test` also runs the first of these on a stack of 8 MB, and sees that all is released.
+//! Documents of many levels. `bin/test` also runs the first of these on a stack of 256 KiB, and sees that all is released.
 
 use crate::views::trees::{put, string};
 use bson_model::{Bson, Document, JavaScriptCodeWithScope, NoMemory};
