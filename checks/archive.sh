@@ -9,7 +9,7 @@
 set -u
 root=$(dirname "$(dirname "$(realpath "$0")")")
 me=checks/archive.sh
-folder=$(realpath -m "$1") || exit 1
+laid=$(realpath -m "$1") || exit 1
 . "$root/bin/build.sh"
 . "$root/bin/release.sh"
 cd "$root/crates/bsonraw_c" || exit 1
@@ -20,4 +20,4 @@ else
     build_over bsonraw_c . src/lib.rt --crate-type staticlib --incremental out/incremental -o out/libbsonraw_c.a
 fi || exit 1
 programs=
-build_others && lay_out "$folder" "$folder" lib
+build_others && lay_out "$laid" "$laid" lib
