@@ -21,7 +21,8 @@ What each edit came to:
     bad                 the edit can't be applied or read, or the check ended without a verdict
 
 The first is well, the second is told, so that somebody mends the edit, and the others fail the run. Each verdict but bad is
-kept at once in ~/.cache/foyeranise, by a checksum of all that it rests on, and --anew ignores these. The proofs that edits
+kept at once in ~/.cache/foyeranise, by a checksum of all that it rests on, and --anew ignores these. With --beside, what it rests on
+of a crate below is what its library shows, not its bodies. The proofs that edits
 are tried over go on from what `rt check` left in the crates' out/, but with --from-nothing. With --beside, a run of `rt ci` in
 this folder proves the crates as they are: the edits of a crate begin once the file that is named says that those below it are
 proved, over the libraries that the run left, and only the edited functions are proved. A function of the crate that is not
@@ -499,7 +500,7 @@ def try_rounds(prover, crate, edits, folder):
         try_round(prover, crate, now, texts)
         for edit in now:
             if edit.verdict:
-                prover.keep(edit)
+                prover.keep(edit, crate in prover.over)
 
 
 def try_alone(prover, crate, edit, folder):
@@ -514,7 +515,7 @@ def try_alone(prover, crate, edit, folder):
         edit.settle(BAD, said.unreadable() or said.lines[-1])
     else:
         edit.settle(*((REFUSED, strong[0]) if strong else (NAME_ALONE, complaints[0] if complaints else said.lines[-1])))
-    prover.keep(edit)
+    prover.keep(edit, crate in prover.over)
 
 
 def try_crate(prover, crate, edits):
@@ -522,47 +523,66 @@ def try_crate(prover, crate, edits):
     folder = prover.top / "crates" / crate
     try_rounds(prover, crate, [it for it in edits if it.functions], folder)
     for edit in edits:
-        if not edit.functions:
+        if not (edit.functions or edit.verdict):
             try_alone(prover, crate, edit, folder)
     prover.forget(crate)
 
 
 class Store:
-    """Verdicts of earlier runs, each under a checksum of all that it rests on."""
+    """Verdicts of earlier runs, each under a checksum of all that it rests on. Over the libraries of a run beside, that is what an edit's
+    crate sees of those below: another body there leaves it as it was."""
 
     def __init__(self, top, is_read):
         self.top, self.is_read, self.below, self.sums = top, is_read, libraries(top), {}
         self.kit = subprocess.run(["rt", "version"], stdout=subprocess.PIPE, check=True).stdout
 
-    def sum_of(self, crate):
+    def sum_of(self, crate, files):
+        """Returns a checksum of these files of the crate."""
+        sum = hashlib.sha256()
+        for file in sorted(files):
+            sum.update(f"{file.relative_to(self.top)}\0{file.stat().st_size}\0".encode() + file.read_bytes())
+        return sum.hexdigest()
+
+    def own(self, crate):
         """Returns a checksum of the crate's own files."""
         if crate not in self.sums:
-            sum = hashlib.sha256()
-            files = [it for part in PARTS for it in (self.top / "crates" / crate / part).rglob("*") if it.is_file()]
-            for file in sorted(files):
-                sum.update(f"{file.relative_to(self.top)}\0{file.stat().st_size}\0".encode() + file.read_bytes())
-            self.sums[crate] = sum.hexdigest()
+            folder = self.top / "crates" / crate
+            self.sums[crate] = self.sum_of(crate, [it for part in PARTS for it in (folder / part).rglob("*") if it.is_file()])
         return self.sums[crate]
 
-    def place(self, edit):
+    def face(self, crate):
+        """Returns a checksum of what crates above see of one whose library a run beside has built: its definitions, its lemmas, and its
+        functions without their bodies. The proofs of functions are cited nowhere else (checks/faces.sh)."""
+        if (crate, "face") not in self.sums:
+            folder = self.top / "crates" / crate
+            texts = [it for part in ("specs", "proofs") for it in (folder / part).rglob("*.antt") if it.name not in ("Answers.antt", "Invariants.antt")]
+            rlib = folder / "out" / "rlib" / f"{crate}.rlib"
+            heads = [it for part in ("lang/src", "interface/lang/src") for it in (rlib / part).rglob("*") if it.is_file()]
+            self.sums[crate, "face"] = self.sum_of(crate, texts + heads)
+        return self.sums[crate, "face"]
+
+    def place(self, edit, sum_below):
         crates = [*self.below[edit.crate], edit.crate]
         lines = [it for it in (self.top / "crates.txt").read_text().splitlines() if re.split(r"[\s:]", it)[0] in crates]
         script = pathlib.Path(__file__).read_bytes()
-        rests_on = (self.kit, script, lines, [self.sum_of(it) for it in crates], edit.name, edit.text)
+        below = [sum_below(it) for it in self.below[edit.crate]]
+        rests_on = (self.kit, script, lines, below, self.own(edit.crate), edit.name, edit.text)
         return KEPT / hashlib.sha256(repr(rests_on).encode()).hexdigest()
 
-    def recall(self, edit):
-        place = self.place(edit)
+    def recall(self, edit, is_beside=False):
+        place = self.place(edit, self.face if is_beside else self.own)
         if self.is_read and place.is_file():
             edit.settle(*json.loads(place.read_text()))
 
-    def keep(self, edit):
+    def keep(self, edit, is_beside=False):
         if edit.verdict == BAD:
             return
         KEPT.mkdir(parents=True, exist_ok=True)
-        new = self.place(edit).with_suffix(f".{os.getpid()}")
-        new.write_text(json.dumps([edit.verdict, edit.why]))
-        new.rename(self.place(edit))
+        for sum_below in (self.own, self.face) if is_beside else (self.own,):
+            place = self.place(edit, sum_below)
+            new = place.with_suffix(f".{os.getpid()}")
+            new.write_text(json.dumps([edit.verdict, edit.why]))
+            new.rename(place)
 
 
 def edits_of(top, crates):
@@ -624,15 +644,18 @@ class Beside:
             time.sleep(1)
 
 
-def try_all(top, edits, jobs, at_once, keep, from_nothing, beside):
+def try_all(top, edits, jobs, at_once, store, from_nothing, beside):
     """Tries the edits of each crate as soon as those below it are proved by a run beside, or it is proved here, with these."""
-    prover = Prover(top, jobs, keep, from_nothing)
+    prover = Prover(top, jobs, store.keep, from_nothing)
     try:
         with concurrent.futures.ThreadPoolExecutor(at_once) as pool:
             start = lambda crate: pool.submit(try_crate, prover, crate, [it for it in edits if it.crate == crate])
             tried, wanted = [], [it for it in libraries(top) if any(edit.crate == it for edit in edits)]
             for crate in Beside(top, beside).crates(wanted) if beside else ():
                 prover.over[crate] = functions_of(top / "crates" / crate)
+                for edit in edits:
+                    if edit.crate == crate and not edit.verdict:
+                        store.recall(edit, is_beside=True)
                 tried.append(start(crate))
             tried += prove_and_try(prover, [it for it in wanted if it not in prover.over], edits, start)
             for it in tried:
@@ -684,7 +707,7 @@ def main():
         left = [it for it in edits if not it.verdict]
         print(f"edits: {len(edits)}, of which {len(edits) - len(left)} were settled before", flush=True)
         if left:
-            checks = try_all(given.top, left, given.jobs, given.at_once, store.keep, given.from_nothing, given.beside)
+            checks = try_all(given.top, left, given.jobs, given.at_once, store, given.from_nothing, given.beside)
     wrong = [it for it in edits if it.verdict in (NOT_REFUSED, BAD)]
     spent = resource.getrusage(resource.RUSAGE_CHILDREN)
     print(

@@ -216,6 +216,30 @@ class Edits(unittest.TestCase):
             "the_file_is_wrong": script.REFUSED, "there_is_no_such_function": script.BAD,
         })
 
+    def test_a_body_below_is_no_part_of_what_a_verdict_rests_on_beside_a_run(self):
+        low = self.top / "crates/low"
+        (self.top / "crates.txt").write_text("low:\ntiny: low\n")
+        (self.top / "crates/tiny/edits/next_is_wrong.edit").write_text(edit(NEXT_IS_WRONG, functions="next"))
+        shown = low / "out/rlib/low.rlib/lang/src/lib.rt"
+        files = [low / "src/lib.rt", low / "proofs/f/Answers.antt", low / "proofs/Face.antt", low / "specs/Words.antt", shown, self.top / "crates/tiny/src/lib.rt"]
+        for file in files:
+            file.parent.mkdir(parents=True, exist_ok=True)
+            file.write_text(SOURCE)
+        wrong = script.Edit.read("tiny", self.top / "crates/tiny/edits/next_is_wrong.edit")
+
+        store = script.Store(self.top, is_read=True)
+
+        def places():
+            store.sums.clear()
+            return store.place(wrong, store.own), store.place(wrong, store.face)
+
+        changed = []
+        for file in files:
+            before = places()
+            file.write_text(SOURCE + "\n")
+            changed.append([old != new for old, new in zip(before, places())])
+        self.assertEqual(changed, [[True, False], [True, False], [True, True], [True, True], [False, True], [True, True]])
+
     def test_each_edit_applies(self):
         status, printed = self.tried({"next_is_wrong": edit(NEXT_IS_WRONG, functions="next")}, "--applies")
         self.assertEqual((status, printed.split(";")[0]), (0, "edits: 1 of 1 apply"))
@@ -246,7 +270,7 @@ class Recorded:
     def only(self, crate, now):
         return []
 
-    def keep(self, edit):
+    def keep(self, edit, is_beside):
         pass
 
     def forget(self, crate):

@@ -1,28 +1,29 @@
 #!/bin/sh
-# from_json.sh: documents come back from their text. 2,000 made documents are printed as Extended JSON and read again, in a program
-# that is compiled without a proof: checks/comes_back.rt.txt says what has to be the same. The documents are those whose text has all
-# of them: canonical ones, whose nested documents have no wrapper's key, whose NaNs are the default one and whose decimals are
-# canonical. One behind them has another NaN, and has to be told. The seed is drawn, and said; SEED sets it.
+# from_json.sh [PREFIX]: documents come back from their text. 20,000 made documents are printed as Extended JSON and read again by the C
+# library under PREFIX; without it, bin/install puts one there first. checks/comes_back.c says what has to be the same. The documents are
+# those whose text has all of them: canonical ones, whose nested documents have no wrapper's key, whose NaNs are the default one and
+# whose decimals are canonical. One behind them has another NaN, and has to be told. The seed is drawn, and said; SEED sets it.
 set -u
 
 cd "$(dirname "$(realpath "$0")")/.." || exit 1
+if ! command -v cc >/dev/null; then
+    echo "from_json.sh: nothing is tried, since cc isn't there"
+    exit 0
+fi
 work=$(mktemp -d) || exit 1
 trap 'rm -rf "$work"' EXIT
-count=2000
+count=20000
 seed=${SEED:-$(od -An -N3 -tu4 /dev/urandom | tr -d " ")}
+prefix=${1-$work/prefix}
+[ $# = 1 ] || bin/install "$prefix" || exit 1
 
-crate=$work/copy/crates/comes_back
-mkdir -p "$crate/src" || exit 1
-git ls-files -z crates crates.txt HANDLES | xargs -0 cp --parents -t "$work/copy" || exit 1
-echo 'comes_back: bson_json bson_from_json raw_bson' >>"$work/copy/crates.txt"
-cp checks/comes_back.rt.txt "$crate/src/main.rt" || exit 1
+cc -O2 -Wall -Wextra -o "$work/comes_back" "-I$prefix/include" checks/comes_back.c "$prefix/lib/libbsonraw.a" || exit 1
 "${PYTHON:-python3}" checks/json_documents.py whole "$count" "$seed" >"$work/dump" || exit 1
-
-(cd "$crate" && rt try --steps 1 --seconds 240 <"$work/dump") >"$work/said" 2>"$work/how"
+"$work/comes_back" "$work/dump" >"$work/said"
 wanted="document $count comes back as another one
 $((count + 1)) documents, 0 bytes left"
 if [ "$(cat "$work/said")" != "$wanted" ]; then
-    cat "$work/said" "$work/how" >&2
+    cat "$work/said" >&2
     echo "from_json.sh: documents of seed $seed don't come back as they were" >&2
     exit 1
 fi

@@ -60,12 +60,12 @@ for part in $(grep / "$work/parts") checks/edits.sh rt; do
     echo "$part" >"$work/failing"
     ! tried || fails "bin/test passes though $part fails"
 done
-echo checks/from_json.sh >"$work/failing"
+echo checks/edits_test.sh >"$work/failing"
 echo rt >"$work/slow"
 begun=$(date +%s)
-! tried && [ $(($(date +%s) - begun)) -lt 60 ] || fails "bin/test goes on with rt ci though checks/from_json.sh failed beside it"
+! tried && [ $(($(date +%s) - begun)) -lt 60 ] || fails "bin/test goes on with rt ci though checks/edits_test.sh failed beside it"
 rm "$work/failing"
-for part in checks/from_json.sh checks/edits.sh rt checks/c.sh checks/recovery.sh; do
+for part in checks/edits_test.sh checks/edits.sh rt checks/c.sh checks/recovery.sh; do
     echo "$part" >"$work/slow"
     (cd "$work/copy" && PATH=$work/tools:$PATH exec setsid bin/test) >"$work/output" 2>&1 &
     group=$!
