@@ -172,7 +172,7 @@ class Edits(unittest.TestCase):
 
     def test_a_crate_over_one_that_the_run_beside_did_not_prove_waits_for_a_proof_here(self):
         (self.top / "crates/low/src").mkdir(parents=True)
-        (self.top / "crates/low/src/lib.rt").write_text(SOURCE.replace("x + 2 }", "x + 3 }"))
+        (self.top / "crates/low/src/lib.rt").write_text(SOURCE.replace("next(x) + 1", "next(x) +"))
         (self.top / "crates.txt").write_text("low:\ntiny: low\n")
         status, printed = self.beside(".\n", {"next_is_wrong": edit(NEXT_IS_WRONG, functions="next")})
         self.assertEqual(status, 1)
@@ -187,18 +187,17 @@ class Edits(unittest.TestCase):
 
     def test_a_crate_is_proved_here_before_its_edits(self):
         status, printed = self.tried({
-            # a wrong callee says nothing of the caller, which is as it was
             "next_is_wrong": edit(NEXT_IS_WRONG, functions="next"),
-            "after_next_is_the_same": edit(("next(x) + 1", "1 + next(x)"), functions="after_next"),
+            "next_of_widened_is_the_same": edit(("widened(x) + 1", "1 + widened(x)"), functions="next_of_widened"),
             "the_file_is_the_same": edit(("x as u16 + 1", "1 + x as u16")),
             "there_is_no_such_text": edit(("x as u32", "x as u64"), functions="next"),
         })
         self.assertEqual(status, 1, printed)
-        self.assertIn("tiny/after_next_is_the_same: NOT REFUSED: ", printed)
+        self.assertIn("tiny/next_of_widened_is_the_same: NOT REFUSED: ", printed)
         self.assertIn("tiny/the_file_is_the_same: NOT REFUSED: ", printed)
         self.assertIn("tiny/there_is_no_such_text: BAD: ", printed)
         self.assertNotIn("tiny/next_is_wrong: ", printed)
-        self.assertIn("edits: 1 of 4 are refused", printed)
+        self.assertIn("edits: 1 of 4 are refused; 3 checks", printed)
 
     def test_what_a_check_says_of_other_functions_is_no_verdict(self):
         for name, text in {
