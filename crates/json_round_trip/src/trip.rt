@@ -24,7 +24,7 @@ pub enum RoundTripError<'a> {
 /// that isn't canonical, or a nested document with a wrapper's key. Of one that comes back the error is a barrier, or its reason
 /// is `OutOfMemory`, `TooManyBytes`, `TooDeep`, `InteriorNul` or `Unsound`.
 /// ```
-/// let document = RawDocument::from_bytes(b"\x0C\0\0\0\x10a\0\x01\0\0\0\0")?;
+/// let document = RawDocument::from_bytes(b"\x10\0\0\0\x12a\0\x01\0\0\0\0\0\0\0\0")?;
 /// let again = round_trip(alloc, document, Layout::Indented, Limits { bytes: 1000, depth: 10 }).map_err(|_| NoMemory)?;
 /// assert_eq!(rt; again.as_bytes(), document.as_bytes());
 /// ```
