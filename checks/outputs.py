@@ -87,7 +87,8 @@ def try_hints(runs: Runs) -> None:
         ("x.json", b'{"a":1}\n', "looks like JSON, not a dump: mongoimport reads JSON"),
         ("x.array", b' [\n{"a":1}]\n', "looks like JSON, not a dump: mongoimport reads JSON"),
         ("x.txt", b"id,name\n1,Ada\n", "looks like text, not a dump"),
-        ("x.utf16", '{"a":1}'.encode("utf-16"), "looks like text in UTF-16, not a dump"),
+        ("x.utf16", b"\xff\xfe" + '{"a":1}'.encode("utf-16-le"), "looks like text in UTF-16, not a dump"),
+        ("x.utf16", b"\xfe\xff" + '{"a":1}'.encode("utf-16-be"), "looks like text in UTF-16, not a dump"),
         ("x.archive", b"\x6d\xe2\x99\x81" + ONE, "looks like an archive: mongorestore --archive=FILE, then mongodump"),
     ):
         runs.put(name, data)
@@ -99,6 +100,10 @@ def try_hints(runs: Runs) -> None:
     for data in (ONE, document, b"", b"\5"):
         if runs.run("check", input=data)[2]:
             fails("a dump is taken for something else", data[:10])
+    # so does one of 17861407 bytes
+    for most, is_taken in ((17861407, False), (17861406, True)):
+        if bool(runs.run("check", "--max-bytes", str(most), input=b"\x1f\x8b\x10\x01\5\0")[2]) != is_taken:
+            fails("a document of just the most bytes, or of one more", most)
 
 
 def try_same_file(runs: Runs) -> None:
