@@ -1,13 +1,8 @@
 -- A document that is printed block by block.
+use Rattle.bson_json.proofs.Common.{Grows, GrowsFront, HasFront, IsJson, Level, Moves, Reads, ReadsUpTo, Style, Tree, after, end_text, level_sort}
 use Rattle.std.proofs.Common.{◌≡◌, ◌<◌, ◌⊎◌, inl, inr, ◌∷◌, ◌++◌, [], ℕ, List, Some, codes, length, refl, sym, ap, ◌∙◌, subst, append_assoc, append-nil}
-use Rattle.bson_model.specs.Tree.{Tree}
-use Rattle.raw_tree.specs.Reading.{Reads, ReadsUpTo}
 use Rattle.raw_tree.specs.Reading as reading
-use Rattle.bson_json.specs.Json.{IsJson, end_text}
-use Rattle.bson_json.specs.Levels.{Level, level_sort, after}
-use Rattle.bson_json.specs.Written.{Grows, GrowsFront, HasFront, Moves}
 use Rattle.bson_json.specs.declared.level.Sort.TheVariants as sort
-use Rattle.bson_json.specs.declared.style.Style.{Style}
 use Rattle.bson_json.proofs.Left.{AllReadable, readable_deep, readable_left}
 use Rattle.bson_json.proofs.Printing.{IsPrinting, opened, printing_begins, printing_closes, printing_ends, reads_begin}
 use Rattle.bson_json.proofs.Texts.{all_left_has}

@@ -1,10 +1,6 @@
 -- Each day of the years 1970 to 9999 is one of the calendar.
+use Rattle.bson_json.proofs.Common.{IsCivilDate, IsInstantText, cases_lt, day_count, day_count-day, day_count-end, day_count-epoch, day_count-last_of_year, day_count-next_month, day_count-next_year, days_from_civil, days_from_civil-day_count, days_in_month, days_in_month_bounds, days_in_year, ints}
 use Rattle.std.proofs.Common.{◌≡◌, ◌+◌, ◌<◌, ◌≤◌, ◌/◌, ◌%◌, ℕ, pos, ◌+ℤ◌, ◌*ℤ◌, zero, suc, List, arith, refl, subst, inl, inr}
-use Rattle.std.proofs.lemmas.Bool.{cases_lt}
-use Rattle.std.proofs.lemmas.Int.{ints}
-use Rattle.jiff_core.specs.Calendar.{IsCivilDate, day_count, days_from_civil, days_in_month, days_in_year}
-use Rattle.jiff_core.proofs.CalendarLemmas.{day_count-day, day_count-end, day_count-epoch, day_count-last_of_year, day_count-next_month, day_count-next_year, days_from_civil-day_count, days_in_month_bounds}
-use Rattle.bson_json.specs.Dates.{IsInstantText}
 
 -- the day that is so many behind 1 January 1970
 record Day (n : ℕ) : Type 0 where

@@ -1,10 +1,6 @@
 -- Bytes piece by piece, and their base64.
+use Rattle.bson_json.proofs.Common.{encode_of, encode_of-append, length-take-le, standard, take-add, take-length}
 use Rattle.std.proofs.Common.{◌≡◌, ◌+◌, ◌-◌, ◌%◌, ◌≤◌, ℕ, List, ◌++◌, length, take, drop, refl, sym, ap, ◌∙◌, arith, length-drop}
-use Rattle.std.proofs.Math.Seq.{take-add, take-length}
-use Rattle.std.proofs.lemmas.List.{length-take-le}
-use Rattle.base64.specs.Engines.{standard}
-use Rattle.base64.specs.GeneralPurpose.{encode_of}
-use Rattle.base64.proofs.EngineFacts.{encode_of-append}
 
 -- what is left behind a place
 pub rest_whole : (b : List ℕ) (i : ℕ) → take (length b - i) (drop i b) ≡ drop i b

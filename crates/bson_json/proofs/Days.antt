@@ -1,15 +1,10 @@
 -- Times as text.
+use Rattle.bson_json.proofs.Common.{HasInstantText, IsCivilDate, IsDateJson, IsInstantText, Relaxed, day_count, day_count-lt_year, days_from_civil, days_from_civil-day_count, fraction_text, ints, nat_tests, second_text, three_digits}
 use Rattle.std.proofs.Common.{◌≡◌, ◌<◌, ◌+◌, ◌/◌, ◌%◌, ℕ, List, [], ◌∷◌, ◌++◌, codes, arith, refl, sym, ap, ◌∙◌, subst, inl, ℤ, pos, negsuc, neg_ℤ, ◌+ℤ◌, ◌*ℤ◌, ◌≤ℤ◌, unsigned_abs, cond, nat_eq}
-use Rattle.std.proofs.lemmas.Bool.Decides.{nat_tests}
-use Rattle.std.proofs.lemmas.Int.{ints}
-use Rattle.jiff_core.specs.Calendar.{IsCivilDate, day_count, days_from_civil}
-use Rattle.jiff_core.proofs.CalendarLemmas.{days_from_civil-day_count, day_count-lt_year}
 use Rattle.jiff_core.proofs.MarchLemmas.{day_count-early}
 use Rattle.jiff_core.proofs.DateLemmas.{civil}
 use Rattle.jiff_core.specs.Date.{epoch_day}
 use Rattle.jiff_core.specs.declared.civil.date.Date.{Date}
-use Rattle.bson_json.specs.Dates.{HasInstantText, IsInstantText, IsDateJson, second_text, fraction_text, three_digits}
-use Rattle.bson_json.specs.declared.style.Format.TheVariants.{Relaxed}
 use borrow.Author.Differences.{up, down}
 
 pub day_count-year_0 : day_count (pos 0) 1 1 ≡ 3_652_425

@@ -1,8 +1,6 @@
 -- Escapes of texts, run by run.
 use Rattle.std.proofs.Common.{◌≡◌, ◌+◌, ◌<◌, ℕ, List, [], ◌∷◌, ◌++◌, length, take, drop, get_or, refl, sym, ap, ◌∙◌, append_assoc, append-nil}
-use Rattle.std.proofs.Math.Seq.{take-add, take-length}
-use Rattle.std.proofs.lemmas.List.{take_more}
-use Rattle.json.specs.Print.{escape, escape_byte}
+use Rattle.bson_json.proofs.Common.{escape, escape_byte, take-add, take-length, take_more}
 
 pub escape-append : (xs ys : List ℕ) → escape (xs ++ ys) ≡ escape xs ++ escape ys
 escape-append [] ys = refl

@@ -1,17 +1,11 @@
 -- Each finite double has a text that is read as it: all of its digits, and an exponent.
+use Rattle.bson_json.proofs.Common.{AllDigits, IsDoubleText, IsPlain, Parts, T, binary64, cases_lt, digits_value, nat_tests, nearest_float, sign_text, text_of}
 use Rattle.std.proofs.Common.{◌≡◌, ◌+◌, ◌-◌, ◌*◌, ◌/◌, ◌%◌, ◌^◌, ◌<◌, ◌≤◌, ◌++◌, [], ◌∷◌, ℕ, ℤ, pos, negsuc, zero, suc, Bool, true, false, cond, ◌&&◌, List, Some, inl, inr, length, length-append, get_or, codes, refl, sym, ap, ◌∙◌, arith, append-nil, from_bits}
-use Rattle.std.proofs.lemmas.Bool.{cases_lt}
-use Rattle.std.proofs.lemmas.Bool.Decides.{nat_tests}
 use Rattle.std.proofs.lemmas.Float.Parse.{parse_float-text_of}
 use Rattle.std.proofs.lemmas.Int.Digits.{digits_push, digits_value_push}
 use Rattle.std.proofs.lemmas.Nat.{mul-pow, pow_pos}
 use Rattle.std.specs.Char.{digit_value}
-use Rattle.std.specs.Float.{binary64}
 use Rattle.std.specs.Float.Ieee.{Float, Format, nan, inf, fin, round}
-use Rattle.std.specs.Float.Numeral.{Parts, nearest_float, text_of}
-use Rattle.std.specs.Fmt.{sign_text}
-use Rattle.std.specs.Str.Parse.{AllDigits, digits_value}
-use Rattle.std.specs.Prelude.{T}
 use lib.Dec.{leb, ltb, eqb, ltb→lt, leb→le}
 use lib.Ieee.{prec, emax, low, up, down, fits, of_bits, to_bits, size, top, hid}
 use lib.Ieee.Bits.{of_bits-fits, of_bits-to_bits}
@@ -20,8 +14,6 @@ use lib.Ieee.Fits.{round-fits, and_l, and_r, down_pos, reach}
 use lib.Ieee.Scale.{round_same}
 use lib.Pow.{pow-add, pow-lt, pow_mono, shl_lt}
 use native.Mathlib.Nat.{lt_of_lt_of_le, mul_assoc, mul-div_cancel, mul-lt-mul_of_pos_right}
-use Rattle.ryu.specs.Plain.{IsPlain}
-use Rattle.bson_json.specs.Doubles.{IsDoubleText}
 
 -- digits
 

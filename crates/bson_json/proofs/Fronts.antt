@@ -1,27 +1,10 @@
 -- What a walk comes to, as it is printed.
+use Rattle.bson_json.proofs.Common.{Appends, Frame, HasRead, Holds, IsAlong, Leaf, Level, Means, PutsOpening, RawBsonRef, RawDocument, RawElement, RawValue, Wait, Walk, before_scope, bytes_of, frame_of, ne_eqb, one_meaning, value, value_of}
 use Rattle.std.proofs.Common.{◌≡◌, ◌+◌, ℕ, suc, false, nat_eq, List, [], ◌∷◌, ◌++◌, Option, None, Some, codes, length, refl, sym, ap, ◌∙◌, subst, arith}
-use Rattle.std.proofs.lemmas.Bool.{ne_eqb}
-use Rattle.std.specs.Io.KnownBytes.{Appends}
-use Rattle.bson_model.specs.Leaf.{Leaf}
-use Rattle.raw_view.specs.Document.{bytes_of}
-use Rattle.raw_view.specs.Frame.ElementSteps.{HasRead, frame_of}
-use Rattle.raw_view.specs.Frame.{Frame}
-use Rattle.raw_view.specs.Meaning.{RawValue, Means, value}
 use Rattle.raw_view.specs.Meaning as raw
-use Rattle.raw_view.specs.Meaning.Value.{value_of}
-use Rattle.raw_view.specs.declared.bson_ref.RawBsonRef.{RawBsonRef}
-use Rattle.raw_view.specs.declared.document.RawDocument.{RawDocument}
-use Rattle.raw_view.specs.declared.element.RawElement.{RawElement}
-use Rattle.raw_view.proofs.Face.{one_meaning}
-use Rattle.raw_tree.specs.Reading.{Holds}
 use Rattle.raw_tree.specs.Aheads as next
 use Rattle.raw_tree.specs.Looking.{HoldsNone, IsValueOf, Looks}
-use Rattle.raw_tree.specs.Waits.{Wait}
-use Rattle.raw_tree.specs.Walks.{IsAlong}
 use Rattle.raw_tree.specs.declared.walk.level.Level as walk
-use Rattle.raw_tree.specs.declared.walk.Walk.{Walk}
-use Rattle.bson_json.specs.Json.{before_scope}
-use Rattle.bson_json.specs.Levels.{Level, PutsOpening}
 use Rattle.bson_json.specs.declared.level.Sort.{Sort}
 use Rattle.bson_json.proofs.Printing.{IsNext, Opens}
 

@@ -1,16 +1,9 @@
 -- What is left of the levels of a document that is printed.
+use Rattle.bson_json.proofs.Common.{AreMembersJson, Done, Frame, Holds, IsFrame, IsJsonUpTo, IsReadableUpTo, IsWalk, Level, Means, RawValue, ReadsUpTo, StandsFor, Style, Tree, after, document, level_sort, no_frame_at_final, one_frame, one_meaning, value}
 use Rattle.std.proofs.Common.{◌≡◌, ◌+◌, ◌<◌, ℕ, zero, suc, Bool, List, [], ◌∷◌, ◌++◌, Option, None, Some, length, drop, refl, sym, ap, ◌∙◌, subst, arith, append_assoc}
-use Rattle.bson_model.specs.Tree.{Tree, document}
-use Rattle.raw_view.specs.Frame.{Frame, IsFrame, IsWalk, Done}
-use Rattle.raw_view.specs.Meaning.{RawValue, Means, value}
 use Rattle.raw_view.specs.Meaning as raw
-use Rattle.raw_view.proofs.Face.{one_frame, no_frame_at_final, one_meaning}
-use Rattle.raw_tree.specs.Reading.{ReadsRest, ReadsUpTo, StandsFor, Holds}
 use Rattle.raw_tree.specs.Reading as reading
-use Rattle.bson_json.specs.Json.{AreMembersJson, IsJsonUpTo}
-use Rattle.bson_json.specs.Levels.{Level, IsReadableUpTo, level_sort, after}
 use Rattle.bson_json.specs.declared.level.Sort.{Sort}
-use Rattle.bson_json.specs.declared.style.Style.{Style}
 
 -- readings
 

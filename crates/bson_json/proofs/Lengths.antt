@@ -1,14 +1,7 @@
 -- How long the text of a Decimal128 is at most.
+use Rattle.bson_json.proofs.Common.{Decimal, Finite, Infinity, NaN, coefficient_of, combination, decimal128_text, decimal_of, decimal_text, eqb-false, eqb-true, exponent_text, finite_text, from_le_bytes, length-append, length-decimal-le_wide, length-drop, length-replicate, length-take-le, nat_tests, plain_text, scientific_text, sign_text, w64}
 use Rattle.std.proofs.Common.{◌≡◌, ℕ, ◌+◌, ◌-◌, ◌*◌, ◌/◌, ◌%◌, ◌^◌, ◌<◌, ◌≤◌, ◌||◌, Bool, true, false, cond, nat_eq, nat_lt, nat_le, List, [], ◌∷◌, ◌++◌, length, take, drop, replicate, codes, decimal, refl, sym, ap, ◌∙◌, arith, lit<}
 use Rattle.std.proofs.Math.Nat.{div-div-eq-div-mul}
-use Rattle.std.proofs.lemmas.Bool.Decides.{nat_tests}
-use Rattle.std.proofs.lemmas.Fmt.{length-decimal-le_wide}
-use Rattle.std.proofs.lemmas.List.{length-append, length-drop, length-replicate, length-take-le}
-use Rattle.std.specs.Fmt.{sign_text}
-use Rattle.std.specs.Int.{w64, from_le_bytes}
-use Rattle.bson_json.specs.Decimals.{coefficient_of, combination, decimal128_text, decimal_of, decimal_text, exponent_text, finite_text, plain_text, scientific_text}
-use Rattle.bson_json.specs.declared.decimals.Decimal.{Decimal}
-use Rattle.bson_json.specs.declared.decimals.Decimal.TheVariants.{NaN, Infinity, Finite}
 
 either_short : (b : Bool) (x y : List ℕ) (n : ℕ) → (b ≡ true → length x ≤ n) → (b ≡ false → length y ≤ n) → length (cond b x y) ≤ n
 either_short true x y n h k = h refl
@@ -65,12 +58,6 @@ infinity_short negative = omega (arith, length-append (sign_text negative) (code
 coefficient_small : (n : ℕ) → coefficient_of n < 10 ^ 34
 coefficient_small n = grind (arith, nat_tests)
 
-differs : (n k : ℕ) → nat_eq n k ≡ false → ¬ (n ≡ k)
-differs n k h e = grind (arith, nat_tests)
-
-same_number : (n k : ℕ) → nat_eq n k ≡ true → n ≡ k
-same_number n k h = grind (arith, nat_tests)
-
 -- an exponent whose first two bits aren't both 1
 small_exponent : (q : ℕ) → ¬ (q / 4096 % 4 ≡ 3) → q % 16384 < 12288
 small_exponent q h = omega (arith, h)
@@ -102,9 +89,9 @@ halves_short low high =
     (λ nan. either_decimal (nat_eq (combination high) 30) (Infinity negative) finite (λ _. infinity_short negative)
     (λ infinite. either_decimal (nat_eq (high / 2 ^ 61 % 4) 3) large small
     (λ ones. number_short negative 0 (high / 2 ^ 47 % 2 ^ 14) (lit< tt)
-    (large_exponent high (same_number (high / 2 ^ 61 % 4) 3 ones) (differs (combination high) 31 nan) (differs (combination high) 30 infinite)))
+    (large_exponent high (eqb-true (high / 2 ^ 61 % 4) 3 ones) (eqb-false (combination high) 31 nan) (eqb-false (combination high) 30 infinite)))
     (λ plain. number_short negative (coefficient_of (high % 2 ^ 49 * 2 ^ 64 + low)) (high / 2 ^ 49 % 2 ^ 14) (coefficient_small (high % 2 ^ 49 * 2 ^ 64 + low))
-    (plain_exponent high (differs (high / 2 ^ 61 % 4) 3 plain)))))
+    (plain_exponent high (eqb-false (high / 2 ^ 61 % 4) 3 plain)))))
 
 -- the text of a Decimal128
 pub decimal128_short : (bytes : List ℕ) → length (decimal128_text bytes) ≤ 42

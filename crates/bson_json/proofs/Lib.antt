@@ -1,3 +1,4 @@
+pub mod Common
 pub mod Puts
 pub mod Chunks
 pub mod Escapes

@@ -1,15 +1,9 @@
 -- Doubles as text.
+use Rattle.bson_json.proofs.Common.{Float, IsDoubleJson, IsDoubleText, IsPlainNumber, IsWrappedDouble, Relaxed, T, binary64, inf, nan, nat_tests, not, sign_text}
+use Rattle.std.specs.Float.{float_is_finite, is_sign_negative}
+use lib.Ieee.{is_nan, of_bits, of_fields}
 use Rattle.std.proofs.Common.{◌≡◌, ◌<◌, ◌%◌, ◌/◌, ℕ, Bool, true, false, List, Some, arith, refl, codes, ◌++◌, cond, nat_eq}
-use Rattle.std.proofs.lemmas.Bool.Decides.{nat_tests}
-use Rattle.std.specs.Prelude.{T, not}
-use Rattle.std.specs.Float.{binary64, float_is_finite, is_sign_negative}
-use Rattle.std.specs.Float.Ieee.{Float, nan, inf, fin}
-use Rattle.std.specs.Fmt.{sign_text}
-use lib.Ieee.{of_bits, of_fields, is_nan}
 use Rattle.ryu.specs.Parse.{parse_float}
-use Rattle.ryu.specs.Plain.{IsPlainNumber}
-use Rattle.bson_json.specs.Doubles.{IsDoubleText, IsDoubleJson, IsWrappedDouble}
-use Rattle.bson_json.specs.declared.style.Format.TheVariants.{Relaxed}
 
 second : (t : ℕ) (a b : Float) → 0 < t → cond (nat_eq t 0) a b ≡ b
 second t a b h = grind (arith, nat_tests)
@@ -32,24 +26,16 @@ nan_text x e = rw e refl
 
 pub finite_number : (x : Float) (text : List ℕ) → float_is_finite x ≡ true → IsPlainNumber text → parse_float binary64 text ≡ Some x → IsDoubleText x text
 unfolding float_is_finite
-finite_number nan text e plain parse = absurd (cc)
-finite_number (inf s) text e plain parse = absurd (cc)
-finite_number (fin s m x) text e plain parse = (plain, parse)
+finite_number x text e plain parse = grind arith
 
 pub infinite_number : (x : Float) (text : List ℕ) → float_is_finite x ≡ false → T (not (is_nan x)) → text ≡ sign_text (is_sign_negative x) ++ codes "Infinity" → IsDoubleText x text
 unfolding float_is_finite is_nan is_sign_negative
-infinite_number nan text e number is = absurd number
-infinite_number (inf s) text e number is = is
-infinite_number (fin s m x) text e number is = absurd (cc)
+infinite_number x text e number is = grind arith
 
 pub relaxed_finite : (x : Float) (text : List ℕ) → float_is_finite x ≡ true → IsDoubleText x text → IsDoubleJson Relaxed x text
 unfolding float_is_finite
-relaxed_finite nan text e h = absurd (cc)
-relaxed_finite (inf s) text e h = absurd (cc)
-relaxed_finite (fin s m x) text e h = h
+relaxed_finite x text e h = grind arith
 
 pub relaxed_other : (x : Float) (text : List ℕ) → float_is_finite x ≡ false → IsWrappedDouble x text → IsDoubleJson Relaxed x text
 unfolding float_is_finite
-relaxed_other nan text e h = h
-relaxed_other (inf s) text e h = h
-relaxed_other (fin s m x) text e h = absurd (cc)
+relaxed_other x text e h = grind arith

@@ -1,18 +1,10 @@
 -- A text that is written block by block, of a document that may have a barrier.
+use Rattle.bson_json.proofs.Common.{GrowsFront, Guards, IsSeen, Level, Limits, PrintError, ReadsWithin, Style, TellsBarrier, TellsPassError, TellsPrintError, Tree, WroteBefore}
 use Rattle.std.proofs.Common.{◌≡◌, inl, inr, Bool, true, false, ℕ, List, Some, Result, Ok, Err, IfErr, IsErrAnd, refl, sym, ◌∙◌, subst}
-use Rattle.bson_model.specs.Tree.{Tree}
-use Rattle.raw_tree.specs.Barriers.{TellsBarrier}
 use Rattle.raw_tree.specs.declared.walk.barrier.Barrier.{Barrier}
-use Rattle.raw_tree.specs.WithinLimits.{ReadsWithin}
-use Rattle.raw_tree.specs.declared.reader.limits.Limits.{Limits}
-use Rattle.bson_json.specs.Levels.{Level}
-use Rattle.bson_json.specs.Passing.{Guards, IsSeen, TellsPassError, TellsPrintError, WroteBefore}
-use Rattle.bson_json.specs.Written.{GrowsFront}
 use Rattle.bson_json.specs.declared.print.Failure.{Failure}
 use Rattle.bson_json.specs.declared.print.Failure.TheVariants as failure
-use Rattle.bson_json.specs.declared.print.PrintError.{PrintError}
 use Rattle.bson_json.specs.declared.print.PrintError.TheVariants as print
-use Rattle.bson_json.specs.declared.style.Style.{Style}
 use Rattle.bson_json.proofs.Blocks.{IsHalfway, IsPrinted, block_front, halfway_front, printed_front}
 
 -- what `?` returns is told as what it was made of

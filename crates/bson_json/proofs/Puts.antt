@@ -1,20 +1,6 @@
 -- What is written piece by piece.
-use Rattle.std.proofs.Common.{◌≡◌, ◌++◌, ◌+◌, ℕ, List, Option, Result, Ok, Err, OnErr, OnOk, replicate, subst, sym, take, drop, ap, ◌∙◌, append_assoc, take-append-drop}
-use Rattle.std.specs.Io.KnownBytes.{Appends, Keeps}
-use Rattle.std.proofs.KnownBytes.{Appends-kept, Appends-trans}
-use Rattle.std.proofs.lemmas.List.{replicate-append-replicate}
-
-pub on_ok : {A E : Type 0} (r : Result A E) (P Q : Type 0) → (P → Q) → OnOk r P → OnOk r Q
-on_ok (Ok x) P Q f h = f h
-on_ok (Err e) P Q f h = h
-
-pub on_err : {A E : Type 0} (r : Result A E) (P Q : Type 0) → (P → Q) → OnErr r P → OnErr r Q
-on_err (Ok x) P Q f h = h
-on_err (Err e) P Q f h = f h
-
-pub on_any : {A E : Type 0} (r : Result A E) (P : Type 0) → P → OnErr r P
-on_any (Ok x) P h = tt
-on_any (Err e) P h = h
+use Rattle.std.proofs.Common.{◌≡◌, ◌++◌, ◌+◌, ℕ, List, Option, Result, OnOk, replicate, subst, sym, take, drop, ap, ◌∙◌, append_assoc, take-append-drop}
+use Rattle.bson_json.proofs.Common.{Appends, Appends-kept, Appends-trans, Keeps, on_ok_weaker, replicate-append-replicate}
 
 -- two pieces one behind the other are the whole
 pub whole_put : (a b c : Option (List ℕ)) (x y z : List ℕ) → Appends a b x → Appends b c y → x ++ y ≡ z → Appends a c z
@@ -22,8 +8,7 @@ whole_put a b c x y z first second e = subst (Appends a c) e (Appends-trans a b 
 
 -- and so where the second may fail
 pub last_put : {A E : Type 0} (r : Result A E) (a b c : Option (List ℕ)) (x y z : List ℕ) → Appends a b x → x ++ y ≡ z → OnOk r (Appends b c y) → OnOk r (Appends a c z)
-last_put (Ok v) a b c x y z first e second = whole_put a b c x y z first second e
-last_put (Err v) a b c x y z first e second = second
+last_put r a b c x y z first e second = on_ok_weaker r (λ (put : Appends b c y). whole_put a b c x y z first put e) second
 
 -- a piece and what is between two others, as they group
 pub joined : (a q b x : List ℕ) → (a ++ (q ++ b)) ++ x ≡ a ++ (q ++ (b ++ x))

@@ -1,8 +1,6 @@
 -- What a writer holds, and that it was given a text.
+use Rattle.bson_json.proofs.Common.{Appends, HasFront, Style, WroteFront}
 use Rattle.std.proofs.Common.{◌≡◌, ◌++◌, ℕ, List, Option, None, Some, refl, sym, subst}
-use Rattle.std.specs.Io.KnownBytes.{Appends}
-use Rattle.bson_json.specs.Written.{HasFront, WroteFront}
-use Rattle.bson_json.specs.declared.style.Style.{Style}
 
 pub appends_of_grows : (old new : Option (List ℕ)) (bs : List ℕ) → ((most : ℕ) (text : List ℕ) → old ≡ Some text → new ≡ Some (text ++ bs)) → Appends old new bs
 appends_of_grows None new bs f = tt

@@ -1,26 +1,10 @@
 -- Each document that is read has a text, whatever of it is left.
+use Rattle.bson_json.proofs.Common.{AreMembersJson, Canonical, Float, Frame, IsDateJson, IsDoubleJson, IsDoubleText, IsJsonUpTo, IsLeafJson, IsReadableUpTo, IsValueJson, Leaf, Level, RawValue, Relaxed, Style, Tree, after, before_scope, binary, binary64, binary_json, boolean, boolean_json, cases_lt, date_time, db_pointer, decimal128, decimal128_text, document, double, end_text, fin, head_text, inf, int32, int32_json, int64, int64_json, javascript_code, last_millis, level_sort, max_key, min_key, nan, null, object_id, object_id_json, opening, pointer_json, quoted, regex_json, regular_expression, signed_decimal, string, symbol, timestamp, timestamp_json, undefined, wrapped_double}
 use Rattle.std.proofs.Common.{◌++◌, [], ◌∷◌, ℕ, ℤ, pos, negsuc, zero, suc, Bool, true, false, List, Option, None, Some, codes, inl, inr, refl, from_bits}
-use Rattle.std.proofs.lemmas.Bool.{cases_lt}
-use Rattle.std.specs.Float.{binary64}
-use Rattle.std.specs.Float.Ieee.{Float, nan, inf, fin}
-use Rattle.std.specs.Fmt.{signed_decimal}
-use Rattle.json.specs.Print.{quoted}
-use Rattle.bson_model.specs.Leaf.{Leaf, double, string, binary, undefined, object_id, boolean, date_time, null, regular_expression, db_pointer, javascript_code, symbol, int32, timestamp, int64, decimal128, max_key, min_key}
-use Rattle.bson_model.specs.Tree.{Tree, document}
-use Rattle.raw_view.specs.Frame.{Frame}
-use Rattle.raw_view.specs.Meaning.{RawValue}
 use Rattle.raw_view.specs.Meaning as raw
 use Rattle.raw_tree.specs.Reading.{Sort, as_document, as_array, ReadsUpTo, StandsFor, StandForEach}
-use Rattle.bson_json.specs.Dates.{IsDateJson, last_millis}
-use Rattle.bson_json.specs.Decimals.{decimal128_text}
-use Rattle.bson_json.specs.Doubles.{IsDoubleJson, IsDoubleText, wrapped_double}
-use Rattle.bson_json.specs.Json.{AreMembersJson, IsJsonUpTo, IsValueJson, before_scope, end_text, head_text, opening}
-use Rattle.bson_json.specs.Leaves.{IsLeafJson, binary_json, boolean_json, int32_json, int64_json, object_id_json, pointer_json, regex_json, timestamp_json}
-use Rattle.bson_json.specs.Levels.{Level, IsReadableUpTo, level_sort, after}
 use Rattle.bson_json.specs.declared.level.Sort as level
 use Rattle.bson_json.specs.declared.style.Format.{Format}
-use Rattle.bson_json.specs.declared.style.Format.TheVariants.{Relaxed, Canonical}
-use Rattle.bson_json.specs.declared.style.Style.{Style}
 use Rattle.bson_json.proofs.Calendar.{instant_has}
 use Rattle.bson_json.proofs.Exact.{bits_have}
 use Rattle.bson_json.proofs.Left.{AllReadable, LeftIn, AllLeft}

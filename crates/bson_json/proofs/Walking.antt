@@ -1,38 +1,18 @@
 -- A walk over a document whose levels are printed.
+use Rattle.bson_json.proofs.Common.{Appends, BeginsWithin, Comes, Guards, IsAlong, IsFurther, LeavesOrEnds, Level, Limits, Moves, PrintError, PutsEvent, PutsOpening, PutsSingle, RawBsonRef, RawDocument, RawElement, RawValue, ReadsWithin, Style, Suits, TellsBriefly, TellsError, TellsPassError, TellsPrintError, Tree, Wait, Walk, after, bytes_of, end_text, error_of, frame_of, head_text, level_sort, value_of}
 use Rattle.std.proofs.Common.{◌≡◌, ◌≤◌, ◌<◌, ◌+◌, ◌-◌, ℕ, suc, Bool, true, false, nat_eq, List, [], ◌∷◌, ◌++◌, Option, Some, Ok, codes, length, length-append, drop, refl, sym, ap, ◌∙◌, subst, arith, append_assoc}
-use Rattle.std.specs.Io.KnownBytes.{Appends}
-use Rattle.bson_model.specs.Tree.{Tree}
-use Rattle.raw_view.specs.Document.{bytes_of}
-use Rattle.raw_view.specs.Frame.ElementSteps.{frame_of}
-use Rattle.raw_view.specs.Meaning.{RawValue}
-use Rattle.raw_view.specs.Meaning.Value.{value_of}
-use Rattle.raw_view.specs.declared.bson_ref.RawBsonRef.{RawBsonRef}
-use Rattle.raw_view.specs.declared.document.RawDocument.{RawDocument}
-use Rattle.raw_view.specs.declared.element.RawElement.{RawElement}
-use Rattle.raw_tree.specs.Reading.{as_document, ReadsUpTo}
-use Rattle.raw_tree.specs.WithinLimits.{ReadsWithin}
-use Rattle.raw_tree.specs.declared.reader.limits.Limits.{Limits}
-use Rattle.raw_tree.proofs.Face.{read_within}
-use Rattle.raw_tree.specs.Barriers.{TellsBarrierWithin}
-use Rattle.raw_tree.specs.Waits.{Wait}
-use Rattle.raw_tree.specs.Walks.{BeginsWithin, Comes, IsAlong, IsFurther, LeavesOrEnds, TellsError}
 use Rattle.raw_tree.specs.declared.walk.level.Level as walk
 use Rattle.raw_tree.specs.declared.walk.Event.{Event}
 use Rattle.raw_tree.specs.declared.walk.Event.TheVariants as event
-use Rattle.raw_tree.specs.declared.walk.Walk.{Walk}
 use Rattle.raw_tree.specs.declared.walk.WalkError.{WalkError}
 use Rattle.raw_tree.specs.declared.walk.WalkError.TheVariants as error
-use Rattle.raw_tree.proofs.Face.{barrier_told}
-use Rattle.bson_json.specs.Json.{end_text, head_text}
-use Rattle.bson_json.specs.Levels.{Level, PutsEvent, PutsOpening, PutsSingle, Suits, after, error_of, level_sort}
-use Rattle.bson_json.specs.Passing.{Guards, TellsBriefly, TellsPassError, TellsPrintError}
-use Rattle.bson_json.specs.Written.{Moves}
+use Rattle.raw_tree.proofs.Face.{barrier_told, read_within}
 use Rattle.bson_json.specs.declared.level.Sort.{Sort}
 use Rattle.bson_json.specs.declared.level.Sort.TheVariants as sort
 use Rattle.bson_json.specs.declared.print.Failure.TheVariants as failure
-use Rattle.bson_json.specs.declared.print.PrintError.{PrintError}
 use Rattle.bson_json.specs.declared.print.PrintError.TheVariants as print
-use Rattle.bson_json.specs.declared.style.Style.{Style}
+use Rattle.raw_tree.specs.Barriers.{TellsBarrierWithin}
+use Rattle.raw_tree.specs.Reading.{as_document, ReadsUpTo}
 use Rattle.bson_json.proofs.Blocks.{IsHalfway, IsPrinted, halfway_begins, halfway_closes, halfway_ends, halfway_grows, halfway_moves}
 use Rattle.bson_json.proofs.Fronts.{IsInside, IsWhole, along_left, as_many_shown, inside_next, not_none, opens_from, shown, shown_each, shown_more, whole_next}
 use Rattle.bson_json.proofs.Passing.{wrote_before, wrote_none, wrote_stopped}
@@ -122,8 +102,7 @@ module _ {S : Type 0} {has : S → ℕ → List ℕ → Type 0} {style : Style} 
           levels = ap suc same.most ∙ is.levels;
           few = is.few;
           as_many = is.as_many;
-          halfway = subst (λ (x : Level). IsHalfway has style limits.depth (bytes_of document) (shown_each is.waits sorts) x old now more)
-              (sym (shown_behind to o to.elements l.number refl number)) halfway;
+          halfway = rw (shown_behind to o to.elements l.number refl number) halfway;
         }
 
     going_inside : {to : walk.Level} {e : RawElement} {v : RawBsonRef} {d : List ℕ} (x : Wait) (p : Sort) (more : List ℕ) → IsAlong new to (is.waits ++ x ∷ [])
@@ -141,8 +120,7 @@ module _ {S : Type 0} {has : S → ℕ → List ℕ → Type 0} {style : Style} 
           levels = ap suc same.most ∙ is.levels;
           few = is.few;
           as_many = omega (arith, is.as_many, length-append is.waits (x ∷ []), length-append sorts (o ∷ []));
-          halfway = subst (λ (ls : List Level). IsHalfway has style limits.depth (bytes_of document) ls (shown to p) old now more) (sym (shown_more is.waits sorts x o is.as_many))
-              (subst (λ (y : Level). IsHalfway has style limits.depth (bytes_of document) (shown_each is.waits sorts ++ around ∷ []) y old now more) (sym level) halfway);
+          halfway = rw (shown_more is.waits sorts x o is.as_many, level) halfway;
         }
 
     going_outside : {to : walk.Level} (p : Sort) (more : List ℕ) (outer_sorts : List Sort) → LeavesOrEnds w l is.waits new to true → sorts ≡ outer_sorts ++ p ∷ []
@@ -166,8 +144,7 @@ module _ {S : Type 0} {has : S → ℕ → List ℕ → Type 0} {style : Style} 
           levels = ap suc same.most ∙ is.levels;
           few = is.few;
           as_many = fewer;
-          halfway = subst (λ (y : Level). IsHalfway has style limits.depth (bytes_of document) (shown_each outer outer_sorts) y old now more)
-              (sym (shown_behind to p x.elements x.number goes.elements_are goes.number_is))
+          halfway = rw (shown_behind to p x.elements x.number goes.elements_are goes.number_is)
               (halfway_closes (shown_each outer outer_sorts) around s more halfway deep_enough left (over s left) grown);
         }
 
@@ -177,16 +154,14 @@ module _ {S : Type 0} {has : S → ℕ → List ℕ → Type 0} {style : Style} 
 
   going_read : (new : Walk) (to : walk.Level) → LeavesOrEnds w l is.waits new to false → (t : Tree) × ReadsWithin limits (bytes_of document) t
   going_read new to (t, reads, none, over) =
-      let here : ReadsUpTo (suc w.most_waiting) as_document (bytes_of document) t =
-      subst (λ (d : RawDocument). ReadsUpTo (suc w.most_waiting) as_document (bytes_of d) t) is.document_is reads in
+      let here : ReadsUpTo (suc w.most_waiting) as_document (bytes_of document) t = rw is.document_is at reads in
       (t, read_within limits (bytes_of document) t is.few (subst (λ (n : ℕ). ReadsUpTo n as_document (bytes_of document) t) is.levels here))
 
   going_ends : (new : Walk) (to : walk.Level) (more : List ℕ) → LeavesOrEnds w l is.waits new to false
       → more ≡ block ++ end (length sorts) → IsPrinted has style (bytes_of document) old now more
   going_ends new to more (t, reads, none, over) put =
       let (s, left) = along_left is.along in
-      let waiting : shown_each is.waits sorts ≡ [] = ap (λ (ws : List Wait). shown_each ws sorts) none in
-      let halfway = subst (λ (ls : List Level). IsHalfway has style limits.depth (bytes_of document) ls (shown l o) old now block) waiting is.halfway in
+      let halfway = rw none at is.halfway in
       let depth : length sorts ≡ 0 = sym is.as_many ∙ ap length none in
       let grown = put ∙ ap (λ (n : ℕ). block ++ end n) depth in
       halfway_ends s more halfway (omega (arith, is.levels)) left (over s left) grown
@@ -244,7 +219,7 @@ module _ {S : Type 0} {has : S → ℕ → List ℕ → Type 0} {style : Style} 
       → TellsPrintError has style limits (bytes_of document) careful old now (error_of e)
   going_barred careful unseen (error.Barrier answer) guard told =
       let b = bytes_of document in
-      let here : TellsBarrierWithin (suc w.most_waiting) b (Some answer) = subst (λ (d : RawDocument). TellsBarrierWithin (suc w.most_waiting) (bytes_of d) (Some answer)) is.document_is told in
+      let here : TellsBarrierWithin (suc w.most_waiting) b (Some answer) = rw is.document_is at told in
       let first = barrier_told limits b (Ok (Some answer)) is.few (subst (λ (n : ℕ). TellsBarrierWithin n b (Some answer)) is.levels here) in
       (first, λ safe. wrote_none limits (bytes_of document) old now unseen answer (guard safe) first)
   going_barred careful unseen error.OutOfMemory guard told = going_fails careful unseen guard

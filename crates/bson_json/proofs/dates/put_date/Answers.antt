@@ -1,12 +1,7 @@
+use Rattle.bson_json.proofs.Common.{Appends, Appends-trans, IsDateJson, IsInstantText, Relaxed, ints, on_ok_weaker}
 use Rattle.std.proofs.Common.{rules, ◌≡◌, ◌++◌, codes, sym, subst, refl, arith, ℤ, pos, ◌≤ℤ◌, w64, to_z, of_z}
-use Rattle.std.proofs.lemmas.Int.{ints}
-use Rattle.std.specs.Io.KnownBytes.{Appends}
-use Rattle.std.proofs.KnownBytes.{Appends-trans}
-use Rattle.bson_json.specs.Dates.{IsDateJson, IsInstantText}
 use Rattle.bson_json.specs.declared.style.Format.{Format}
-use Rattle.bson_json.specs.declared.style.Format.TheVariants.{Relaxed}
 use Rattle.bson_json.proofs.Days.{dated}
-use Rattle.bson_json.proofs.Puts.{on_ok}
 use Rattle.bson_json.proofs.dates.put_date.Goals as goal
 
 pub returns-then-millis-le-LAST_MILLIS : goal.returns-then-millis-le-LAST_MILLIS
@@ -24,7 +19,7 @@ returns-then-millis-le-LAST_MILLIS g c =
     let relaxed : c.args.format ≡ Relaxed = search rules in
     let same : to_z w64 (of_z w64 z) ≡ z = search rules in
     let date = dated z (A ++ (instant ++ C)) instant low high (subst (λ (y : ℤ). IsInstantText y instant) same is) refl in
-    on_ok c.put-then-millis-le-LAST_MILLIS.result _ _ (λ (p : Appends two new C). (
+    on_ok_weaker c.put-then-millis-le-LAST_MILLIS.result (λ (p : Appends two new C). (
       A ++ (instant ++ C),
       subst (λ (f : Format). IsDateJson f z (A ++ (instant ++ C))) (sym relaxed) date,
       Appends-trans old one new A (instant ++ C) c.in_ok-put.ensures (Appends-trans one two new instant C put p),

@@ -1,9 +1,6 @@
+use Rattle.bson_json.proofs.Common.{Appends, Appends-trans, HasInstantText, on_ok_weaker, second_text}
 use Rattle.std.proofs.Common.{rules, ◌≡◌, ◌++◌, ◌/◌, ◌%◌, codes, subst, ℤ, pos, ◌+ℤ◌, unsigned_abs, w64, to_z, of_z}
-use Rattle.std.specs.Io.KnownBytes.{Appends}
-use Rattle.std.proofs.KnownBytes.{Appends-trans}
-use Rattle.bson_json.specs.Dates.{HasInstantText, second_text}
 use Rattle.bson_json.proofs.Days.{instant_text, no_fraction, some_fraction}
-use Rattle.bson_json.proofs.Puts.{on_ok}
 use Rattle.bson_json.proofs.dates.put_instant.Goals as goal
 
 pub returns-in-0 : goal.returns-in-0
@@ -18,7 +15,7 @@ returns-in-0 g c =
     let old = g.W.Write.contents c.args.out.now in
     let mid = g.W.Write.contents c.put.new.out in
     let new = g.W.Write.contents c.put-in-0.new.out in
-    on_ok c.put-in-0.result _ _ (λ (p : Appends mid new (codes "Z")). (
+    on_ok_weaker c.put-in-0.result (λ (p : Appends mid new (codes "Z")). (
       c.seconds.result ++ codes "Z",
       instant_text z since d c.seconds.result (codes "Z") within behind_first c.from_days_since_min-date.ensures front
           (no_fraction (since % 1000) c.in-0.is),
@@ -39,7 +36,7 @@ returns-in_default g c =
     let new = g.W.Write.contents c.put_bytes_between.new.out in
     let some : ¬ (since % 1000 ≡ 0) = search rules in
     let behind = c.fraction.result ++ codes "Z" in
-    on_ok c.put_bytes_between.result _ _ (λ (p : Appends mid new behind). (
+    on_ok_weaker c.put_bytes_between.result (λ (p : Appends mid new behind). (
       c.seconds.result ++ behind,
       instant_text z since d c.seconds.result behind within behind_first c.from_days_since_min-date.ensures front
           (some_fraction (since % 1000) c.fraction.result some c.fraction.ensures),

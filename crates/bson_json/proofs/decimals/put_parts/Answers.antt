@@ -1,6 +1,5 @@
+use Rattle.bson_json.proofs.Common.{decimal_text, finite_text, sign_text}
 use Rattle.std.proofs.Common.{◌≡◌, ◌++◌, ℕ, List, ap, sym, ◌∙◌, decimal}
-use Rattle.std.specs.Fmt.{sign_text}
-use Rattle.bson_json.specs.Decimals.{decimal_text, finite_text}
 use Rattle.bson_json.proofs.Puts.{last_put}
 use Rattle.bson_json.proofs.decimals.put_parts.Goals as goal
 

@@ -1,6 +1,5 @@
+use Rattle.bson_json.proofs.Common.{IsUtf8, bytes_of}
 use Rattle.std.proofs.Common.{◌≤◌, ◌∙◌, [], arith, length, rules, subst, sym}
-use Rattle.std.specs.Str.{IsUtf8}
-use Rattle.raw_view.specs.Document.{bytes_of}
 use Rattle.bson_json.proofs.Utf8.{json_utf8}
 use Rattle.bson_json.proofs.document.measured_json.Goals as goal
 

@@ -1,7 +1,5 @@
+use Rattle.bson_json.proofs.Common.{IsJson, IsUtf8, bytes_of}
 use Rattle.std.proofs.Common.{◌++◌, ◌∙◌, Some, ℕ, List, ap, sym, subst}
-use Rattle.std.specs.Str.{IsUtf8}
-use Rattle.raw_view.specs.Document.{bytes_of}
-use Rattle.bson_json.specs.Json.{IsJson}
 use Rattle.bson_json.proofs.Sinks.{appends_of_grows}
 use Rattle.bson_json.proofs.Utf8.{json_utf8}
 use Rattle.bson_json.proofs.document.to_json.Goals as goal

@@ -1,9 +1,7 @@
-use Rattle.std.proofs.Common.{rules, ◌++◌, codes, ap, sym, ◌∙◌, from_bits}
-use Rattle.std.specs.Prelude.{T, not}
-use Rattle.std.specs.Float.{binary64}
-use Rattle.std.specs.Fmt.{sign_text}
-use Rattle.std.proofs.lemmas.Float.{not_nan_f64_bits}
+use Rattle.bson_json.proofs.Common.{T, binary64, not, sign_text}
 use lib.Ieee.{is_nan}
+use Rattle.std.proofs.Common.{rules, ◌++◌, codes, ap, sym, ◌∙◌, from_bits}
+use Rattle.std.proofs.lemmas.Float.{not_nan_f64_bits}
 use Rattle.bson_json.proofs.Numbers.{bits_nan, nan_is_not_finite, nan_text, finite_number, infinite_number}
 use Rattle.bson_json.proofs.doubles.text_of.Goals as goal
 use Rattle.bson_json.proofs.doubles.text_of.Goals.{then-is_sign_negative, else-is_sign_negative}

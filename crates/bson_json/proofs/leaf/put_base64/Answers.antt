@@ -1,9 +1,5 @@
+use Rattle.bson_json.proofs.Common.{Appends, Appends-nil, encode_of, encode_of-nil, standard}
 use Rattle.std.proofs.Common.{◌≡◌, ◌+◌, ◌-◌, ◌≤◌, ◌%◌, ℕ, List, take, drop, length, arith, refl, sym, subst}
-use Rattle.std.specs.Io.KnownBytes.{Appends}
-use Rattle.std.proofs.KnownBytes.{Appends-nil}
-use Rattle.base64.specs.Engines.{standard}
-use Rattle.base64.specs.GeneralPurpose.{encode_of}
-use Rattle.base64.proofs.EngineFacts.{encode_of-nil}
 use Rattle.bson_json.proofs.Chunks.{chunk_put, last_chunk}
 use Rattle.bson_json.proofs.Puts.{last_put, whole_put}
 use Rattle.bson_json.proofs.leaf.put_base64.Goals as goal

@@ -1,7 +1,5 @@
+use Rattle.bson_json.proofs.Common.{Appends, encode_of, standard}
 use Rattle.std.proofs.Common.{◌≡◌, ◌≤◌, ◌-◌, ◌%◌, length, take}
-use Rattle.std.specs.Io.KnownBytes.{Appends}
-use Rattle.base64.specs.Engines.{standard}
-use Rattle.base64.specs.GeneralPurpose.{encode_of}
 use Rattle.bson_json.proofs.leaf.put_base64.Given as goal
 
 -- so many bytes are written, in groups of three

@@ -1,11 +1,5 @@
+use Rattle.bson_json.proofs.Common.{Appends, Appends-trans, encode_lower, encode_of, on_ok_weaker, standard, subtype_byte}
 use Rattle.std.proofs.Common.{◌≡◌, ◌++◌, [], ◌∷◌, ℕ, List, codes, ap, ◌∙◌, subst}
-use Rattle.std.specs.Io.KnownBytes.{Appends}
-use Rattle.std.proofs.KnownBytes.{Appends-trans}
-use Rattle.base64.specs.Engines.{standard}
-use Rattle.base64.specs.GeneralPurpose.{encode_of}
-use Rattle.bson_model.specs.Subtype.{subtype_byte}
-use Rattle.hex.specs.Hex.{encode_lower}
-use Rattle.bson_json.proofs.Puts.{on_ok}
 use Rattle.bson_json.proofs.leaf.put_binary.Goals as goal
 
 pub returns : goal.returns
@@ -17,7 +11,7 @@ returns g c =
     let bytes = encode_of standard c.args.binary.bytes.now in
     let tail = λ (d : List ℕ). codes "\",\"subType\":\"" ++ (d ++ codes "\"}}") in
     let digits : c.encode_to_slice.new.output ≡ encode_lower (subtype_byte c.args.binary.subtype ∷ []) = c.in-Ok.ensures.written ∙ ap (λ (n : ℕ). encode_lower (n ∷ [])) c.to_u8.ensures in
-    on_ok c.put_bytes_between.result _ _ (λ (p : Appends two new (tail c.encode_to_slice.new.output)). subst
+    on_ok_weaker c.put_bytes_between.result (λ (p : Appends two new (tail c.encode_to_slice.new.output)). subst
     (λ (d : List ℕ). Appends old new (codes "{\"$binary\":{\"base64\":\"" ++ (bytes ++ tail d))) digits
     (Appends-trans old one new (codes "{\"$binary\":{\"base64\":\"") (bytes ++ tail c.encode_to_slice.new.output) c.in_ok-put.ensures
     (Appends-trans one two new bytes (tail c.encode_to_slice.new.output) c.in_ok-put_base64.ensures p))) c.put_bytes_between.ensures

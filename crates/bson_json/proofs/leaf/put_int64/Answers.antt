@@ -1,7 +1,5 @@
+use Rattle.bson_json.proofs.Common.{Appends, int64_json, signed_decimal}
 use Rattle.std.proofs.Common.{rules, ◌≡◌, ◌++◌, ℕ, List, OnOk, codes, sym, subst}
-use Rattle.std.specs.Fmt.{signed_decimal}
-use Rattle.std.specs.Io.KnownBytes.{Appends}
-use Rattle.bson_json.specs.Leaves.{int64_json}
 use Rattle.bson_json.specs.declared.style.Format.{Format}
 use Rattle.bson_json.proofs.leaf.put_int64.Goals as goal
 

@@ -1,6 +1,5 @@
+use Rattle.bson_json.proofs.Common.{quoted, regex_json}
 use Rattle.std.proofs.Common.{◌≡◌, ◌++◌, codes}
-use Rattle.json.specs.Print.{quoted}
-use Rattle.bson_json.specs.Leaves.{regex_json}
 use Rattle.bson_json.proofs.Puts.{joined, last_put}
 use Rattle.bson_json.proofs.leaf.put_regex.Goals as goal
 

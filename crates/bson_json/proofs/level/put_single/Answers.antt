@@ -1,12 +1,5 @@
+use Rattle.bson_json.proofs.Common.{Appends, Appends-trans, PutsSingle, RawBsonRef, bytes_of_decimal128, decimal128_text, on_ok_weaker, value_of}
 use Rattle.std.proofs.Common.{◌++◌, codes, sym, subst, refl}
-use Rattle.std.specs.Io.KnownBytes.{Appends}
-use Rattle.std.proofs.KnownBytes.{Appends-trans}
-use Rattle.bson_model.specs.Scalars.{bytes_of_decimal128}
-use Rattle.raw_view.specs.Meaning.Value.{value_of}
-use Rattle.raw_view.specs.declared.bson_ref.RawBsonRef.{RawBsonRef}
-use Rattle.bson_json.specs.Decimals.{decimal128_text}
-use Rattle.bson_json.specs.Levels.{PutsSingle}
-use Rattle.bson_json.proofs.Puts.{on_ok}
 use Rattle.bson_json.proofs.level.put_single.Goals as goal
 
 pub returns-in_ok-write_decimal128-in-Decimal128 : goal.returns-in_ok-write_decimal128-in-Decimal128
@@ -18,7 +11,7 @@ returns-in_ok-write_decimal128-in-Decimal128 g c =
     let A = codes "{\"$numberDecimal\":\"" in
     let D = decimal128_text (bytes_of_decimal128 c.in-Decimal128.number) in
     let C = codes "\"}" in
-    on_ok c.put-in-Decimal128-2.result _ _ (λ (p : Appends two new C). subst (λ (v : RawBsonRef). PutsSingle c.args.format (value_of v) old new) (sym c.in-Decimal128.is) (
+    on_ok_weaker c.put-in-Decimal128-2.result (λ (p : Appends two new C). subst (λ (v : RawBsonRef). PutsSingle c.args.format (value_of v) old new) (sym c.in-Decimal128.is) (
       A ++ (D ++ C),
       refl,
       Appends-trans old one new A (D ++ C) c.in_ok-put-in-Decimal128.ensures

@@ -1,6 +1,5 @@
+use Rattle.bson_json.proofs.Common.{TellsBarrier, bytes_of}
 use Rattle.std.proofs.Common.{subst}
-use Rattle.raw_tree.specs.Barriers.{TellsBarrier}
-use Rattle.raw_view.specs.Document.{bytes_of}
 use Rattle.bson_json.proofs.print.look_through.Goals as goal
 
 pub returns-in-Ok-None-clause-seen : goal.returns-in-Ok-None-clause-seen

@@ -1,7 +1,5 @@
+use Rattle.bson_json.proofs.Common.{Grows, GrowsFront, Guards, bytes_of}
 use Rattle.std.proofs.Common.{◌++◌, List, ℕ, Bool, codes, refl, ap, sym, ◌∙◌, subst}
-use Rattle.raw_view.specs.Document.{bytes_of}
-use Rattle.bson_json.specs.Passing.{Guards}
-use Rattle.bson_json.specs.Written.{Grows, GrowsFront}
 use Rattle.bson_json.proofs.Blocks.{printed_whole}
 use Rattle.bson_json.proofs.Passing.{told_as, wrote_last}
 use Rattle.bson_json.proofs.Walking.{GoesOn, IsSameWalk, going_barred, going_begins, going_fails, going_moves, going_on, going_stops, going_suits}

@@ -1,6 +1,5 @@
+use Rattle.bson_json.proofs.Common.{Guards, bytes_of}
 use Rattle.std.proofs.Common.{◌≡◌, ◌-◌, true, length}
-use Rattle.raw_view.specs.Document.{bytes_of}
-use Rattle.bson_json.specs.Passing.{Guards}
 use Rattle.bson_json.proofs.Walking.{IsGoing}
 use Rattle.bson_json.proofs.print.print.Given as goal
 

@@ -1,6 +1,5 @@
+use Rattle.bson_json.proofs.Common.{Appends, escape}
 use Rattle.std.proofs.Common.{◌≤◌, ◌-◌, length, take}
-use Rattle.std.specs.Io.KnownBytes.{Appends}
-use Rattle.json.specs.Print.{escape}
 use Rattle.bson_json.proofs.quote.put_escaped.Given as goal
 
 -- so many bytes are written
