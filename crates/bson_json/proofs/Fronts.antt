@@ -1,9 +1,11 @@
 -- What a walk comes to, as it is printed.
-use Rattle.bson_json.proofs.Common.{Appends, Frame, HasRead, Holds, IsAlong, Leaf, Level, Means, PutsOpening, RawBsonRef, RawDocument, RawElement, RawValue, Wait, Walk, before_scope, bytes_of, frame_of, ne_eqb, one_meaning, value, value_of}
+use Rattle.bson_json.proofs.Common.{Appends, Frame, HasRead, Holds, IsAlong, Leaf, Level, Means, PutsOpening, RawBsonRef, RawElement, RawValue, Wait, Walk, before_scope, bytes_of, frame_of, ne_eqb, one_meaning, value, value_of}
 use Rattle.std.proofs.Common.{◌≡◌, ◌+◌, ℕ, suc, false, nat_eq, List, [], ◌∷◌, ◌++◌, Option, None, Some, codes, length, refl, sym, ap, ◌∙◌, subst, arith}
 use Rattle.raw_view.specs.Meaning as raw
+use Rattle.raw_view.specs.Meaning.Value.{held_value}
+use Rattle.raw_view.specs.declared.level.RawLevel.{RawLevel}
 use Rattle.raw_tree.specs.Aheads as next
-use Rattle.raw_tree.specs.Looking.{HoldsNone, IsValueOf, Looks}
+use Rattle.raw_tree.specs.Looking.{HoldsNone, IsHeldBy, IsValueOf, Looks}
 use Rattle.raw_tree.specs.declared.walk.level.Level as walk
 use Rattle.bson_json.specs.declared.level.Sort.{Sort}
 use Rattle.bson_json.proofs.Printing.{IsNext, Opens}
@@ -53,9 +55,9 @@ single_of (raw.document d) none = absurd (none d refl)
 single_of (raw.array d) none = absurd (none d refl)
 single_of (raw.scoped code d) none = absurd (none d refl)
 
-same_value : (e : RawElement) (v : RawBsonRef) (w : RawValue) → IsValueOf v e → Means (frame_of e) (value w) → w ≡ value_of v
-same_value e v w is means =
-    let both : value w ≡ value (value_of v) = one_meaning (frame_of e) (value w) (value (value_of v)) means is in
+same_value : (f : Frame) (v w : RawValue) → Means f (value v) → Means f (value w) → w ≡ v
+same_value f v w is means =
+    let both : value w ≡ value v = one_meaning f (value w) (value v) means is in
     cc
 
 pub record IsWhole (left rest : Option (List ℕ)) (e : RawElement) (v : RawBsonRef) : Type 0 where
@@ -67,24 +69,24 @@ pub whole_next : (left rest : Option (List ℕ)) (e : RawElement) (v : RawBsonRe
 whole_next left rest e v s left_is looks is =
     let (r, w, at, means, none, rest_is) = subst (λ (x : Option (List ℕ)). Looks x rest (next.Whole e)) left_is looks in
     let (leaf, single) = single_of w none in
-    let same = same_value e v w is means in
+    let same = same_value (frame_of e) (value_of v) w is means in
     record {
       leaf = leaf;
       is_single = sym same ∙ single;
       next = record { s = s; r = r; left_is = left_is; rest_is = rest_is; at = at; means = subst (λ (x : RawValue). Means (frame_of e) (value x)) single means };
     }
 
-pub record IsInside (left rest : Option (List ℕ)) (e : RawElement) (v : RawBsonRef) (d : List ℕ) : Type 0 where
-  pub holds : Holds (value_of v) d
-  pub next : IsNext left (frame_of e) (value_of v) rest
+pub record IsInside (left rest : Option (List ℕ)) (e : RawElement) (v : RawValue) (d : List ℕ) : Type 0 where
+  pub holds : Holds v d
+  pub next : IsNext left (frame_of e) v rest
 
-pub inside_next : (left rest : Option (List ℕ)) (e : RawElement) (v : RawBsonRef) (inner : RawDocument) (s : List ℕ) → left ≡ Some s → Looks left rest (next.Inside e inner)
-    → IsValueOf v e → IsInside left rest e v (bytes_of inner)
-inside_next left rest e v inner s left_is looks is =
-    let (r, w, at, means, holds, rest_is) = subst (λ (x : Option (List ℕ)). Looks x rest (next.Inside e inner)) left_is looks in
-    let same = same_value e v w is means in
+pub inside_next : (left rest : Option (List ℕ)) (e : RawElement) (inner : RawLevel) (s : List ℕ) → left ≡ Some s → Looks left rest (next.Inside e inner.document)
+    → IsHeldBy inner e → IsInside left rest e (held_value inner) (bytes_of inner.document)
+inside_next left rest e inner s left_is looks is =
+    let (r, w, at, means, holds, rest_is) = subst (λ (x : Option (List ℕ)). Looks x rest (next.Inside e inner.document)) left_is looks in
+    let same = same_value (frame_of e) (held_value inner) w is means in
     record {
-      holds = subst (λ (x : RawValue). Holds x (bytes_of inner)) same holds;
+      holds = subst (λ (x : RawValue). Holds x (bytes_of inner.document)) same holds;
       next = record { s = s; r = r; left_is = left_is; rest_is = rest_is; at = at; means = is };
     }
 

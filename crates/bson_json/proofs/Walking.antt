@@ -105,11 +105,11 @@ module _ {S : Type 0} {has : S → ℕ → List ℕ → Type 0} {style : Style} 
           halfway = rw (shown_behind to o to.elements l.number refl number) halfway;
         }
 
-    going_inside : {to : walk.Level} {e : RawElement} {v : RawBsonRef} {d : List ℕ} (x : Wait) (p : Sort) (more : List ℕ) → IsAlong new to (is.waits ++ x ∷ [])
+    going_inside : {to : walk.Level} {e : RawElement} {v : RawValue} {d : List ℕ} (x : Wait) (p : Sort) (more : List ℕ) → IsAlong new to (is.waits ++ x ∷ [])
         → IsInside l.elements x.elements e v d → shown to p ≡ opened d p
-        → PutsOpening (value_of v) (Some (block ++ head (frame_of e).key (length sorts))) (Some more) p → IsGoing has style limits document new to (sorts ++ o ∷ []) p old now more
+        → PutsOpening v (Some (block ++ head (frame_of e).key (length sorts))) (Some more) p → IsGoing has style limits document new to (sorts ++ o ∷ []) p old now more
     going_inside {to} {e} {v} {d} x p more along inside level puts =
-        let (piece, opens, put) = opens_from (value_of v) d _ (Some more) p inside.holds puts in
+        let (piece, opens, put) = opens_from v d _ (Some more) p inside.holds puts in
         let around = behind (shown l o) x.elements in
         let halfway = halfway_grows is.halfway (shown_each is.waits sorts ++ around ∷ []) (opened d p) more _ (headed (frame_of e).key piece put)
         (λ n enough told printing. printing_opens printing d p piece inside.next opens) (λ n. reads_opens (shown l o) n (shown_each is.waits sorts) d p piece inside.next opens) in
@@ -180,10 +180,10 @@ module _ {S : Type 0} {has : S → ℕ → List ℕ → Type 0} {style : Style} 
       let (s, left) = along_left is.along in
       let here = going_whole same more passed.0.along passed.4 (whole_next l.elements to.elements e v s left passed.1 value) puts in
       rw (going, ps_are, p_is) (here, further same passed.0)
-  going_on {new} to ps p more ended (event.Enter e v) same (x, inner, entered, value) (going, ps_are, puts) =
+  going_on {new} to ps p more ended (event.Enter e inner) same (x, entered, held) (going, ps_are, puts) =
       let (s, left) = along_left is.along in
-      let here = going_inside same x p more entered.0.along (inside_next l.elements x.elements e v inner s left entered.1 value)
-      (shown_opened to p (bytes_of inner) entered.3.left_is entered.3.first_is) puts in
+      let here = going_inside same x p more entered.0.along (inside_next l.elements x.elements e inner s left entered.1 held)
+      (shown_opened to p (bytes_of inner.document) entered.3.left_is entered.3.first_is) puts in
       rw (going, ps_are) (here, further same entered.0)
   going_on {new} to ps p more ended event.Leave same came (going, sorts_are, put) =
       rw going (going_outside same p more ps came sorts_are put, further same came.3)
@@ -192,8 +192,7 @@ module _ {S : Type 0} {has : S → ℕ → List ℕ → Type 0} {style : Style} 
   -- what the walk comes to suits the levels
   pub going_suits : (new : Walk) (to : walk.Level) (e : Event) → Comes w l is.waits new to (Ok e) → Suits e sorts
   going_suits new to (event.Whole e v) came = tt
-  going_suits new to (event.Enter e v) (x, inner, entered, value) =
-      let (s, left) = along_left is.along in (bytes_of inner, (inside_next l.elements x.elements e v inner s left entered.1 value).holds)
+  going_suits new to (event.Enter e inner) came = tt
   going_suits new to event.Leave came = going_some new to came
   going_suits new to event.End came = tt
 

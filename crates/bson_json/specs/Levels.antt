@@ -6,12 +6,12 @@ use Rattle.raw_tree.specs.declared.walk.Event.{Event}
 use Rattle.raw_tree.specs.declared.walk.Event.TheVariants as event
 use Rattle.raw_tree.specs.declared.walk.WalkError.{WalkError}
 use Rattle.raw_tree.specs.declared.walk.WalkError.TheVariants as walk
-use Rattle.raw_tree.specs.Reading.{as_document, as_array, Holds, ReadsRest, ReadsUpTo}
+use Rattle.raw_tree.specs.Reading.{as_document, as_array, ReadsRest, ReadsUpTo}
 use Rattle.raw_tree.specs.Reading as reading
 use Rattle.raw_view.specs.Frame.ElementSteps.{frame_of}
 use Rattle.raw_view.specs.Meaning.{RawValue}
 use Rattle.raw_view.specs.Meaning as raw
-use Rattle.raw_view.specs.Meaning.Value.{value_of}
+use Rattle.raw_view.specs.Meaning.Value.{held_value, value_of}
 use Rattle.bson_json.specs.Json.{before_scope, end_text, head_text}
 use Rattle.bson_json.specs.Leaves.{IsLeafJson}
 use Rattle.bson_json.specs.declared.level.Sort.{Sort}
@@ -75,9 +75,8 @@ head_of style first os o key = head_text style.layout (length os + 1) (level_sor
 abbrev pub end_of : Style → (first : Bool) → List Sort → Sort → List ℕ
 end_of style first os o = end_text style.layout (length os) (level_sort o) first ++ after o
 
--- an event can be where levels of these sorts wait: a value that is entered holds a level, and one that waits is around a level that is left
+-- an event can be where levels of these sorts wait: one of them is around a level that is left
 abbrev pub Suits : Event → List Sort → Type 0
-Suits (event.Enter e v) os = (d : List ℕ) × Holds (value_of v) d
 Suits event.Leave os = os ≡ [] → ⊥
 Suits _ os = Unit {0}
 
@@ -86,7 +85,7 @@ Suits _ os = Unit {0}
 abbrev pub PutsEvent : Style → (first : Bool) → Event → List Sort → Sort → (old : List ℕ) → List Sort → Sort → (new : List ℕ) → (ended : Bool) → Type 0
 PutsEvent style first (event.Whole e v) os o old ps p new ended =
     (ended ≡ false) × (ps ≡ os) × (p ≡ o) × PutsSingle style.format (value_of v) (Some (old ++ head_of style first os o (frame_of e).key)) (Some new)
-PutsEvent style first (event.Enter e v) os o old ps p new ended =
-    (ended ≡ false) × (ps ≡ os ++ o ∷ []) × PutsOpening (value_of v) (Some (old ++ head_of style first os o (frame_of e).key)) (Some new) p
+PutsEvent style first (event.Enter e inner) os o old ps p new ended =
+    (ended ≡ false) × (ps ≡ os ++ o ∷ []) × PutsOpening (held_value inner) (Some (old ++ head_of style first os o (frame_of e).key)) (Some new) p
 PutsEvent style first event.Leave os o old ps p new ended = (ended ≡ false) × (os ≡ ps ++ p ∷ []) × (new ≡ old ++ end_of style first os o)
 PutsEvent style first event.End os o old ps p new ended = (ended ≡ true) × (new ≡ old ++ end_of style first os o)

@@ -6,8 +6,7 @@ ghost use Rattle.std.specs.Io.KnownBytes.{Appends};
 ghost use Rattle.bson_json.specs.Json.{colon, end_text, head_text, line};
 ghost use Rattle.json.specs.Print.{quoted};
 ghost use Rattle.bson_json.specs.Levels.{PutsOpening, PutsSingle, level_sort, after};
-ghost use Rattle.raw_tree.specs.Reading.{Holds};
-ghost use Rattle.raw_view.specs.Meaning.Value.{value_of};
+ghost use Rattle.raw_view.specs.Meaning.Value.{held_value, value_of};
 
 use crate::dates::put_date;
 use crate::decimals::write_decimal128;
@@ -18,7 +17,7 @@ use crate::leaf::{
 use crate::put::{put, put_repeated};
 use crate::quote::put_quoted;
 use crate::style::{Format, Layout};
-use raw_view::{Holder, RawBsonRef};
+use raw_view::{Holder, RawBsonRef, RawLevel};
 use std::io;
 use std::io::Write;
 
@@ -112,13 +111,9 @@ pub(crate) fn put_end<W: Write>(
 }
 
 /// Writes what is before the first member of a value that holds others, and returns what its level is.
-pub(crate) fn put_opening<W: Write>(out: &mut W, value: RawBsonRef<'_>) -> io::Result<Sort>
-    requires { (d : List ℕ) × Holds (value_of value) d }
-    ensures { IfOk result (PutsOpening (value_of value.entry) (W.contents out.old) (W.contents out.new)) }
+pub(crate) fn put_opening<W: Write>(out: &mut W, level: RawLevel<'_>) -> io::Result<Sort>
+    ensures { IfOk result (PutsOpening (held_value level.entry) (W.contents out.old) (W.contents out.new)) }
 {
-    let Some(level) = value.level() else {
-        unreachable!()
-    };
     match level.holder {
         Holder::Document => {
             put(out, b"{")?;

@@ -154,9 +154,9 @@ fn put_event<'a>(
             put_single(block, style.format, value)?;
             Ok(false)
         }
-        Event::Enter(element, value) => {
+        Event::Enter(element, level) => {
             put_head(block, style.layout, depth + 1, *sort, first, element.key())?;
-            let inner = put_opening(block, value)?;
+            let inner = put_opening(block, level)?;
             sorts.push(mem::replace(sort, inner))?;
             Ok(false)
         }

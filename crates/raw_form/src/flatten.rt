@@ -8,7 +8,9 @@ ghost use Rattle.raw_tree.specs.WithinLimits.{AllAreAnsweredOneWay};
 ghost use Rattle.raw_view.specs.Document.{bytes_of};
 
 use crate::token::{Token, set_inside};
-use raw_tree::{Barrier, BarrierKind, Event, FIRST, Limits, Place, Walk, WalkError, put_at};
+use raw_tree::{
+    Barrier, BarrierKind, Event, FIRST, Limits, MostWaiting, Place, Walk, WalkError, put_at,
+};
 use raw_view::RawDocument;
 use std::alloc::Global;
 
@@ -40,7 +42,7 @@ fn whole<'a>(alloc: Global, kind: BarrierKind<'a>) -> FlattenError<'a>
 fn flatten_to<'a>(
     alloc: Global,
     document: RawDocument<'a>,
-    most_waiting: usize,
+    most_waiting: MostWaiting,
     tokens: &mut [Token],
 ) -> std::result::Result<usize, FlattenError<'a>>
     ensures { FlattensTo most_waiting (bytes_of document.entry) tokens.old tokens.new result }
@@ -104,7 +106,7 @@ pub fn flatten_within<'a>(
     if document.as_bytes().len() > limits.bytes {
         return Err(whole(alloc, BarrierKind::TooManyBytes));
     }
-    let Some(most_waiting) = limits.depth.checked_sub(1) else {
+    let Some(most_waiting) = MostWaiting::of(limits.depth) else {
         return Err(whole(alloc, BarrierKind::TooDeep));
     };
     flatten_to(alloc, document, most_waiting, tokens)

@@ -24,7 +24,7 @@ pub use Rattle.bson_model.specs.declared.bson.Bson.{Bson}
 pub use Rattle.bson_model.specs.declared.bson.Document.{Document}
 pub use Rattle.raw_view.specs.Errors.Answers.{Says, TellsMeaning}
 pub use Rattle.raw_view.specs.Document.{bytes_of}
-pub use Rattle.raw_view.specs.Frame.ElementSteps.{StepsElement, frame_of}
+pub use Rattle.raw_view.specs.Frame.ElementSteps.{frame_of}
 pub use Rattle.raw_view.specs.Frame.Envelope.{IsEnvelope}
 pub use Rattle.raw_view.specs.Errors.{IsOutOfMemory}
 pub use Rattle.raw_view.specs.Frame.Format.{binary_payload, element_of, framed, leaf_payload, plain_binary_payload, scoped_payload, string_payload, tagged}
@@ -47,7 +47,6 @@ pub use Rattle.raw_tree.specs.CanonicalForm.{AllAreSpelledOneWay, ComesBack, IsC
 pub use Rattle.raw_tree.specs.declared.reader.levels.Contents.{Contents}
 pub use Rattle.raw_tree.specs.declared.reader.levels.Draft.{Draft}
 pub use Rattle.raw_tree.specs.declared.reader.levels.Level.{Level}
-pub use Rattle.raw_tree.specs.declared.reader.levels.Opened.{Opened}
 pub use Rattle.raw_tree.specs.declared.reader.levels.Waiting.{Waiting}
 pub use Rattle.raw_tree.specs.declared.reader.limits.Limits.{Limits}
 pub use Rattle.raw_tree.specs.declared.validator.breach.Cause.{Cause}
@@ -57,8 +56,8 @@ pub use Rattle.raw_tree.specs.declared.writer.members.Members.{Members}
 pub use Rattle.raw_tree.specs.put.Payload.{element_bytes, payload_of, unset}
 pub use Rattle.raw_tree.specs.reader.FrameCount.{AllAreCountedOneWay, AllHaveOneFrameCount, CountsFrames, CountsIn, CountsToFaultAt, HasFrameCount, HasFrameCountUpTo}
 pub use Rattle.raw_tree.specs.reader.FrameCount.{HasFramesToFault, HasFramesToFaultUpTo, HasFramesUntilFault, TellsFrames}
-pub use Rattle.raw_tree.specs.reader.Levels.{AreDrafted, AreRead, ClosesAs, DraftsTree, Finishes, IsOneMore, IsPairMore, IsSameDraft, IsUnread, KeepsKeys, OpensAs, TellsFramesWithin, TellsReading}
-pub use Rattle.raw_tree.specs.reader.Levels.{counted, sort_of, texts_of, tree_of_contents}
+pub use Rattle.raw_tree.specs.reader.Levels.{AreDrafted, AreRead, ClosesAs, DraftsTree, Finishes, IsOneMore, IsPairMore, IsSameDraft, IsUnread, KeepsKeys, TellsFramesWithin, TellsReading}
+pub use Rattle.raw_tree.specs.reader.Levels.{sort_of, texts_of, tree_of_contents}
 pub use Rattle.raw_tree.specs.reader.Reading.{AllAreReadOneWay, AreReadOneWay, FailsInFrame, FirstFault, FirstFaultOfFrame, FirstFaultOfValue, FirstFaultUpTo, FrameStandsFor, Holds, IsFrameReadOneWay}
 pub use Rattle.raw_tree.specs.reader.Reading.{IsValueReadOneWay, Reads, ReadsAs, ReadsUpTo, Sort, StandForEach, StandsFor, TellsFirstFault, as_array, as_document, leaf_in_order, tree_of_pairs}
 pub use Rattle.raw_tree.specs.reader.WithinLimits.{AllAreAnsweredOneWay, AllHaveOneDepth, Barrier, BarsFrame, BarsFront, FirstBarrier, FirstFaultWithin, HasDepth, HasDepthUpTo, IsFaultWith}

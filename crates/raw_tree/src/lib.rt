@@ -30,6 +30,8 @@ pub use validator::within::{PlacedBreach, ValidateError, validate_within};
 pub use validator::within::{Found, validate_to_depth};
 pub use walk::barrier::{Barrier, BarrierKind};
 #[doc(hidden)]
+pub use walk::depth::MostWaiting;
+#[doc(hidden)]
 pub use walk::element::{element_at, next_element};
 pub use walk::faults::first_fault_within;
 #[doc(hidden)]

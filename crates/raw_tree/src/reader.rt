@@ -15,10 +15,10 @@ pub(crate) mod levels;
 pub(crate) mod limits;
 pub(crate) mod steps;
 
-use crate::reader::levels::{
-    Contents, Draft, Opened, Waiting, begin, close, end, finish, open, put,
-};
+use crate::reader::levels::{Contents, Draft, Waiting, begin, close, copied, end, finish, put};
 use crate::reader::steps::Steps;
+use crate::walk::depth::MostWaiting;
+use crate::walk::level::{Next, look};
 use bson_model::{Bson, Document};
 use raw_view::{
     Error, Holder, RawArray, RawBsonRef, RawDocument, RawElement, RawLevel, Reason, Result,
@@ -36,38 +36,43 @@ pub(crate) fn read<'a>(
     requires fresh { steps.old ≡ 0 }
     ensures { TellsReading depth nested.entry result steps.new }
 {
-    let Some(most_waiting) = depth.checked_sub(1) else {
+    let Some(most_waiting) = MostWaiting::of(depth) else {
         return Err(Error::malformed(Reason::TooDeep));
     };
     let mut waiting: Vec<Waiting<'a>> = Vec::new(alloc);
     let mut spare = Draft::new(alloc);
     let mut level = begin(alloc, nested);
     'levels: loop {
-        let Some(element) = steps.frame(&mut level.elements) else {
-            let Some(outer) = waiting.pop() else {
-                return finish(alloc, level.holder, &mut level.draft);
-            };
-            let ended = end(alloc, level, &mut spare)?;
-            level = outer.level;
-            put(&mut level, &mut spare, outer.key, ended)?;
-            continue 'levels;
-        };
-        let element = element?;
-        let value = element.value(alloc)?;
-        let opened = open(alloc, value)?;
-        let nested = match opened {
-            Opened::Whole(whole) => {
-                put(&mut level, &mut spare, element.key(), whole)?;
-                continue 'levels;
+        match look(&mut level.elements) {
+            Next::Fault(None, stop) => return Err(stop.into_error(alloc)),
+            Next::Fault(Some(_), fault) => {
+                steps.add();
+                return Err(fault.into_error(alloc));
             }
-            Opened::Nested(nested) => nested,
-        };
-        if waiting.len() >= most_waiting {
-            return Err(Error::malformed(Reason::TooDeep));
+            Next::End => {
+                let Some(mut outer) = waiting.pop() else {
+                    return finish(alloc, level.holder, &mut level.draft);
+                };
+                let ended = end(alloc, level, &mut spare)?;
+                let key = outer.key;
+                put(&mut outer.level, &mut spare, key, ended)?;
+                level = outer.level;
+            }
+            Next::Inside(element, inner) => {
+                steps.add();
+                if most_waiting.is_reached(waiting.len()) {
+                    return Err(Error::malformed(Reason::TooDeep));
+                }
+                let key = element.key();
+                waiting.push(Waiting { level, key })?;
+                level = begin(alloc, inner);
+            }
+            Next::Whole(element, value) => {
+                steps.add();
+                let whole = copied(alloc, value)?;
+                put(&mut level, &mut spare, element.key(), whole)?;
+            }
         }
-        let key = element.key();
-        waiting.push(Waiting { level, key })?;
-        level = begin(alloc, nested);
     }
 }
 
@@ -172,9 +177,9 @@ pub fn bson_from_raw(alloc: Global, value: RawBsonRef<'_>) -> Result<Bson>
     ensures fault { IfErr result (TellsFirstFaultOfValue (value_of value.entry)) }
     ensures one_reading { IsValueReadOneWay (value_of value.entry) }
 {
-    match open(alloc, value)? {
-        Opened::Whole(whole) => Ok(whole),
-        Opened::Nested(nested) => close(alloc, read_all(alloc, nested, &mut Steps::new())?),
+    match value.level() {
+        None => copied(alloc, value),
+        Some(nested) => close(alloc, read_all(alloc, nested, &mut Steps::new())?),
     }
 }
 

@@ -11,6 +11,7 @@ ghost use Rattle.raw_view.specs.Document.{bytes_of};
 ghost use Rattle.raw_view.specs.Frame.ElementSteps.{frame_of};
 
 pub(crate) mod barrier;
+pub(crate) mod depth;
 pub(crate) mod element;
 pub(crate) mod faults;
 pub(crate) mod level;
@@ -19,10 +20,11 @@ pub(crate) mod room;
 
 use crate::reader::limits::Limits;
 use crate::walk::barrier::{Barrier, BarrierKind};
+use crate::walk::depth::MostWaiting;
 use crate::walk::faults::{FIRST, Start};
 use crate::walk::level::{Level, Next, Waiting, behind, look};
 use crate::walk::place::{Place, place_in};
-use raw_view::{Elements, RawBsonRef, RawDocument, RawElement};
+use raw_view::{Elements, RawBsonRef, RawDocument, RawElement, RawLevel};
 use std::alloc::Global;
 
 /// A walk over all levels of a document, depth first in byte order. It takes memory for the levels that wait, and no stack.
@@ -31,7 +33,7 @@ use std::alloc::Global;
 pub struct Walk<'a> {
     pub document: RawDocument<'a>,
     /// how many levels may wait
-    pub most_waiting: usize,
+    pub most_waiting: MostWaiting,
     /// the levels that wait for the innermost, the outermost first
     pub waiting: Vec<Waiting>,
 }
@@ -41,8 +43,8 @@ pub struct Walk<'a> {
 pub enum Event<'a> {
     /// an element, and its value, which holds no level
     Whole(RawElement<'a>, RawBsonRef<'a>),
-    /// an element, and its value, which holds a level: that is entered
-    Enter(RawElement<'a>, RawBsonRef<'a>),
+    /// an element, and the level that its value holds: that is entered
+    Enter(RawElement<'a>, RawLevel<'a>),
     /// the end of a level that was entered
     Leave,
     /// the end of the document
@@ -65,7 +67,7 @@ impl<'a> Walk<'a> {
         alloc: Global,
         document: RawDocument<'a>,
         start: Start,
-        most_waiting: usize,
+        most_waiting: MostWaiting,
     ) -> (Walk<'a>, Level<'a>)
         requires { HasNoneBefore (suc most_waiting) (bytes_of document) start.number start.offset }
         ensures along { IsAlong result.0 result.1 [] }
@@ -103,7 +105,7 @@ impl<'a> Walk<'a> {
     {
         let kind = if document.as_bytes().len() > limits.bytes {
             BarrierKind::TooManyBytes
-        } else if let Some(most_waiting) = limits.depth.checked_sub(1) {
+        } else if let Some(most_waiting) = MostWaiting::of(limits.depth) {
             return Ok(Walk::new(alloc, document, FIRST, most_waiting));
         } else {
             BarrierKind::TooDeep
@@ -127,9 +129,9 @@ impl<'a> Walk<'a> {
                 self.pass(level, element);
                 Ok(Event::Whole(element, value))
             }
-            Next::Inside(element, value, inner) => {
-                self.enter(alloc, level, element, inner)?;
-                Ok(Event::Enter(element, value))
+            Next::Inside(element, inner) => {
+                self.enter(alloc, level, element, inner.document)?;
+                Ok(Event::Enter(element, inner))
             }
             Next::Fault(key, error) => {
                 let kind = BarrierKind::Fault(error);
@@ -185,7 +187,7 @@ impl<'a> Walk<'a> {
         ensures most { self.new.most_waiting ≡ self.old.most_waiting }
     {
         let offset = level.offset;
-        if self.waiting.len() >= self.most_waiting {
+        if self.most_waiting.is_reached(self.waiting.len()) {
             let key = Some(element.key());
             return Err(self.barrier(alloc, level.number, offset, key, BarrierKind::TooDeep));
         }

@@ -1,7 +1,7 @@
 -- What a loop over levels knows of the bytes: each level has passed frames that stand for the pairs that it has
 -- drafted, and each but the innermost waits for the value of the frame behind them.
 use Rattle.std.proofs.Common.{◌≡◌, Option, None, Some, inl, inr, ◌+◌, ◌++◌, ◌∷◌, [], ℕ, suc, List, length, arith, ap, refl, sym, ◌∙◌, subst, map, length-append, Vec, Global, Bor, zip}
-use Rattle.raw_tree.proofs.Common.{map-append, keep, Tree, document, code_with_scope, entries, tree_of, with_trees, pairs_of, Bson, Document, bytes_of, Frame, IsFrame, RawValue, KeyedFault, Meaning}
+use Rattle.raw_tree.proofs.Common.{map-append, keep, Tree, document, code_with_scope, entries, tree_of, with_trees, pairs_of, Bson, Document, bytes_of, Frame, IsFrame, RawValue, KeyedFault}
 use Rattle.raw_tree.proofs.Common.{Means, value, CountsIn, HasFrameCount, HasFramesToFault, KeepsKeys, sort_of, held_value, holding, texts_of, AreDrafted, IsPairMore, IsSameDraft, IsSingle, ClosesAs, Finishes}
 use Rattle.raw_tree.proofs.Common.{DraftsTree, Barrier, BarsFront, FirstFaultWithin, Sort, as_document, tree_of_pairs, StandsFor, ReadsUpTo, ReadsAs, Holds, Contents, Draft, Holder, Level, Nested, Waiting}
 use Rattle.raw_tree.specs.declared.reader.levels.Contents.TheVariants as contents
@@ -128,92 +128,87 @@ bars_at is x front = (is.passed.frames, is.pairs, is.rest, is.passed.leads, is.p
 abbrev pub with_left : Level → Option (List ℕ) → Level
 with_left level new = record { elements = new; holder = level.holder; draft = level.draft }
 
--- the level is behind the frame of this key and this meaning, which is counted and not yet drafted
-pub record IsBehind (inside : ℕ) (u : Nested) (level : Level) (key : List ℕ) (m : Meaning) (n : ℕ) : Type 0 where
-  pub old : Level
-  pub before : ℕ
-  pub reading : IsReading inside u old before
-  pub frame : Frame
-  pub rest : List ℕ
-  pub stands : IsFrame reading.rest frame rest
-  pub means : Means frame m
-  pub key_is : key ≡ frame.key
-  pub level_is : level ≡ with_left old (Some rest)
-  pub total : n ≡ before + 1
+-- the frame is in front of s and means the value, and these elements are left behind it
+abbrev pub Front : List ℕ → Frame → RawValue → Option (List ℕ) → Type 0
+Front s f v new = (r : List ℕ) × IsFrame s f r × Means f (value v) × (new ≡ Some r)
 
--- so a level waits for the value of nested bytes
+-- the level waits behind a frame, which isn't drafted yet: its value holds the nested bytes v; n frames are before it
 pub record IsWaiting (inside : ℕ) (u : Nested) (w : Waiting) (v : Nested) (n : ℕ) : Type 0 where
-  pub behind : IsBehind inside u w.level w.key.now (value (held_value v)) n
+  pub left : Option (List ℕ)
+  pub reading : IsReading inside u (with_left w.level left) n
+  pub frame : Frame
+  pub front : Front reading.rest frame (held_value v) w.level.elements
+  pub key_is : w.key.now ≡ frame.key
 
--- the first barrier, the first fault and the count of the bytes v are those of the bytes u
-module _ {inside n : ℕ} {u : Nested} (v : Nested) {level : Level} {key : List ℕ} (is : IsBehind inside u level key (value (held_value v)) n) where
+-- the first barrier, the first fault and the count of nested bytes v in front of a level are those of the bytes u
+module _ {inside n : ℕ} {u : Nested} {level : Level} (is : IsReading inside u level n) (v : Nested) {f : Frame} {new : Option (List ℕ)} (front : Front is.rest f (held_value v) new) where
   pub inner_barrier : (x : Barrier) → FirstFaultWithin inside (bytes_of v.document) x → FirstFaultWithin (suc inside) (bytes_of u.document) x
-  inner_barrier x bars = grind (arith, bars_at, held_holds)
+  inner_barrier x bars = bars_at is x (inr (f, front.0, front.1, inr (held_value v, bytes_of v.document, front.2, held_holds v.holder (bytes_of v.document), bars)))
 
-  inner_fault : (fault : KeyedFault) (m : ℕ) → Fails (bytes_of v.document) fault m → Fails (bytes_of u.document) fault (n + m)
+  inner_fault : (fault : KeyedFault) (m : ℕ) → Fails (bytes_of v.document) fault m → Fails (bytes_of u.document) fault (n + 1 + m)
   inner_fault fault m bad =
-      rw is.total (fails_inside (passed_read inside is.reading.passed) is.frame is.rest (held_value v) (bytes_of v.document) fault m is.stands is.means
-      (held_holds v.holder (bytes_of v.document)) bad)
+      fails_inside (passed_read inside is.passed) f front.0 (held_value v) (bytes_of v.document) fault m front.1 front.2 (held_holds v.holder (bytes_of v.document)) bad
 
-  inner_counted : (m : ℕ) → IsCountedFrom (sort_of v.holder) (bytes_of v.document) m → IsCountedFrom (sort_of u.holder) (bytes_of u.document) (n + m)
+  inner_counted : (m : ℕ) → IsCountedFrom (sort_of v.holder) (bytes_of v.document) m → IsCountedFrom (sort_of u.holder) (bytes_of u.document) (n + 1 + m)
   inner_counted m from =
       elim from.2 [
         | inl all ↦ (
             let stands = held_stands v.holder (bytes_of v.document) all.0 all.1 in
-            let on = counted_from (sort_of u.holder) u.document.envelope (passed_more (held_value v) stands.0 from.0 (passed_read inside is.reading.passed) is.stands is.means stands.1
+            let on = counted_from (sort_of u.holder) u.document.envelope (passed_more (held_value v) stands.0 from.0 (passed_read inside is.passed) front.1 front.2 stands.1
             (held_counts v.holder (bytes_of v.document) from.0 all.2)) in
-            (on.0, omega (arith, on.1, from.1, is.total), on.2))
-        | inr to ↦ (n + from.0, omega (arith, from.1), inr (to.0, inner_fault to.0 from.0 to.1))
+            (on.0, omega (arith, on.1, from.1), on.2))
+        | inr to ↦ (n + 1 + from.0, omega (arith, from.1), inr (to.0, inner_fault to.0 from.0 to.1))
       ]
 
--- levels that wait, from the outermost, of the nested bytes u, inward to the nested bytes v; with so many levels that may
--- be inside of those they are as many as the depth, and so many frames are counted in them
-pub data AreWaiting (depth : ℕ) (u : Nested) : List Waiting → ℕ → Nested → ℕ → Type 0 where
-  none_waits : {inside : ℕ} → depth ≡ suc inside → AreWaiting depth u [] inside u 0
-  one_more : {ws all : List Waiting} {w : Waiting} {inside n here total : ℕ} {v inner : Nested} → AreWaiting depth u ws (suc inside) v n
-      → IsWaiting (suc inside) v w inner here → all ≡ ws ++ w ∷ [] → total ≡ n + here → AreWaiting depth u all inside inner total
-
--- their first barrier, their first fault and their count are those of the outermost bytes
-pub barrier_outward : {depth : ℕ} {u : Nested} {ws : List Waiting} {inside : ℕ} {v : Nested} {n : ℕ} → AreWaiting depth u ws inside v n → (x : Barrier)
-    → FirstFaultWithin (suc inside) (bytes_of v.document) x → FirstFaultWithin depth (bytes_of u.document) x
-barrier_outward (none_waits e) x bars = rw e bars
-barrier_outward (one_more {inner = inner} h waits all total) x bars = barrier_outward h x (inner_barrier inner waits.behind x bars)
-
-pub fault_outward : {depth : ℕ} {u : Nested} {ws : List Waiting} {inside : ℕ} {v : Nested} {n : ℕ} → AreWaiting depth u ws inside v n → (fault : KeyedFault) (m : ℕ)
-    → Fails (bytes_of v.document) fault m → Fails (bytes_of u.document) fault (n + m)
-fault_outward {u = u} (none_waits e) fault m bad = (bad.0, subst (HasFramesToFault (bytes_of u.document)) (omega arith) bad.1)
-fault_outward {u = u} (one_more {here = here} {inner = inner} h waits all total) fault m bad =
-    let out = fault_outward h fault (here + m) (inner_fault inner waits.behind fault m bad) in
-    (out.0, subst (HasFramesToFault (bytes_of u.document)) (omega (arith, total)) out.1)
-
-pub counted_outward : {depth : ℕ} {u : Nested} {ws : List Waiting} {inside : ℕ} {v : Nested} {n : ℕ} → AreWaiting depth u ws inside v n → (m : ℕ)
-    → IsCountedFrom (sort_of v.holder) (bytes_of v.document) m → IsCountedFrom (sort_of u.holder) (bytes_of u.document) (n + m)
-counted_outward (none_waits e) m from = (from.0, omega (arith, from.1), from.2)
-counted_outward (one_more {here = here} {inner = inner} h waits all total) m from =
-    let out = counted_outward h (here + m) (inner_counted inner waits.behind m from) in
-    (out.0, omega (arith, out.1, total), out.2)
-
--- the levels are as many as the depth
-pub levels_in : {depth : ℕ} {u : Nested} {ws : List Waiting} {inside : ℕ} {v : Nested} {n : ℕ} → AreWaiting depth u ws inside v n → depth ≡ suc (length ws + inside)
-levels_in (none_waits e) = omega (arith, e)
-levels_in (one_more {ws = ws} {w = w} h waits all total) = omega (arith, levels_in h, ap length all, length-append ws (w ∷ []))
-
--- where none waits, the innermost bytes are the outermost
-pub none_inside : {depth : ℕ} {u : Nested} {ws : List Waiting} {inside : ℕ} {v : Nested} {n : ℕ} → AreWaiting depth u ws inside v n → ws ≡ [] → (depth ≡ suc inside) × (v ≡ u) × (n ≡ 0)
-none_inside (none_waits e) none = (e, refl, refl)
-none_inside (one_more {ws = ws} {w = w} h waits all total) none = absurd (omega (arith, ap length all, ap length none, length-append ws (w ∷ [])))
-
--- the innermost is taken off
+-- the last of a list and what is before it
 lists_same : (ws vs : List Waiting) (w x : Waiting) → ws ++ w ∷ [] ≡ vs ++ x ∷ [] → (ws ≡ vs) × (w ≡ x)
 lists_same [] [] w x e = (refl, cc)
 lists_same [] (v ∷ vs) w x e = absurd (omega (arith, ap length e, length-append vs (x ∷ [])))
 lists_same (y ∷ ws) [] w x e = absurd (omega (arith, ap length e, length-append ws (w ∷ [])))
 lists_same (y ∷ ws) (v ∷ vs) w x e = grind (arith, lists_same ws vs w x)
 
-pub waiting_less : {depth : ℕ} {u : Nested} {all : List Waiting} {inside : ℕ} {v : Nested} {n : ℕ} → AreWaiting depth u all inside v n → (ws : List Waiting) (w : Waiting)
-    → all ≡ ws ++ w ∷ []
-    → (outer : Nested) × (others : ℕ) × (here : ℕ) × AreWaiting depth u ws (suc inside) outer others × IsWaiting (suc inside) outer w v here × (n ≡ others + here)
-waiting_less (none_waits e) ws w f = absurd (omega (arith, ap length f, length-append ws (w ∷ [])))
-waiting_less (one_more {ws = vs} {w = x} {n = n} {here = here} {v = outer} h waits all total) ws w f =
-    let same = lists_same vs ws x w (sym all ∙ f) in
-    (outer, n, here, rw (← same.0) h, rw (← same.1) waits, total)
+-- levels that wait, from the outermost, of the nested bytes u, inward to the nested bytes v; with so many levels that may
+-- be inside of those they are as many as the depth, and so many frames are counted in them
+pub data AreWaiting (depth : ℕ) (u : Nested) : List Waiting → ℕ → Nested → ℕ → Type 0 where
+  none_waits : {inside : ℕ} → depth ≡ suc inside → AreWaiting depth u [] inside u 0
+  one_more : {ws all : List Waiting} {w : Waiting} {inside n here total : ℕ} {v inner : Nested} → AreWaiting depth u ws (suc inside) v n
+      → IsWaiting (suc inside) v w inner here → all ≡ ws ++ w ∷ [] → total ≡ n + here + 1 → AreWaiting depth u all inside inner total
+
+module _ {depth : ℕ} {u : Nested} where
+  -- their first barrier, their first fault and their count are those of the outermost bytes
+  pub barrier_outward : {ws : List Waiting} {inside : ℕ} {v : Nested} {n : ℕ} → AreWaiting depth u ws inside v n → (x : Barrier) → FirstFaultWithin (suc inside) (bytes_of v.document) x
+      → FirstFaultWithin depth (bytes_of u.document) x
+  barrier_outward (none_waits e) x bars = rw e bars
+  barrier_outward (one_more {inner = inner} h waits all total) x bars = barrier_outward h x (inner_barrier waits.reading inner waits.front x bars)
+
+  pub fault_outward : {ws : List Waiting} {inside : ℕ} {v : Nested} {n : ℕ} → AreWaiting depth u ws inside v n → (fault : KeyedFault) (m : ℕ) → Fails (bytes_of v.document) fault m
+      → Fails (bytes_of u.document) fault (n + m)
+  fault_outward (none_waits e) fault m bad = (bad.0, subst (HasFramesToFault (bytes_of u.document)) (omega arith) bad.1)
+  fault_outward (one_more {here = here} {inner = inner} h waits all total) fault m bad =
+      let out = fault_outward h fault (here + 1 + m) (inner_fault waits.reading inner waits.front fault m bad) in
+      (out.0, subst (HasFramesToFault (bytes_of u.document)) (omega (arith, total)) out.1)
+
+  pub counted_outward : {ws : List Waiting} {inside : ℕ} {v : Nested} {n : ℕ} → AreWaiting depth u ws inside v n → (m : ℕ) → IsCountedFrom (sort_of v.holder) (bytes_of v.document) m
+      → IsCountedFrom (sort_of u.holder) (bytes_of u.document) (n + m)
+  counted_outward (none_waits e) m from = (from.0, omega (arith, from.1), from.2)
+  counted_outward (one_more {here = here} {inner = inner} h waits all total) m from =
+      let out = counted_outward h (here + 1 + m) (inner_counted waits.reading inner waits.front m from) in
+      (out.0, omega (arith, out.1, total), out.2)
+
+  -- the levels are as many as the depth
+  pub levels_in : {ws : List Waiting} {inside : ℕ} {v : Nested} {n : ℕ} → AreWaiting depth u ws inside v n → depth ≡ suc (length ws + inside)
+  levels_in (none_waits e) = omega (arith, e)
+  levels_in (one_more {ws = ws} {w = w} h waits all total) = omega (arith, levels_in h, ap length all, length-append ws (w ∷ []))
+
+  -- where none waits, the innermost bytes are the outermost
+  pub none_inside : {ws : List Waiting} {inside : ℕ} {v : Nested} {n : ℕ} → AreWaiting depth u ws inside v n → ws ≡ [] → (depth ≡ suc inside) × (v ≡ u) × (n ≡ 0)
+  none_inside (none_waits e) none = (e, refl, refl)
+  none_inside (one_more {ws = ws} {w = w} h waits all total) none = absurd (omega (arith, ap length all, ap length none, length-append ws (w ∷ [])))
+
+  -- the innermost is taken off
+  pub waiting_less : {all : List Waiting} {inside : ℕ} {v : Nested} {n : ℕ} → AreWaiting depth u all inside v n → (ws : List Waiting) (w : Waiting) → all ≡ ws ++ w ∷ []
+      → (outer : Nested) × (others : ℕ) × (here : ℕ) × AreWaiting depth u ws (suc inside) outer others × IsWaiting (suc inside) outer w v here × (n ≡ others + here + 1)
+  waiting_less (none_waits e) ws w f = absurd (omega (arith, ap length f, length-append ws (w ∷ [])))
+  waiting_less (one_more {ws = vs} {w = x} {n = n} {here = here} {v = outer} h waits all total) ws w f =
+      let same = lists_same vs ws x w (sym all ∙ f) in
+      (outer, n, here, rw (← same.0) h, rw (← same.1) waits, total)

@@ -5,7 +5,6 @@ use Rattle.std.proofs.lemmas.Simd.{map-map}
 use Rattle.raw_tree.proofs.Common.{Cause, IsCanonicalUpTo, RawElement, RawValue, as_document, bytes_of, frame_of, keys_of_frames, left_of, length-map, map-append, texts}
 use Rattle.raw_tree.proofs.walk.Common.{AreLinked, AreOpenKeys, FirstViolationTo, HasKeysSoFar, HoldsNone, IsAt, IsOpened, IsSingleWith, Validated, Validates, KeysSoFar, LeavesOpenKeys, Level, Looks}
 use Rattle.raw_tree.proofs.walk.Common.{RawDocument, Step, StoreEach, TellsValidated, Violation, Wait, Walk, array_sort, breach_of, option_copied, size_of, step_at, whole_span}
-use Rattle.raw_view.specs.Meaning as raw
 use Rattle.raw_view.proofs.Face.{LeadsTo-bound}
 use Rattle.raw_tree.specs.validator.Violations.{too_deep}
 use Rattle.raw_tree.specs.declared.validator.step.Validated.TheVariants as validated

@@ -2,10 +2,9 @@
 -- which the levels lead.
 use Rattle.std.proofs.Common.{◌≡◌, ◌∙◌, ◌+◌, ◌++◌, ◌∷◌, [], inl, inr, ℕ, suc, List, Bool, Option, None, Some, length, drop, arith, ap, refl, sym, subst, length-append, Bor}
 use Rattle.raw_tree.proofs.Common.{AreFramesCanonical, AreKeysCanonical, Cause, Done, Frame, HoldsAs, IsCanonicalUpTo, IsValueCanonical, LeadsTo, Meaning, RawElement, RawValue, Sort, bytes_of}
-use Rattle.raw_tree.proofs.Common.{faulty, frame_of, keys_of_frames, left_of, length-map, texts, value}
+use Rattle.raw_tree.proofs.Common.{frame_of, keys_of_frames, left_of, length-map, texts, value}
 use Rattle.raw_tree.proofs.walk.Common.{BeginsAt, BreachesHere, BreachesItself, FirstViolationTo, HasKeysSoFar, HoldsLevel, IsSingleWith, ValidatesFrontAt, ValidatesMeaningAt, ValidatesNestedAt, KeysSoFar}
-use Rattle.raw_tree.proofs.walk.Common.{RawDocument, Span, Step, TellsValidated, Violation, Wait, array_sort, breach_of, size_of, step_at}
-use Rattle.raw_view.specs.Meaning as raw
+use Rattle.raw_tree.proofs.walk.Common.{RawDocument, Span, Step, TellsValidated, Violation, Wait, array_sort, breach_of, step_at}
 use Rattle.raw_view.proofs.Face.{LeadsTo-walk, LeadsTo-more}
 use Rattle.raw_tree.specs.validator.Violations.{too_deep}
 use Rattle.raw_tree.specs.declared.validator.step.Validated.TheVariants as validated

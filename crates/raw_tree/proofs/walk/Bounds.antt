@@ -1,8 +1,7 @@
 -- What is told of a document is within it.
 use Rattle.std.proofs.Common.{◌≤◌, ◌∷◌, [], inl, inr, ℕ, zero, suc, List, Some, length, arith, length-append}
-use Rattle.raw_tree.proofs.Common.{Barrier, IsCanonicalUpTo, Limits, Meaning, Sort, as_array, as_document, faulty, value}
+use Rattle.raw_tree.proofs.Common.{Barrier, IsCanonicalUpTo, Limits, Meaning, Sort, as_document}
 use Rattle.raw_tree.proofs.walk.Common.{FirstBarrierAt, FirstFaultAt, FirstViolation, FirstViolationTo, IsOffsetOf, ValidatesMeaningAt, Step, Violation}
-use Rattle.raw_view.specs.Meaning as raw
 
 offset_bound : (b s d q : List ℕ) (steps : List Step) (inside offset : ℕ) → inside ≤ length d → IsOffsetOf b s d q steps inside offset → offset ≤ length b
 offset_bound b s d q [] inside offset few is = omega (arith, is)

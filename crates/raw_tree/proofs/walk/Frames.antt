@@ -1,9 +1,8 @@
 -- Frames in front of what is left, and what a step over them takes.
 use Rattle.std.proofs.Common.{◌≡◌, ◌∙◌, ◌<◌, ◌+◌, ◌++◌, ◌∷◌, [], ℕ, true, List, Option, None, Some, Err, drop, length, ltb, slice_get, slice_index_or, arith, ap, refl, sym, subst, length-append}
 use Rattle.std.proofs.lemmas.Bool.Decides.{nat_tests}
-use Rattle.raw_tree.proofs.Common.{BorrowedError, Done, ErrorKind, Frame, IsFrame, IsWalk, StepsFront, StopsWith, drop-append-add, element_of, slice_get-get_or}
-use Rattle.raw_tree.proofs.walk.Common.{HasNoFrame, Malformed, TakesFrame, Utf8, option_copied, size_of}
-use Rattle.raw_view.specs.declared.error.ErrorKind.TheVariants as kind
+use Rattle.raw_tree.proofs.Common.{BorrowedError, Done, Frame, IsFrame, IsWalk, StepsFront, drop-append-add, element_of, slice_get-get_or}
+use Rattle.raw_tree.proofs.walk.Common.{HasNoFrame, TakesFrame, option_copied, size_of}
 use Rattle.raw_tree.proofs.walk.Fronts.{stop_of}
 use Rattle.raw_view.proofs.Face.{front_and_rest, no_frame_at_final, no_frame_at_stop, one_frame}
 

@@ -1,5 +1,5 @@
 -- What a look at the front of a level tells.
-use Rattle.std.proofs.Common.{◌≡◌, List, ℕ, Option, None, Some, Ok, Err, refl, subst}
+use Rattle.std.proofs.Common.{◌≡◌, List, ℕ, Option, None, Some, Ok, Err, arith, refl}
 use Rattle.std.specs.Option.{option_copied}
 use Rattle.raw_view.specs.Document.{bytes_of}
 use Rattle.raw_view.specs.Frame.ElementSteps.{frame_of}
@@ -7,8 +7,7 @@ use Rattle.raw_view.specs.Frame.{Malformed, Utf8, IsStop}
 use Rattle.raw_view.specs.Errors.{SaysFault}
 use Rattle.raw_view.specs.Frame.Front.{StepsFront, StopsWith}
 use Rattle.raw_view.specs.Meaning.{RawValue, KeyedFault, Means, value}
-use Rattle.raw_view.specs.Meaning as raw
-use Rattle.raw_view.specs.Meaning.Value.{HoldsLevel, IsSingle}
+use Rattle.raw_view.specs.Meaning.Value.{IsSingle, held_value}
 use Rattle.raw_view.specs.declared.element.RawElement.{RawElement}
 use Rattle.raw_view.specs.declared.error.BorrowedError.{BorrowedError}
 use Rattle.raw_view.specs.declared.error.ErrorKind.{ErrorKind}
@@ -30,19 +29,13 @@ looks_stop (Some s) new e st =
     (told.0, told.1, record { says = told.2; key_is = told.3 })
 
 holds_none : (v : RawValue) → IsSingle v → HoldsNone v
-holds_none (raw.single l) h d k = k
-holds_none (raw.document e) h d k = absurd h
-holds_none (raw.array e) h d k = absurd h
-holds_none (raw.scoped code e) h d k = absurd h
+holds_none v h d k = grind arith
 
-pub looks_whole : (old new : Option (List ℕ)) (e : RawElement) (v : RawValue) (x : Option RawLevel) → StepsFront old (Some (Ok e)) new
-    → Means (frame_of e) (value v) → HoldsLevel v x → x ≡ None → Looks old new (next.Whole e)
-looks_whole None new e v x st m h none = tt
-looks_whole (Some s) new e v x st m h none =
-    (st.0, v, st.1, m, holds_none v (subst (HoldsLevel v) none h), st.2)
+pub looks_whole : (old new : Option (List ℕ)) (e : RawElement) (v : RawValue) → StepsFront old (Some (Ok e)) new → Means (frame_of e) (value v) → IsSingle v → Looks old new (next.Whole e)
+looks_whole None new e v st m single = tt
+looks_whole (Some s) new e v st m single = (st.0, v, st.1, m, holds_none v single, st.2)
 
-pub looks_inside : (old new : Option (List ℕ)) (e : RawElement) (v : RawValue) (x : Option RawLevel) (level : RawLevel) → StepsFront old (Some (Ok e)) new
-    → Means (frame_of e) (value v) → HoldsLevel v x → x ≡ Some level → Looks old new (next.Inside e level.document)
-looks_inside None new e v x level st m h is = tt
-looks_inside (Some s) new e v x level st m h is =
-    (st.0, v, st.1, m, rw (subst (HoldsLevel v) is h) (held_holds level.holder (bytes_of level.document)), st.2)
+pub looks_inside : (old new : Option (List ℕ)) (e : RawElement) (level : RawLevel) → StepsFront old (Some (Ok e)) new → Means (frame_of e) (value (held_value level))
+    → Looks old new (next.Inside e level.document)
+looks_inside None new e level st m = tt
+looks_inside (Some s) new e level st m = (st.0, held_value level, st.1, m, held_holds level.holder (bytes_of level.document), st.2)

@@ -1,9 +1,8 @@
 -- A document has one first barrier at most within limits, at one place.
 use Rattle.std.proofs.Common.{◌≡◌, inl, inr, ◌++◌, ◌∷◌, [], ℕ, zero, suc, List, Option, None, Some, length, drop, arith, ap, refl, sym, ◌∙◌}
-use Rattle.raw_tree.proofs.Common.{Barrier, Frame, Holds, IsFaultWith, IsStop, KeyedFault, Limits, Means, RawValue, ReadsUpTo, Sort, StandForEach, StandsFor, Tree, as_array, as_document, document}
+use Rattle.raw_tree.proofs.Common.{Barrier, Frame, Holds, IsFaultWith, IsStop, KeyedFault, Limits, Means, RawValue, ReadsUpTo, Sort, StandForEach, StandsFor, Tree}
 use Rattle.raw_tree.proofs.Common.{fault_of, faulty, value}
 use Rattle.raw_tree.proofs.walk.Common.{AllAreBarredAtOnePlace, BarsFrameAt, FirstFaultAt, IsLastStep}
-use Rattle.raw_view.specs.Meaning as raw
 use Rattle.raw_view.proofs.Face.{one_stop, one_meaning}
 use Rattle.raw_tree.proofs.reader.OneTree.{one_value_of}
 use Rattle.raw_tree.proofs.walk.OneEnd.{IsEnd, nor_both, one_end, one_some, walk_leads}

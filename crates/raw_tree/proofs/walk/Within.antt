@@ -1,5 +1,5 @@
 -- What is told within a depth is told within limits.
-use Rattle.std.proofs.Common.{inl, inr, ◌≤◌, zero, suc, List, ℕ, Option, None, Some, Result, Ok, Err, IfOk, length, arith}
+use Rattle.std.proofs.Common.{inr, ◌≤◌, zero, suc, List, ℕ, Option, None, Some, Result, Ok, Err, IfOk, length, arith}
 use Rattle.raw_tree.proofs.Common.{Error, FirstBarrier, FirstFaultWithin, Limits}
 use Rattle.raw_tree.proofs.walk.Common.{Barrier, FirstFaultAt, IsBarrier, Step, TellsBarrier, TellsBarrierWithin, steps_of}
 use Rattle.raw_tree.specs.reader.WithinLimits as within

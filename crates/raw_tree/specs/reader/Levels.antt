@@ -1,13 +1,11 @@
 -- The helpers of the converter: what is read so far of a document, of an array or of a scope, and how a value
 -- is made of it. No public contract cites this file.
-use Rattle.std.specs.Prelude.{◌≡◌, ◌⊎◌, ℕ, ◌+◌, List, [], ◌∷◌, ◌++◌, Option, None, Some, Result, Ok, Err, IfOk, IfErr, drop, map}
+use Rattle.std.specs.Prelude.{◌≡◌, ◌⊎◌, ℕ, List, [], ◌∷◌, ◌++◌, None, Some, Result, IfOk, IfErr, drop, map}
 use denote.Ref.{Bor}
 use Rattle.bson_model.specs.Tree.{Tree, tree_of, tree_of_document, tree_of_list}
 use Rattle.bson_model.specs.declared.bson.Bson.{Bson}
 use Rattle.raw_view.specs.Document.{bytes_of}
-use Rattle.raw_view.specs.Meaning.{RawValue}
-use Rattle.raw_view.specs.Meaning.Value.{IsSingle, held_value, holding}
-use Rattle.raw_view.specs.declared.element.RawElement.{RawElement}
+use Rattle.raw_view.specs.Meaning.Value.{holding}
 use Rattle.raw_view.specs.declared.error.Error.{Error}
 use Rattle.raw_view.specs.declared.level.Holder.{Holder}
 use Rattle.raw_view.specs.declared.level.Holder.TheVariants as of
@@ -19,8 +17,6 @@ use Rattle.raw_tree.specs.declared.reader.levels.Contents.{Contents}
 use Rattle.raw_tree.specs.declared.reader.levels.Contents.TheVariants as contents
 use Rattle.raw_tree.specs.declared.reader.levels.Draft.{Draft}
 use Rattle.raw_tree.specs.declared.reader.levels.Level.{Level}
-use Rattle.raw_tree.specs.declared.reader.levels.Opened.{Opened}
-use Rattle.raw_tree.specs.declared.reader.levels.Opened.TheVariants as opened
 
 -- nested bytes are read as a document or as an array
 abbrev pub sort_of : Holder → Sort
@@ -71,11 +67,6 @@ IsOneMore old key t new =
     (new.elements ≡ old.elements) × (new.holder ≡ old.holder)
     × ((pairs : List (List ℕ × Tree)) → AreDrafted old.holder old.draft pairs → AreDrafted old.holder new.draft (pairs ++ (key, t) ∷ []))
 
--- the value holds no nested bytes and stands for the tree; or it holds these
-abbrev pub OpensAs : RawValue → Opened → Type 0
-OpensAs v (opened.Whole t) = IsSingle v × StandsFor ReadsAs v (tree_of t)
-OpensAs v (opened.Nested n) = v ≡ held_value n
-
 -- the tree is that of the value which holds bytes that are read as the contents
 abbrev pub ClosesAs : Contents → Bson → Type 0
 ClosesAs c t = (d : List ℕ) → ReadsAs (sort_of (holder_of c)) d (tree_of_contents c) → StandsFor ReadsAs (holding (holder_of c) d) (tree_of t)
@@ -105,9 +96,3 @@ abbrev pub TellsReading : ℕ → RawLevel → Result Contents Error → ℕ →
 TellsReading depth u result n =
     IfOk result (AreReadUpTo depth u.holder (bytes_of u.document)) × IfErr result (TellsFirstFaultWithin depth (bytes_of u.document))
     × TellsFramesWithin depth (bytes_of u.document) result n
-
--- a count after a call for the next element: one more for an element, the same for a stop and for the end
-abbrev pub counted : ℕ → Option (Result RawElement Error) → ℕ
-counted n (Some (Ok _)) = n + 1
-counted n (Some (Err _)) = n
-counted n None = n

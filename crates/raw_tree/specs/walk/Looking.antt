@@ -7,9 +7,10 @@ use Rattle.bson_model.specs.Tree.{Tree}
 use Rattle.raw_view.specs.Frame.{Frame, HasNoFrame, IsFrame, IsStop, LeadsTo}
 use Rattle.raw_view.specs.Frame.Front.{TellsBorrowed}
 use Rattle.raw_view.specs.Meaning.{RawValue, KeyedFault, Means, value, faulty}
-use Rattle.raw_view.specs.Meaning.Value.{value_of}
+use Rattle.raw_view.specs.Meaning.Value.{IsSingle, held_value, value_of}
 use Rattle.raw_view.specs.declared.bson_ref.RawBsonRef.{RawBsonRef}
 use Rattle.raw_view.specs.declared.element.RawElement.{RawElement}
+use Rattle.raw_view.specs.declared.level.RawLevel.{RawLevel}
 use Rattle.raw_tree.specs.reader.Reading.{Holds, StandForEach, ReadsUpTo}
 use Rattle.raw_tree.specs.walk.Places.{Step, BeginsAt}
 use Rattle.raw_tree.specs.walk.Waits.{Wait}
@@ -48,7 +49,7 @@ Looks (Some s) new (next.Fault key e) = (fault : KeyedFault) × FailsAt s (optio
 abbrev pub without_value : Next → Ahead
 without_value seen.End = next.End
 without_value (seen.Whole e v) = next.Whole e
-without_value (seen.Inside e v inner) = next.Inside e inner
+without_value (seen.Inside e inner) = next.Inside e inner.document
 without_value (seen.Fault key e) = next.Fault key e
 
 abbrev pub Sees : Option (List ℕ) → Option (List ℕ) → Next → Type 0
@@ -58,10 +59,14 @@ Sees old new x = Looks old new (without_value x)
 abbrev pub IsValueOf : RawBsonRef → RawElement → Type 0
 IsValueOf v e = Means (frame_of e) (value (value_of v))
 
--- a look has the value of its element
+-- the value of the element holds the level
+abbrev pub IsHeldBy : RawLevel → RawElement → Type 0
+IsHeldBy inner e = Means (frame_of e) (value (held_value inner))
+
+-- a look has the value of its element, which holds no level; or the level that this holds
 abbrev pub HasValue : Next → Type 0
-HasValue (seen.Whole e v) = IsValueOf v e
-HasValue (seen.Inside e v inner) = IsValueOf v e
+HasValue (seen.Whole e v) = IsValueOf v e × IsSingle (value_of v)
+HasValue (seen.Inside e inner) = IsHeldBy inner e
 HasValue _ = Unit {0}
 
 -- no frame is in front of what is left; or the element is that frame, and this is left behind it

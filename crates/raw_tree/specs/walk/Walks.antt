@@ -13,7 +13,7 @@ use Rattle.raw_tree.specs.declared.reader.limits.Limits.{Limits}
 use Rattle.raw_tree.specs.walk.Aheads.{Ahead}
 use Rattle.raw_tree.specs.walk.Aheads as next
 use Rattle.raw_tree.specs.walk.Barriers.{TellsBarrier, TellsBarrierWithin, steps_of}
-use Rattle.raw_tree.specs.walk.Looking.{IsValueOf, Looks, size_of, step_at}
+use Rattle.raw_tree.specs.walk.Looking.{IsHeldBy, IsValueOf, Looks, size_of, step_at}
 use Rattle.raw_tree.specs.walk.Places.{BeginsAt, Step}
 use Rattle.raw_tree.specs.walk.Waits.{ResumesBehind, LiesAt, StoreEach, Wait}
 use Rattle.raw_tree.specs.declared.walk.barrier.BarrierKind.{BarrierKind}
@@ -205,7 +205,7 @@ LeavesOrEnds old from ws new to false = (t : Tree) × ReadsUpTo (suc old.most_wa
 -- what a walk comes to behind the level `from`, for which these wait: it is then at the level `to`
 abbrev pub Comes : Walk → (from : Level) → List Wait → Walk → (to : Level) → Result Event WalkError → Type 0
 Comes old from ws new to (Ok (event.Whole e v)) = Passes new from ws to e × IsValueOf v e
-Comes old from ws new to (Ok (event.Enter e v)) = (w : Wait) × (inner : RawDocument) × Enters from ws w new to e inner × IsValueOf v e
+Comes old from ws new to (Ok (event.Enter e inner)) = (w : Wait) × Enters from ws w new to e inner.document × IsHeldBy inner e
 Comes old from ws new to (Ok event.Leave) = LeavesOrEnds old from ws new to true
 Comes old from ws new to (Ok event.End) = LeavesOrEnds old from ws new to false
 Comes old from ws new to (Err e) = TellsError old e

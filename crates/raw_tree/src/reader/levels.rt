@@ -5,12 +5,13 @@ ghost use Rattle.std.specs.Prelude.{◌≡◌, [], ◌∷◌, ◌++◌, map, IfO
 ghost use Rattle.std.specs.String.{string_bytes};
 ghost use Rattle.bson_model.specs.Scalars.{bytes_of_object_id};
 ghost use Rattle.bson_model.specs.Tree.{tree_of};
-ghost use Rattle.raw_tree.specs.reader.Levels.{ClosesAs, DraftsTree, Finishes, IsOneMore, IsPairMore, IsSameDraft, IsUnread, OpensAs};
+ghost use Rattle.raw_tree.specs.reader.Levels.{ClosesAs, DraftsTree, Finishes, IsOneMore, IsPairMore, IsSameDraft, IsUnread};
+ghost use Rattle.raw_tree.specs.reader.Reading.{ReadsAs, StandsFor};
 ghost use Rattle.raw_view.specs.Errors.{IsOutOfMemory};
-ghost use Rattle.raw_view.specs.Meaning.Value.{id_of, namespace_of, value_of};
+ghost use Rattle.raw_view.specs.Meaning.Value.{IsSingle, id_of, namespace_of, value_of};
 
 use bson_model::{Bson, DbPointer, Document, JavaScriptCodeWithScope, Regex};
-use raw_view::{Holder, RawBsonRef, RawDbPointerRef, RawIter, RawLevel, Result};
+use raw_view::{Elements, Holder, RawBsonRef, RawDbPointerRef, RawLevel, Result};
 use std::alloc::Global;
 use std::mem;
 
@@ -34,7 +35,7 @@ pub(crate) struct Draft<'a> {
 /// Bytes that are being read: what is left of them, what holds them, and what is read of them so far.
 #[derive(Drop)]
 pub(crate) struct Level<'a> {
-    pub(crate) elements: RawIter<'a>,
+    pub(crate) elements: Elements<'a>,
     pub(crate) holder: Holder<'a>,
     pub(crate) draft: Draft<'a>,
 }
@@ -44,13 +45,6 @@ pub(crate) struct Level<'a> {
 pub(crate) struct Waiting<'a> {
     pub(crate) level: Level<'a>,
     pub(crate) key: &'a str,
-}
-
-/// A value that is whole, or one whose nested bytes are to be read.
-#[derive(Drop)]
-pub(crate) enum Opened<'a> {
-    Whole(Bson),
-    Nested(RawLevel<'a>),
 }
 
 /// The pointer with a namespace of its own; the only error is out of memory. BSON 1.1, `element`, DBPointer.
@@ -66,42 +60,38 @@ pub fn copied_pointer(alloc: Global, pointer: RawDbPointerRef<'_>) -> Result<DbP
     })
 }
 
-/// The value with parts of its own; or the nested bytes that it holds, which are not read.
+/// A value that holds no level, with parts of its own; the only error is out of memory.
 #[inline(always)]
-pub(crate) fn open<'a>(alloc: Global, value: RawBsonRef<'a>) -> Result<Opened<'a>>
-    ensures opened { IfOk result (OpensAs (value_of value.entry)) }
+pub(crate) fn copied(alloc: Global, value: RawBsonRef<'_>) -> Result<Bson>
+    requires { IsSingle (value_of value) }
+    ensures copied { IfOk result (λ t. StandsFor ReadsAs (value_of value.entry) (tree_of t)) }
     ensures err { IfErr result IsOutOfMemory }
 {
-    if let Some(nested) = value.level() {
-        return Ok(Opened::Nested(nested));
-    }
     match value {
-        RawBsonRef::Double(bits) => Ok(Opened::Whole(Bson::Double(bits))),
-        RawBsonRef::String(text) => Ok(Opened::Whole(Bson::String(String::from_str(alloc, text)?))),
-        RawBsonRef::Boolean(value) => Ok(Opened::Whole(Bson::Boolean(value))),
-        RawBsonRef::Null => Ok(Opened::Whole(Bson::Null)),
+        RawBsonRef::Double(bits) => Ok(Bson::Double(bits)),
+        RawBsonRef::String(text) => Ok(Bson::String(String::from_str(alloc, text)?)),
+        RawBsonRef::Boolean(value) => Ok(Bson::Boolean(value)),
+        RawBsonRef::Null => Ok(Bson::Null),
         RawBsonRef::RegularExpression(regex) => {
             let regex = Regex::new(alloc, regex.pattern, regex.options)?;
-            Ok(Opened::Whole(Bson::RegularExpression(regex)))
+            Ok(Bson::RegularExpression(regex))
         }
         RawBsonRef::JavaScriptCode(text) => {
             let code = String::from_str(alloc, text)?;
-            Ok(Opened::Whole(Bson::JavaScriptCode(code)))
+            Ok(Bson::JavaScriptCode(code))
         }
-        RawBsonRef::Int32(number) => Ok(Opened::Whole(Bson::Int32(number))),
-        RawBsonRef::Int64(number) => Ok(Opened::Whole(Bson::Int64(number))),
-        RawBsonRef::Timestamp(time) => Ok(Opened::Whole(Bson::Timestamp(time))),
-        RawBsonRef::Binary(binary) => Ok(Opened::Whole(Bson::Binary(binary.to_binary(alloc)?))),
-        RawBsonRef::ObjectId(id) => Ok(Opened::Whole(Bson::ObjectId(id))),
-        RawBsonRef::DateTime(time) => Ok(Opened::Whole(Bson::DateTime(time))),
-        RawBsonRef::Symbol(text) => Ok(Opened::Whole(Bson::Symbol(String::from_str(alloc, text)?))),
-        RawBsonRef::Decimal128(number) => Ok(Opened::Whole(Bson::Decimal128(number))),
-        RawBsonRef::Undefined => Ok(Opened::Whole(Bson::Undefined)),
-        RawBsonRef::MaxKey => Ok(Opened::Whole(Bson::MaxKey)),
-        RawBsonRef::MinKey => Ok(Opened::Whole(Bson::MinKey)),
-        RawBsonRef::DbPointer(pointer) => {
-            Ok(Opened::Whole(Bson::DbPointer(copied_pointer(alloc, pointer)?)))
-        }
+        RawBsonRef::Int32(number) => Ok(Bson::Int32(number)),
+        RawBsonRef::Int64(number) => Ok(Bson::Int64(number)),
+        RawBsonRef::Timestamp(time) => Ok(Bson::Timestamp(time)),
+        RawBsonRef::Binary(binary) => Ok(Bson::Binary(binary.to_binary(alloc)?)),
+        RawBsonRef::ObjectId(id) => Ok(Bson::ObjectId(id)),
+        RawBsonRef::DateTime(time) => Ok(Bson::DateTime(time)),
+        RawBsonRef::Symbol(text) => Ok(Bson::Symbol(String::from_str(alloc, text)?)),
+        RawBsonRef::Decimal128(number) => Ok(Bson::Decimal128(number)),
+        RawBsonRef::Undefined => Ok(Bson::Undefined),
+        RawBsonRef::MaxKey => Ok(Bson::MaxKey),
+        RawBsonRef::MinKey => Ok(Bson::MinKey),
+        RawBsonRef::DbPointer(pointer) => { Ok(Bson::DbPointer(copied_pointer(alloc, pointer)?)) }
         RawBsonRef::Document(_) | RawBsonRef::Array(_) | RawBsonRef::JavaScriptCodeWithScope(_) =>
             unreachable!(),
     }
@@ -183,7 +173,7 @@ pub(crate) fn begin<'a>(alloc: Global, nested: RawLevel<'a>) -> Level<'a>
     ensures { IsUnread nested.entry result }
 {
     Level {
-        elements: nested.document.iter_elements(alloc),
+        elements: Elements::new(nested.document),
         holder: nested.holder,
         draft: Draft::new(alloc),
     }

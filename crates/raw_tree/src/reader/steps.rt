@@ -1,11 +1,8 @@
 //! How many elements a conversion frames.
 
-ghost use Rattle.std.specs.Prelude.{◌≡◌, ◌<◌};
-ghost use Rattle.raw_tree.specs.reader.Levels.{counted};
-ghost use Rattle.raw_view.specs.Frame.ElementSteps.{StepsElement};
+ghost use Rattle.std.specs.Prelude.{◌≡◌, ◌<◌, ◌+◌};
 ghost use Rattle.raw_view.specs.Frame.Number.{max_length};
 
-use raw_view::{RawElement, RawIter, Result};
 use std::marker::Model;
 
 /// How many elements a conversion has framed, at all levels. A clause sees the number.
@@ -36,17 +33,12 @@ impl Steps {
         self.count
     }
 
-    /// The next element, which it frames and counts; or the end or the stop, which count nothing.
+    /// Counts an element.
     #[inline(always)]
-    pub(crate) fn frame<'a>(&mut self, elements: &mut RawIter<'a>) -> Option<Result<RawElement<'a>>>
+    pub(crate) fn add(&mut self)
         requires { self.old < max_length }
-        ensures steps { StepsElement elements.old result elements.new }
-        ensures counted { self.new ≡ counted self.old result }
+        ensures { self.new ≡ self.old + 1 }
     {
-        let item = elements.next();
-        if let Some(Ok(_)) = &item {
-            self.count += 1;
-        }
-        item
+        self.count += 1;
     }
 }

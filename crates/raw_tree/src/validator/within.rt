@@ -11,6 +11,7 @@ use crate::reader::limits::Limits;
 use crate::validator::breach::Cause;
 use crate::validator::keys_so_far::KeysSoFar;
 use crate::validator::step::{Validated, keys_of, validate_next};
+use crate::walk::depth::MostWaiting;
 use crate::walk::faults::FIRST;
 use crate::walk::place::{Place, place_in};
 use crate::walk::{Walk, WalkError};
@@ -71,7 +72,7 @@ pub fn validate_to_depth<'a>(
     ensures err { IfErr result IsOutOfMemory }
     ensures entered { IfErr result (λ _. 0 < depth) }
 {
-    let Some(most_waiting) = depth.checked_sub(1) else {
+    let Some(most_waiting) = MostWaiting::of(depth) else {
         return Ok(Some(Found {
             cause: None,
             place: Place::whole(alloc),

@@ -13,6 +13,7 @@ ghost use Rattle.raw_view.specs.Errors.{IsOutOfMemory};
 
 use crate::reader::limits::Limits;
 use crate::walk::barrier::{Barrier, BarrierKind};
+use crate::walk::depth::MostWaiting;
 use crate::walk::level::{Next, look};
 use crate::walk::place::Place;
 use crate::walk::{Walk, WalkError};
@@ -50,7 +51,7 @@ pub fn first_behind<'a>(
     ensures err { IfErr result IsOutOfMemory }
     ensures entered { IfErr result (λ _. 0 < depth) }
 {
-    let Some(most_waiting) = depth.checked_sub(1) else {
+    let Some(most_waiting) = MostWaiting::of(depth) else {
         return Ok(Some(Barrier {
             kind: BarrierKind::TooDeep,
             place: Place::whole(alloc),
@@ -60,8 +61,8 @@ pub fn first_behind<'a>(
     'elements: loop {
         match look(&mut level.elements) {
             Next::Whole(element, _) => walk.pass(&mut level, element),
-            Next::Inside(element, _, inner) => {
-                if let Err(error) = walk.enter(alloc, &mut level, element, inner) {
+            Next::Inside(element, inner) => {
+                if let Err(error) = walk.enter(alloc, &mut level, element, inner.document) {
                     return told(error);
                 }
             }

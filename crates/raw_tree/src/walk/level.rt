@@ -7,7 +7,7 @@ ghost use Rattle.raw_tree.specs.walk.Waits.{ResumesBehind, LiesAt, Stores, Wait}
 ghost use Rattle.raw_view.specs.Document.{bytes_of};
 ghost use Rattle.raw_view.specs.Frame.ElementSteps.{frame_of};
 
-use raw_view::{BorrowedError, Elements, RawBsonRef, RawDocument, RawElement};
+use raw_view::{BorrowedError, Elements, RawBsonRef, RawDocument, RawElement, RawLevel};
 
 /// A level that is looked through.
 #[derive(Drop)]
@@ -91,8 +91,8 @@ pub(crate) enum Next<'a> {
     End,
     /// an element, and its value, which holds no other level
     Whole(RawElement<'a>, RawBsonRef<'a>),
-    /// an element, its value, and the level that this holds
-    Inside(RawElement<'a>, RawBsonRef<'a>, RawDocument<'a>),
+    /// an element, and the level that its value holds
+    Inside(RawElement<'a>, RawLevel<'a>),
     /// the key of an element and the fault that it means; or a stop
     Fault(Option<&'a str>, BorrowedError<'a>),
 }
@@ -114,7 +114,7 @@ pub(crate) fn look<'a>(elements: &mut Elements<'a>) -> Next<'a>
     };
     match value.level() {
         None => Next::Whole(element, value),
-        Some(level) => Next::Inside(element, value, level.document),
+        Some(level) => Next::Inside(element, level),
     }
 }
 

@@ -55,11 +55,11 @@ events-preserved-in-Ok-Enter c =
     let came = rw (c.in-Ok-Enter.is, c.in-Ok-Enter.field-0-is) at (c.next.ensures.event is.waits is.along) in
     let depth : c.len-depth.result ≡ length c.events.places.items = omega (arith, c.len-depth.ensures, c.events.places.ok.0) in
     let token = rw depth at c.new-in-Ok-Enter.ensures in
-    let few : suc (length is.waits) ≤ c.args.most_waiting = omega (arith, came.2.0.along.at.levels, length-append is.waits (came.0 ∷ []), c.next.ensures.most, is.most_is) in
+    let few : suc (length is.waits) ≤ c.args.most_waiting = omega (arith, came.1.0.along.at.levels, length-append is.waits (came.0 ∷ []), c.next.ensures.most, is.most_is) in
     let grown : c.push.new.self.items ≡ c.events.places.items ++ c.events.count ∷ [] = search rules in (
-      record { waits = is.waits ++ came.0 ∷ []; along = came.2.0.along; document_is = c.next.ensures.document ∙ is.document_is; most_is = c.next.ensures.most ∙ is.most_is },
+      record { waits = is.waits ++ came.0 ∷ []; along = came.1.0.along; document_is = c.next.ensures.document ∙ is.document_is; most_is = c.next.ensures.most ∙ is.most_is },
       rw (grown, c.put_at-in-Ok-Enter.ensures)
-          (flattens_inside c.events.invariant.1 came.0 c.in-Ok-Enter.element c.new-in-Ok-Enter.result few came.2.1 came.2.2 token came.2.3 came.2.0.further),
+          (flattens_inside c.events.invariant.1 came.0 c.in-Ok-Enter.element c.new-in-Ok-Enter.result few came.1.1 came.1.2 token came.1.3 came.1.0.further),
     )
 
 pub unreachable-requires : goal.unreachable-requires

@@ -1,8 +1,6 @@
-use Rattle.std.proofs.Common.{arith, ◌≡◌, ◌++◌, ◌∷◌, [], List, ℕ, Bor, Option, Result, None, Some, Ok, Err, length, refl, subst, inr}
-use Rattle.raw_tree.proofs.Common.{AreKeysCanonical, BorrowedError, Cause, ErrorKind, Fault, IsFrame, IsStop, RawElement, RawValue, Sort, StepsFront, StopsWith, faulty, frame_of, value, value_of}
-use Rattle.raw_tree.proofs.walk.Common.{BreachesItself, HasKeysSoFar, HoldsAsTold, IsSingleWith, Validated, Validates, KeysSoFar, Malformed, TellsValidated, TellsOpenKey, Utf8, option_copied}
-use Rattle.raw_view.specs.Meaning as raw
-use Rattle.raw_view.specs.declared.error.ErrorKind.TheVariants as kind
+use Rattle.std.proofs.Common.{arith, ◌≡◌, ◌++◌, ◌∷◌, [], List, ℕ, Bor, Option, None, Some, Ok, Err, length, refl, subst, inr}
+use Rattle.raw_tree.proofs.Common.{AreKeysCanonical, BorrowedError, Cause, IsFrame, RawElement, RawValue, Sort, StepsFront, faulty, frame_of, value, value_of}
+use Rattle.raw_tree.proofs.walk.Common.{BreachesItself, HasKeysSoFar, HoldsAsTold, IsSingleWith, Validated, Validates, KeysSoFar, TellsValidated, TellsOpenKey, option_copied}
 use Rattle.raw_tree.specs.declared.validator.breach.Cause.TheVariants as cause
 use Rattle.raw_tree.specs.declared.validator.step.Validated.TheVariants as validated
 use Rattle.raw_tree.proofs.walk.Fronts.{stop_of}

@@ -12,11 +12,11 @@ too_deep : (walk : Walk) (from : Level) (ws : List Wait) (e : RawElement) (answe
 too_deep walk from ws e (error.Barrier answer) full at = (full, at)
 too_deep walk from ws e error.OutOfMemory full at = tt
 
-pub returns-then-len-self-clause-ends : goal.returns-then-len-self-clause-ends
-returns-then-len-self-clause-ends c ws are_stored =
+pub returns-then-is_reached-clause-ends : goal.returns-then-is_reached-clause-ends
+returns-then-is_reached-clause-ends c ws are_stored =
     let self = c.args.self.now in
     let many : length ws ≡ length self.waiting.items = stored_many (bytes_of self.document) self.waiting.items ws are_stored in
-    too_deep self c.args.level.now ws c.args.element c.barrier.result (omega (arith, many, c.if-len-self.true, c.len.ensures, self.waiting.ok.0))
+    too_deep self c.args.level.now ws c.args.element c.barrier.result (omega (arith, many, c.if-is_reached.ensures.yes refl, c.len.ensures, self.waiting.ok.0))
     (subst (λ (k : List ℕ). IsBarrierAt ws (record { number = c.args.level.now.number; key = Some k }) c.args.level.now.offset kind.TooDeep c.barrier.result) c.key.ensures
     (c.barrier.ensures ws are_stored))
 
@@ -43,7 +43,7 @@ returns-clause-entered c ws left is =
       starts = omega (arith, c.new.ensures.start, far);
     } in
     let many : length ws ≡ length self.waiting.items = stored_many b self.waiting.items ws is.along.are_stored in
-    let few : suc (length ws) < suc self.most_waiting = omega (arith, many, c.if-len-self.false, c.len.ensures, self.waiting.ok.0) in
+    let few : suc (length ws) < suc self.most_waiting = omega (arith, many, c.if-is_reached.ensures.no refl, c.len.ensures, self.waiting.ok.0) in
     let size = at_inside_size at level.elements c.args.element inner looks in
     let fits = at_inside_fits at level.elements c.args.element inner looks in
     let stored = at_stored at level.elements behind c.args.element inner looks refl in (

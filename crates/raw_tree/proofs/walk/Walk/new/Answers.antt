@@ -1,6 +1,5 @@
-use Rattle.std.proofs.Common.{rules, ◌≡◌, ◌⊎◌, ◌<◌, Option, IfSome, drop, Some, suc, length, refl, subst, []}
+use Rattle.std.proofs.Common.{rules, ◌≡◌, ◌⊎◌, ◌<◌, drop, Some, suc, length, refl, []}
 use Rattle.raw_tree.proofs.Common.{bytes_of}
-use Rattle.raw_view.specs.declared.elements.Elements.{Elements}
 use Rattle.raw_tree.proofs.walk.Starts.{at_start, not_outside, start_within}
 use Rattle.raw_tree.proofs.walk.Walk.new.Goals as goal
 

@@ -1,6 +1,5 @@
-use Rattle.std.proofs.Common.{List, Option, Some, ℕ, drop, subst}
+use Rattle.std.proofs.Common.{drop}
 use Rattle.raw_tree.proofs.Common.{bytes_of, frame_of}
-use Rattle.raw_tree.proofs.walk.Common.{TakesFrame}
 use Rattle.raw_view.proofs.Face.{one_frame}
 use Rattle.raw_tree.proofs.walk.element.element_at.Goals as goal
 

@@ -1,5 +1,3 @@
-use Rattle.std.proofs.Common.{Result, Some, subst}
-use Rattle.raw_tree.proofs.Common.{BorrowedError, RawElement, StepsFront}
 use Rattle.raw_tree.proofs.walk.Frames.{taken_stop}
 use Rattle.raw_tree.proofs.walk.element.next_element.Goals as goal
 

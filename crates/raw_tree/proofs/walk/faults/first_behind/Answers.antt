@@ -1,6 +1,6 @@
 use Rattle.std.proofs.Common.{rules, ◌≡◌, ◌∙◌, [], ℕ, suc, Option, None, Result, IfOk, ap, refl, subst}
 use Rattle.raw_tree.proofs.Common.{Error, bytes_of, fault_of}
-use Rattle.raw_tree.proofs.walk.Common.{Barrier, Level, RawDocument, Sees, TellsBarrierWithin, Walk}
+use Rattle.raw_tree.proofs.walk.Common.{Barrier, Level, RawDocument, TellsBarrierWithin, Walk}
 use Rattle.raw_tree.specs.declared.walk.barrier.BarrierKind.TheVariants as kind
 use Rattle.raw_tree.proofs.walk.Levels.{IsWalking, at_deep, at_fault, deep_told, told_at, told_there, walks_nearer, walks_on}
 use Rattle.raw_tree.proofs.walk.faults.first_behind.Goals as goal
@@ -38,7 +38,7 @@ returns-in-Err-clause-told c =
     let is = c.elements.invariant.1 in
     let looks = rw c.in-Inside.is at c.look.ensures.sees in
     let ends = deep_told c.elements.walk c.elements.level is.waits c.in-Inside.element
-    (λ full. at_deep is.along.at c.look.new.elements c.in-Inside.element c.in-Inside.inner looks full) c.in-Err.error (c.in-Err.ensures.ends is.waits is.along.are_stored) in
+    (λ full. at_deep is.along.at c.look.new.elements c.in-Inside.element c.in-Inside.inner.document looks full) c.in-Err.error (c.in-Err.ensures.ends is.waits is.along.are_stored) in
     told_of is c.args.depth c.elements.invariant.2 c.told.result (c.told.ensures.told c.elements.walk ends)
 
 pub elements-smaller-in_default-enter : goal.elements-smaller-in_default-enter

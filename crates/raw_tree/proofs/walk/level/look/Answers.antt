@@ -18,15 +18,16 @@ steps : (c : In-Ok) → StepsFront c.args.elements.now (Some (Ok c.in-Some-Ok.el
 steps c = subst (λ (x : Result RawElement BorrowedError). StepsFront c.args.elements.now (Some x) c.next.new.self) c.in-Some-Ok.field-0-is c.in-Some-Ok.ensures.steps
 
 pub returns-in-None-level : goal.returns-in-None-level
-returns-in-None-level c = record {
-  sees = looks_whole c.args.elements.now c.next.new.self c.in-Some-Ok.element (value_of c.in-Ok.value) c.level.result
-      (steps (goal.at.returns-in-None-level c).In-Ok) c.in-Ok.ensures.value c.level.ensures c.in-None-level.is;
-  value = c.in-Ok.ensures.value;
-}
+returns-in-None-level c =
+    let single = rw c.in-None-level.is at c.level.ensures in record {
+      sees = looks_whole c.args.elements.now c.next.new.self c.in-Some-Ok.element (value_of c.in-Ok.value) (steps (goal.at.returns-in-None-level c).In-Ok) c.in-Ok.ensures.value single;
+      value = (c.in-Ok.ensures.value, single);
+    }
 
 pub returns-in-Some : goal.returns-in-Some
-returns-in-Some c = record {
-  sees = looks_inside c.args.elements.now c.next.new.self c.in-Some-Ok.element (value_of c.in-Ok.value) c.level.result c.in-Some.level
-      (steps (goal.at.returns-in-Some c).In-Ok) c.in-Ok.ensures.value c.level.ensures c.in-Some.is;
-  value = c.in-Ok.ensures.value;
-}
+returns-in-Some c =
+    let held = rw c.in-Some.is at c.level.ensures in
+    let means = rw held at c.in-Ok.ensures.value in record {
+      sees = looks_inside c.args.elements.now c.next.new.self c.in-Some-Ok.element c.in-Some.level (steps (goal.at.returns-in-Some c).In-Ok) means;
+      value = means;
+    }
