@@ -20,7 +20,7 @@ pub use Rattle.raw_tree.proofs.walk.Offsets.{envelope_fits}
 pub use Rattle.raw_tree.proofs.walk.OneBarrier.{barred_at_one_place}
 pub use Rattle.raw_tree.proofs.walk.Rooms.{filled_more, filled_none}
 pub use Rattle.raw_tree.proofs.walk.Starts.{first_begins}
-pub use Rattle.raw_tree.proofs.walk.Within.{barrier_first, barrier_told}
+pub use Rattle.raw_tree.proofs.walk.Within.{barrier_told}
 -- sets of keys
 pub use Rattle.raw_tree.proofs.validator.KeyPlaces.{first_at, position_is}
 pub use Rattle.raw_tree.proofs.validator.KeySets.{keys_distinct}

@@ -1,16 +1,15 @@
 -- What the loop of a validation keeps, and what it tells where it ends.
 use Rattle.std.proofs.Common.{◌≡◌, ◌∙◌, ◌≤◌, ◌<◌, ◌+◌, ◌-◌, ◌++◌, ◌∷◌, [], ℕ, suc, List, Bool, Bor, Option, Some, map, length, drop, arith, ap, refl, sym, subst, length-append, length-drop}
 use Rattle.std.proofs.lemmas.List.{same_from_push}
-use Rattle.std.proofs.lemmas.Simd.{map-map}
-use Rattle.raw_tree.proofs.Common.{Cause, IsCanonicalUpTo, RawElement, RawValue, as_document, bytes_of, frame_of, keys_of_frames, left_of, length-map, map-append, texts}
+use Rattle.raw_tree.proofs.Common.{Cause, IsCanonicalUpTo, RawElement, RawValue, as_document, bytes_of, frame_of, keys_of_frames, left_of, texts}
 use Rattle.raw_tree.proofs.walk.Common.{AreLinked, AreOpenKeys, FirstViolationTo, HasKeysSoFar, HoldsNone, IsAt, IsOpened, IsSingleWith, Validated, Validates, KeysSoFar, LeavesOpenKeys, Level, Looks}
-use Rattle.raw_tree.proofs.walk.Common.{RawDocument, Step, StoreEach, TellsValidated, Violation, Wait, Walk, array_sort, breach_of, option_copied, size_of, step_at, whole_span}
+use Rattle.raw_tree.proofs.walk.Common.{RawDocument, Step, StoreEach, Violation, Wait, Walk, array_sort, breach_of, option_copied, size_of, step_at}
 use Rattle.raw_view.proofs.Face.{LeadsTo-bound}
 use Rattle.raw_tree.specs.validator.Violations.{too_deep}
 use Rattle.raw_tree.specs.declared.validator.step.Validated.TheVariants as validated
 use Rattle.raw_tree.specs.walk.Aheads.{Ahead}
 use Rattle.raw_tree.specs.walk.Aheads as next
-use Rattle.raw_tree.proofs.validator.ValidatedLevels.{WaitsBehind, IsHeld, IsInFront, IsValidated, IsValidatedThere, Keyed, begun, held_validated, numbered, passed_breach, passed_deep, passed_end, passed_inside, passed_whole, resumed}
+use Rattle.raw_tree.proofs.validator.ValidatedLevels.{IsHeld, IsInFront, IsTold, IsValidated, IsValidatedThere, Keyed, begun, held_validated, numbered, passed_breach, passed_deep, passed_end, passed_inside, passed_whole, resumed, whole_keyed}
 use Rattle.raw_tree.proofs.walk.Levels.{IsWalking, at_inside, at_inside_size, at_whole, at_whole_size, waiting_then}
 use Rattle.raw_tree.proofs.walk.Linked.{IsOutward, last_link, none_linked, outward}
 use Rattle.raw_tree.proofs.walk.Passed.{as_held}
@@ -22,13 +21,12 @@ pub record IsValidatedAt (depth : ℕ) (b : List ℕ) (ws : List Wait) (ks : Lis
   pub at : IsAt depth b ws left number offset start
   pub inside : ℕ
   pub many : ℕ
-  pub waits : List (Wait × KeysSoFar)
   pub here : Keyed
-  pub waits_are : ws ≡ map (λ (w : Wait × KeysSoFar). w.0) waits
-  pub keys_are : ks ≡ map (λ (w : Wait × KeysSoFar). w.1) waits
-  pub held : AreLinked IsHeld many inside (record { span = whole_span b; below = [] }) waits here
+  pub outer_is : here.outer ≡ ks
+  pub as_many : length ws ≡ length ks
+  pub held : AreLinked IsHeld many inside (whole_keyed b) ws here
   pub is : IsValidated inside here listed left number k
-  pub levels : suc (length waits + inside) ≡ depth
+  pub levels : suc (length ws + inside) ≡ depth
   pub begins : offset + left_of left ≡ here.span.end
 
 -- what is validated is ahead of a level
@@ -46,65 +44,54 @@ pub validated_begin : {depth : ℕ} {b : List ℕ} {left : Option (List ℕ)} {n
     → left ≡ Some (drop 4 b) → number ≡ 0 → offset + length (drop 4 b) ≡ length b → HasKeysSoFar k listed as_document (texts listed) []
     → IsValidatedAt depth b [] ks listed left number offset start k
 validated_begin {b = b} {left = left} {number = number} most ks listed k at whole no_keys empty e first begins has =
-    let here : Keyed = record { span = whole_span b; below = [] } in
     record {
       at = at;
       inside = most;
       many = 0;
-      waits = [];
-      here = here;
-      waits_are = refl;
-      keys_are = no_keys;
+      here = whole_keyed b;
+      outer_is = sym no_keys;
+      as_many = omega (arith, ap length no_keys);
       held = (refl, refl);
-      is = begun most here listed left number k e first (subst (λ (below : List (List ℕ)). HasKeysSoFar k listed as_document below []) (ap texts empty) has);
+      is = begun most (whole_keyed b) listed left number k e first (subst (λ (below : List (List ℕ)). HasKeysSoFar k listed as_document below []) (ap texts empty) has);
       levels = omega (arith, whole);
       begins = rw e begins;
     }
 
 module _ {depth : ℕ} {b : List ℕ} {ws : List Wait} {ks : List KeysSoFar} {listed : List (Bor (List ℕ))} {left : Option (List ℕ)} {number offset start : ℕ}
     {k : KeysSoFar} (at : IsValidatedAt depth b ws ks listed left number offset start k) where
-  waits_many : length ws ≡ length at.waits
-  waits_many = ap length at.waits_are ∙ length-map at.waits (λ (w : Wait × KeysSoFar). w.0)
-
-  -- as many wait as there are keys of levels that wait
-  pub as_many : length ws ≡ length ks
-  as_many = waits_many ∙ sym (ap length at.keys_are ∙ length-map at.waits (λ (w : Wait × KeysSoFar). w.1))
-
   pub open_keys : AreOpenKeys k listed
   open_keys = (at.here.span.sort, at.here.below, keys_of_frames at.is.frames, at.is.keys, at.is.keys_canonical)
 
   -- what is told of this level
-  abbrev pub Told : Option (List ℕ) → KeysSoFar → List (Bor (List ℕ)) → Validated → Type 0
-  Told new i after answer = TellsValidated at.here.span.sort at.here.below (keys_of_frames at.is.frames) at.is.rest new i after answer
-
-  pub told : (new : Option (List ℕ)) (i : KeysSoFar) (after : List (Bor (List ℕ))) (answer : Validated) → Validates left k listed number new i after answer → Told new i after answer
-  told new i after answer validates =
-      subst (λ (x : Option (List ℕ)). Validates x k listed number new i after answer) at.is.left_is validates at.here.span.sort at.here.below
-      (keys_of_frames at.is.frames) at.is.keys at.is.keys_canonical (numbered at.is)
+  pub told : (new : Option (List ℕ)) (i : KeysSoFar) (after : List (Bor (List ℕ))) (answer : Validated) → Validates left k listed number new i after answer → IsTold at.is new i after answer
+  told new i after answer validates = record {
+    tells = subst (λ (x : Option (List ℕ)). Validates x k listed number new i after answer) at.is.left_is validates at.here.span.sort at.here.below
+        (keys_of_frames at.is.frames) at.is.keys at.is.keys_canonical (numbered at.is);
+  }
 
   -- a violation in front of what is left of the innermost level is that on b, at the offset of what is left
   front_outward : (x : Violation) (step : Step) → IsInFront at.inside at.here.span left x step → FirstViolationTo depth as_document b x (map step_at ws ++ step ∷ []) offset
   front_outward x step validates =
       let there : length at.here.span.bytes - left_of left + left_of left ≡ length at.here.span.bytes = omega (arith, ends) in
-      let told : IsOutward IsHeld (IsValidatedThere x offset) (λ (w : Wait × KeysSoFar). step_at w.0) = record { out = held_validated x offset } in
-      let (u, is, far) = outward told at.many at.inside depth
-      (record { span = whole_span b; below = [] }) at.waits at.here step [] at.levels at.held
+      let told : IsOutward IsHeld (IsValidatedThere x offset) step_at = record { out = held_validated x offset } in
+      let (u, is, far) = outward told at.many at.inside depth (whole_keyed b) ws at.here step [] at.levels at.held
       (length at.here.span.bytes - left_of left, validates (length at.here.span.bytes - left_of left) there, omega (arith, there, at.begins)) in
       let same : offset ≡ u = omega (arith, far) in
-      rw (same, at.waits_are, map-map step_at (λ (w : Wait × KeysSoFar). w.0) at.waits) is
+      rw same is
     where
       ends : left_of left ≤ length at.here.span.bytes
       ends = rw (at.is.left_is) (omega (arith, LeadsTo-bound (drop 4 at.here.span.bytes) at.is.frames at.is.rest at.is.reaches, length-drop 4 at.here.span.bytes))
 
-  module _ (new : Option (List ℕ)) (i : KeysSoFar) (after : List (Bor (List ℕ))) where
-    pub looks : (answer : Validated) → Told new i after answer → IsAhead (Looks left new) answer
-    looks (validated.Whole e) (r, v, frame, m, new_is, has, more, single) = rw (at.is.left_is) (r, v, frame, m, holds_none v single, new_is)
-    looks (validated.Inside e inner is_array) (r, v, frame, m, new_is, has, more, holds) =
+  module _ {new : Option (List ℕ)} {i : KeysSoFar} {after : List (Bor (List ℕ))} where
+    pub looks : (answer : Validated) → IsTold at.is new i after answer → IsAhead (Looks left new) answer
+    looks (validated.Whole e) h = let (r, v, frame, m, new_is, has, more, single) = h.tells in rw (at.is.left_is) (r, v, frame, m, holds_none v single, new_is)
+    looks (validated.Inside e inner is_array) h =
+        let (r, v, frame, m, new_is, has, more, holds) = h.tells in
         rw (at.is.left_is) (r, v, frame, m, as_held v (array_sort is_array) (bytes_of inner) holds, new_is)
-    looks validated.End h = rw (at.is.left_is) (h.0)
+    looks validated.End h = rw (at.is.left_is) (h.tells.0)
     looks (validated.Breach key why) h = tt
 
-    pub validated_whole : (e : RawElement) (behind : ℕ) → Told new i after (validated.Whole e) → behind ≡ offset + size_of (frame_of e)
+    pub validated_whole : (e : RawElement) (behind : ℕ) → IsTold at.is new i after (validated.Whole e) → behind ≡ offset + size_of (frame_of e)
         → IsValidatedAt depth b ws ks after new (number + 1) behind start i
     validated_whole e behind h far =
         let saw = looks (validated.Whole e) h in
@@ -112,18 +99,17 @@ module _ {depth : ℕ} {b : List ℕ} {ws : List Wait} {ks : List KeysSoFar} {li
           at = at_whole at.at new behind e saw far;
           inside = at.inside;
           many = at.many;
-          waits = at.waits;
           here = at.here;
-          waits_are = at.waits_are;
-          keys_are = at.keys_are;
+          outer_is = at.outer_is;
+          as_many = at.as_many;
           held = at.held;
-          is = passed_whole at.is new after i e h;
+          is = passed_whole at.is e h;
           levels = at.levels;
           begins = omega (arith, far, at.begins, (at_whole_size at.at new e saw).0);
         }
 
     -- the next level, for which this one waits
-    pub validated_inside : {behind : ℕ} {inner : RawDocument} {level : Level} (e : RawElement) (is_array : Bool) (k2 : KeysSoFar) (h : Told new i after (validated.Inside e inner is_array))
+    pub validated_inside : {behind : ℕ} {inner : RawDocument} {level : Level} (e : RawElement) (is_array : Bool) (k2 : KeysSoFar) (h : IsTold at.is new i after (validated.Inside e inner is_array))
         → suc (length ws) < depth → (far : behind ≡ offset + size_of (frame_of e)) → IsOpened behind inner level → HasKeysSoFar k2 after (array_sort is_array) (texts after) []
         → IsValidatedAt depth b (ws ++ waiting_then at.at new behind e inner (looks (validated.Inside e inner is_array) h) far ∷ []) (ks ++ i ∷ []) after
         level.elements level.number level.offset level.start k2
@@ -131,69 +117,57 @@ module _ {depth : ℕ} {b : List ℕ} {ws : List Wait} {ks : List KeysSoFar} {li
         let saw = looks (validated.Inside e inner is_array) h in
         let w : Wait = waiting_then at.at new behind e inner saw far in
         let less : ℕ = at.inside - 1 in
-        let more : at.inside ≡ suc less = omega (arith, at.levels, few, waits_many) in
-        let here : Keyed = record { span = record { sort = array_sort is_array; bytes = bytes_of inner; end = behind }; below = texts after } in
-        let waits : WaitsBehind w new number (frame_of e) at.here.span.end =
-        record { left_is = refl; number_is = refl; key_is = refl; ends = omega (arith, far, at.begins, (at_inside_size at.at new e inner saw).0) } in
+        let more : at.inside ≡ suc less = omega (arith, at.levels, few) in
+        let here : Keyed = record { span = record { sort = array_sort is_array; bytes = bytes_of inner; end = behind }; below = texts after; outer = at.here.outer ++ i ∷ [] } in
+        let ends : behind + left_of new ≡ at.here.span.end = omega (arith, far, at.begins, (at_inside_size at.at new e inner saw).0) in
         record {
           at = at_inside at.at new behind e inner saw far level few opens;
           inside = less;
           many = suc at.many;
-          waits = at.waits ++ (w, i) ∷ [];
           here = here;
-          waits_are = rw (map-append (λ (x : Wait × KeysSoFar). x.0) at.waits ((w, i) ∷ []), ← at.waits_are) refl;
-          keys_are = rw (map-append (λ (x : Wait × KeysSoFar). x.1) at.waits ((w, i) ∷ []), ← at.keys_are) refl;
-          held = (at.waits, (w, i), at.here, refl, passed_inside at.is new after i e inner is_array h (suc less) more waits, rw more at at.held);
+          outer_is = ap (λ (xs : List KeysSoFar). xs ++ i ∷ []) at.outer_is;
+          as_many = omega (arith, at.as_many, length-append ws (w ∷ []), length-append ks (i ∷ []));
+          held = (ws, w, at.here, refl, passed_inside at.is e inner is_array h (suc less) start offset behind at.at.d more ends, rw more at at.held);
           is = begun less here after level.elements level.number k2 opens.left_is opens.first_is has;
-          levels = omega (arith, at.levels, more, length-append at.waits ((w, i) ∷ []));
+          levels = omega (arith, at.levels, more, length-append ws (w ∷ []));
           begins = rw (opens.left_is) (opens.begins);
         }
 
-    pub validated_breach : (key : Option (Bor (List ℕ))) (why : Cause) → Told new i after (validated.Breach key why)
+    pub validated_breach : (key : Option (Bor (List ℕ))) (why : Cause) → IsTold at.is new i after (validated.Breach key why)
         → FirstViolationTo depth as_document b (breach_of why) (map step_at ws ++ record { number = number; key = option_copied key } ∷ []) offset
-    validated_breach key why h = front_outward (breach_of why) (record { number = number; key = option_copied key }) (passed_breach at.is (option_copied key) why h)
+    validated_breach key why h = front_outward (breach_of why) (record { number = number; key = option_copied key }) (passed_breach at.is (option_copied key) why h.tells)
 
-    pub validated_deep : (e : RawElement) (inner : RawDocument) (is_array : Bool) → Told new i after (validated.Inside e inner is_array) → depth ≤ suc (length ws)
+    pub validated_deep : (e : RawElement) (inner : RawDocument) (is_array : Bool) → IsTold at.is new i after (validated.Inside e inner is_array) → depth ≤ suc (length ws)
         → FirstViolationTo depth as_document b too_deep (map step_at ws ++ record { number = number; key = Some (frame_of e).key } ∷ []) offset
     validated_deep e inner is_array h many = front_outward too_deep (record { number = number; key = Some (frame_of e).key })
-        (passed_deep at.is new after i e inner is_array h (omega (arith, at.levels, many, waits_many)))
+        (passed_deep at.is e inner is_array h (omega (arith, at.levels, many)))
 
-    pub validated_end : Told new i after validated.End → length ws ≡ 0 → IsCanonicalUpTo depth as_document b
+    pub validated_end : IsTold at.is new i after validated.End → length ws ≡ 0 → IsCanonicalUpTo depth as_document b
     validated_end h none =
-        let empty : length at.waits ≡ 0 = omega (arith, none, waits_many) in
-        let same = none_linked IsHeld at.many at.inside (record { span = whole_span b; below = [] }) at.waits at.here empty at.held in
-        let depth_is : depth ≡ suc at.inside = omega (arith, at.levels, empty) in
-        rw depth_is (subst (λ (x : Keyed). IsCanonicalUpTo (suc at.inside) x.span.sort x.span.bytes) (sym same) (passed_end at.is new after i h))
+        let same = none_linked IsHeld at.many at.inside (whole_keyed b) ws at.here none at.held in
+        let depth_is : depth ≡ suc at.inside = omega (arith, at.levels, none) in
+        rw depth_is (subst (λ (x : Keyed). IsCanonicalUpTo (suc at.inside) x.span.sort x.span.bytes) (sym same) (passed_end at.is h))
 
--- the level that waits for the innermost goes on
-pub validated_resumed : {depth : ℕ} {b : List ℕ} {listed : List (Bor (List ℕ))} {left : Option (List ℕ)} {number offset start : ℕ} {k : KeysSoFar}
-    (ws : List Wait) (w : Wait) (ks : List KeysSoFar) (j : KeysSoFar)
-    (at : IsValidatedAt depth b (ws ++ w ∷ []) (ks ++ j ∷ []) listed left number offset start k) (new : Option (List ℕ)) (i : KeysSoFar)
-    (after left_list : List (Bor (List ℕ))) → Told at new i after validated.End → LeavesOpenKeys i after left_list → IsAt depth b ws w.elements (w.number + 1) w.offset w.start
-    → IsValidatedAt depth b ws ks left_list w.elements (w.number + 1) w.offset w.start j
-validated_resumed {b = b} ws w ks j at new i after left_list h leaves goes_on =
-    let some : 0 < length at.waits = omega (arith, waits_many at, length-append ws (w ∷ [])) in
-    let (many, outer, z, o, same, link, held) = last_link IsHeld at.many at.inside (record { span = whole_span b; below = [] }) at.waits at.here some at.held in
-    let waits = same_from_push ws (map (λ (x : Wait × KeysSoFar). x.0) outer) w z.0
-    (at.waits_are ∙ ap (map (λ (x : Wait × KeysSoFar). x.0)) same ∙ map-append (λ (x : Wait × KeysSoFar). x.0) outer (z ∷ [])) in
-    let keys = same_from_push ks (map (λ (x : Wait × KeysSoFar). x.1) outer) j z.1
-    (at.keys_are ∙ ap (map (λ (x : Wait × KeysSoFar). x.1)) same ∙ map-append (λ (x : Wait × KeysSoFar). x.1) outer (z ∷ [])) in
-    let below : texts left_list ≡ at.here.below = leaves at.here.span.sort at.here.below (keys_of_frames at.is.frames) h.1 in
-    let validated : IsValidated (suc at.inside) o left_list z.0.elements (z.0.number + 1) z.1 = resumed left_list link (passed_end at.is new after i h) below in
-    record {
-      at = goes_on;
-      inside = suc at.inside;
-      many = many;
-      waits = outer;
-      here = o;
-      waits_are = waits.0;
-      keys_are = keys.0;
-      held = held;
-      is = subst (λ (x : Wait). IsValidated (suc at.inside) o left_list x.elements (x.number + 1) j) (sym waits.1)
-          (subst (λ (x : KeysSoFar). IsValidated (suc at.inside) o left_list z.0.elements (z.0.number + 1) x) (sym keys.1) validated);
-      levels = omega (arith, at.levels, ap length same, length-append outer (z ∷ []));
-      begins = omega (arith, link.nested.ends, ap left_of link.nested.left_is, ap (λ (x : Wait). x.offset + left_of x.elements) waits.1);
-    }
+    -- the level that waits for the innermost goes on
+    pub validated_resumed : {left_list : List (Bor (List ℕ))} → IsTold at.is new i after validated.End → (outer : List Wait) (w : Wait) → ws ≡ outer ++ w ∷ []
+        → (less : List KeysSoFar) (j : KeysSoFar) → ks ≡ less ++ j ∷ [] → LeavesOpenKeys i after left_list → IsAt depth b outer w.elements (w.number + 1) w.offset w.start
+        → IsValidatedAt depth b outer less left_list w.elements (w.number + 1) w.offset w.start j
+    validated_resumed {left_list} h outer w ws_are less j ks_are leaves goes_on =
+        let (o, many, link, held) = last_link IsHeld at.many at.inside (whole_keyed b) outer w at.here (rw ws_are at at.held) in
+        let keys = same_from_push less o.outer j link.k (sym ks_are ∙ sym at.outer_is ∙ link.outer_is) in
+        let below : texts left_list ≡ at.here.below = leaves at.here.span.sort at.here.below (keys_of_frames at.is.frames) h.tells.1 in
+        record {
+          at = goes_on;
+          inside = suc at.inside;
+          many = many;
+          here = o;
+          outer_is = sym keys.0;
+          as_many = omega (arith, at.as_many, ap length ws_are, ap length ks_are, length-append outer (w ∷ []), length-append less (j ∷ []));
+          held = held;
+          is = rw keys.1 (resumed left_list link (passed_end at.is h) below);
+          levels = omega (arith, at.levels, ap length ws_are, length-append outer (w ∷ []));
+          begins = omega (arith, link.nested.ends, ap left_of link.nested.left_is);
+        }
 
 -- so it is for a walk over this document within this depth
 pub record IsValidatedAlong (document : RawDocument) (depth : ℕ) (walk : Walk) (level : Level) (ks : List KeysSoFar) (listed : List (Bor (List ℕ))) (k : KeysSoFar) : Type 0 where

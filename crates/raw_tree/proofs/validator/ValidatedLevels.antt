@@ -4,14 +4,13 @@ use Rattle.std.proofs.Common.{◌≡◌, ◌∙◌, ◌+◌, ◌++◌, ◌∷◌
 use Rattle.raw_tree.proofs.Common.{AreFramesCanonical, AreKeysCanonical, Cause, Done, Frame, HoldsAs, IsCanonicalUpTo, IsValueCanonical, LeadsTo, Meaning, RawElement, RawValue, Sort, bytes_of}
 use Rattle.raw_tree.proofs.Common.{frame_of, keys_of_frames, left_of, length-map, texts, value}
 use Rattle.raw_tree.proofs.walk.Common.{BeginsAt, BreachesHere, BreachesItself, FirstViolationTo, HasKeysSoFar, HoldsLevel, IsSingleWith, ValidatesFrontAt, ValidatesMeaningAt, ValidatesNestedAt, KeysSoFar}
-use Rattle.raw_tree.proofs.walk.Common.{RawDocument, Span, Step, TellsValidated, Violation, Wait, array_sort, breach_of, step_at}
+use Rattle.raw_tree.proofs.walk.Common.{RawDocument, Span, Step, TellsValidated, Validated, Violation, Wait, array_sort, breach_of, step_at, wait_behind, whole_span}
 use Rattle.raw_view.proofs.Face.{LeadsTo-walk, LeadsTo-more}
 use Rattle.raw_tree.specs.validator.Violations.{too_deep}
 use Rattle.raw_tree.specs.declared.validator.step.Validated.TheVariants as validated
 use Rattle.raw_tree.proofs.validator.LevelKeys.{keys_front, keys_on}
 use Rattle.raw_tree.proofs.validator.Passed.{frames_more, keys_more, no_keys}
 use Rattle.raw_tree.proofs.walk.Linked.{holds_place, holds_step}
-use Rattle.raw_tree.proofs.walk.OnePlace.{Placed}
 
 -- values
 
@@ -23,10 +22,14 @@ held_canonical N v s d h c = grind arith
 
 -- levels
 
--- the bytes of a level; in the list the keys of the levels outside are below its own
+-- the bytes of a level; the keys of the levels outside, which are below its own in the list, and what they are known by
 pub record Keyed : Type 0 where
   pub span : Span
   pub below : List (List ℕ)
+  pub outer : List KeysSoFar
+
+abbrev pub whole_keyed : List ℕ → Keyed
+whole_keyed b = record { span = whole_span b; below = []; outer = [] }
 
 -- so many frames of a level have been passed, whose keys and values are canonical, with at most so many levels inside
 pub record IsValidated (inside : ℕ) (i : Keyed) (listed : List (Bor (List ℕ))) (left : Option (List ℕ)) (number : ℕ) (k : KeysSoFar) : Type 0 where
@@ -39,12 +42,19 @@ pub record IsValidated (inside : ℕ) (i : Keyed) (listed : List (Bor (List ℕ)
   pub keys_canonical : AreKeysCanonical i.span.sort (keys_of_frames frames)
   pub canonical : AreFramesCanonical (IsCanonicalUpTo inside) frames
 
+-- what is told of what is next in it, which goes on with these keys
+pub record IsTold {inside : ℕ} {i : Keyed} {listed : List (Bor (List ℕ))} {left : Option (List ℕ)} {number : ℕ} {k : KeysSoFar} (is : IsValidated inside i listed left number k)
+    (new : Option (List ℕ)) (ks : KeysSoFar) (after : List (Bor (List ℕ))) (answer : Validated) : Type 0 where
+  pub tells : TellsValidated i.span.sort i.below (keys_of_frames is.frames) is.rest new ks after answer
+
 -- and the value of the frame behind them, whose key is canonical, holds those of the next; in the list are these keys then
-pub record IsHeld (inside : ℕ) (o : Keyed) (w : Wait × KeysSoFar) (i : Keyed) : Type 0 where
+pub record IsHeld (inside : ℕ) (o : Keyed) (w : Wait) (i : Keyed) : Type 0 where
   pub frames : List Frame
   pub s : List ℕ
-  pub nested : HoldsLevel frames s o.span w.0 i.span
-  pub keys : (refs : List (Bor (List ℕ))) → texts refs ≡ i.below → HasKeysSoFar w.1 refs o.span.sort o.below (keys_of_frames frames ++ nested.f.key ∷ [])
+  pub nested : HoldsLevel frames s o.span w i.span
+  pub k : KeysSoFar
+  pub outer_is : i.outer ≡ o.outer ++ k ∷ []
+  pub keys : (refs : List (Bor (List ℕ))) → texts refs ≡ i.below → HasKeysSoFar k refs o.span.sort o.below (keys_of_frames frames ++ nested.f.key ∷ [])
   pub keys_canonical : AreKeysCanonical o.span.sort (keys_of_frames frames ++ nested.f.key ∷ [])
   pub canonical : AreFramesCanonical (IsCanonicalUpTo inside) frames
 
@@ -62,8 +72,8 @@ begun inside i listed left number k e none has = record {
 }
 
 -- where nested bytes are canonical, the level that waits for them goes on
-pub resumed : {inside : ℕ} {o : Keyed} {w : Wait × KeysSoFar} {i : Keyed} (refs : List (Bor (List ℕ))) → IsHeld inside o w i
-    → IsCanonicalUpTo inside i.span.sort i.span.bytes → texts refs ≡ i.below → IsValidated inside o refs w.0.elements (w.0.number + 1) w.1
+pub resumed : {inside : ℕ} {o : Keyed} {w : Wait} {i : Keyed} (refs : List (Bor (List ℕ))) (is : IsHeld inside o w i)
+    → IsCanonicalUpTo inside i.span.sort i.span.bytes → texts refs ≡ i.below → IsValidated inside o refs w.elements (w.number + 1) is.k
 resumed {inside} {o} {i = i} refs is c same =
     let h = is.nested in
     record {
@@ -78,23 +88,15 @@ resumed {inside} {o} {i = i} refs is c same =
           (held_canonical (IsCanonicalUpTo inside) h.v i.span.sort i.span.bytes h.holds c);
     }
 
--- a level waits so behind a frame, and what is left of it ends there
-pub record WaitsBehind (w : Wait) (new : Option (List ℕ)) (number : ℕ) (f : Frame) (end : ℕ) : Type 0 where
-  pub left_is : w.elements ≡ new
-  pub number_is : w.number ≡ number
-  pub key_is : w.key ≡ f.key
-  pub ends : w.offset + left_of new ≡ end
-
 -- what a frame means by itself has this breach; or its nested bytes have this violation
 
-itself_at : (P : Sort → List ℕ → Type 0) (N : Sort → List ℕ → Violation → List Step → ℕ → Type 0) (b s : List ℕ) (step : Step) (q : List ℕ) (m : Meaning)
-    (why : Cause) (offset : ℕ) → BreachesItself m why → BeginsAt b s offset → ValidatesMeaningAt P N b s step q m (breach_of why) (step ∷ []) offset
-itself_at P N b s step q m why offset h begins = grind arith
+module _ (P : Sort → List ℕ → Type 0) (N : Sort → List ℕ → Violation → List Step → ℕ → Type 0) (b s q : List ℕ) (step : Step) (offset : ℕ) where
+  itself_at : (m : Meaning) (why : Cause) → BreachesItself m why → BeginsAt b s offset → ValidatesMeaningAt P N b s step q m (breach_of why) (step ∷ []) offset
+  itself_at m why h begins = grind arith
 
-inside_at : (inside : ℕ) (b s : List ℕ) (step : Step) (q : List ℕ) (i : Span) (a : Placed Violation) (v : RawValue) → HoldsAs v i.sort i.bytes
-    → ValidatesNestedAt (IsCanonicalUpTo inside) (FirstViolationTo inside) b s step q i.sort i.bytes a.what a.path a.offset
-    → ValidatesMeaningAt (IsCanonicalUpTo inside) (FirstViolationTo inside) b s step q (value v) a.what a.path a.offset
-inside_at inside b s step q i a v h is = grind arith
+  inside_at : (v : RawValue) {sort : Sort} {d : List ℕ} {x : Violation} {path : List Step} → HoldsAs v sort d → ValidatesNestedAt P N b s step q sort d x path offset
+      → ValidatesMeaningAt P N b s step q (value v) x path offset
+  inside_at v {sort} {d} {x} {path} h is = grind arith
 
 -- this violation is in front of what is left of the level, wherever in its bytes that begins
 abbrev pub IsInFront : ℕ → Span → Option (List ℕ) → Violation → Step → Type 0
@@ -127,62 +129,43 @@ module _ {inside : ℕ} {i : Keyed} {listed : List (Bor (List ℕ))} {left : Opt
   passed_breach (Some key) why (f, r, at, key_is, inl breach) offset begins =
       front_at (breach_of why) _ offset (inr (f, r, at, inl (why, breach, refl, (rw key_is refl, begins_here offset begins))))
   passed_breach (Some key) why (f, r, at, key_is, inr (more, m, means, itself)) offset begins =
-      front_at (breach_of why) _ offset (inr (
-        f,
-        r,
-        at,
-        inr (
-          more,
-          m,
-          means,
-          rw key_is (itself_at (IsCanonicalUpTo inside) (FirstViolationTo inside) i.span.bytes is.rest
-              (record { number = number; key = Some f.key }) r m why offset itself (begins_here offset begins)),
-        ),
-      ))
+      let meant = itself_at (IsCanonicalUpTo inside) (FirstViolationTo inside) i.span.bytes is.rest r (record { number = number; key = Some f.key }) offset m why itself (begins_here offset begins) in
+      front_at (breach_of why) _ offset (inr (f, r, at, inr (more, m, means, rw key_is meant)))
 
-  module _ (new : Option (List ℕ)) (after : List (Bor (List ℕ))) (ks : KeysSoFar) where
-    pub passed_whole : (e : RawElement) → TellsValidated i.span.sort i.below (keys_of_frames is.frames) is.rest new ks after (validated.Whole e) → IsValidated inside i after new (number + 1) ks
-    passed_whole e (r, v, at, m, new_is, has, more, single) = record {
-      frames = is.frames ++ frame_of e ∷ [];
-      rest = r;
-      reaches = LeadsTo-more (drop 4 i.span.bytes) is.frames is.rest (frame_of e) r is.reaches at;
-      left_is = new_is;
-      number_is = omega (arith, is.number_is, length-append is.frames (frame_of e ∷ []));
-      keys = rw (keys_more is.frames (frame_of e)) has;
-      keys_canonical = rw (keys_more is.frames (frame_of e)) more;
-      canonical = frames_more (IsCanonicalUpTo inside) is.frames (frame_of e) v is.canonical m (single_canonical (IsCanonicalUpTo inside) v single);
-    }
+  module _ {new : Option (List ℕ)} {after : List (Bor (List ℕ))} {ks : KeysSoFar} where
+    pub passed_whole : (e : RawElement) → IsTold is new ks after (validated.Whole e) → IsValidated inside i after new (number + 1) ks
+    passed_whole e told =
+        let (r, v, at, m, new_is, has, more, single) = told.tells in
+        record {
+          frames = is.frames ++ frame_of e ∷ [];
+          rest = r;
+          reaches = LeadsTo-more (drop 4 i.span.bytes) is.frames is.rest (frame_of e) r is.reaches at;
+          left_is = new_is;
+          number_is = omega (arith, is.number_is, length-append is.frames (frame_of e ∷ []));
+          keys = rw (keys_more is.frames (frame_of e)) has;
+          keys_canonical = rw (keys_more is.frames (frame_of e)) more;
+          canonical = frames_more (IsCanonicalUpTo inside) is.frames (frame_of e) v is.canonical m (single_canonical (IsCanonicalUpTo inside) v single);
+        }
 
-    pub passed_end : TellsValidated i.span.sort i.below (keys_of_frames is.frames) is.rest new ks after validated.End → IsCanonicalUpTo (suc inside) i.span.sort i.span.bytes
-    passed_end told = (is.frames, LeadsTo-walk (drop 4 i.span.bytes) is.frames is.rest Done is.reaches told.0, is.keys_canonical, is.canonical)
+    pub passed_end : IsTold is new ks after validated.End → IsCanonicalUpTo (suc inside) i.span.sort i.span.bytes
+    passed_end told = (is.frames, LeadsTo-walk (drop 4 i.span.bytes) is.frames is.rest Done is.reaches told.tells.0, is.keys_canonical, is.canonical)
 
-    module _ (e : RawElement) (inner : RawDocument) (is_array : Bool)
-        (told : TellsValidated i.span.sort i.below (keys_of_frames is.frames) is.rest new ks after (validated.Inside e inner is_array)) where
+    module _ (e : RawElement) (inner : RawDocument) (is_array : Bool) (told : IsTold is new ks after (validated.Inside e inner is_array)) where
       -- a frame whose value holds a level, where no more may be entered
       pub passed_deep : inside ≡ 0 → IsInFront inside i.span left too_deep (record { number = number; key = Some (frame_of e).key })
       passed_deep none offset begins =
-          let (r, v, at, m, new_is, has, more, holds) = told in
-          let step : Step = record { number = number; key = Some (frame_of e).key } in
-          let there : Span = record { sort = array_sort is_array; bytes = bytes_of inner; end = 0 } in
-          let deep : FirstViolationTo inside there.sort there.bytes too_deep [] 0 = rw none (refl, refl, refl) in
-          front_at too_deep _ offset (inr (
-            frame_of e,
-            r,
-            at,
-            inr (
-              more,
-              value v,
-              m,
-              inside_at inside i.span.bytes is.rest step r there
-                  (record { what = too_deep; path = step ∷ []; offset = offset }) v holds ([], 0, deep, refl, begins_here offset begins),
-            ),
-          ))
+          let (r, v, at, m, new_is, has, more, holds) = told.tells in
+          let deep : FirstViolationTo inside (array_sort is_array) (bytes_of inner) too_deep [] 0 = rw none (refl, refl, refl) in
+          let meant = inside_at (IsCanonicalUpTo inside) (FirstViolationTo inside) i.span.bytes is.rest r (record { number = number; key = Some (frame_of e).key }) offset v holds
+          ([], 0, deep, refl, begins_here offset begins) in
+          front_at too_deep _ offset (inr (frame_of e, r, at, inr (more, value v, m, meant)))
 
       -- or is entered
-      pub passed_inside : {w : Wait} (n : ℕ) → inside ≡ n → WaitsBehind w new number (frame_of e) i.span.end
-          → IsHeld n i (w, ks) (record { span = record { sort = array_sort is_array; bytes = bytes_of inner; end = w.offset }; below = texts after })
-      passed_inside n same waits =
-          let (r, v, at, m, new_is, has, more, holds) = told in
+      pub passed_inside : (n start offset behind : ℕ) (d : List ℕ) → inside ≡ n → behind + left_of new ≡ i.span.end
+          → IsHeld n i (wait_behind start d new number offset behind (frame_of e).key)
+          (record { span = record { sort = array_sort is_array; bytes = bytes_of inner; end = behind }; below = texts after; outer = i.outer ++ ks ∷ [] })
+      passed_inside n start offset behind d same ends =
+          let (r, v, at, m, new_is, has, more, holds) = told.tells in
           record {
             frames = is.frames;
             s = is.rest;
@@ -194,12 +177,14 @@ module _ {inside : ℕ} {i : Keyed} {listed : List (Bor (List ℕ))} {left : Opt
               frame = at;
               means = m;
               holds = holds;
-              number_is = waits.number_is ∙ is.number_is;
-              key_is = waits.key_is;
-              left_is = waits.left_is ∙ new_is;
+              number_is = is.number_is;
+              key_is = refl;
+              left_is = new_is;
               begins = refl;
-              ends = omega (arith, waits.ends, ap left_of new_is);
+              ends = omega (arith, ends, ap left_of new_is);
             };
+            k = ks;
+            outer_is = refl;
             keys = λ refs same. keys_on ks after refs i.span.sort i.below (keys_of_frames is.frames ++ (frame_of e).key ∷ []) has same;
             keys_canonical = more;
             canonical = subst (λ (x : ℕ). AreFramesCanonical (IsCanonicalUpTo x) is.frames) same is.canonical;
@@ -209,12 +194,12 @@ module _ {inside : ℕ} {i : Keyed} {listed : List (Bor (List ℕ))} {left : Opt
 abbrev pub IsValidatedThere : Violation → ℕ → ℕ → Keyed → List Step → Type 0
 IsValidatedThere x offset n i steps = (at : ℕ) × FirstViolationTo n i.span.sort i.span.bytes x steps at × (at + i.span.end ≡ offset + length i.span.bytes)
 
-pub held_validated : (x : Violation) (offset n : ℕ) (o : Keyed) (w : Wait × KeysSoFar) (i : Keyed) (first : Step) (steps : List Step) → IsHeld n o w i
-    → IsValidatedThere x offset n i (first ∷ steps) → IsValidatedThere x offset (suc n) o (step_at w.0 ∷ first ∷ steps)
+pub held_validated : (x : Violation) (offset n : ℕ) (o : Keyed) (w : Wait) (i : Keyed) (first : Step) (steps : List Step) → IsHeld n o w i
+    → IsValidatedThere x offset n i (first ∷ steps) → IsValidatedThere x offset (suc n) o (step_at w ∷ first ∷ steps)
 held_validated x offset n o w i first steps is (at, validates, far) =
     let h = is.nested in
     let (place, offset_is, there) = holds_place h first steps at offset far in
     let front : AreKeysCanonical o.span.sort (keys_of_frames is.frames) = keys_front o.span.sort (keys_of_frames is.frames) (h.f.key ∷ []) is.keys_canonical in
-    let validated = inside_at n o.span.bytes is.s (record { number = length is.frames; key = Some h.f.key }) h.r i.span
-    (record { what = x; path = step_at w.0 ∷ first ∷ steps; offset = place }) h.v h.holds (first ∷ steps, at, validates, holds_step h (first ∷ steps), offset_is) in
-    (place, (is.frames, is.s, h.reaches, front, is.canonical, inr (h.f, h.r, h.frame, inr (is.keys_canonical, value h.v, h.means, validated))), there)
+    let meant = inside_at (IsCanonicalUpTo n) (FirstViolationTo n) o.span.bytes is.s h.r (record { number = length is.frames; key = Some h.f.key }) place h.v h.holds
+    (first ∷ steps, at, validates, holds_step h (first ∷ steps), offset_is) in
+    (place, (is.frames, is.s, h.reaches, front, is.canonical, inr (h.f, h.r, h.frame, inr (is.keys_canonical, value h.v, h.means, meant))), there)

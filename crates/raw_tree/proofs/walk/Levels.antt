@@ -1,6 +1,5 @@
 -- What a walk over all levels keeps, and what it tells where it ends.
 use Rattle.std.proofs.Common.{◌≡◌, ◌∙◌, ◌≤◌, ◌<◌, ◌+◌, ◌-◌, ◌*◌, ◌++◌, ◌∷◌, [], inr, ℕ, zero, suc, List, Option, None, Some, map, length, drop, arith, ap, refl, sym, subst, length-append, length-drop, Bor}
-use Rattle.std.proofs.lemmas.List.{same_from_push}
 use Rattle.raw_tree.proofs.Common.{BorrowedError, Frame, Holds, KeyedFault, RawElement, RawValue, ReadsUpTo, Sort, Tree, as_document, bytes_of, fault_of, frame_of, left_of, too_deep, tree_of_pairs}
 use Rattle.raw_tree.proofs.walk.Common.{AreLinked, Barrier, BarrierKind, FirstFaultAt, IsAlong, IsAt, IsAtFinal, IsBarrier, IsBarrierAt, IsBehind, IsFurther, IsHeld, IsOpened, IsPassed, IsTooDeep}
 use Rattle.raw_tree.proofs.walk.Common.{Level, LiesAt, Looks, RawDocument, Span, Step, StoreEach, Stores, TellsBarrierWithin, TellsBorrowed, TellsError, Wait, Waiting, Walk, WalkError, first_number}
@@ -14,7 +13,7 @@ use Rattle.raw_tree.specs.walk.Aheads as next
 use Rattle.raw_tree.proofs.walk.Passed.{IsInFront, IsNext, as_held, begun, front_at, held_as, held_next, left_now, next_inside, next_whole, passed_deep, passed_end, passed_fault, passed_whole, resumed}
 use Rattle.raw_tree.proofs.walk.Linked.{IsOutward, bounds, holds_place, holds_within, last_link, none_linked, outward}
 use Rattle.raw_tree.proofs.walk.Frames.{frame_size}
-use Rattle.raw_tree.proofs.walk.Offsets.{frame_more, led_behind, left_lies, nested_last, nested_lies, stored_whole, stored_less}
+use Rattle.raw_tree.proofs.walk.Offsets.{frame_more, led_behind, left_lies, nested_last, nested_lies, stored_whole}
 
 pub passed_left : (inside : ℕ) (d : List ℕ) (left : Option (List ℕ)) (number : ℕ) → IsPassed inside d left number → 2 * number + left_of left ≤ length d
 passed_left inside d None number is = absurd is.passed
@@ -248,53 +247,31 @@ module _ {depth : ℕ} {b : List ℕ} {ws : List Wait} {old : Option (List ℕ)}
       let (s, old_is) = left_now at.is in
       outermost_behind at.many at.inside b ws _ offset key (rw old_is at at.is) at.held (rw old_is at at.begins)
 
--- of the levels that wait the innermost is taken
-pub record IsPopped (depth : ℕ) (b : List ℕ) (rest : List Waiting) (c : Waiting) (ws : List Wait) (old : Option (List ℕ)) (number offset start : ℕ) : Type 0 where
-  pub outer : List Wait
-  pub w : Wait
-  pub same : ws ≡ outer ++ w ∷ []
-  pub are_stored : StoreEach b rest outer
-  pub stored : Stores b c w
-  pub at : IsAt depth b (outer ++ w ∷ []) old number offset start
+  -- the level that waits for the innermost goes on where that ends
+  module _ (outer : List Wait) (w : Wait) (same : ws ≡ outer ++ w ∷ []) (new : Option (List ℕ)) (looks : Looks old new next.End) where
+    last_held : (o : Span) × (many : ℕ) × IsHeld (suc at.inside) o w (record { sort = at.sort; bytes = at.d; end = at.end }) × AreLinked IsHeld many (suc at.inside) (whole_span b) outer o
+    last_held = last_link IsHeld at.many at.inside (whole_span b) outer w _ (rw same at at.held)
 
-pub popped : {depth : ℕ} {b : List ℕ} {ws : List Wait} {old : Option (List ℕ)} {number offset start : ℕ} {waiting rest : List Waiting} {c : Waiting}
-    → IsAt depth b ws old number offset start → StoreEach b waiting ws → waiting ≡ rest ++ c ∷ [] → IsPopped depth b rest c ws old number offset start
-popped {b = b} {ws = ws} {rest = rest} {c = c} at are_stored items =
-    let less = stored_less b rest c ws (rw items at are_stored) in
-    record { outer = less.0; w = less.1; same = less.2; are_stored = less.3; stored = less.4; at = rw (less.2) at at }
+    pub at_over : offset + 1 ≡ w.offset
+    at_over = omega (arith, at.begins, over at.inside at.d old new number at.is looks, last_held.2.nested.begins)
 
--- the level that waits for the innermost goes on where that ends
-module _ {depth : ℕ} {b : List ℕ} {old : Option (List ℕ)} {number offset start : ℕ} (ws : List Wait) (w : Wait) (at : IsAt depth b (ws ++ w ∷ []) old number offset start)
-    (new : Option (List ℕ)) (looks : Looks old new next.End) where
-  abbrev here : Span
-  here = record { sort = at.sort; bytes = at.d; end = at.end }
-
-  last_held : (o : Span) × (many : ℕ) × IsHeld (suc at.inside) o w here × AreLinked IsHeld many (suc at.inside) (whole_span b) ws o
-  last_held =
-      let (many, outer, x, m, same, link, held) = last_link IsHeld at.many at.inside (whole_span b) (ws ++ w ∷ []) here (omega (arith, length-append ws (w ∷ []))) at.held in
-      let both = same_from_push ws outer w x same in
-      (m, many, subst (λ (x : Wait). IsHeld (suc at.inside) m x here) (sym both.1) link, subst (λ (xs : List Wait). AreLinked IsHeld many (suc at.inside) (whole_span b) xs m) (sym both.0) held)
-
-  pub at_over : offset + 1 ≡ w.offset
-  at_over = omega (arith, at.begins, over at.inside at.d old new number at.is looks, last_held.2.nested.begins)
-
-  pub at_resumed : (c : Waiting) → Stores b c w → IsAt depth b ws w.elements (w.number + 1) w.offset w.start
-  at_resumed c stored =
-      let (o, many, is, held) = last_held in
-      let ends : w.offset + left_of w.elements ≡ o.end = omega (arith, ap left_of is.nested.left_is, is.nested.ends) in
-      record {
-        inside = suc at.inside;
-        many = many;
-        sort = o.sort;
-        d = o.bytes;
-        end = o.end;
-        held = held;
-        is = resumed is (passed_end at.is at.sort new looks);
-        levels = omega (arith, at.levels, length-append ws (w ∷ []));
-        begins = ends;
-        lies = rw (is.bytes_are) at stored.lies;
-        whole = omega (arith, stored_whole b c w stored, ends, ap length is.bytes_are);
-      }
+    pub at_resumed : (c : Waiting) → Stores b c w → IsAt depth b outer w.elements (w.number + 1) w.offset w.start
+    at_resumed c stored =
+        let (o, many, is, held) = last_held in
+        let ends : w.offset + left_of w.elements ≡ o.end = omega (arith, ap left_of is.nested.left_is, is.nested.ends) in
+        record {
+          inside = suc at.inside;
+          many = many;
+          sort = o.sort;
+          d = o.bytes;
+          end = o.end;
+          held = held;
+          is = resumed is (passed_end at.is at.sort new looks);
+          levels = omega (arith, at.levels, ap length same, length-append outer (w ∷ []));
+          begins = ends;
+          lies = rw (is.bytes_are) at stored.lies;
+          whole = omega (arith, stored_whole b c w stored, ends, ap length is.bytes_are);
+        }
 
 -- a walk over this document, for whose innermost level so many may wait
 pub record IsWalking (document : RawDocument) (most : ℕ) (walk : Walk) (level : Level) : Type 0 where

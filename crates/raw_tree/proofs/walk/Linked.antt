@@ -1,5 +1,6 @@
 -- Levels that wait, each linked to the one that it waits for: what is told of the innermost is told of the outermost.
 use Rattle.std.proofs.Common.{◌≡◌, ◌≤◌, ◌<◌, ◌+◌, ◌-◌, ◌++◌, ◌∷◌, [], ℕ, zero, suc, List, Some, map, length, drop, arith, ap, refl, append_assoc, length-append, length-drop}
+use Rattle.std.proofs.lemmas.List.{same_from_push}
 use Rattle.raw_tree.proofs.Common.{Frame, map-append}
 use Rattle.raw_tree.proofs.walk.Common.{AreLinked, HoldsLevel, IsOffsetOf, Span, Step, Wait, step_at}
 use Rattle.raw_view.proofs.Face.{LeadsTo-bound}
@@ -24,10 +25,12 @@ outward {step = step} is (suc many) inside depth o ws i first steps levels (oute
 
 module _ {A S : Type 0} (Link : ℕ → S → A → S → Type 0) where
   -- the innermost of those that wait
-  pub last_link : (many inside : ℕ) (o : S) (ws : List A) (i : S) → 0 < length ws → AreLinked Link many inside o ws i
-      → (fewer : ℕ) × (outer : List A) × (w : A) × (m : S) × (ws ≡ outer ++ w ∷ []) × Link (suc inside) m w i × AreLinked Link fewer (suc inside) o outer m
-  last_link zero inside o ws i some (none, same) = absurd (omega (arith, some, ap length none))
-  last_link (suc many) inside o ws i some linked = (many, linked.0, linked.1, linked.2, linked.3, linked.4, linked.5)
+  pub last_link : (many inside : ℕ) (o : S) (ws : List A) (w : A) (i : S) → AreLinked Link many inside o (ws ++ w ∷ []) i
+      → (m : S) × (fewer : ℕ) × Link (suc inside) m w i × AreLinked Link fewer (suc inside) o ws m
+  last_link zero inside o ws w i (none, same) = absurd (omega (arith, ap length none, length-append ws (w ∷ [])))
+  last_link (suc many) inside o ws w i (outer, x, m, same, link, held) =
+      let both = same_from_push ws outer w x same in
+      rw (both.0, both.1) (m, many, link, held)
 
   pub none_linked : (many inside : ℕ) (o : S) (ws : List A) (i : S) → length ws ≡ 0 → AreLinked Link many inside o ws i → o ≡ i
   none_linked zero inside o ws i none linked = linked.1

@@ -16,9 +16,3 @@ barrier_told limits b (Err e) few told = tt
 barrier_told limits b (Ok None) few told = (told.0, read_within limits b told.0 few told.1)
 barrier_told limits b (Ok (Some x)) few told =
     (told.0, inr (few, first_somewhere limits.depth b told.0 (steps_of x.place) x.place.offset told.2), told.1, inr (few, told.2))
-
--- one that is told is the first within limits
-pub barrier_first : (limits : Limits) (b : List ℕ) (answer : Barrier) → length b ≤ limits.bytes → TellsBarrierWithin limits.depth b (Some answer)
-    → (x : within.Barrier) × FirstBarrier limits b x × IsBarrier answer.kind x
-barrier_first limits b answer few told =
-    (told.0, inr (few, first_somewhere limits.depth b told.0 (steps_of answer.place) answer.place.offset told.2), told.1)

@@ -150,6 +150,7 @@ fn too_deep(error: WalkError<'_>, outermost: usize) -> Result<Option<Found<'_>>>
 /// let Some(breach) = validate_within(alloc, document, limits)? else { unreachable!() };
 /// assert_eq!(rt; (breach.cause, breach.place.offset), (Cause::RepeatedKey, 11));
 /// ```
+#[tactic(auto, using(crate::proofs::validator::OneViolation::validated_one_way))]
 pub fn validate_within<'a>(
     alloc: Global,
     document: RawDocument<'a>,

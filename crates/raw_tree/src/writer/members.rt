@@ -138,6 +138,7 @@ fn decimal_len(number: usize) -> usize
 }
 
 /// What a value is; its own values, if it holds any, aren't looked at.
+#[tactic(auto, using(bson_model::proofs::Face::tree_laws))]
 #[inline(always)]
 pub(crate) fn show(value: &Bson) -> Shown<'_>
     ensures { IsTreeOf (tree_of value.now) result }

@@ -1,9 +1,9 @@
-use Rattle.std.proofs.Common.{inl, inr, ◌≤◌, length, ap, arith, List, ℕ}
+use Rattle.std.proofs.Common.{inl, inr, ◌≤◌, length, ap, arith, List, ℕ, Ok, Some}
 use Rattle.raw_form.proofs.canonical.Common.{Error, IsEnvelope, Limits, ReadsWithin, RefusesFormOf, Tree, as_document, bytes_of, bytes_one_way, canonical_form, canonical_is_own_form, document}
 use Rattle.raw_form.proofs.canonical.Common.{document_reads, read_within}
 use Rattle.std.proofs.lemmas.Result.{IfErr-weaker, IfOk-weaker}
 use Rattle.raw_form.specs.FormsWithin.{RefusesFormWithin}
-use Rattle.raw_tree.proofs.Face.{barrier_first}
+use Rattle.raw_tree.proofs.Face.{barrier_told}
 use Rattle.raw_form.proofs.canonical.form_within.Goals.{In_default-2}
 use Rattle.raw_form.proofs.canonical.form_within.Goals as goal
 
@@ -12,7 +12,7 @@ returns-in-Some-2-clause-refused c =
     let b = bytes_of c.args.document in
     let few : length b ≤ c.args.limits.bytes = omega (arith, ap length c.as_bytes-bytes.ensures.bytes, c.if-bytes-limits.false) in
     let told = rw c.in-Some-2.is at c.in_ok-barrier.ensures.told in
-    let first = barrier_first c.args.limits b c.in-Some-2.barrier few told in
+    let first = barrier_told c.args.limits b (Ok (Some c.in-Some-2.barrier)) few told in
     inr (c.args.document.envelope, inl (inr (first.0, first.1, c.error_of.ensures first.0 first.2)))
 
 pub returns-in_default-clause-form : goal.returns-in_default-clause-form

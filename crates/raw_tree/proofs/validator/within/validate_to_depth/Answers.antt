@@ -6,7 +6,8 @@ use Rattle.raw_tree.proofs.walk.Common.{with_left}
 use Rattle.raw_tree.specs.declared.validator.step.Validated.TheVariants as validated
 use Rattle.raw_tree.specs.declared.walk.WalkError.TheVariants as error
 use Rattle.raw_tree.proofs.walk.Starts.{first_behind}
-use Rattle.raw_tree.proofs.validator.ValidatedAt.{IsValidatedAt, Told, as_many, validated_begin, validated_breach, validated_deep, validated_end, validated_inside, validated_resumed, validated_whole, IsAhead, looks, open_keys, told, told_of, walks}
+use Rattle.raw_tree.proofs.validator.ValidatedAt.{validated_begin, validated_breach, validated_deep, validated_end, validated_inside, validated_resumed, validated_whole, IsAhead, looks, open_keys, told, told_of, walks}
+use Rattle.raw_tree.proofs.validator.ValidatedLevels.{IsTold}
 use Rattle.raw_tree.proofs.walk.Levels.{at_outermost, waiting_then, walks_nearer}
 use Rattle.raw_tree.proofs.validator.within.validate_to_depth.Goals as goal
 use Rattle.raw_tree.proofs.validator.within.validate_to_depth.Goals.{In_ok-element, In_ok-place-in-Breach}
@@ -23,7 +24,8 @@ deep_found P walk from ws e outermost tells (error.Barrier b) (Ok (Some found)) 
     tells found full cause_is (ap steps_of place_is ∙ steps_is) (ap (λ (p : Place). p.offset) place_is ∙ offset_is) outermost_is
 
 -- what is told of the element that was validated
-told_as : (c : In_ok-element) (x : Validated) → c.in_ok-element.field-0 ≡ x → Told c.elements.invariant.at c.validate_next.new.elements c.validate_next.new.keys c.validate_next.new.listed.items x
+told_as : (c : In_ok-element) (x : Validated) → c.in_ok-element.field-0 ≡ x
+    → IsTold c.elements.invariant.at.is c.validate_next.new.elements c.validate_next.new.keys c.validate_next.new.listed.items x
 told_as c x is = told c.elements.invariant.at c.validate_next.new.elements c.validate_next.new.keys c.validate_next.new.listed.items x
     (subst (λ (y : Validated). Validates c.elements.level.elements c.elements.keys c.elements.listed.items c.elements.level.number c.validate_next.new.elements c.validate_next.new.keys
     c.validate_next.new.listed.items y) is c.in_ok-element.ensures.validates)
@@ -51,7 +53,7 @@ elements-init c =
 -- and what the walk saw then
 saw : (c : In_ok-element) (x : Validated) → c.in_ok-element.field-0 ≡ x
     → IsAhead (IsLooked c.elements.walk (with_left c.validate_next.new.elements c.elements.level) c.elements.level.elements c.elements.invariant.waits) x
-saw c x is = looked x (looks c.elements.invariant.at c.validate_next.new.elements c.validate_next.new.keys c.validate_next.new.listed.items x (told_as c x is))
+saw c x is = looked x (looks c.elements.invariant.at x (told_as c x is))
   where
     along : IsAlong c.elements.walk (with_left c.elements.level.elements (with_left c.validate_next.new.elements c.elements.level)) c.elements.invariant.waits
     along = record { are_stored = c.elements.invariant.are_stored; at = c.elements.invariant.at.at }
@@ -93,8 +95,7 @@ elements-preserved-in-Whole c =
       waits = is.waits;
       are_stored = is.are_stored;
       at = rw (c.pass.ensures.elements, c.pass.ensures.number, came.3)
-          (validated_whole is.at c.validate_next.new.elements c.validate_next.new.keys c.validate_next.new.listed.items c.in-Whole.element c.pass.new.level.offset
-          (told_as at.In_ok-element _ c.in-Whole.is) came.2);
+          (validated_whole is.at c.in-Whole.element c.pass.new.level.offset (told_as at.In_ok-element _ c.in-Whole.is) came.2);
       document_is = is.document_is;
       depth_is = is.depth_is;
     }
@@ -105,9 +106,8 @@ returns-in-Err-clause-found c =
     let is = c.elements.invariant in
     told_of is (λ n b. IfOk c.too_deep.result (TellsFound n b))
     (deep_found _ c.elements.walk c.elements.level is.waits c.in-Inside.element c.outermost-outermost.result (λ found full cause_is steps_is offset_is outermost_is.
-    rw (ap violation_of cause_is, steps_is, offset_is) (validated_deep is.at c.validate_next.new.elements c.validate_next.new.keys c.validate_next.new.listed.items
-    c.in-Inside.element c.in-Inside.inner
-    c.in-Inside.is_array tells (omega (arith, full)))) c.in-Err.error c.too_deep.result (c.in-Err.ensures.ends is.waits is.are_stored) c.too_deep.ensures.found)
+    rw (ap violation_of cause_is, steps_is, offset_is) (validated_deep is.at c.in-Inside.element c.in-Inside.inner c.in-Inside.is_array tells
+    (omega (arith, full)))) c.in-Err.error c.too_deep.result (c.in-Err.ensures.ends is.waits is.are_stored) c.too_deep.ensures.found)
 
 pub returns-in-Err-clause-outermost : goal.returns-in-Err-clause-outermost
 returns-in-Err-clause-outermost c =
@@ -129,8 +129,7 @@ elements-preserved-else-is_err c =
     let at = goal.at.elements-preserved-else-is_err c in
     let is = c.elements.invariant in
     let tells = told_as at.In_ok-element _ c.in-Inside.is in
-    let looks = looks is.at c.validate_next.new.elements c.validate_next.new.keys c.validate_next.new.listed.items
-    (validated.Inside c.in-Inside.element c.in-Inside.inner c.in-Inside.is_array) tells in
+    let looks = looks is.at (validated.Inside c.in-Inside.element c.in-Inside.inner c.in-Inside.is_array) tells in
     let came = c.in_default-enter.ensures.entered is.waits c.elements.level.elements (record { along = record { are_stored = is.are_stored; at = is.at.at }; looks = looks }) in
     let after = c.validate_next.new.listed.items in
     let keys_grown : c.push.new.self.items ≡ c.elements.outer_keys.items ++ c.validate_next.new.keys ∷ [] = search rules in
@@ -145,8 +144,7 @@ elements-preserved-else-is_err c =
       waits = is.waits ++ w ∷ [];
       are_stored = came.0.along.are_stored;
       at = rw (ap bytes_of c.enter.ensures.document, c.enter.ensures.most, keys_grown, c.replace-keys.ensures.after)
-          (validated_inside is.at c.validate_next.new.elements c.validate_next.new.keys after c.in-Inside.element c.in-Inside.is_array c.keys_of.result
-          tells few refl came.3 has);
+          (validated_inside is.at c.in-Inside.element c.in-Inside.is_array c.keys_of.result tells few refl came.3 has);
       document_is = c.enter.ensures.document ∙ is.document_is;
       depth_is = ap suc c.enter.ensures.most ∙ is.depth_is;
     }
@@ -164,7 +162,7 @@ returns-in-Breach-clause-found c =
     let is = c.elements.invariant in
     let bad = told_of is (λ n b. FirstViolationTo n as_document b (breach_of c.in-Breach.cause)
     (map step_at is.waits ++ record { number = c.elements.level.number; key = option_copied c.in-Breach.key } ∷ []) c.elements.level.offset)
-    (validated_breach is.at c.validate_next.new.elements c.validate_next.new.keys c.validate_next.new.listed.items c.in-Breach.key c.in-Breach.cause (told_as at.In_ok-element _ c.in-Breach.is)) in
+    (validated_breach is.at c.in-Breach.key c.in-Breach.cause (told_as at.In_ok-element _ c.in-Breach.is)) in
     rw (breach_at at.In_ok-place-in-Breach, c.in_ok-place-in-Breach.ensures.offset) bad
 
 pub returns-in-Breach-clause-outermost : goal.returns-in-Breach-clause-outermost
@@ -178,16 +176,15 @@ pub returns-in_default-pop-clause-found : goal.returns-in_default-pop-clause-fou
 returns-in_default-pop-clause-found c =
     let tells = told_as (goal.at.returns-in_default-pop-clause-found c).In_ok-element _ c.in-End.is in
     let is = c.elements.invariant in
-    let none : length is.waits ≡ 0 = omega (arith, as_many is.at, c.elements.outer_keys.ok.0, c.in_default-pop.ensures.cases.0) in
-    told_of is (λ n b. IsCanonicalUpTo n as_document b) (validated_end is.at c.validate_next.new.elements c.validate_next.new.keys c.validate_next.new.listed.items tells none)
+    let none : length is.waits ≡ 0 = omega (arith, is.at.as_many, c.elements.outer_keys.ok.0, c.in_default-pop.ensures.cases.0) in
+    told_of is (λ n b. IsCanonicalUpTo n as_document b) (validated_end is.at tells none)
 
 pub returns-then-not-leave-clause-found : goal.returns-then-not-leave-clause-found
 returns-then-not-leave-clause-found c =
     let at = goal.at.returns-then-not-leave-clause-found c in
     let is = c.elements.invariant in
     let came = c.if-not-leave.ensures.left is.waits c.elements.level.elements (saw at.In_ok-element _ c.in-End.is) in
-    told_of is (λ n b. IsCanonicalUpTo n as_document b)
-    (validated_end is.at c.validate_next.new.elements c.validate_next.new.keys c.validate_next.new.listed.items (told_as at.In_ok-element _ c.in-End.is) (ap length came.2))
+    told_of is (λ n b. IsCanonicalUpTo n as_document b) (validated_end is.at (told_as at.In_ok-element _ c.in-End.is) (ap length came.2))
 
 pub elements-smaller : goal.elements-smaller
 elements-smaller c =
@@ -197,30 +194,17 @@ elements-smaller c =
 
 pub elements-preserved : goal.elements-preserved
 elements-preserved c =
+    let at = (goal.at.elements-preserved c).In_ok-element in
     let is = c.elements.invariant in
-    let level = c.elements.level in
-    let came = c.if-not-leave.ensures.left is.waits level.elements (saw (goal.at.elements-preserved c).In_ok-element _ c.in-End.is) in
+    let came = c.if-not-leave.ensures.left is.waits c.elements.level.elements (saw at _ c.in-End.is) in
     let goes = came.5 in
-    let most : ℕ = suc c.elements.walk.most_waiting in
-    let b = bytes_of c.elements.walk.document in
-    let ks = c.pop.new.self.items in
-    let j = c.in-Some-pop.outer_key in
-    let held : IsValidatedAt most b is.waits (ks ++ j ∷ []) c.elements.listed.items level.elements level.number level.offset level.start c.elements.keys =
-    subst (λ (x : List KeysSoFar). IsValidatedAt most b is.waits x c.elements.listed.items level.elements level.number level.offset level.start c.elements.keys)
-    c.in-Some-pop.ensures.items is.at in
-    let both : IsValidatedAt most b (came.0 ++ came.1 ∷ []) (ks ++ j ∷ []) c.elements.listed.items level.elements level.number level.offset level.start c.elements.keys =
-    subst (λ (x : List Wait). IsValidatedAt most b x (ks ++ j ∷ []) c.elements.listed.items level.elements level.number level.offset level.start c.elements.keys) came.2 held in
-    let validates = subst (λ (x : Validated). Validates level.elements c.elements.keys c.elements.listed.items level.number c.validate_next.new.elements c.validate_next.new.keys
-    c.validate_next.new.listed.items x) c.in-End.is c.in_ok-element.ensures.validates in
-    let over = told both c.validate_next.new.elements c.validate_next.new.keys c.validate_next.new.listed.items validated.End validates in
-    let goes_on : IsAt most b came.0 came.1.elements (came.1.number + 1) came.1.offset came.1.start =
+    let goes_on : IsAt (suc c.elements.walk.most_waiting) (bytes_of c.elements.walk.document) came.0 came.1.elements (came.1.number + 1) came.1.offset came.1.start =
     rw (ap bytes_of c.leave.ensures.document, c.leave.ensures.most, goes.elements_are, goes.number_is, goes.offset_is, goes.start_is) at came.3.along.at in
     record {
       waits = came.0;
       are_stored = came.3.along.are_stored;
       at = rw (ap bytes_of c.leave.ensures.document, c.leave.ensures.most, goes.elements_are, goes.number_is, goes.offset_is, goes.start_is)
-          (validated_resumed came.0 came.1 ks j both c.validate_next.new.elements c.validate_next.new.keys c.validate_next.new.listed.items
-          c.leave-in-End.new.listed.items over c.leave-in-End.ensures goes_on);
+          (validated_resumed is.at (told_as at _ c.in-End.is) came.0 came.1 came.2 c.pop.new.self.items c.in-Some-pop.outer_key c.in-Some-pop.ensures.items c.leave-in-End.ensures goes_on);
       document_is = c.leave.ensures.document ∙ is.document_is;
       depth_is = ap suc c.leave.ensures.most ∙ is.depth_is;
     }

@@ -1,7 +1,6 @@
 use Rattle.std.proofs.Common.{arith, ap, length}
 use Rattle.raw_tree.proofs.Common.{bytes_of}
 use Rattle.raw_tree.proofs.reader.Limited.{answered_one_way}
-use Rattle.raw_tree.proofs.walk.OneBarrier.{barred_at_one_place}
 use Rattle.raw_tree.proofs.walk.Within.{barrier_told}
 use Rattle.raw_tree.proofs.walk.faults.first_fault_within.Goals as goal
 
@@ -14,9 +13,3 @@ returns-clause-barrier c =
 
 pub returns-clause-one_answer : goal.returns-clause-one_answer
 returns-clause-one_answer c = answered_one_way c.args.limits
-
-pub returns-then-as_bytes-limits-clause-one_place : goal.returns-then-as_bytes-limits-clause-one_place
-returns-then-as_bytes-limits-clause-one_place c = barred_at_one_place c.args.limits
-
-pub returns-clause-one_place : goal.returns-clause-one_place
-returns-clause-one_place c = barred_at_one_place c.args.limits
