@@ -45,9 +45,11 @@ run() {
     qemu-aarch64-static -L /usr/aarch64-linux-gnu -E "LD_LIBRARY_PATH=$prefix/lib" "$program" "$@"
 }
 
-# The documents that tests in Rattle share, and the examples: a name and hex digits a line.
+# The documents that tests in Rattle share, those of c/tests/documents.txt, each with a fault, and the examples: a name and hex digits a
+# line.
 documents() {
-    LC_ALL=C awk -f c/tests/documents.awk crates/bson_tests/src/fixtures/documents.rt crates/bson_tests/src/views/reasons.rt
+    LC_ALL=C awk -f c/tests/documents.awk crates/bson_tests/src/fixtures/documents.rt
+    cat c/tests/documents.txt
     for document in examples/*.hex; do
         echo "$(basename "$document") $(tr -d ' \r\n' <"$document" | tr '[:upper:]' '[:lower:]')"
     done

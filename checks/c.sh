@@ -227,12 +227,14 @@ levels() {
     }'
 }
 
-# The documents that tests in Rattle share, the examples, and some of many levels: a name and hex digits a line.
+# The documents that tests in Rattle share, those of c/tests/documents.txt, each with a fault, the examples, and some of many levels:
+# a name and hex digits a line.
 documents() {
     levels 40
     levels 500
     levels 501
-    LC_ALL=C awk -f c/tests/documents.awk crates/bson_tests/src/fixtures/documents.rt crates/bson_tests/src/views/reasons.rt
+    LC_ALL=C awk -f c/tests/documents.awk crates/bson_tests/src/fixtures/documents.rt
+    cat c/tests/documents.txt
     for document in examples/*.hex; do
         echo "$(basename "$document") $(tr -d ' \r\n' <"$document" | tr '[:upper:]' '[:lower:]')"
     done

@@ -1,5 +1,5 @@
 use crate::fixtures::*;
-use raw_bson::{BinarySubtype, ElementType, RawBinaryRef, RawBsonRef, RawDocumentBuf};
+use raw_bson::{ElementType, RawArrayBuf, RawDocumentBuf};
 use std::alloc::Global;
 use std::process::Abort;
 
@@ -7,14 +7,6 @@ use std::process::Abort;
 fn is_appended(alloc: Global, document: &mut RawDocumentBuf, key: &str, kind: ElementType) -> bool {
     match owned(alloc, kind) {
         Ok(value) => document.append(key, value).is_ok(),
-        Err(_) => false,
-    }
-}
-
-/// Whether it is appended, borrowed.
-fn is_appended_borrowed(document: &mut RawDocumentBuf, key: &str, kind: ElementType) -> bool {
-    match borrowed(kind) {
-        Ok(value) => document.append_ref(key, value).is_ok(),
         Err(_) => false,
     }
 }
@@ -29,31 +21,6 @@ fn are_appended(alloc: Global, document: &mut RawDocumentBuf) -> bool {
     document.as_bytes() == ALL_KINDS
 }
 
-/// The same of the borrowed ones.
-fn are_appended_borrowed(document: &mut RawDocumentBuf) -> bool {
-    for &(key, kind) in KINDS.iter() {
-        if !is_appended_borrowed(document, key, kind) {
-            return false;
-        }
-    }
-    document.as_bytes() == ALL_KINDS
-}
-
-/// Four bytes of the subtype 2 of a user.
-const OF_A_USER: RawBinaryRef<'static> = RawBinaryRef {
-    subtype: BinarySubtype::UserDefined(2),
-    bytes: b"\x01\x02\x03\x04",
-};
-
-/// Whether it has no inner length.
-fn has_no_inner_length(document: &mut RawDocumentBuf) -> bool {
-    let bytes = b"\x11\0\0\0\x05b\0\x04\0\0\0\x02\x01\x02\x03\x04\0";
-    document
-        .append_ref("b", RawBsonRef::Binary(OF_A_USER))
-        .is_ok()
-        && document.as_bytes() == bytes.as_slice()
-}
-
 /// Whether that holds of an empty document, where there is memory for it.
 fn are_made(alloc: Global) -> bool {
     match RawDocumentBuf::new(alloc) {
@@ -62,25 +29,9 @@ fn are_made(alloc: Global) -> bool {
     }
 }
 
-fn are_made_of_borrowed(alloc: Global) -> bool {
-    match RawDocumentBuf::new(alloc) {
-        Ok(mut document) => are_appended_borrowed(&mut document),
-        Err(_) => false,
-    }
-}
-
-fn is_made_of_a_users(alloc: Global) -> bool {
-    match RawDocumentBuf::new(alloc) {
-        Ok(mut document) => has_no_inner_length(&mut document),
-        Err(_) => false,
-    }
-}
-
 #[test]
 fn a_value_of_each_kind_is_appended(rt: HostRuntime) {
     assert!(rt; are_made(rt.alloc()));
-    assert!(rt; are_made_of_borrowed(rt.alloc()));
-    assert!(rt; is_made_of_a_users(rt.alloc()));
 }
 
 /// Whether the first six getters have the values of their kinds.
@@ -119,6 +70,39 @@ fn are_got(alloc: Global) -> bool {
 }
 
 #[test]
-fn twelve_getters(rt: HostRuntime) {
+fn twelve_getters_of_documents(rt: HostRuntime) {
     assert!(rt; are_got(rt.alloc()));
+}
+
+/// Whether the first six getters of the array of the same bytes have them.
+fn are_first_of_array(array: &RawArrayBuf) -> bool {
+    is_got(got(array.get_f64(0)), ElementType::Double)
+        && is_got(got(array.get_str(1)), ElementType::String)
+        && is_got(got(array.get_document(2)), ElementType::EmbeddedDocument)
+        && is_got(got(array.get_array(3)), ElementType::Array)
+        && is_got(got(array.get_binary(4)), ElementType::Binary)
+        && is_got(got(array.get_object_id(6)), ElementType::ObjectId)
+}
+
+/// Whether the others have.
+fn are_last_of_array(array: &RawArrayBuf) -> bool {
+    is_got(got(array.get_bool(7)), ElementType::Boolean)
+        && is_got(got(array.get_datetime(8)), ElementType::DateTime)
+        && is_got(got(array.get_regex(10)), ElementType::RegularExpression)
+        && is_got(got(array.get_i32(15)), ElementType::Int32)
+        && is_got(got(array.get_timestamp(16)), ElementType::Timestamp)
+        && is_got(got(array.get_i64(17)), ElementType::Int64)
+}
+
+/// Whether the twelve getters have the values of the array of all kinds.
+fn are_got_by_index(alloc: Global) -> bool {
+    match array_of(alloc, ALL_KINDS) {
+        Ok(array) => are_first_of_array(&array) && are_last_of_array(&array),
+        Err(_) => false,
+    }
+}
+
+#[test]
+fn twelve_getters_of_arrays(rt: HostRuntime) {
+    assert!(rt; are_got_by_index(rt.alloc()));
 }

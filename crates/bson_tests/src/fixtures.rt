@@ -37,9 +37,11 @@ pub use faults::{
 pub use forms::{A_THEN_B, B_THEN_A, FORMS};
 pub use keys::KEY_ANSWERS;
 pub use levels::{Holder, has_levels, levels_inside, nested, nested_in_turn};
-pub use owned_values::{array_of, code_of, document_of, owned};
+pub use owned_values::{array_of, document_of, owned, tree_of};
 pub use refusals::{is_malformed, is_refused};
-pub use results::{has_debug_text, has_display_text, is_answer, is_printed};
+pub use results::{
+    has_debug_text, has_display_text, has_error_texts, has_texts, is_printed, is_said,
+};
 pub use values::{
     HALF_MORE_THAN_ONE, KINDS, MOMENT, array_view, borrowed, decimal, has_accessor, id, pointed,
 };

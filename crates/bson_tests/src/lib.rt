@@ -6,15 +6,9 @@
 #[cfg(test)]
 mod any_errors;
 #[cfg(test)]
-mod arrays;
-#[cfg(test)]
 mod calls;
 #[cfg(test)]
 mod checks;
-#[cfg(test)]
-mod copies;
-#[cfg(test)]
-mod damage;
 #[cfg(test)]
 mod fixtures;
 #[cfg(test)]

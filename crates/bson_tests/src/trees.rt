@@ -2,8 +2,5 @@
 
 mod checks;
 mod counts;
-mod deep_encodings;
 mod depth;
-mod limits;
-mod made;
 mod worked;

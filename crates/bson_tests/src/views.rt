@@ -1,11 +1,8 @@
-//! Tests of `bson_model` and `raw_view`.
+//! Tests of `bson_model` and `raw_view`, and of what is printed.
 
-mod c_strings;
 mod calls;
 mod debug_texts;
 mod depth;
 mod leaves;
 mod reasons;
 mod texts;
-mod trees;
-mod values;

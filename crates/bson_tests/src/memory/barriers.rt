@@ -12,17 +12,21 @@ use std::process::Abort;
 // out of memory without a key.
 
 /// Whether the result is a barrier behind so many levels at this offset, or out of memory.
-fn is_barrier(answer: raw_bson::Result<Option<Barrier<'_>>>, levels: usize, offset: usize) -> bool {
+fn is_barrier(
+    answer: &raw_bson::Result<Option<Barrier<'_>>>,
+    levels: usize,
+    offset: usize,
+) -> bool {
     match answer {
         Ok(Some(barrier)) => barrier.place.path.len() == levels && barrier.place.offset == offset,
         Ok(None) => false,
-        Err(error) => is_out_of_memory(&error),
+        Err(error) => is_out_of_memory(error),
     }
 }
 
 /// Whether the result is a stop behind so many levels at this offset, or out of memory.
 fn is_stop(
-    answer: std::result::Result<Option<PlacedBreach<'_>>, ValidateError<'_>>,
+    answer: &std::result::Result<Option<PlacedBreach<'_>>, ValidateError<'_>>,
     levels: usize,
     offset: usize,
 ) -> bool {
@@ -45,9 +49,9 @@ const REPEATED: &[u8] = b"\x26\0\0\0\x10b\0\x01\0\0\0\x0Aa\0\
 const FORM: &[u8] = b"\x1F\0\0\0\x03b\0\x14\0\0\0\x0Br\0p\0im\0\x08s\0\0\x0At\0\0\x0Aa\0\0";
 
 /// Whether the result counts so many tokens, or is out of memory.
-fn are_tokens(answer: std::result::Result<usize, FlattenError<'_>>, count: usize) -> bool {
+fn are_tokens(answer: &std::result::Result<usize, FlattenError<'_>>, count: usize) -> bool {
     match answer {
-        Ok(found) => found == count,
+        Ok(found) => *found == count,
         Err(FlattenError::OutOfMemory) => true,
         Err(FlattenError::Barrier(_)) => false,
     }
@@ -55,7 +59,7 @@ fn are_tokens(answer: std::result::Result<usize, FlattenError<'_>>, count: usize
 
 /// Whether the result is a barrier behind so many levels at this offset, or out of memory.
 fn is_end_of_tokens(
-    answer: std::result::Result<usize, FlattenError<'_>>,
+    answer: &std::result::Result<usize, FlattenError<'_>>,
     levels: usize,
     offset: usize,
 ) -> bool {
@@ -78,9 +82,9 @@ const LIMITS: Limits = Limits {
 fn is_stopped(alloc: Global, bytes: &[u8]) -> bool {
     match RawDocument::from_bytes(bytes) {
         Ok(view) => {
-            is_barrier(first_fault_within(alloc, view, LIMITS), 2, 13)
-                && is_stop(validate_within(alloc, view, LIMITS), 2, 13)
-                && is_end_of_tokens(flatten_within(alloc, view, LIMITS, &mut []), 2, 13)
+            is_barrier(&first_fault_within(alloc, view, LIMITS), 2, 13)
+                && is_stop(&validate_within(alloc, view, LIMITS), 2, 13)
+                && is_end_of_tokens(&flatten_within(alloc, view, LIMITS, &mut []), 2, 13)
         }
         Err(_) => false,
     }
@@ -94,7 +98,7 @@ fn a_stop_or_out_of_memory(rt: HostRuntime) {
 /// Whether these bytes have so many tokens, or memory runs out.
 fn are_counted(alloc: Global, bytes: &[u8], count: usize) -> bool {
     match RawDocument::from_bytes(bytes) {
-        Ok(view) => are_tokens(flatten_within(alloc, view, LIMITS, &mut []), count),
+        Ok(view) => are_tokens(&flatten_within(alloc, view, LIMITS, &mut []), count),
         Err(_) => false,
     }
 }
@@ -102,7 +106,7 @@ fn are_counted(alloc: Global, bytes: &[u8], count: usize) -> bool {
 #[test]
 fn forms_and_tokens_or_out_of_memory(rt: HostRuntime) {
     let alloc = rt.alloc();
-    assert!(rt; is_list(canonical_within(alloc, REPEATED, LIMITS), FORM));
-    assert!(rt; is_list(canonical_within(alloc, FORM, LIMITS), FORM));
+    assert!(rt; is_list(&canonical_within(alloc, REPEATED, LIMITS), FORM));
+    assert!(rt; is_list(&canonical_within(alloc, FORM, LIMITS), FORM));
     assert!(rt; are_counted(alloc, REPEATED, 6));
 }

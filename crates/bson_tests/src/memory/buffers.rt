@@ -2,8 +2,8 @@ use crate::fixtures::*;
 use crate::memory::asserts::{is_array, is_document, is_out_of_memory};
 use crate::memory::copies::first_element;
 use raw_bson::{
-    BinarySubtype, Error, ErrorKind, RawArrayBuf, RawBinaryRef, RawBson, RawBsonRef,
-    RawDocumentBuf, RawElement, Reason, Result, Timestamp, ToRawBson,
+    BinarySubtype, RawArrayBuf, RawBinaryRef, RawBson, RawBsonRef, RawDocumentBuf, RawElement,
+    Reason, Result, Timestamp, ToRawBson,
 };
 use std::alloc::Global;
 use std::process::Abort;
@@ -55,8 +55,8 @@ const APPENDS: &[Append] = &[
 
 #[test]
 fn new_or_out_of_memory(rt: HostRuntime) {
-    assert!(rt; is_document(RawDocumentBuf::new(rt.alloc()), EMPTY));
-    assert!(rt; is_array(RawArrayBuf::new(rt.alloc()), EMPTY));
+    assert!(rt; is_document(&RawDocumentBuf::new(rt.alloc()), EMPTY));
+    assert!(rt; is_array(&RawArrayBuf::new(rt.alloc()), EMPTY));
 }
 
 /// After an append that went well the bytes are those after it; else memory ran out, and they are those before.
@@ -91,41 +91,29 @@ fn is_copy_appended(document: &mut RawDocumentBuf, copy: Result<RawBson>, append
     }
 }
 
+/// Whether the value itself is appended in the end.
+fn is_appended_by_reference(document: &mut RawDocumentBuf, append: Append) -> bool {
+    let answer = document.append_ref(append.1, append.2.borrowed());
+    goes_well_at_last(&answer, document, append)
+}
+
 /// Whether an owned copy of the value is appended in the end to the buffer of the bytes before, if there is memory for it.
-fn goes_well(alloc: Global, buffer: Result<RawDocumentBuf>, append: Append) -> bool {
-    match buffer {
-        Ok(mut document) => {
-            document.as_bytes() == append.0
-                && is_copy_appended(
-                    &mut document,
-                    append.2.borrowed().to_raw_bson(alloc),
-                    append,
-                )
-        }
-        Err(error) => is_out_of_memory(&error),
-    }
-}
-
-/// The same of a buffer of those bytes.
 fn is_owned_appended(alloc: Global, append: Append) -> bool {
-    goes_well(alloc, document_of(alloc, append.0), append)
-}
-
-/// The same of a borrowed value.
-fn goes_well_by_reference(buffer: Result<RawDocumentBuf>, append: Append) -> bool {
-    match buffer {
+    match document_of(alloc, append.0) {
         Ok(mut document) => {
-            let is_before = document.as_bytes() == append.0;
-            let answer = document.append_ref(append.1, append.2.borrowed());
-            is_before && goes_well_at_last(&answer, &mut document, append)
+            let copy = append.2.borrowed().to_raw_bson(alloc);
+            is_copy_appended(&mut document, copy, append)
         }
         Err(error) => is_out_of_memory(&error),
     }
 }
 
-/// The same of a buffer of those bytes.
+/// The same of the value itself.
 fn is_borrowed_appended(alloc: Global, append: Append) -> bool {
-    goes_well_by_reference(document_of(alloc, append.0), append)
+    match document_of(alloc, append.0) {
+        Ok(mut document) => is_appended_by_reference(&mut document, append),
+        Err(error) => is_out_of_memory(&error),
+    }
 }
 
 #[test]
@@ -149,11 +137,9 @@ fn is_element_appended(document: &mut RawDocumentBuf, element: RawElement<'_>) -
 }
 
 /// The same of the buffer of the empty document, if there is memory for it.
-fn has_element_appended(buffer: Result<RawDocumentBuf>, element: RawElement<'_>) -> bool {
-    match buffer {
-        Ok(mut document) => {
-            document.as_bytes() == EMPTY && is_element_appended(&mut document, element)
-        }
+fn has_element_appended(alloc: Global, element: RawElement<'_>) -> bool {
+    match document_of(alloc, EMPTY) {
+        Ok(mut document) => is_element_appended(&mut document, element),
         Err(error) => is_out_of_memory(&error),
     }
 }
@@ -161,7 +147,7 @@ fn has_element_appended(buffer: Result<RawDocumentBuf>, element: RawElement<'_>)
 /// The same of the first element of a document.
 fn is_first_appended(alloc: Global, item: Option<RawElement<'_>>) -> bool {
     match item {
-        Some(element) => has_element_appended(document_of(alloc, EMPTY), element),
+        Some(element) => has_element_appended(alloc, element),
         None => false,
     }
 }
@@ -171,34 +157,21 @@ fn append_element_or_out_of_memory(rt: HostRuntime) {
     assert!(rt; is_first_appended(rt.alloc(), first_element(rt.alloc(), NUMBER)));
 }
 
-/// Whether the error is that the key holds a 0.
-fn is_interior_nul(error: &Error) -> bool {
-    *error
-        == Error::new(ErrorKind::MalformedValue {
-            reason: Reason::InteriorNul,
-        })
-}
-
 /// Whether an append was refused for a 0 in the key, and the document is still empty.
-fn is_refused(answer: &Result<()>, document: &RawDocumentBuf) -> bool {
-    match answer {
-        Ok(()) => false,
-        Err(error) => is_interior_nul(error) && document.as_bytes() == EMPTY,
-    }
+fn is_nul_refused(answer: &Result<()>, document: &RawDocumentBuf) -> bool {
+    is_refused(answer, Reason::InteriorNul, None) && document.as_bytes() == EMPTY
 }
 
 /// Whether a 0 in the key is refused, be the value owned or borrowed.
-fn is_nul_refused(document: &mut RawDocumentBuf) -> bool {
-    let owned = document.append("a\0b", RawBson::Null);
-    let is_owned_refused = is_refused(&owned, document);
-    let borrowed = document.append_ref("a\0b", RawBsonRef::Null);
-    is_owned_refused && is_refused(&borrowed, document)
+fn are_nuls_refused(document: &mut RawDocumentBuf) -> bool {
+    is_nul_refused(&document.append("a\0b", RawBson::Null), document)
+        && is_nul_refused(&document.append_ref("a\0b", RawBsonRef::Null), document)
 }
 
 /// The same of the buffer of the empty document, if there is memory for it.
-fn has_nul_refused(buffer: Result<RawDocumentBuf>) -> bool {
-    match buffer {
-        Ok(mut document) => document.as_bytes() == EMPTY && is_nul_refused(&mut document),
+fn has_nul_refused(alloc: Global) -> bool {
+    match document_of(alloc, EMPTY) {
+        Ok(mut document) => are_nuls_refused(&mut document),
         Err(error) => is_out_of_memory(&error),
     }
 }
@@ -206,7 +179,7 @@ fn has_nul_refused(buffer: Result<RawDocumentBuf>) -> bool {
 /// A 0 is refused before memory is asked for.
 #[test]
 fn interior_nul_or_out_of_memory(rt: HostRuntime) {
-    assert!(rt; has_nul_refused(document_of(rt.alloc(), EMPTY)));
+    assert!(rt; has_nul_refused(rt.alloc()));
 }
 
 /// Whether a null is pushed, at once or, where memory ran out and nothing changed, when it is pushed again.
@@ -220,14 +193,11 @@ fn is_null_pushed(array: &mut RawArrayBuf, before: &[u8], after: &[u8]) -> bool 
 const PUSHED_TWICE: &[u8] = b"\x0C\0\0\0\x0A\n2\0\x0A3\0\0";
 
 /// Whether two nulls are pushed, if there is memory for the array.
-fn are_nulls_pushed(array: Result<RawArrayBuf>) -> bool {
-    match array {
+fn are_nulls_pushed(alloc: Global, bytes: &[u8]) -> bool {
+    match array_of(alloc, bytes) {
         Ok(mut array) => {
-            is_null_pushed(
-                &mut array,
-                SWALLOWED_TERMINATOR,
-                SWALLOWED_TERMINATOR_PUSHED,
-            ) && is_null_pushed(&mut array, SWALLOWED_TERMINATOR_PUSHED, PUSHED_TWICE)
+            is_null_pushed(&mut array, bytes, SWALLOWED_TERMINATOR_PUSHED)
+                && is_null_pushed(&mut array, SWALLOWED_TERMINATOR_PUSHED, PUSHED_TWICE)
         }
         Err(error) => is_out_of_memory(&error),
     }
@@ -236,46 +206,44 @@ fn are_nulls_pushed(array: Result<RawArrayBuf>) -> bool {
 /// The key of the next push shows that one that ran out of memory left the count as it was.
 #[test]
 fn push_or_out_of_memory(rt: HostRuntime) {
-    assert!(rt; are_nulls_pushed(array_of(rt.alloc(), SWALLOWED_TERMINATOR)));
+    assert!(rt; are_nulls_pushed(rt.alloc(), SWALLOWED_TERMINATOR));
 }
 
-/// A document of three numbers.
-fn three_numbers(alloc: Global) -> Result<RawDocumentBuf> {
+/// Whether three numbers make their document, or memory ran out.
+fn are_three_collected(alloc: Global) -> bool {
     let numbers = [
         ("a", RawBson::Int32(-1)),
         ("b", RawBson::Int32(123)),
         ("c", RawBson::Int32(0)),
     ];
-    RawDocumentBuf::from_iter(alloc, numbers.into_iter())
+    is_document(
+        &RawDocumentBuf::from_iter(alloc, numbers.into_iter()),
+        THREE_INT32,
+    )
 }
 
-/// A document of one pair.
-fn one_pair(alloc: Global, key: &str, value: RawBson) -> Result<RawDocumentBuf> {
-    RawDocumentBuf::from_iter(alloc, [(key, value)].into_iter())
-}
-
-/// Whether there is no document, for the 0 in the key or because memory ran out.
-fn is_no_document(answer: Result<RawDocumentBuf>) -> bool {
-    match answer {
+/// Whether there is no document of a pair, for the 0 in the key or because memory ran out.
+fn is_nul_not_collected(alloc: Global) -> bool {
+    match &RawDocumentBuf::from_iter(alloc, [("a\0b", RawBson::Null)].into_iter()) {
         Ok(_) => false,
-        Err(error) => is_interior_nul(&error) || is_out_of_memory(&error),
+        Err(error) => is_malformed(error, Reason::InteriorNul, None) || is_out_of_memory(error),
     }
 }
 
 #[test]
 fn from_iter_or_out_of_memory(rt: HostRuntime) {
-    assert!(rt; is_document(three_numbers(rt.alloc()), THREE_INT32));
-    assert!(rt; is_no_document(one_pair(rt.alloc(), "a\0b", RawBson::Null)));
+    assert!(rt; are_three_collected(rt.alloc()));
+    assert!(rt; is_nul_not_collected(rt.alloc()));
 }
 
-/// An array of two numbers.
-fn two_numbers(alloc: Global) -> Result<RawArrayBuf> {
+/// Whether two numbers make their array, or memory ran out.
+fn are_two_collected(alloc: Global) -> bool {
     let numbers = [RawBson::Int32(-1), RawBson::Int32(123)];
-    RawArrayBuf::from_iter(alloc, numbers.into_iter())
+    let bytes = b"\x13\0\0\0\x100\0\xFF\xFF\xFF\xFF\x101\0\x7B\0\0\0\0";
+    is_array(&RawArrayBuf::from_iter(alloc, numbers.into_iter()), bytes)
 }
 
 #[test]
 fn from_iter_of_an_array_or_out_of_memory(rt: HostRuntime) {
-    let numbers = b"\x13\0\0\0\x100\0\xFF\xFF\xFF\xFF\x101\0\x7B\0\0\0\0";
-    assert!(rt; is_array(two_numbers(rt.alloc()), numbers));
+    assert!(rt; are_two_collected(rt.alloc()));
 }

@@ -5,51 +5,39 @@ use raw_bson::{
     ElementType, RawArrayBuf, RawBson, RawBsonRef, RawDocument, RawDocumentBuf, RawElement,
     ToRawArrayBuf, ToRawBson, ToRawDocumentBuf,
 };
-use std::alloc::Global;
+use std::alloc::{AllocError, Global};
 use std::process::Abort;
 
 // Each copy is equal, or there is none because memory ran out, and what is copied is as it was.
 
-/// The document has these bytes, and its clone is equal.
-fn is_document_cloned(document: &RawDocumentBuf, bytes: &[u8]) -> bool {
-    let copy: Result<_, _> = document.clone();
-    let is_equal = match copy {
-        Ok(copy) => copy == *document,
+/// Whether this is a clone, equal to what was cloned, if there was memory for it.
+fn is_clone<T: PartialEq>(copy: &Result<T, AllocError>, cloned: &T) -> bool {
+    match copy {
+        Ok(copy) => copy == cloned,
         Err(_) => true,
-    };
-    is_equal && document.as_bytes() == bytes
+    }
 }
 
-/// The array has these bytes, and its clone is equal.
-fn is_array_cloned(array: &RawArrayBuf, bytes: &[u8]) -> bool {
-    let copy: Result<_, _> = array.clone();
-    let is_equal = match copy {
-        Ok(copy) => copy == *array,
-        Err(_) => true,
-    };
-    is_equal && array.as_bytes() == bytes
-}
-
-/// Whether the document has these bytes, and its clone is equal, if there is memory for the document.
-fn has_document_clone(document: raw_bson::Result<RawDocumentBuf>, bytes: &[u8]) -> bool {
+/// Whether the clone of the document is equal, and the document has these bytes, if there is memory for it.
+fn has_document_clone(document: &raw_bson::Result<RawDocumentBuf>, bytes: &[u8]) -> bool {
     match document {
-        Ok(document) => is_document_cloned(&document, bytes),
-        Err(error) => is_out_of_memory(&error),
+        Ok(document) => is_clone(&document.clone(), document) && document.as_bytes() == bytes,
+        Err(error) => is_out_of_memory(error),
     }
 }
 
 /// The same of an array.
-fn has_array_clone(array: raw_bson::Result<RawArrayBuf>, bytes: &[u8]) -> bool {
+fn has_array_clone(array: &raw_bson::Result<RawArrayBuf>, bytes: &[u8]) -> bool {
     match array {
-        Ok(array) => is_array_cloned(&array, bytes),
-        Err(error) => is_out_of_memory(&error),
+        Ok(array) => is_clone(&array.clone(), array) && array.as_bytes() == bytes,
+        Err(error) => is_out_of_memory(error),
     }
 }
 
 /// Whether a buffer of these bytes has a clone.
 fn is_buffer_cloned(alloc: Global, bytes: &[u8]) -> bool {
     match RawDocument::from_bytes(bytes) {
-        Ok(view) => has_document_clone(view.to_raw_document_buf(alloc), bytes),
+        Ok(view) => has_document_clone(&view.to_raw_document_buf(alloc), bytes),
         Err(_) => false,
     }
 }
@@ -57,7 +45,7 @@ fn is_buffer_cloned(alloc: Global, bytes: &[u8]) -> bool {
 /// The same of an array.
 fn is_array_buffer_cloned(alloc: Global, bytes: &[u8]) -> bool {
     match array_view(bytes) {
-        Ok(view) => has_array_clone(view.to_raw_array_buf(alloc), bytes),
+        Ok(view) => has_array_clone(&view.to_raw_array_buf(alloc), bytes),
         Err(_) => false,
     }
 }
@@ -68,32 +56,36 @@ fn clones_of_buffers_or_out_of_memory(rt: HostRuntime) {
     assert!(rt; is_array_buffer_cloned(rt.alloc(), SWALLOWED_TERMINATOR));
 }
 
-/// The value is the wanted one, and so is its clone; without a clone, it has memory of its own.
-fn is_value_cloned(value: &RawBson, want: RawBsonRef<'_>, kind: ElementType) -> bool {
-    let copy: Result<_, _> = value.clone();
-    let is_equal = match copy {
+/// Whether the clone is the wanted value; without one, the value has memory of its own.
+fn is_value_clone(
+    copy: &Result<RawBson, AllocError>,
+    want: RawBsonRef<'_>,
+    kind: ElementType,
+) -> bool {
+    match copy {
         Ok(copy) => copy.as_raw_bson_ref() == want,
         Err(_) => has_memory(kind),
-    };
-    is_equal && value.as_raw_bson_ref() == want
+    }
 }
 
-/// The same of an owned value, if there is memory for it.
+/// Whether the value is the wanted one, also when it has been cloned, if there is memory for it.
 fn has_value_clone(
-    value: raw_bson::Result<RawBson>,
+    value: &raw_bson::Result<RawBson>,
     want: RawBsonRef<'_>,
     kind: ElementType,
 ) -> bool {
     match value {
-        Ok(value) => is_value_cloned(&value, want, kind),
-        Err(error) => is_out_of_memory(&error),
+        Ok(value) => {
+            is_value_clone(&value.clone(), want, kind) && value.as_raw_bson_ref() == want
+        }
+        Err(error) => is_out_of_memory(error),
     }
 }
 
 /// The same of a copy of the value of this kind.
 fn is_kind_cloned(alloc: Global, kind: ElementType) -> bool {
     match borrowed(kind) {
-        Ok(want) => has_value_clone(want.to_raw_bson(alloc), want, kind),
+        Ok(want) => has_value_clone(&want.to_raw_bson(alloc), want, kind),
         Err(_) => false,
     }
 }
@@ -106,10 +98,10 @@ fn clones_of_values_or_out_of_memory(rt: HostRuntime) {
 }
 
 /// Whether the result is the wanted value, or out of memory for a value that has memory of its own.
-fn is_copy(answer: raw_bson::Result<RawBson>, want: RawBsonRef<'_>, kind: ElementType) -> bool {
+fn is_copy(answer: &raw_bson::Result<RawBson>, want: RawBsonRef<'_>, kind: ElementType) -> bool {
     match answer {
         Ok(copy) => copy.as_raw_bson_ref() == want,
-        Err(error) => has_memory(kind) && is_out_of_memory(&error),
+        Err(error) => has_memory(kind) && is_out_of_memory(error),
     }
 }
 
@@ -121,8 +113,8 @@ fn is_kind_copied(
 ) -> bool {
     match (borrowed(kind), item) {
         (Ok(want), Some(Ok(element))) => {
-            is_copy(want.to_raw_bson(alloc), want, kind)
-                && is_copy(element.to_raw_bson(alloc), want, kind)
+            is_copy(&want.to_raw_bson(alloc), want, kind)
+                && is_copy(&element.to_raw_bson(alloc), want, kind)
         }
         _ => false,
     }
@@ -154,8 +146,13 @@ fn to_raw_bson_or_out_of_memory(rt: HostRuntime) {
 
 /// The first element of a document of these bytes.
 pub(crate) fn first_element(alloc: Global, bytes: &[u8]) -> Option<RawElement<'_>> {
-    let view = RawDocument::from_bytes(bytes).ok()?;
-    view.iter_elements(alloc).next()?.ok()
+    match RawDocument::from_bytes(bytes) {
+        Ok(view) => match view.iter_elements(alloc).next() {
+            Some(Ok(element)) => Some(element),
+            _ => None,
+        },
+        Err(_) => None,
+    }
 }
 
 /// Whether the result is the fault of the boolean of the byte 2, or out of memory.
@@ -179,14 +176,14 @@ fn fault_of_an_element_or_out_of_memory(rt: HostRuntime) {
     assert!(rt; has_fault(rt.alloc(), first_element(rt.alloc(), BOOLEAN_TWO)));
 }
 
-fn is_text(answer: raw_bson::Result<RawBson>, text: &str) -> bool {
+fn is_text(answer: &raw_bson::Result<RawBson>, text: &str) -> bool {
     match answer {
         Ok(value) => value.as_str() == Some(text),
-        Err(error) => is_out_of_memory(&error),
+        Err(error) => is_out_of_memory(error),
     }
 }
 
 #[test]
 fn from_str_or_out_of_memory(rt: HostRuntime) {
-    assert!(rt; is_text(RawBson::from_str(rt.alloc(), "a"), "a"));
+    assert!(rt; is_text(&RawBson::from_str(rt.alloc(), "a"), "a"));
 }

@@ -60,8 +60,8 @@ fn are_levels_read(alloc: Global, bytes: &[u8], levels: usize) -> bool {
 
 /// Whether they are read where there is memory for their bytes.
 fn are_levels_of(alloc: Global, levels: usize) -> bool {
-    match nested(alloc, Holder::Document, levels, EMPTY) {
-        Ok(bytes) => are_levels_read(alloc, &bytes, levels),
+    match &nested(alloc, Holder::Document, levels, EMPTY) {
+        Ok(bytes) => are_levels_read(alloc, bytes, levels),
         Err(_) => true,
     }
 }

@@ -10,25 +10,25 @@ use std::process::Abort;
 
 fn is_kind_copied(kind: &ErrorKind) -> bool {
     let copy: Result<_, _> = kind.clone();
-    match copy {
-        Ok(copy) => copy == *kind,
+    match &copy {
+        Ok(copy) => copy == kind,
         Err(_) => false,
     }
 }
 
 fn is_copied(error: &Error) -> bool {
     let copy: Result<_, _> = error.clone();
-    match copy {
-        Ok(copy) => copy == *error,
+    match &copy {
+        Ok(copy) => copy == error,
         Err(_) => error.key().is_some(),
     }
 }
 
 /// Whether the look-up has an error, which is copied.
-fn has_a_copy(answer: raw_bson::Result<Option<RawBsonRef<'_>>>) -> bool {
+fn has_a_copy(answer: &raw_bson::Result<Option<RawBsonRef<'_>>>) -> bool {
     match answer {
         Ok(_) => false,
-        Err(error) => is_copied(&error),
+        Err(error) => is_copied(error),
     }
 }
 
@@ -44,7 +44,7 @@ const FAULTS: &[(&[u8], &str)] = &[
 /// The same of the document of these bytes.
 fn is_row(alloc: Global, (bytes, key): (&[u8], &str)) -> bool {
     match RawDocument::from_bytes(bytes) {
-        Ok(view) => has_a_copy(view.get(alloc, key)),
+        Ok(view) => has_a_copy(&view.get(alloc, key)),
         Err(_) => false,
     }
 }
@@ -61,25 +61,25 @@ fn error_copies_or_out_of_memory(rt: HostRuntime) {
 
 fn is_access_kind_copied(kind: &ValueAccessErrorKind) -> bool {
     let copy: Result<_, _> = kind.clone();
-    match copy {
-        Ok(copy) => copy == *kind,
+    match &copy {
+        Ok(copy) => copy == kind,
         Err(_) => matches!(kind, ValueAccessErrorKind::InvalidBson(_)),
     }
 }
 
 fn is_access_copied(error: &ValueAccessError) -> bool {
     let copy: Result<_, _> = error.clone();
-    match copy {
-        Ok(copy) => copy == *error,
+    match &copy {
+        Ok(copy) => copy == error,
         Err(_) => !error.key().is_empty(),
     }
 }
 
 /// Whether the getter has an error, which is copied, and so is its kind.
-fn has_access_copies(answer: ValueAccessResult<DoubleBits>) -> bool {
+fn has_access_copies(answer: &ValueAccessResult<DoubleBits>) -> bool {
     match answer {
         Ok(_) => false,
-        Err(error) => is_access_kind_copied(&error.kind) && is_access_copied(&error),
+        Err(error) => is_access_kind_copied(&error.kind) && is_access_copied(error),
     }
 }
 
@@ -94,7 +94,7 @@ const NO_DOUBLES: &[(&[u8], &str)] = &[
 /// The same of the document of these bytes.
 fn is_access_row(alloc: Global, (bytes, key): (&[u8], &str)) -> bool {
     match RawDocument::from_bytes(bytes) {
-        Ok(view) => has_access_copies(view.get_f64(alloc, key)),
+        Ok(view) => has_access_copies(&view.get_f64(alloc, key)),
         Err(_) => false,
     }
 }

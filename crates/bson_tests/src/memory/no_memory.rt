@@ -37,16 +37,13 @@ fn reading_takes_no_memory(rt: HostRuntime) {
 }
 
 /// Whether an owned 7 becomes a 7.
-fn is_seven(made: raw_bson::Result<Bson>) -> bool {
-    match made {
-        Ok(value) => matches!(&value, Bson::Int32(7)),
-        Err(_) => false,
-    }
+fn is_seven(made: &raw_bson::Result<Bson>) -> bool {
+    matches!(made, Ok(Bson::Int32(7)))
 }
 
-/// Whether the value becomes this owned one.
-fn is_made(alloc: Global, value: Bson, want: RawBsonRef<'_>) -> bool {
-    match RawBson::try_from_bson(alloc, value) {
+/// Whether the owned value is this one.
+fn is_made(made: &raw_bson::Result<RawBson>, want: RawBsonRef<'_>) -> bool {
+    match made {
         Ok(made) => made.as_raw_bson_ref() == want,
         Err(_) => false,
     }
@@ -55,9 +52,14 @@ fn is_made(alloc: Global, value: Bson, want: RawBsonRef<'_>) -> bool {
 #[test]
 fn conversions_of_small_values_take_no_memory(rt: HostRuntime) {
     let alloc = rt.alloc();
-    assert!(rt; is_seven(RawBson::Int32(7).into_bson(alloc)));
-    assert!(rt; is_made(alloc, Bson::Int32(7), RawBsonRef::Int32(7)));
-    assert!(rt; is_made(alloc, Bson::Null, RawBsonRef::Null));
+    assert!(rt; is_seven(&RawBson::Int32(7).into_bson(alloc)));
+    assert!(rt;
+        is_made(
+            &RawBson::try_from_bson(alloc, Bson::Int32(7)),
+            RawBsonRef::Int32(7)
+        )
+    );
+    assert!(rt; is_made(&RawBson::try_from_bson(alloc, Bson::Null), RawBsonRef::Null));
 }
 
 /// Whether the document of these bytes, of one level, is one token.

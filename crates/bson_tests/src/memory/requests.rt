@@ -1,6 +1,7 @@
 use crate::fixtures::*;
 use crate::memory::asserts::is_out_of_memory;
 use raw_bson::{RawBsonRef, RawDocumentBuf, Result};
+use std::alloc::Global;
 use std::process::Abort;
 
 // `bin/test` also counts the requests for memory of these.
@@ -11,12 +12,17 @@ const NUMBERS: &[(&str, i32)] = &[("a", -1), ("b", 123), ("c", 0)];
 const LONG: &str = "a text that outgrows the room of a new buffer many times over";
 
 /// Whether a long text is appended, or memory ran out.
-fn is_long_text_appended(answer: Result<RawDocumentBuf>) -> bool {
-    match answer {
-        Ok(mut document) => match document.append_ref("text", RawBsonRef::String(LONG)) {
-            Ok(()) => document.as_bytes().len() == 5 + 6 + 5 + LONG.len(),
-            Err(error) => is_out_of_memory(&error),
-        },
+fn is_long_text_appended(document: &mut RawDocumentBuf) -> bool {
+    match &document.append_ref("text", RawBsonRef::String(LONG)) {
+        Ok(()) => document.as_bytes().len() == 5 + 6 + 5 + LONG.len(),
+        Err(error) => is_out_of_memory(error),
+    }
+}
+
+/// The same of a new document, if there is memory for it.
+fn is_appended_to_new(alloc: Global) -> bool {
+    match RawDocumentBuf::new(alloc) {
+        Ok(mut document) => is_long_text_appended(&mut document),
         Err(error) => is_out_of_memory(&error),
     }
 }
@@ -24,23 +30,32 @@ fn is_long_text_appended(answer: Result<RawDocumentBuf>) -> bool {
 /// One request for the new buffer, and one for all that is appended.
 #[test]
 fn an_append_asks_once(rt: HostRuntime) {
-    assert!(rt; is_long_text_appended(RawDocumentBuf::new(rt.alloc())));
+    assert!(rt; is_appended_to_new(rt.alloc()));
 }
 
-/// Appends the numbers to the empty document in this room.
-fn append_numbers(mut bytes: Vec<u8>) -> Result<RawDocumentBuf> {
-    bytes.extend_from_slice(EMPTY)?;
-    let mut document = RawDocumentBuf::from_bytes(bytes)?;
+/// The empty document in this room.
+fn empty_in(mut room: Vec<u8>) -> Result<RawDocumentBuf> {
+    room.extend_from_slice(EMPTY)?;
+    RawDocumentBuf::from_bytes(room)
+}
+
+/// Whether the numbers are appended.
+fn are_appended(document: &mut RawDocumentBuf) -> bool {
     for (key, number) in NUMBERS {
-        document.append_ref(key, RawBsonRef::Int32(*number))?;
+        if document
+            .append_ref(key, RawBsonRef::Int32(*number))
+            .is_err()
+        {
+            return false;
+        }
     }
-    Ok(document)
+    document.as_bytes() == THREE_INT32
 }
 
-/// Whether the numbers are appended where there is room for them.
+/// Whether they are to the empty document where there is room for them.
 fn are_numbers_appended(room: Vec<u8>) -> bool {
-    match append_numbers(room) {
-        Ok(document) => document.as_bytes() == THREE_INT32,
+    match empty_in(room) {
+        Ok(mut document) => are_appended(&mut document),
         Err(_) => false,
     }
 }

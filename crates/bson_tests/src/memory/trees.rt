@@ -49,22 +49,29 @@ fn has_parts(tree: &Document) -> bool {
 }
 
 /// Whether the result is a tree of these parts, or out of memory.
-fn is_tree(answer: raw_bson::Result<Document>) -> bool {
+fn is_tree(answer: &raw_bson::Result<Document>) -> bool {
     match answer {
-        Ok(tree) => has_parts(&tree),
-        Err(error) => is_out_of_memory(&error),
+        Ok(tree) => has_parts(tree),
+        Err(error) => is_out_of_memory(error),
     }
 }
 
-/// Whether the buffer has these parts whatever is made of it, or memory ran out for it.
-fn has_trees(answer: raw_bson::Result<RawDocumentBuf>) -> bool {
+/// Whether the buffer has these parts, also within limits, and is as it was then, if there was memory for it.
+fn is_buffer_read(answer: &raw_bson::Result<RawDocumentBuf>, bytes: &[u8]) -> bool {
     match answer {
         Ok(buffer) => {
-            is_tree(buffer.to_document())
-                && is_tree(buffer.to_document_within(LIMITS))
-                && buffer.as_bytes() == OTHER_SPELLING
-                && is_tree(buffer.into_document())
+            is_tree(&buffer.to_document())
+                && is_tree(&buffer.to_document_within(LIMITS))
+                && buffer.as_bytes() == bytes
         }
+        Err(error) => is_out_of_memory(error),
+    }
+}
+
+/// Whether the buffer becomes a tree of these parts.
+fn is_buffer_taken(answer: raw_bson::Result<RawDocumentBuf>) -> bool {
+    match answer {
+        Ok(buffer) => is_tree(&buffer.into_document()),
         Err(error) => is_out_of_memory(&error),
     }
 }
@@ -73,8 +80,8 @@ fn has_trees(answer: raw_bson::Result<RawDocumentBuf>) -> bool {
 fn is_view_read(alloc: Global, bytes: &[u8]) -> bool {
     match RawDocument::from_bytes(bytes) {
         Ok(view) => {
-            is_tree(document_from_raw(alloc, view))
-                && is_tree(document_from_raw_within(alloc, view, LIMITS))
+            is_tree(&document_from_raw(alloc, view))
+                && is_tree(&document_from_raw_within(alloc, view, LIMITS))
         }
         Err(_) => false,
     }
@@ -83,7 +90,8 @@ fn is_view_read(alloc: Global, bytes: &[u8]) -> bool {
 #[test]
 fn trees_of_documents_or_out_of_memory(rt: HostRuntime) {
     assert!(rt; is_view_read(rt.alloc(), OTHER_SPELLING));
-    assert!(rt; has_trees(document_of(rt.alloc(), OTHER_SPELLING)));
+    assert!(rt; is_buffer_read(&document_of(rt.alloc(), OTHER_SPELLING), OTHER_SPELLING));
+    assert!(rt; is_buffer_taken(document_of(rt.alloc(), OTHER_SPELLING)));
 }
 
 /// The bytes of that document, and its levels.
@@ -93,44 +101,47 @@ const LIMITS: Limits = Limits {
 };
 
 /// Whether the result is the value under this key, or out of memory.
-fn is_part_answered(key: &str, answer: raw_bson::Result<Bson>) -> bool {
+fn is_part_answered(key: &str, answer: &raw_bson::Result<Bson>) -> bool {
     match answer {
-        Ok(tree) => is_part(key, &tree),
-        Err(error) => is_out_of_memory(&error),
+        Ok(tree) => is_part(key, tree),
+        Err(error) => is_out_of_memory(error),
     }
 }
 
 /// Whether the result is a list of one null, or out of memory.
-fn is_null_list(answer: raw_bson::Result<Vec<Bson>>) -> bool {
+fn is_null_list(answer: &raw_bson::Result<Vec<Bson>>) -> bool {
     match answer {
-        Ok(list) => is_one_null(&list),
-        Err(error) => is_out_of_memory(&error),
+        Ok(list) => is_one_null(list),
+        Err(error) => is_out_of_memory(error),
     }
 }
 
 /// Whether the value under this key becomes a tree, and where it is an array, a list.
 fn is_value_read(alloc: Global, key: &str, value: RawBsonRef<'_>) -> bool {
-    let is_part = is_part_answered(key, bson_from_raw(alloc, value));
-    match value {
-        RawBsonRef::Array(array) => is_part && is_null_list(list_from_raw(alloc, array)),
-        _ => is_part,
-    }
+    is_part_answered(key, &bson_from_raw(alloc, value))
+        && match value.as_array() {
+            Some(array) => is_null_list(&list_from_raw(alloc, array)),
+            None => true,
+        }
 }
 
-/// Whether the element, and its value, become the tree under its key.
-fn is_element_read(alloc: Global, item: raw_bson::Result<RawElement<'_>>) -> bool {
-    let Ok(element) = item else { return false };
-    let is_read = is_part_answered(element.key(), bson_from_element(alloc, element));
-    match element.value(alloc) {
-        Ok(value) => is_read && is_value_read(alloc, element.key(), value),
-        Err(_) => false,
-    }
+/// Whether the element becomes the tree under its key, and so does its value.
+fn is_element_read(alloc: Global, element: RawElement<'_>) -> bool {
+    is_part_answered(element.key(), &bson_from_element(alloc, element))
+        && match element.value(alloc) {
+            Ok(value) => is_value_read(alloc, element.key(), value),
+            Err(_) => false,
+        }
 }
 
 /// Whether each element does.
 fn are_elements_read(alloc: Global, document: RawDocument<'_>) -> bool {
     for item in document.iter_elements(alloc) {
-        if !is_element_read(alloc, item) {
+        let is_read = match item {
+            Ok(element) => is_element_read(alloc, element),
+            Err(_) => false,
+        };
+        if !is_read {
             return false;
         }
     }
@@ -139,30 +150,30 @@ fn are_elements_read(alloc: Global, document: RawDocument<'_>) -> bool {
 
 /// Whether each call that writes the tree gives its bytes, or runs out of memory, and leaves the tree as it was.
 fn is_written(alloc: Global, tree: &Document) -> bool {
-    is_document(RawDocumentBuf::from_document(alloc, tree), PARTS)
-        && is_document(RawDocumentBuf::try_from_document(alloc, tree), PARTS)
+    is_document(&RawDocumentBuf::from_document(alloc, tree), PARTS)
+        && is_document(&RawDocumentBuf::try_from_document(alloc, tree), PARTS)
         && has_parts(tree)
 }
 
 /// Whether the tree is written, or memory ran out for it.
-fn is_tree_written(alloc: Global, answer: raw_bson::Result<Document>) -> bool {
+fn is_tree_written(alloc: Global, answer: &raw_bson::Result<Document>) -> bool {
     match answer {
-        Ok(tree) => is_written(alloc, &tree),
-        Err(error) => is_out_of_memory(&error),
+        Ok(tree) => is_written(alloc, tree),
+        Err(error) => is_out_of_memory(error),
     }
 }
 
 /// Whether the tree of the document of these bytes is.
 fn is_read_and_written(alloc: Global, bytes: &[u8]) -> bool {
     match RawDocument::from_bytes(bytes) {
-        Ok(view) => is_tree_written(alloc, document_from_raw(alloc, view)),
+        Ok(view) => is_tree_written(alloc, &document_from_raw(alloc, view)),
         Err(_) => false,
     }
 }
 
 #[test]
 fn bytes_of_trees_or_out_of_memory(rt: HostRuntime) {
-    assert!(rt; is_list(canonical_bytes(rt.alloc(), OTHER_SPELLING), PARTS));
+    assert!(rt; is_list(&canonical_bytes(rt.alloc(), OTHER_SPELLING), PARTS));
     assert!(rt; is_read_and_written(rt.alloc(), PARTS));
 }
 
@@ -171,38 +182,78 @@ fn is_copy_refused(key: &str, error: &Error) -> bool {
     key != "t" && key != "r" && is_out_of_memory(error)
 }
 
-/// Whether the value becomes the tree under this key, or memory runs out for its copy.
-fn comes_back(alloc: Global, key: &str, owned: RawBson) -> bool {
-    match owned.into_bson(alloc) {
-        Ok(tree) => is_part(key, &tree),
-        Err(error) => is_copy_refused(key, &error),
+/// Whether this is the tree under this key, or memory ran out for its copy.
+fn comes_back(key: &str, answer: &raw_bson::Result<Bson>) -> bool {
+    match answer {
+        Ok(tree) => is_part(key, tree),
+        Err(error) => is_copy_refused(key, error),
+    }
+}
+
+/// Whether this is the value, or memory ran out for its copy.
+fn is_value(key: &str, answer: &raw_bson::Result<RawBson>, value: RawBsonRef<'_>) -> bool {
+    match answer {
+        Ok(owned) => owned.as_raw_bson_ref() == value,
+        Err(error) => is_copy_refused(key, error),
+    }
+}
+
+/// Whether an owned value becomes the tree under this key, if there is one.
+fn is_tree_again(alloc: Global, key: &str, answer: raw_bson::Result<RawBson>) -> bool {
+    match answer {
+        Ok(owned) => comes_back(key, &owned.into_bson(alloc)),
+        Err(_) => true,
     }
 }
 
 /// Whether the tree under this key becomes this value, and that the tree again, or memory runs out for a copy.
-fn goes_and_comes_back(alloc: Global, key: &str, tree: Bson, value: RawBsonRef<'_>) -> bool {
-    match RawBson::try_from_bson(alloc, tree) {
-        Ok(owned) => owned.as_raw_bson_ref() == value && comes_back(alloc, key, owned),
-        Err(error) => is_copy_refused(key, &error),
-    }
+fn goes_and_comes_back(
+    alloc: Global,
+    key: &str,
+    answer: raw_bson::Result<RawBson>,
+    value: RawBsonRef<'_>,
+) -> bool {
+    let is_value = is_value(key, &answer, value);
+    let is_tree = is_tree_again(alloc, key, answer);
+    is_value && is_tree
 }
 
-/// Whether the tree of this element goes to its value and back, or memory ran out for it.
-fn is_element_owned(alloc: Global, item: raw_bson::Result<RawElement<'_>>) -> bool {
-    let Ok(element) = item else { return false };
-    let Ok(value) = element.value(alloc) else {
-        return false;
-    };
-    match bson_from_element(alloc, element) {
-        Ok(tree) => goes_and_comes_back(alloc, element.key(), tree, value),
+/// The same of what an element becomes, or memory ran out for it.
+fn is_tree_owned(
+    alloc: Global,
+    key: &str,
+    made: raw_bson::Result<Bson>,
+    value: RawBsonRef<'_>,
+) -> bool {
+    match made {
+        Ok(tree) => goes_and_comes_back(alloc, key, RawBson::try_from_bson(alloc, tree), value),
         Err(error) => is_out_of_memory(&error),
     }
 }
 
-/// Whether the tree of each element does.
+/// The same of an element.
+fn is_element_owned(alloc: Global, element: RawElement<'_>) -> bool {
+    match element.value(alloc) {
+        Ok(value) => {
+            is_tree_owned(
+                alloc,
+                element.key(),
+                bson_from_element(alloc, element),
+                value,
+            )
+        }
+        Err(_) => false,
+    }
+}
+
+/// Whether the tree of each element goes to its value and back.
 fn are_elements_owned(alloc: Global, document: RawDocument<'_>) -> bool {
     for item in document.iter_elements(alloc) {
-        if !is_element_owned(alloc, item) {
+        let is_owned = match item {
+            Ok(element) => is_element_owned(alloc, element),
+            Err(_) => false,
+        };
+        if !is_owned {
             return false;
         }
     }
@@ -228,7 +279,7 @@ fn values_or_out_of_memory(rt: HostRuntime) {
 }
 
 /// Whether just this form was written.
-fn is_written_as(written: raw_bson::Result<Vec<u8>>, form: &[u8]) -> bool {
+fn is_written_as(written: &raw_bson::Result<Vec<u8>>, form: &[u8]) -> bool {
     match written {
         Ok(written) => written.as_slice() == form,
         Err(_) => false,
@@ -237,53 +288,56 @@ fn is_written_as(written: raw_bson::Result<Vec<u8>>, form: &[u8]) -> bool {
 
 /// Whether the tree is written as the form; where memory runs out, it is so when it is written again.
 fn has_form(alloc: Global, tree: &Document, form: &[u8]) -> bool {
-    match encode(alloc, tree) {
+    match &encode(alloc, tree) {
         Ok(written) => written.as_slice() == form,
-        Err(error) => is_out_of_memory(&error) && is_written_as(encode(alloc, tree), form),
+        Err(error) => is_out_of_memory(error) && is_written_as(&encode(alloc, tree), form),
     }
 }
 
-/// Whether the buffer becomes a tree with the form, or memory runs out.
-fn becomes_form(buffer: &RawDocumentBuf, alloc: Global, form: &[u8]) -> bool {
-    match buffer.to_document() {
-        Ok(tree) => has_form(alloc, &tree, form),
-        Err(error) => is_out_of_memory(&error),
+/// Whether the tree has the form, or memory ran out for it.
+fn is_tree_of_form(alloc: Global, answer: &raw_bson::Result<Document>, form: &[u8]) -> bool {
+    match answer {
+        Ok(tree) => has_form(alloc, tree, form),
+        Err(error) => is_out_of_memory(error),
     }
 }
 
 /// Whether the buffer becomes a tree with the form and has its bytes, or memory ran out for it.
 fn becomes(
     alloc: Global,
-    answer: raw_bson::Result<RawDocumentBuf>,
+    answer: &raw_bson::Result<RawDocumentBuf>,
     bytes: &[u8],
     form: &[u8],
 ) -> bool {
     match answer {
-        Ok(buffer) => becomes_form(&buffer, alloc, form) && buffer.as_bytes() == bytes,
-        Err(error) => is_out_of_memory(&error),
+        Ok(buffer) => {
+            is_tree_of_form(alloc, &buffer.to_document(), form) && buffer.as_bytes() == bytes
+        }
+        Err(error) => is_out_of_memory(error),
     }
 }
 
 /// Whether by way of a buffer and a tree the bytes become the form, or memory runs out.
 fn have_form(alloc: Global, bytes: &[u8], form: &[u8]) -> bool {
-    becomes(alloc, document_of(alloc, bytes), bytes, form)
+    becomes(alloc, &document_of(alloc, bytes), bytes, form)
+}
+
+/// Whether they also do so by one call.
+fn are_forms(alloc: Global, bytes: &[u8], form: &[u8]) -> bool {
+    have_form(alloc, bytes, form) && is_list(&canonical_bytes(alloc, bytes), form)
 }
 
 #[test]
 fn forms_or_out_of_memory(rt: HostRuntime) {
     for (bytes, form) in FORMS {
-        assert!(rt; have_form(rt.alloc(), bytes, form), "{bytes:?}");
-        assert!(rt;
-            is_list(canonical_bytes(rt.alloc(), bytes), form),
-            "{bytes:?}"
-        );
+        assert!(rt; are_forms(rt.alloc(), bytes, form), "{bytes:?}");
     }
 }
 
 /// Whether so many levels are their own form, or memory ran out for them.
 fn are_levels_form(alloc: Global, levels: usize) -> bool {
-    match nested(alloc, Holder::Document, levels, EMPTY) {
-        Ok(bytes) => have_form(alloc, &bytes, &bytes),
+    match &nested(alloc, Holder::Document, levels, EMPTY) {
+        Ok(bytes) => have_form(alloc, bytes, bytes),
         Err(_) => true,
     }
 }

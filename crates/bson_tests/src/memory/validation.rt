@@ -9,19 +9,19 @@ use std::process::Abort;
 // or out of memory without a key.
 
 /// Whether the result is this breach, or out of memory.
-fn is_breach(answer: raw_bson::Result<Option<Breach>>, path: &[usize], cause: Cause) -> bool {
+fn is_breach(answer: &raw_bson::Result<Option<Breach>>, path: &[usize], cause: Cause) -> bool {
     match answer {
         Ok(Some(breach)) => breach.path.as_slice() == path && breach.cause == cause,
         Ok(None) => false,
-        Err(error) => is_out_of_memory(&error),
+        Err(error) => is_out_of_memory(error),
     }
 }
 
 /// Whether the result is that the document is canonical, or out of memory.
-fn is_canonical(answer: raw_bson::Result<Option<Breach>>) -> bool {
+fn is_canonical(answer: &raw_bson::Result<Option<Breach>>) -> bool {
     match answer {
         Ok(found) => found.is_none(),
-        Err(error) => is_out_of_memory(&error),
+        Err(error) => is_out_of_memory(error),
     }
 }
 
@@ -40,7 +40,7 @@ fn is_at(place: &Place<'_>, path: &[usize]) -> bool {
 
 /// Whether this breach is found within limits, or out of memory.
 fn is_placed(
-    answer: std::result::Result<Option<PlacedBreach<'_>>, ValidateError<'_>>,
+    answer: &std::result::Result<Option<PlacedBreach<'_>>, ValidateError<'_>>,
     path: &[usize],
     cause: Cause,
 ) -> bool {
@@ -52,7 +52,7 @@ fn is_placed(
 }
 
 /// Whether none is, or out of memory.
-fn is_sound(answer: std::result::Result<Option<PlacedBreach<'_>>, ValidateError<'_>>) -> bool {
+fn is_sound(answer: &std::result::Result<Option<PlacedBreach<'_>>, ValidateError<'_>>) -> bool {
     match answer {
         Ok(found) => found.is_none(),
         Err(error) => matches!(error, ValidateError::OutOfMemory),
@@ -69,8 +69,8 @@ const LIMITS: Limits = Limits {
 fn is_row(alloc: Global, (bytes, path, cause): BreachRow) -> bool {
     match RawDocument::from_bytes(bytes) {
         Ok(view) => {
-            is_breach(validate(alloc, view), path, cause)
-                && is_placed(validate_within(alloc, view, LIMITS), path, cause)
+            is_breach(&validate(alloc, view), path, cause)
+                && is_placed(&validate_within(alloc, view, LIMITS), path, cause)
         }
         Err(_) => false,
     }
@@ -97,7 +97,7 @@ fn breaches_or_out_of_memory(rt: HostRuntime) {
 fn is_without_breach(alloc: Global, bytes: &[u8]) -> bool {
     match RawDocument::from_bytes(bytes) {
         Ok(view) => {
-            is_canonical(validate(alloc, view)) && is_sound(validate_within(alloc, view, LIMITS))
+            is_canonical(&validate(alloc, view)) && is_sound(&validate_within(alloc, view, LIMITS))
         }
         Err(_) => false,
     }

@@ -1,16 +1,12 @@
 use crate::fixtures::*;
 use crate::memory::asserts::is_out_of_memory;
-use raw_bson::{Iter, RawDocument};
+use raw_bson::RawDocument;
+use std::alloc::Global;
 use std::test::Fail;
 
 #[test]
 fn rows_or_out_of_memory(rt: HostRuntime) -> Result<(), Fail> {
-    let checks = Checks::refusable(rt.alloc());
-    checks.iterations()?;
-    checks.frames()?;
-    checks.look_ups()?;
-    checks.keys()?;
-    checks.first_values()?;
+    Checks::refusable(rt.alloc()).rows()?;
     Ok(())
 }
 
@@ -18,18 +14,18 @@ fn rows_or_out_of_memory(rt: HostRuntime) -> Result<(), Fail> {
 /// under it further on.
 #[test]
 fn getters_or_out_of_memory(rt: HostRuntime) -> Result<(), Fail> {
-    let checks = Checks::refusable(rt.alloc());
-    checks.positions()?;
-    checks.negative_positions()?;
-    checks.no_values_at()?;
-    checks.no_values_under()?;
+    Checks::refusable(rt.alloc()).rows_of_getters()?;
     Ok(())
 }
 
 /// Whether the first item is out of memory without a key, and nothing comes behind it.
-fn is_out_of_memory_alone(mut iter: Iter<'_>) -> bool {
-    match iter.next() {
-        Some(Err(error)) => is_out_of_memory(&error) && iter.next().is_none(),
+fn is_out_of_memory_alone(alloc: Global, bytes: &[u8]) -> bool {
+    let Ok(view) = RawDocument::from_bytes(bytes) else {
+        return false;
+    };
+    let mut iter = view.iter(alloc);
+    match &iter.next() {
+        Some(Err(error)) => is_out_of_memory(error) && iter.next().is_none(),
         _ => false,
     }
 }
@@ -37,8 +33,7 @@ fn is_out_of_memory_alone(mut iter: Iter<'_>) -> bool {
 /// `bin/test` wants the line in each run in which a request was refused, and in no other.
 #[test]
 fn a_refused_boolean_two_is_out_of_memory(rt: HostRuntime) -> Result<(), Fail> {
-    let view = RawDocument::from_bytes(BOOLEAN_TWO)?;
-    if is_out_of_memory_alone(view.iter(rt.alloc())) {
+    if is_out_of_memory_alone(rt.alloc(), BOOLEAN_TWO) {
         println!(rt; "out of memory")?;
     }
     Ok(())

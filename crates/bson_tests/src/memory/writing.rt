@@ -1,17 +1,17 @@
-use crate::fixtures::EMPTY;
+use crate::fixtures::{EMPTY, is_refused};
 use crate::memory::asserts::is_list;
-use raw_bson::{Bson, Document, Error, Reason, encode, encode_list};
+use raw_bson::{Bson, Document, Reason, encode, encode_list};
 use std::alloc::Global;
 
 /// Whether the list of `true` is written, or memory ran out.
 fn is_true_written(alloc: Global) -> bool {
     let bytes = b"\x09\0\0\0\x080\0\x01\0";
-    is_list(encode_list(alloc, &[Bson::Boolean(true)]), bytes)
+    is_list(&encode_list(alloc, &[Bson::Boolean(true)]), bytes)
 }
 
 /// Whether the empty document is written, or memory ran out.
 fn is_empty_written(alloc: Global) -> bool {
-    is_list(encode(alloc, &Document::new(alloc)), EMPTY)
+    is_list(&encode(alloc, &Document::new(alloc)), EMPTY)
 }
 
 #[test]
@@ -24,7 +24,7 @@ fn encode_or_out_of_memory(rt: HostRuntime) {
 fn holding(alloc: Global, key: &str, value: Bson) -> raw_bson::Result<Document> {
     let key = String::from_str(alloc, key)?;
     let mut document = Document::new(alloc);
-    document.insert(key, value)?;
+    document.put(key, value)?;
     Ok(document)
 }
 
@@ -37,18 +37,10 @@ fn nul_below(alloc: Global, levels: usize) -> raw_bson::Result<Document> {
     Ok(tree)
 }
 
-/// Whether the tree isn't written, for the 0 in a key.
-fn is_refused(written: raw_bson::Result<Vec<u8>>) -> bool {
-    match written {
-        Ok(_) => false,
-        Err(error) => error == Error::malformed(Reason::InteriorNul),
-    }
-}
-
 // A 0 is found whichever request is refused.
 #[test]
 fn nul_below_forty_levels_whatever_is_refused(rt: HostRuntime) {
     if let Ok(tree) = nul_below(rt.alloc(), 40) {
-        assert!(rt; is_refused(encode(rt.alloc(), &tree)));
+        assert!(rt; is_refused(&encode(rt.alloc(), &tree), Reason::InteriorNul, None));
     }
 }

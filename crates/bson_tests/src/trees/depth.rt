@@ -1,7 +1,6 @@
 use crate::fixtures::*;
 use crate::trees::checks::is_written;
-use crate::trees::made::tree_of;
-use raw_bson::{Document, RawArrayBuf, RawBson, encode, encode_list, list_from_raw};
+use raw_bson::{Bson, Document, Error, RawArrayBuf, RawBson, encode, encode_list, list_from_raw};
 use std::alloc::{AllocError, Global};
 use std::mem;
 use std::process::Abort;
@@ -25,7 +24,7 @@ fn million(alloc: Global, holders: &[Holder]) -> Made {
 
 /// Whether the tree has a million levels, and is written as these bytes.
 fn is_million(alloc: Global, tree: &Document, bytes: &[u8]) -> bool {
-    levels_inside(tree, MILLION + 1) == MILLION && is_written(encode(alloc, tree), bytes)
+    levels_inside(tree, MILLION + 1) == MILLION && is_written(&encode(alloc, tree), bytes)
 }
 
 /// Whether a million levels come back, and are dropped.
@@ -94,23 +93,30 @@ fn are_pushed(alloc: Global, array: &mut RawArrayBuf, bytes: &[u8]) -> bool {
     true
 }
 
-/// Whether the array is read as a list of a thousand, which is written as it is.
-fn comes_back(alloc: Global, array: &RawArrayBuf) -> bool {
-    match list_from_raw(alloc, array.as_ref()) {
-        Ok(list) => {
-            list.len() == 1000 && is_written(encode_list(alloc, &list), array.as_bytes())
-        }
+/// Whether the list was read, has a thousand values, and is written as the array is.
+fn comes_back(alloc: Global, read: &Result<Vec<Bson>, Error>, bytes: &[u8]) -> bool {
+    match read {
+        Ok(list) => list.len() == 1000 && is_written(&encode_list(alloc, list), bytes),
         Err(_) => false,
     }
 }
 
-/// Whether an array of a thousand documents of these bytes does.
+/// Whether a thousand documents of these bytes are pushed, and come back.
+fn is_pushed_and_read(alloc: Global, array: &mut RawArrayBuf, bytes: &[u8]) -> bool {
+    are_pushed(alloc, array, bytes)
+        && comes_back(
+            alloc,
+            &list_from_raw(alloc, array.as_ref()),
+            array.as_bytes(),
+        )
+}
+
+/// Whether an empty array takes and gives them.
 fn are_deep_documents_read(alloc: Global, made: &Made) -> bool {
-    match (RawArrayBuf::new(alloc), made) {
-        (Ok(mut array), Ok(bytes)) => {
-            are_pushed(alloc, &mut array, bytes) && comes_back(alloc, &array)
-        }
-        _ => false,
+    let Ok(bytes) = made else { return false };
+    match RawArrayBuf::new(alloc) {
+        Ok(mut array) => is_pushed_and_read(alloc, &mut array, bytes),
+        Err(_) => false,
     }
 }
 
@@ -153,10 +159,10 @@ fn is_printed_text(text: &str, bytes: &[u8]) -> bool {
     }
 }
 
-/// Whether the value is equal to its copy.
-fn is_copied(value: &RawBson) -> bool {
-    match value.clone() {
-        Ok(copy) => copy == *value,
+/// Whether there is a copy, and the value is equal to it.
+fn is_copy(copy: &Result<RawBson, AllocError>, value: &RawBson) -> bool {
+    match copy {
+        Ok(copy) => copy == value,
         Err(_) => false,
     }
 }
@@ -169,14 +175,16 @@ fn has_text(alloc: Global, value: &RawBson, bytes: &[u8]) -> bool {
     }
 }
 
-/// Whether the value of the document of these bytes is equal to its copy and printed so.
+/// Whether the value is equal to its copy and printed as a document of these bytes.
+fn is_value(alloc: Global, value: &RawBson, bytes: &[u8]) -> bool {
+    is_copy(&value.clone(), value) && has_text(alloc, value, bytes)
+}
+
+/// Whether the value of the document of these bytes is.
 fn is_owned_value(alloc: Global, made: &Made) -> bool {
     let Ok(bytes) = made else { return false };
     match document_of(alloc, bytes) {
-        Ok(document) => {
-            let value = RawBson::from(document);
-            is_copied(&value) && has_text(alloc, &value, bytes)
-        }
+        Ok(document) => is_value(alloc, &RawBson::from(document), bytes),
         Err(_) => false,
     }
 }

@@ -3,6 +3,7 @@ use crate::fixtures::*;
 use raw_view::{ElementType, RawBsonRef, RawDocument};
 use std::alloc::Global;
 use std::process::Abort;
+use std::test::Fail;
 
 /// How many accessors of kinds of one length return something of the value.
 fn fixed_accessors(value: RawBsonRef<'_>) -> usize {
@@ -77,4 +78,13 @@ fn are_kinds_of(alloc: Global, bytes: &[u8]) -> bool {
 #[test]
 fn each_kind_has_its_value_and_its_accessor(rt: HostRuntime) {
     assert!(rt; are_kinds_of(rt.alloc(), ALL_KINDS));
+}
+
+/// Each table with ample memory: no error is out of memory.
+#[test]
+fn rows_with_ample_memory(rt: HostRuntime) -> Result<(), Fail> {
+    let checks = Checks::ample(rt.alloc());
+    checks.rows()?;
+    checks.rows_of_getters()?;
+    Ok(())
 }

@@ -1,123 +1,81 @@
 //! Documents of many levels. `bin/test` also runs the first of these on a stack of 256 KiB, and sees that all is released.
 
-use crate::views::trees::{put, string};
-use bson_model::{Bson, Document, JavaScriptCodeWithScope, NoMemory};
-use std::alloc::Global;
+use crate::fixtures::{EMPTY, Holder, nested_in_turn, tree_of};
+use bson_model::Document;
+use std::alloc::{AllocError, Global};
 use std::process::Abort;
 
-/// The list of the numbers 1 and 2.
-fn list(alloc: Global) -> Result<Bson, NoMemory> {
-    Ok(Bson::Array(vec![in alloc; Bson::Int32(1), Bson::Int32(2)]?))
-}
+/// What is in front of the next level of a branch, behind the header: a list of the numbers 1 and 2, and the next level's tag and key.
+const BEFORE: &[u8] = b"\x04a\0\x13\0\0\0\x100\0\x01\0\0\0\x101\0\x02\0\0\0\0\x03b\0";
 
-/// Puts a list, this document and a text.
-fn put_between_others(
-    alloc: Global,
-    outer: &mut Document,
-    inner: Document,
-) -> Result<(), NoMemory> {
-    put(alloc, outer, "a", list(alloc)?)?;
-    put(alloc, outer, "b", Bson::Document(inner))?;
-    put(alloc, outer, "c", string(alloc, "t")?)
-}
+/// What is behind it: a text, and the final 0.
+const BEHIND: &[u8] = b"\x02c\0\x02\0\0\0t\0\0";
 
-/// A document that holds this one between a list and a text.
-fn between_others(alloc: Global, inner: Document) -> Result<Document, NoMemory> {
-    let mut outer = Document::new(alloc);
-    put_between_others(alloc, &mut outer, inner)?;
-    Ok(outer)
-}
-
-/// So many documents, each but the innermost between others.
-fn branch(alloc: Global, levels: usize) -> Result<Document, NoMemory> {
-    let mut tree = Document::new(alloc);
+/// Writes so many levels, each but the innermost with others around the next one.
+fn push_branch(bytes: &mut Vec<u8>, levels: usize) -> Result<(), AllocError> {
+    let size = 4usize.wrapping_add(BEFORE.len()).wrapping_add(BEHIND.len());
+    let mut len = size.wrapping_mul(levels).wrapping_add(EMPTY.len());
     for _ in 0..levels {
-        tree = between_others(alloc, tree)?;
+        bytes.extend_from_slice(&len.to_le_bytes()[..4])?;
+        bytes.extend_from_slice(BEFORE)?;
+        len = len.wrapping_sub(size);
     }
-    Ok(tree)
+    bytes.extend_from_slice(EMPTY)?;
+    for _ in 0..levels {
+        bytes.extend_from_slice(BEHIND)?;
+    }
+    Ok(())
 }
 
-/// Whether it was made.
-fn is_branch(made: &Result<Document, NoMemory>) -> bool {
+/// Their bytes.
+fn branch(alloc: Global, levels: usize) -> Result<Vec<u8>, AllocError> {
+    let mut bytes = Vec::new(alloc);
+    push_branch(&mut bytes, levels)?;
+    Ok(bytes)
+}
+
+/// Whether the outermost level of a branch is there.
+fn is_branch(made: &raw_bson::Result<Document>) -> bool {
     matches!(made, Ok(tree) if tree.len() == 3)
+}
+
+/// Whether these bytes are read as a branch, which is dropped.
+fn is_let_go(alloc: Global, made: &Result<Vec<u8>, AllocError>) -> bool {
+    match made {
+        Ok(bytes) => is_branch(&tree_of(alloc, bytes)),
+        Err(_) => false,
+    }
 }
 
 #[test]
 fn a_deep_branch_among_others_is_let_go(rt: HostRuntime) {
-    assert!(rt; is_branch(&branch(rt.alloc(), 200_000)));
-}
-
-/// What a level holds the next one in, under the key `0` where it has keys.
-#[derive(Clone, Copy)]
-enum Holder {
-    Document,
-    Array,
-    /// the scope of an empty code
-    CodeWithScope,
-}
-
-/// The document of this value.
-fn holding(alloc: Global, value: Bson) -> Result<Document, NoMemory> {
-    let mut document = Document::new(alloc);
-    put(alloc, &mut document, "0", value)?;
-    Ok(document)
-}
-
-/// The empty code with this scope.
-fn code_around(alloc: Global, scope: Document) -> Bson {
-    let code = String::new(alloc);
-    Bson::JavaScriptCodeWithScope(JavaScriptCodeWithScope { code, scope })
-}
-
-/// The innermost of levels that are held so.
-fn empty_level(alloc: Global, holder: Holder) -> Bson {
-    match holder {
-        Holder::Document => Bson::Document(Document::new(alloc)),
-        Holder::Array => Bson::Array(Vec::new(alloc)),
-        Holder::CodeWithScope => code_around(alloc, Document::new(alloc)),
-    }
-}
-
-/// A level that holds this one.
-fn level_around(alloc: Global, holder: Holder, inner: Bson) -> Result<Bson, NoMemory> {
-    match holder {
-        Holder::Document => Ok(Bson::Document(holding(alloc, inner)?)),
-        Holder::Array => Ok(Bson::Array(vec![in alloc; inner]?)),
-        Holder::CodeWithScope => Ok(code_around(alloc, holding(alloc, inner)?)),
-    }
-}
-
-/// The document of so many levels.
-fn tree_of_levels(alloc: Global, holder: Holder, levels: usize) -> Result<Document, NoMemory> {
-    let mut level = empty_level(alloc, holder);
-    for _ in 1..levels {
-        level = level_around(alloc, holder, level)?;
-    }
-    holding(alloc, level)
+    assert!(rt; is_let_go(rt.alloc(), &branch(rt.alloc(), 200_000)));
 }
 
 /// Whether both were made, and are equal.
-fn are_equal(tree: &Result<Document, NoMemory>, other: &Result<Document, NoMemory>) -> bool {
+fn are_equal(tree: &raw_bson::Result<Document>, other: &raw_bson::Result<Document>) -> bool {
     match (tree, other) {
         (Ok(tree), Ok(other)) => tree == other,
         _ => false,
     }
 }
 
-/// Whether two trees of so many levels are.
-fn are_levels_equal(alloc: Global, holder: Holder, levels: usize) -> bool {
-    are_equal(
-        &tree_of_levels(alloc, holder, levels),
-        &tree_of_levels(alloc, holder, levels),
-    )
+/// Whether two trees of these bytes are.
+fn are_levels_equal(alloc: Global, made: &Result<Vec<u8>, AllocError>) -> bool {
+    match made {
+        Ok(bytes) => are_equal(&tree_of(alloc, bytes), &tree_of(alloc, bytes)),
+        Err(_) => false,
+    }
 }
 
 #[test]
 fn levels_are_compared(rt: HostRuntime) {
-    // as many as the page of `Bson` says
-    assert!(rt; are_levels_equal(rt.alloc(), Holder::Document, 40_000));
-    assert!(rt; are_levels_equal(rt.alloc(), Holder::Array, 40_000));
-    assert!(rt; are_levels_equal(rt.alloc(), Holder::CodeWithScope, 40_000));
+    let alloc = rt.alloc();
+    for (holder, _) in TEXTS {
+        // as many as the page of `Bson` says
+        let made = nested_in_turn(alloc, &[*holder], 40_000, EMPTY);
+        assert!(rt; are_levels_equal(alloc, &made));
+    }
 }
 
 /// A text of levels: what is before and behind the levels, before and behind the next one in each, and in the last.
@@ -180,10 +138,10 @@ fn is_text_of_levels(text: &str, wanted: &LevelsText, levels: usize) -> bool {
     }
 }
 
-/// Whether the tree of so many levels was made, and is printed so.
-fn are_levels_printed(
+/// Whether the tree was made, and is printed as so many levels.
+fn is_tree_printed(
     alloc: Global,
-    made: &Result<Document, NoMemory>,
+    made: &raw_bson::Result<Document>,
     wanted: &LevelsText,
     levels: usize,
 ) -> bool {
@@ -194,11 +152,25 @@ fn are_levels_printed(
     }
 }
 
+/// The same of the tree of these bytes.
+fn are_levels_printed(
+    alloc: Global,
+    made: &Result<Vec<u8>, AllocError>,
+    wanted: &LevelsText,
+    levels: usize,
+) -> bool {
+    match made {
+        Ok(bytes) => is_tree_printed(alloc, &tree_of(alloc, bytes), wanted, levels),
+        Err(_) => false,
+    }
+}
+
 #[test]
 fn levels_are_printed(rt: HostRuntime) {
-    // as many as the page of `Bson` says
-    for (holder, wanted) in TEXTS.iter() {
-        let tree = tree_of_levels(rt.alloc(), *holder, 15_000);
-        assert!(rt; are_levels_printed(rt.alloc(), &tree, wanted, 15_000));
+    let alloc = rt.alloc();
+    for (holder, wanted) in TEXTS {
+        // as many as the page of `Bson` says
+        let made = nested_in_turn(alloc, &[*holder], 15_000, EMPTY);
+        assert!(rt; are_levels_printed(alloc, &made, wanted, 15_000));
     }
 }

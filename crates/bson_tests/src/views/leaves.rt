@@ -1,6 +1,5 @@
-use crate::views::trees::put;
-use bson_model::{Bson, Document, JavaScriptCodeWithScope, NoMemory};
-use std::alloc::Global;
+use crate::fixtures::tree_of;
+use bson_model::{Bson, Document};
 use std::process::Abort;
 
 // A recursion down a tree in a crate above `bson_model`: its lemmas say that what a value holds is smaller than it.
@@ -36,44 +35,19 @@ fn leaves_of_document(document: &Document) -> u64 {
     count
 }
 
-/// A null under the key `x`.
-fn null(alloc: Global) -> Result<Document, NoMemory> {
-    let mut scope = Document::new(alloc);
-    put(alloc, &mut scope, "x", Bson::Null)?;
-    Ok(scope)
-}
-
-/// Code whose scope is a null.
-fn code(alloc: Global) -> Result<Bson, NoMemory> {
-    let scope = null(alloc)?;
-    let code = String::new(alloc);
-    Ok(Bson::JavaScriptCodeWithScope(JavaScriptCodeWithScope { code, scope }))
-}
-
-/// A list of a number and code.
-fn list(alloc: Global) -> Result<Bson, NoMemory> {
-    let code = code(alloc)?;
-    Ok(Bson::Array(vec![in alloc; Bson::Int32(1), code]?))
-}
-
-/// A list of a number and code, and a boolean.
-fn tree(alloc: Global) -> Result<Document, NoMemory> {
-    let list = list(alloc)?;
-    let mut document = Document::new(alloc);
-    put(alloc, &mut document, "a", list)?;
-    put(alloc, &mut document, "b", Bson::Boolean(true))?;
-    Ok(document)
-}
-
 /// How many leaves the tree has; none where there was no memory for it.
-fn leaves(made: Result<Document, NoMemory>) -> u64 {
+fn leaves(made: &raw_bson::Result<Document>) -> u64 {
     match made {
-        Ok(document) => leaves_of_value(&Bson::Document(document)),
+        Ok(document) => leaves_of_document(document),
         Err(_) => 0,
     }
 }
 
+/// An array of a number and of code over a null, and a boolean.
+const TREE: &[u8] = b"\x2D\0\0\0\x04a\0\x21\0\0\0\x100\0\x01\0\0\0\x0F1\0\
+\x12\0\0\0\x02\0\0\0f\0\x08\0\0\0\x0Ax\0\0\0\x08b\0\x01\0";
+
 #[test]
 fn leaves_are_counted_at_any_depth(rt: HostRuntime) {
-    assert!(rt; leaves(tree(rt.alloc())) == 3);
+    assert!(rt; leaves(&tree_of(rt.alloc(), TREE)) == 3);
 }
