@@ -37,6 +37,7 @@ pub use Rattle.raw_view.specs.Frame.ElementSteps.{HasRead, frame_of}
 pub use Rattle.raw_view.specs.Meaning.{Means, MeansValue, RawValue, value}
 pub use Rattle.raw_view.specs.Meaning.Value.{id_of, namespace_of, value_of}
 pub use Rattle.raw_view.specs.declared.bson_ref.RawBsonRef.{RawBsonRef}
+pub use Rattle.raw_view.specs.declared.document.RawDocument.{RawDocument}
 pub use Rattle.raw_view.specs.declared.element.RawElement.{RawElement}
 pub use Rattle.raw_tree.specs.Barriers.{TellsBarrier}
 pub use Rattle.raw_tree.specs.Reading.{Holds, Reads, ReadsUpTo, StandsFor}
