@@ -42,52 +42,23 @@ first_made-append known (x ∷ xs) ys =
     ap (λ l. here ++ l) (first_made-append next xs ys) ∙ sym (append_assoc here (first_made next xs) (first_made (fold with_made next xs) ys))
 
 kept_of-append : (c : Command) (known : List ℕ → Bool) (xs ys : List Made) → kept_of c known (xs ++ ys) ≡ kept_of c known xs ++ kept_of c (known_behind c known xs) ys
-kept_of-append command.Check known xs ys = refl
-kept_of-append command.List known xs ys = refl
-kept_of-append command.Count known xs ys = refl
-kept_of-append command.Canon known xs ys = refl
-kept_of-append command.Sound known xs ys = refl
-kept_of-append command.Fields known xs ys = refl
-kept_of-append (command.Json style) known xs ys = refl
-kept_of-append (command.Pick picking) known xs ys = refl
-kept_of-append (command.Unique spelling) known xs ys = first_made-append known xs ys
+kept_of-append c known xs ys = grind (arith, first_made-append)
 
 written_of-append : (c : Command) (known : List ℕ → Bool) (xs ys : List Made) → written_of c known (xs ++ ys) ≡ written_of c known xs ++ written_of c (known_behind c known xs) ys
 written_of-append c known xs ys =
     ap (flat_map written) (kept_of-append c known xs ys) ∙ flat_map-append written (kept_of c known xs) (kept_of c (known_behind c known xs) ys)
 
+fold_made : (known : List ℕ → Bool) (xs ys : List Made) → fold with_made known (xs ++ ys) ≡ fold with_made (fold with_made known xs) ys
+fold_made known xs ys = fold-append with_made known xs ys
+
 known_behind-append : (c : Command) (known : List ℕ → Bool) (xs ys : List Made) → known_behind c known (xs ++ ys) ≡ known_behind c (known_behind c known xs) ys
-known_behind-append command.Check known xs ys = refl
-known_behind-append command.List known xs ys = refl
-known_behind-append command.Count known xs ys = refl
-known_behind-append command.Canon known xs ys = refl
-known_behind-append command.Sound known xs ys = refl
-known_behind-append command.Fields known xs ys = refl
-known_behind-append (command.Json style) known xs ys = refl
-known_behind-append (command.Pick picking) known xs ys = refl
-known_behind-append (command.Unique spelling) known xs ys = fold-append with_made known xs ys
+known_behind-append c known xs ys = grind (arith, fold_made)
 
 nothing_kept : (c : Command) (known : List ℕ → Bool) → kept_of c known [] ≡ []
-nothing_kept command.Check known = refl
-nothing_kept command.List known = refl
-nothing_kept command.Count known = refl
-nothing_kept command.Canon known = refl
-nothing_kept command.Sound known = refl
-nothing_kept command.Fields known = refl
-nothing_kept (command.Json style) known = refl
-nothing_kept (command.Pick picking) known = refl
-nothing_kept (command.Unique spelling) known = refl
+nothing_kept c known = grind arith
 
 nothing_known : (c : Command) (known : List ℕ → Bool) (d : List ℕ) → known d ≡ known_behind c known [] d
-nothing_known command.Check known d = refl
-nothing_known command.List known d = refl
-nothing_known command.Count known d = refl
-nothing_known command.Canon known d = refl
-nothing_known command.Sound known d = refl
-nothing_known command.Fields known d = refl
-nothing_known (command.Json style) known d = refl
-nothing_known (command.Pick picking) known d = refl
-nothing_known (command.Unique spelling) known d = refl
+nothing_known c known d = grind arith
 
 -- nothing is made
 pub writes_none : (c : Command) (out : Option (List ℕ)) (k : Kept) → Writes c [] out out k k
@@ -142,16 +113,17 @@ pub nothing_emitted : (c : Command) (at : Origin) (b : List ℕ) (f : Finding) (
 nothing_emitted c at b f out k nothing =
     ([], nothing, (writes_none c out k, record { placed = sym (firsts_none c (firsts_of k)); repeats = sym (repeats_none c (firsts_of k)) }))
 
+makes_json : (style : json.Style) (b : List ℕ) (f : Finding) (text : List ℕ) → (f ≡ finding.Canonical) ⊎ (f ≡ finding.Breached) → IsJson style b text
+    → MakesJson style b f (plain (text ++ codes "\n") ∷ [])
+makes_json style b f text (inl canonical) is = rw canonical (text, is, refl)
+makes_json style b f text (inr breached) is = rw breached (text, is, refl)
+
 -- a document without damage is written as Extended JSON
 pub json_emitted : (style : json.Style) (at : Origin) (b : List ℕ) (f : Finding) (d d' : Option (List ℕ)) (k k' : Kept) → (f ≡ finding.Canonical) ⊎ (f ≡ finding.Breached)
     → (text : List ℕ) × IsJson style b text × Appends d d' (text ++ codes "\n") × CountsOne k k' → Emits (command.Json style) at b f d d' k k' None
 json_emitted style at b f d d' k k' sound (text, is, put, counted) =
     let line = text ++ codes "\n" in
-    let made : MakesJson style b f (plain line ∷ []) = elim sound [
-      | inl canonical ↦ subst (λ x. MakesJson style b x (plain line ∷ [])) (sym canonical) (text, is, refl)
-      | inr breached ↦ subst (λ x. MakesJson style b x (plain line ∷ [])) (sym breached) (text, is, refl)
-    ] in
-    (plain line ∷ [], made, (line_written style line d d' k k' put counted, record { placed = ap origins_of counted.1; repeats = refl }))
+    (plain line ∷ [], makes_json style b f text sound is, (line_written style line d d' k k' put counted, record { placed = ap origins_of counted.1; repeats = refl }))
 
 -- these are the texts of a document with a line feed
 abbrev pub IsJsonLine : json.Style → List ℕ → List ℕ → Type 0
@@ -180,11 +152,7 @@ pub json_made : (style : json.Style) (b : List ℕ) (f : Finding) (k : Kept) (d 
     → WritesFront (IsJsonLine style b) d d' → WritesFront (IsMade (command.Json style) b f k) d d'
 json_made style b f k d d' sound (inl same) = inl same
 json_made style b f k d d' sound (inr (line, (text, is, it), front)) =
-    let made : MakesJson style b f (plain line ∷ []) = elim sound [
-      | inl canonical ↦ subst (λ x. MakesJson style b x (plain line ∷ [])) (sym canonical) (text, is, ap (λ (x : List ℕ). plain x ∷ []) it)
-      | inr breached ↦ subst (λ x. MakesJson style b x (plain line ∷ [])) (sym breached) (text, is, ap (λ (x : List ℕ). plain x ∷ []) it)
-    ] in
-    inr (line, (plain line ∷ [], made, sym (append-nil line)), front)
+    inr (line, (plain line ∷ [], rw it (makes_json style b f text sound is), sym (append-nil line)), front)
 
 -- the document of what is picked is printed in this way
 pub is_picked_as : (picking : Picking) (style : Option json.Style) (b document made : List ℕ) → picking.style ≡ style → IsPicked b picking.paths.now document

@@ -1,4 +1,4 @@
-use Rattle.std.proofs.Common.{rules, ◌≡◌, ◌+◌, ◌++◌, ℕ, IfSome, inr, length, ap, sym, ◌∙◌, subst}
+use Rattle.std.proofs.Common.{rules, ◌≡◌, ◌+◌, ◌++◌, IfSome, inr, length, ap, sym, ◌∙◌, subst}
 use Rattle.std.specs.Io.KnownBytes.{Appends}
 use Rattle.dump_input.specs.Reading.{ahead_of}
 use Rattle.dump_runs.specs.Run.{count_rest}
@@ -35,21 +35,9 @@ returns-clause-left g c =
 pub returns-in_err-counts-clause-halts : goal.returns-in_err-counts-clause-halts
 returns-in_err-counts-clause-halts g c =
     let left = c.in_ok-rest.ensures.left c.args.asked.limits.bytes c.requires.1 in
-    let line_at = λ (m k : ℕ). ending_line c.args.asked.style c.args.asked.name.now m c.args.ending (rest.NotRead k) in
-    let old = g.W.Write.contents c.args.report.now in
-    let new = g.W.Write.contents c.put_ending.new.report in
-    let drained = c.in_ok-rest.rest in
-    let first = subst (λ (m : ℕ). Appends old new (line_at m drained.count)) c.offset-offset.ensures c.in_ok-put_ending.ensures.written in
-    let put = subst (λ (k : ℕ). Appends old new (line_at c.args.window.now.offset k)) (sym left.len) first in
-    on_any _ _ (inr (left.more, left.is_read, left.ends, front_whole old new _ put))
+    on_any _ _ (inr (left.more, left.is_read, left.ends, front_whole _ _ _ (rw (c.offset-offset.ensures, ← left.len) at c.in_ok-put_ending.ensures.written)))
 
 pub returns-in_err-at-clause-halts : goal.returns-in_err-at-clause-halts
 returns-in_err-at-clause-halts g c =
     let left = c.in_ok-rest.ensures.left c.args.asked.limits.bytes c.requires.1 in
-    let line_at = λ (m k : ℕ). ending_line c.args.asked.style c.args.asked.name.now m c.args.ending (rest.NotRead k) in
-    let old = g.W.Write.contents c.args.report.now in
-    let new = g.W.Write.contents c.put_ending.new.report in
-    let drained = c.in_ok-rest.rest in
-    let first = subst (λ (m : ℕ). Appends old new (line_at m drained.count)) c.offset-offset.ensures c.in_ok-put_ending.ensures.written in
-    let put = subst (λ (k : ℕ). Appends old new (line_at c.args.window.now.offset k)) (sym left.len) first in
-    on_any _ _ (inr (left.more, left.is_read, left.ends, front_whole old new _ put))
+    on_any _ _ (inr (left.more, left.is_read, left.ends, front_whole _ _ _ (rw (c.offset-offset.ensures, ← left.len) at c.in_ok-put_ending.ensures.written)))
