@@ -24,5 +24,6 @@ pub use Rattle.raw_tree.specs.walk.Barriers
 pub use Rattle.raw_tree.specs.walk.Looking
 pub use Rattle.raw_tree.specs.walk.Places
 pub use Rattle.raw_tree.specs.walk.Rooms
+pub use Rattle.raw_tree.specs.walk.Visits
 pub use Rattle.raw_tree.specs.walk.Waits
 pub use Rattle.raw_tree.specs.walk.Walks

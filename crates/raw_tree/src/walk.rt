@@ -4,9 +4,11 @@
 ghost use Rattle.std.specs.Option.{option_copied};
 ghost use Rattle.std.specs.Prelude.{◌≡◌, ◌+◌, [], ℕ, suc, List, Option, IfErr, IfOk, OnOk};
 ghost use Rattle.raw_tree.specs.walk.Looking.{HasNoneBefore, size_of};
+ghost use Rattle.raw_tree.specs.walk.Visits.{Visit};
 ghost use Rattle.raw_tree.specs.walk.Waits.{StoreEach, Wait};
-ghost use Rattle.raw_tree.specs.walk.Walks.{BeginsWithin, Comes, Enters, IsAlong, IsBarrierAt, IsBegun, IsLooked, IsTooDeep, LeavesOrEnds, Passes, TellsErrorWithin, outermost_of, wait_behind, with_left};
+ghost use Rattle.raw_tree.specs.walk.Walks.{BeginsWithin, Comes, Enters, HasCome, IsAlong, IsBarrierAt, IsBegun, IsLooked, IsTooDeep, LeavesOrEnds, Passes, TellsErrorWithin, outermost_of, wait_behind, with_left};
 ghost use Rattle.raw_tree.specs.walk.Aheads as next;
+ghost use Rattle.raw_view.specs.declared.document.RawDocument.{RawDocument};
 ghost use Rattle.raw_view.specs.Document.{bytes_of};
 ghost use Rattle.raw_view.specs.Frame.ElementSteps.{frame_of};
 
@@ -74,6 +76,7 @@ impl<'a> Walk<'a> {
         ensures level { IsBegun document.entry start.offset result.0 result.1 }
         ensures number { result.1.number ≡ start.number }
         ensures most { result.0.most_waiting ≡ most_waiting }
+        ensures come { start.offset ≡ 4 → HasCome document.entry most_waiting result.0 result.1 [] }
     {
         let Some(elements) = Elements::from_offset(document, start.offset) else {
             unreachable!()
@@ -117,12 +120,12 @@ impl<'a> Walk<'a> {
     /// What comes next, where this is the innermost level.
     #[inline(always)]
     pub fn next(&mut self, alloc: Global, level: &mut Level<'a>) -> Result<Event<'a>, WalkError<'a>>
-        requires { (ws : List Wait) × IsAlong self.old level.old ws }
-        ensures event { (ws : List Wait)
-            → IsAlong self.old level.old ws
-            → Comes self.old level.old ws self.new level.new result }
-        ensures document { self.new.document ≡ self.old.document }
-        ensures most { self.new.most_waiting ≡ self.old.most_waiting }
+        requires { (document : RawDocument) × (most : ℕ) × (seen : List Visit) × HasCome document most self.old level.old seen }
+        ensures event { (document : RawDocument)
+            → (most : ℕ)
+            → (seen : List Visit)
+            → HasCome document most self.old level.old seen
+            → Comes document most seen self.old level.old self.new level.new result }
     {
         match look(&mut level.elements) {
             Next::Whole(element, value) => {

@@ -3,8 +3,9 @@ use Rattle.std.specs.Prelude.{◌≡◌, ◌+◌, ◌++◌, ◌∷◌, ◌<◌, 
 use Rattle.bson_model.specs.Tree.{Tree}
 use Rattle.raw_view.specs.Document.{bytes_of}
 use Rattle.raw_view.specs.Frame.ElementSteps.{HasRead, frame_of}
-use Rattle.raw_view.specs.Frame.{Frame, IsFrame, LeadsTo}
+use Rattle.raw_view.specs.Frame.{Done, Frame, IsFrame, IsWalk, LeadsTo}
 use Rattle.raw_view.specs.Meaning.{RawValue, Means, value}
+use Rattle.raw_view.specs.Meaning.Value.{IsSingle, held_value, value_of}
 use Rattle.raw_view.specs.declared.document.RawDocument.{RawDocument}
 use Rattle.raw_view.specs.declared.element.RawElement.{RawElement}
 use Rattle.raw_tree.specs.reader.Reading.{Sort, as_document, tree_of_pairs, ReadsUpTo, StandForEach}
@@ -15,6 +16,7 @@ use Rattle.raw_tree.specs.walk.Aheads as next
 use Rattle.raw_tree.specs.walk.Barriers.{TellsBarrier, TellsBarrierWithin, steps_of}
 use Rattle.raw_tree.specs.walk.Looking.{IsHeldBy, IsValueOf, Looks, size_of, step_at}
 use Rattle.raw_tree.specs.walk.Places.{BeginsAt, Step}
+use Rattle.raw_tree.specs.walk.Visits.{HasVisits, Visit, VisitsEach, whole, enter, leave}
 use Rattle.raw_tree.specs.walk.Waits.{ResumesBehind, LiesAt, StoreEach, Wait}
 use Rattle.raw_tree.specs.declared.walk.barrier.BarrierKind.{BarrierKind}
 use Rattle.raw_tree.specs.declared.walk.barrier.BarrierKind.TheVariants as kind
@@ -150,13 +152,41 @@ pub record IsBegun (document : RawDocument) (offset : ℕ) (walk : Walk) (level 
   pub offset_is : level.offset ≡ offset
   pub start_is : level.start ≡ 0
 
--- it begins at the first element, and the document keeps to the limits so far
+-- visits to come
+
+-- of a level, of which this is left, and begins at this offset: so many levels may be inside
+abbrev pub AreAhead : ℕ → Option (List ℕ) → (offset : ℕ) → List Visit → Type 0
+AreAhead inside None offset vs = ⊥
+AreAhead inside (Some s) offset vs = (frames : List Frame) × IsWalk s frames Done × VisitsEach (HasVisits inside) offset frames vs
+
+-- and of those that wait for it, the outermost first, inside of which so many may be
+abbrev pub AreToCome : ℕ → List Wait → Option (List ℕ) → (offset : ℕ) → List Visit → Type 0
+AreToCome inside [] left offset vs = AreAhead inside left offset vs
+AreToCome zero (w ∷ ws) left offset vs = ⊥
+AreToCome (suc inside) (w ∷ ws) left offset vs =
+    (inner own : List Visit) × AreToCome inside ws left offset inner × AreAhead (suc inside) w.elements w.offset own × (vs ≡ inner ++ leave ∷ own)
+
+-- a walk over this document, for whose innermost level so many may wait
+pub record IsWalking (document : RawDocument) (most : ℕ) (walk : Walk) (level : Level) : Type 0 where
+  pub waits : List Wait
+  pub along : IsAlong walk level waits
+  pub document_is : walk.document ≡ document
+  pub most_is : walk.most_waiting ≡ most
+
+-- So far it has come to these visits: if the document has visits, they are the first of those.
+pub record HasCome (document : RawDocument) (most : ℕ) (walk : Walk) (level : Level) (seen : List Visit) : Type 0 where
+  pub walking : IsWalking document most walk level
+  pub ahead : (vs : List Visit) → HasVisits (suc most) 0 (bytes_of document) vs
+      → (rest : List Visit) × AreToCome most walking.waits level.elements level.offset rest × (vs ≡ seen ++ rest)
+
+-- the document keeps to the limits so far, and the walk has come to nothing
 pub record BeginsWithin (limits : Limits) (document : RawDocument) (walk : Walk) (level : Level) : Type 0 where
   pub few : length (bytes_of document) ≤ limits.bytes
-  pub levels : suc walk.most_waiting ≡ limits.depth
-  pub along : IsAlong walk level []
-  pub begun : IsBegun document 4 walk level
+  pub most : ℕ
+  pub levels : suc most ≡ limits.depth
+  pub come : HasCome document most walk level []
   pub none_before : level.number ≡ 0
+  pub none_waits : walk.waiting.items ≡ []
 
 -- the error is the first barrier of the document within the limits; or memory ran out, where it has few enough bytes
 abbrev pub TellsErrorWithin : Limits → List ℕ → WalkError → Type 0
@@ -168,10 +198,10 @@ abbrev pub IsBarrierAt : List Wait → Step → (offset : ℕ) → BarrierKind �
 IsBarrierAt ws step offset k (error.Barrier b) = (b.kind ≡ k) × (steps_of b.place ≡ map step_at ws ++ step ∷ []) × (b.place.offset ≡ offset)
 IsBarrierAt ws step offset k error.OutOfMemory = Unit {0}
 
--- the error is the first barrier of the document; or memory ran out
-abbrev pub TellsError : Walk → WalkError → Type 0
-TellsError walk (error.Barrier answer) = TellsBarrierWithin (suc walk.most_waiting) (bytes_of walk.document) (Some answer)
-TellsError walk error.OutOfMemory = Unit {0}
+-- the error is the first barrier of the document b, inside of which may be so many levels; or memory ran out
+abbrev pub TellsError : ℕ → List ℕ → WalkError → Type 0
+TellsError most b (error.Barrier answer) = TellsBarrierWithin (suc most) b (Some answer)
+TellsError most b error.OutOfMemory = Unit {0}
 
 -- an element is passed whose value holds no level
 abbrev pub Passes : Walk → (from : Level) → List Wait → (to : Level) → RawElement → Type 0
@@ -202,10 +232,22 @@ LeavesOrEnds old from ws new to true =
     × ResumesBehind w to.elements to.number to.offset to.start
 LeavesOrEnds old from ws new to false = (t : Tree) × ReadsUpTo (suc old.most_waiting) as_document (bytes_of old.document) t × (ws ≡ []) × IsAtFinal from.elements
 
--- what a walk comes to behind the level `from`, for which these wait: it is then at the level `to`
-abbrev pub Comes : Walk → (from : Level) → List Wait → Walk → (to : Level) → Result Event WalkError → Type 0
-Comes old from ws new to (Ok (event.Whole e v)) = Passes new from ws to e × IsValueOf v e
-Comes old from ws new to (Ok (event.Enter e inner)) = (w : Wait) × Enters from ws w new to e inner.document × IsHeldBy inner e
-Comes old from ws new to (Ok event.Leave) = LeavesOrEnds old from ws new to true
-Comes old from ws new to (Ok event.End) = LeavesOrEnds old from ws new to false
-Comes old from ws new to (Err e) = TellsError old e
+-- behind an event: the walk has come to this visit, too, and some bytes have been passed
+pub record ComesTo (document : RawDocument) (most : ℕ) (from : Level) (seen : List Visit) (walk : Walk) (to : Level) (x : Visit) : Type 0 where
+  pub come : HasCome document most walk to (seen ++ x ∷ [])
+  pub further : from.offset < to.offset
+  pub within : to.offset ≤ length (bytes_of document)
+
+-- What a walk over this document comes to, for whose innermost level so many may wait. So far it has come to these visits, and is at
+-- the level `from`; then it is at the level `to`.
+abbrev pub Comes : RawDocument → (most : ℕ) → List Visit → Walk → (from : Level) → Walk → (to : Level) → Result Event WalkError → Type 0
+Comes document most seen old from new to (Ok (event.Whole e v)) =
+    ComesTo document most from seen new to (whole from.offset (frame_of e) (value_of v)) × IsSingle (value_of v) × (to.number ≡ from.number + 1)
+    × (length new.waiting.items ≡ length old.waiting.items)
+Comes document most seen old from new to (Ok (event.Enter e inner)) =
+    ComesTo document most from seen new to (enter from.offset (frame_of e) (held_value inner)) × (to.number ≡ 0) × (length new.waiting.items ≡ suc (length old.waiting.items))
+Comes document most seen old from new to (Ok event.Leave) =
+    ComesTo document most from seen new to leave × (0 < to.number) × (length old.waiting.items ≡ suc (length new.waiting.items))
+Comes document most seen old from new to (Ok event.End) =
+    HasVisits (suc most) 0 (bytes_of document) seen × ((t : Tree) × ReadsUpTo (suc most) as_document (bytes_of document) t) × (old.waiting.items ≡ [])
+Comes document most seen old from new to (Err e) = TellsError most (bytes_of document) e

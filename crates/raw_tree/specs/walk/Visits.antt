@@ -1,0 +1,39 @@
+-- What a walk over all levels of a document comes to, as a list: depth first, in byte order. The bytes b of a document, or of an
+-- array, have an envelope.
+use Rattle.std.specs.Prelude.{◌≡◌, ◌+◌, ◌++◌, ◌∷◌, [], ℕ, zero, suc, List, drop, length}
+use Rattle.raw_view.specs.Frame.{Frame, IsWalk, Done}
+use Rattle.raw_view.specs.Meaning.{RawValue, Means, value}
+use Rattle.raw_view.specs.Meaning as raw
+use Rattle.raw_tree.specs.walk.Looking.{size_of}
+
+-- a frame at this offset of the document, and the value that it means, which holds no level; one whose value holds a level, which
+-- is entered; or the end of a level that was entered
+pub data Visit : Type 0 where
+  whole : ℕ → Frame → RawValue → Visit
+  enter : ℕ → Frame → RawValue → Visit
+  leave : Visit
+
+-- visits, where Nested says those of nested bytes that begin at an offset
+module _ (Nested : ℕ → List ℕ → List Visit → Type 0) where
+  -- the value of a frame at this offset holds the level d, which ends where the frame does: it is entered, and left at its end
+  abbrev pub VisitsLevel : ℕ → Frame → RawValue → List ℕ → List Visit → Type 0
+  VisitsLevel at f v d vs = (start : ℕ) × (inner : List Visit) × (start + length d ≡ at + size_of f) × Nested start d inner × (vs ≡ enter at f v ∷ (inner ++ leave ∷ []))
+
+  -- a frame at this offset means the value
+  abbrev pub VisitsValue : ℕ → Frame → RawValue → List Visit → Type 0
+  VisitsValue at f (raw.single l) vs = vs ≡ whole at f (raw.single l) ∷ []
+  VisitsValue at f (raw.document d) vs = VisitsLevel at f (raw.document d) d vs
+  VisitsValue at f (raw.array d) vs = VisitsLevel at f (raw.array d) d vs
+  VisitsValue at f (raw.scoped code d) vs = VisitsLevel at f (raw.scoped code d) d vs
+
+  -- frames one behind the other, the first of them at this offset
+  abbrev pub VisitsEach : ℕ → List Frame → List Visit → Type 0
+  VisitsEach at [] vs = vs ≡ []
+  VisitsEach at (f ∷ fs) vs =
+      (v : RawValue) × (first rest : List Visit) × Means f (value v) × VisitsValue at f v first × VisitsEach (at + size_of f) fs rest × (vs ≡ first ++ rest)
+
+-- The visits of the bytes b, which begin at this offset and have at most so many levels, b being the first: those of the frames
+-- of a walk that ends at the final 0.
+abbrev pub HasVisits : ℕ → ℕ → List ℕ → List Visit → Type 0
+HasVisits zero start b vs = ⊥
+HasVisits (suc n) start b vs = (frames : List Frame) × IsWalk (drop 4 b) frames Done × VisitsEach (HasVisits n) (start + 4) frames vs
