@@ -1,4 +1,5 @@
 pub mod Bounds
+pub mod Come
 pub mod Common
 pub mod Frames
 pub mod Fronts
@@ -11,4 +12,5 @@ pub mod Linked
 pub mod Passed
 pub mod Rooms
 pub mod Starts
+pub mod Visits
 pub mod Within

@@ -2,7 +2,7 @@
 use Rattle.std.proofs.Common.{◌≡◌, ◌∙◌, ◌≤◌, ◌<◌, ◌+◌, ◌-◌, ◌++◌, ◌∷◌, [], ℕ, suc, List, Bool, Bor, Option, Some, map, length, drop, arith, ap, refl, sym, subst, length-append, length-drop}
 use Rattle.std.proofs.lemmas.List.{same_from_push}
 use Rattle.raw_tree.proofs.Common.{Cause, IsCanonicalUpTo, RawElement, RawValue, as_document, bytes_of, frame_of, keys_of_frames, left_of, texts}
-use Rattle.raw_tree.proofs.walk.Common.{AreLinked, AreOpenKeys, FirstViolationTo, HasKeysSoFar, HoldsNone, IsAt, IsOpened, IsSingleWith, Validated, Validates, KeysSoFar, LeavesOpenKeys, Level, Looks}
+use Rattle.raw_tree.proofs.walk.Common.{AreLinked, AreOpenKeys, FirstViolationTo, HasKeysSoFar, HoldsNone, IsAt, IsOpened, IsSingleWith, IsWalking, Validated, Validates, KeysSoFar, LeavesOpenKeys, Level, Looks}
 use Rattle.raw_tree.proofs.walk.Common.{RawDocument, Step, StoreEach, Violation, Wait, Walk, array_sort, breach_of, option_copied, size_of, step_at}
 use Rattle.raw_view.proofs.Face.{LeadsTo-bound}
 use Rattle.raw_tree.specs.validator.Violations.{too_deep}
@@ -10,7 +10,7 @@ use Rattle.raw_tree.specs.declared.validator.step.Validated.TheVariants as valid
 use Rattle.raw_tree.specs.walk.Aheads.{Ahead}
 use Rattle.raw_tree.specs.walk.Aheads as next
 use Rattle.raw_tree.proofs.validator.ValidatedLevels.{IsHeld, IsInFront, IsTold, IsValidated, IsValidatedThere, Keyed, begun, held_validated, numbered, passed_breach, passed_deep, passed_end, passed_inside, passed_whole, resumed, whole_keyed}
-use Rattle.raw_tree.proofs.walk.Levels.{IsWalking, at_inside, at_inside_size, at_whole, at_whole_size, waiting_then}
+use Rattle.raw_tree.proofs.walk.Levels.{at_inside, at_inside_size, at_whole, at_whole_size, waiting_then}
 use Rattle.raw_tree.proofs.walk.Linked.{IsOutward, last_link, none_linked, outward}
 use Rattle.raw_tree.proofs.walk.Passed.{as_held}
 

@@ -1,8 +1,8 @@
 -- What a walk over all levels keeps, and what it tells where it ends.
 use Rattle.std.proofs.Common.{◌≡◌, ◌∙◌, ◌≤◌, ◌<◌, ◌+◌, ◌-◌, ◌*◌, ◌++◌, ◌∷◌, [], inr, ℕ, zero, suc, List, Option, None, Some, map, length, drop, arith, ap, refl, sym, subst, length-append, length-drop, Bor}
 use Rattle.raw_tree.proofs.Common.{BorrowedError, Frame, Holds, KeyedFault, RawElement, RawValue, ReadsUpTo, Sort, Tree, as_document, bytes_of, fault_of, frame_of, left_of, too_deep, tree_of_pairs}
-use Rattle.raw_tree.proofs.walk.Common.{AreLinked, Barrier, BarrierKind, FirstFaultAt, IsAlong, IsAt, IsAtFinal, IsBarrier, IsBarrierAt, IsBehind, IsFurther, IsHeld, IsOpened, IsPassed, IsTooDeep}
-use Rattle.raw_tree.proofs.walk.Common.{Level, LiesAt, Looks, RawDocument, Span, Step, StoreEach, Stores, TellsBarrierWithin, TellsBorrowed, TellsError, Wait, Waiting, Walk, WalkError, first_number}
+use Rattle.raw_tree.proofs.walk.Common.{AreLinked, Barrier, BarrierKind, FirstFaultAt, IsAt, IsAtFinal, IsBarrier, IsBarrierAt, IsBehind, IsFurther, IsHeld, IsOpened, IsPassed, IsTooDeep, IsWalking}
+use Rattle.raw_tree.proofs.walk.Common.{Level, LiesAt, Looks, RawDocument, Span, Step, Stores, TellsBarrierWithin, TellsBorrowed, TellsError, Wait, Waiting, Walk, WalkError, first_number}
 use Rattle.raw_tree.proofs.walk.Common.{option_copied, outermost_of, size_of, step_at, wait_behind, whole_span}
 use Rattle.raw_view.proofs.Face.{LeadsTo-bound, LeadsTo-more}
 use Rattle.raw_tree.specs.reader.WithinLimits as within
@@ -273,13 +273,6 @@ module _ {depth : ℕ} {b : List ℕ} {ws : List Wait} {old : Option (List ℕ)}
           whole = omega (arith, stored_whole b c w stored, ends, ap length is.bytes_are);
         }
 
--- a walk over this document, for whose innermost level so many may wait
-pub record IsWalking (document : RawDocument) (most : ℕ) (walk : Walk) (level : Level) : Type 0 where
-  pub waits : List Wait
-  pub along : IsAlong walk level waits
-  pub document_is : walk.document ≡ document
-  pub most_is : walk.most_waiting ≡ most
-
 -- it goes on so, nearer to the document's end
 module _ {document : RawDocument} {most : ℕ} {walk : Walk} {level : Level} (is : IsWalking document most walk level) (ws : List Wait) (new : Walk) (to : Level)
     (further : IsFurther level new to ws) (same : new.document ≡ walk.document) where
@@ -301,7 +294,7 @@ told_there {document} {most} {walk} {level} is result told =
 -- a barrier that is told at its place is the document's first
 pub told_at : (old : Walk) (ws : List Wait) (step : Step) (offset : ℕ) (k : BarrierKind)
     → ((x : within.Barrier) × IsBarrier k x × FirstFaultAt (suc old.most_waiting) (bytes_of old.document) x (map step_at ws ++ step ∷ []) offset)
-    → (e : WalkError) → IsBarrierAt ws step offset k e → TellsError old e
+    → (e : WalkError) → IsBarrierAt ws step offset k e → TellsError old.most_waiting (bytes_of old.document) e
 told_at old ws step offset k bars (error.Barrier answer) (kind_is, steps_is, offset_is) = (bars.0, rw kind_is bars.1, rw (steps_is, offset_is) bars.2)
 told_at old ws step offset k bars error.OutOfMemory at = tt
 
@@ -309,7 +302,7 @@ told_at old ws step offset k bars error.OutOfMemory at = tt
 pub deep_told : (walk : Walk) (from : Level) (ws : List Wait) (e : RawElement)
     → (suc walk.most_waiting ≤ suc (length ws)
     → FirstFaultAt (suc walk.most_waiting) (bytes_of walk.document) too_deep (map step_at ws ++ record { number = from.number; key = Some (frame_of e).key } ∷ []) from.offset)
-    → (answer : WalkError) → IsTooDeep walk from ws e answer → TellsError walk answer
+    → (answer : WalkError) → IsTooDeep walk from ws e answer → TellsError walk.most_waiting (bytes_of walk.document) answer
 deep_told walk from ws e bars (error.Barrier answer) (full, at) =
     told_at walk ws _ from.offset kind.TooDeep (too_deep, refl, bars (omega (arith, full))) (error.Barrier answer) at
 deep_told walk from ws e bars error.OutOfMemory at = tt

@@ -1,5 +1,5 @@
 -- Levels that wait, each linked to the one that it waits for: what is told of the innermost is told of the outermost.
-use Rattle.std.proofs.Common.{◌≡◌, ◌≤◌, ◌<◌, ◌+◌, ◌-◌, ◌++◌, ◌∷◌, [], ℕ, zero, suc, List, Some, map, length, drop, arith, ap, refl, append_assoc, length-append, length-drop}
+use Rattle.std.proofs.Common.{◌≡◌, ◌≤◌, ◌+◌, ◌-◌, ◌++◌, ◌∷◌, [], ℕ, zero, suc, List, Some, map, length, drop, arith, ap, refl, append_assoc, length-append, length-drop}
 use Rattle.std.proofs.lemmas.List.{same_from_push}
 use Rattle.raw_tree.proofs.Common.{Frame, map-append}
 use Rattle.raw_tree.proofs.walk.Common.{AreLinked, HoldsLevel, IsOffsetOf, Span, Step, Wait, step_at}

@@ -1,7 +1,7 @@
 -- What is told within a depth is told within limits.
 use Rattle.std.proofs.Common.{inr, ◌≤◌, zero, suc, List, ℕ, Option, None, Some, Result, Ok, Err, IfOk, length, arith}
-use Rattle.raw_tree.proofs.Common.{Error, FirstBarrier, FirstFaultWithin, Limits}
-use Rattle.raw_tree.proofs.walk.Common.{Barrier, FirstFaultAt, IsBarrier, Step, TellsBarrier, TellsBarrierWithin, steps_of}
+use Rattle.raw_tree.proofs.Common.{Error, FirstFaultWithin, Limits}
+use Rattle.raw_tree.proofs.walk.Common.{Barrier, FirstFaultAt, Step, TellsBarrier, TellsBarrierWithin, steps_of}
 use Rattle.raw_tree.specs.reader.WithinLimits as within
 use Rattle.raw_tree.proofs.reader.Limited.{read_within}
 

@@ -1,5 +1,5 @@
 -- What a walk over all levels of a document has passed, and what it comes to next. No contract of a call for users cites this file.
-use Rattle.std.specs.Prelude.{◌≡◌, ◌+◌, ◌++◌, ◌∷◌, ◌<◌, ◌≤◌, ℕ, zero, suc, Bool, true, false, List, Option, Some, Result, Ok, Err, drop, length, map, []}
+use Rattle.std.specs.Prelude.{◌≡◌, ◌+◌, ◌++◌, ◌∷◌, ◌<◌, ◌≤◌, ℕ, zero, suc, Bool, true, false, List, Option, None, Some, Result, Ok, Err, drop, length, map, []}
 use Rattle.bson_model.specs.Tree.{Tree}
 use Rattle.raw_view.specs.Document.{bytes_of}
 use Rattle.raw_view.specs.Frame.ElementSteps.{HasRead, frame_of}
@@ -14,7 +14,7 @@ use Rattle.raw_tree.specs.declared.reader.limits.Limits.{Limits}
 use Rattle.raw_tree.specs.walk.Aheads.{Ahead}
 use Rattle.raw_tree.specs.walk.Aheads as next
 use Rattle.raw_tree.specs.walk.Barriers.{TellsBarrier, TellsBarrierWithin, steps_of}
-use Rattle.raw_tree.specs.walk.Looking.{IsHeldBy, IsValueOf, Looks, size_of, step_at}
+use Rattle.raw_tree.specs.walk.Looking.{Looks, size_of, step_at}
 use Rattle.raw_tree.specs.walk.Places.{BeginsAt, Step}
 use Rattle.raw_tree.specs.walk.Visits.{HasVisits, Visit, VisitsEach, whole, enter, leave}
 use Rattle.raw_tree.specs.walk.Waits.{ResumesBehind, LiesAt, StoreEach, Wait}

@@ -1,12 +1,11 @@
 //! The first barrier of a document within limits, without a tree.
 #![tactic(auto)]
 
-ghost use Rattle.std.specs.Prelude.{◌<◌, suc, IfOk, IfErr};
+ghost use Rattle.std.specs.Prelude.{◌<◌, ℕ, suc, List, IfOk, IfErr};
 ghost use Rattle.raw_tree.specs.walk.Barriers.{IsOutOfMemoryWithin, TellsBarrier, TellsBarrierWithin};
 ghost use Rattle.raw_tree.specs.walk.Looking.{HasNoneBefore};
 ghost use Rattle.raw_tree.specs.walk.Places.{AllAreBarredAtOnePlace};
 ghost use Rattle.raw_tree.specs.walk.Walks.{TellsError};
-ghost use Rattle.raw_tree.specs.declared.walk.Walk.{Walk};
 ghost use Rattle.raw_tree.specs.reader.WithinLimits.{AllAreAnsweredOneWay};
 ghost use Rattle.raw_view.specs.Document.{bytes_of};
 ghost use Rattle.raw_view.specs.Errors.{IsOutOfMemory};
@@ -81,9 +80,10 @@ pub fn first_behind<'a>(
 
 /// The barrier that a walk came to.
 fn told(error: WalkError<'_>) -> Result<Option<Barrier<'_>>>
-    ensures told { (walk : Walk)
-        → TellsError walk error.entry
-        → IfOk result (TellsBarrierWithin (suc walk.most_waiting) (bytes_of walk.document)) }
+    ensures told { (most : ℕ)
+        → (b : List ℕ)
+        → TellsError most b error.entry
+        → IfOk result (TellsBarrierWithin (suc most) b) }
     ensures err { IfErr result IsOutOfMemory }
 {
     match error {

@@ -1,6 +1,6 @@
 use Rattle.std.proofs.Common.{rules, ◌≡◌, ◌≤◌, ◌<◌, ◌+◌, ◌++◌, ◌∷◌, ◌∙◌, [], List, ℕ, suc, Bor, Option, None, Some, Result, Ok, Err, IfOk, arith, map, length, drop, length-append, length-drop, ap, refl, sym, subst}
 use Rattle.raw_tree.proofs.Common.{Error, IsCanonicalUpTo, RawElement, as_document, bytes_of, frame_of, texts}
-use Rattle.raw_tree.proofs.walk.Common.{EndsTooDeep, FirstViolationTo, Found, HasKeysSoFar, IsAlong, IsAt, IsBehind, IsLooked, IsTooDeep, Validated, Validates, KeysSoFar, Level, Looks, Place}
+use Rattle.raw_tree.proofs.walk.Common.{EndsTooDeep, FirstViolationTo, Found, HasKeysSoFar, IsAlong, IsAt, IsBehind, IsLooked, IsTooDeep, Validated, Validates, Level, Looks, Place}
 use Rattle.raw_tree.proofs.walk.Common.{TellsFound, TellsOutermost, Wait, Walk, WalkError, array_sort, breach_of, first_number, option_copied, size_of, step_at, steps_of, violation_of}
 use Rattle.raw_tree.proofs.walk.Common.{with_left}
 use Rattle.raw_tree.specs.declared.validator.step.Validated.TheVariants as validated

@@ -19,3 +19,11 @@ returns-clause-along c =
       at = at_start c.args.most_waiting (suc c.args.most_waiting) b [] c.in-Some.elements c.args.start.number c.args.start.offset c.args.document.envelope refl refl left
           (c.requires c.args.most_waiting refl);
     }
+
+pub returns-clause-come : goal.returns-clause-come
+returns-clause-come c first =
+    let left : c.in-Some.elements ≡ Some (drop c.args.start.offset (bytes_of c.args.document)) = rw c.in-Some.is at c.from_offset.ensures.left in
+    record {
+      walking = record { waits = []; along = returns-clause-along c; document_is = refl; most_is = refl };
+      ahead = λ vs has. (vs, rw (left, first) has, refl);
+    }

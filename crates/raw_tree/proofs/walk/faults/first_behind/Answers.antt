@@ -1,8 +1,8 @@
 use Rattle.std.proofs.Common.{rules, ◌≡◌, ◌∙◌, [], ℕ, suc, Option, None, Result, IfOk, ap, refl, subst}
 use Rattle.raw_tree.proofs.Common.{Error, bytes_of, fault_of}
-use Rattle.raw_tree.proofs.walk.Common.{Barrier, Level, RawDocument, TellsBarrierWithin, Walk}
+use Rattle.raw_tree.proofs.walk.Common.{Barrier, IsWalking, Level, RawDocument, TellsBarrierWithin, Walk}
 use Rattle.raw_tree.specs.declared.walk.barrier.BarrierKind.TheVariants as kind
-use Rattle.raw_tree.proofs.walk.Levels.{IsWalking, at_deep, at_fault, deep_told, told_at, told_there, walks_nearer, walks_on}
+use Rattle.raw_tree.proofs.walk.Levels.{at_deep, at_fault, deep_told, told_at, told_there, walks_nearer, walks_on}
 use Rattle.raw_tree.proofs.walk.faults.first_behind.Goals as goal
 
 -- what is told of the walk's document within its depth
@@ -39,7 +39,7 @@ returns-in-Err-clause-told c =
     let looks = rw c.in-Inside.is at c.look.ensures.sees in
     let ends = deep_told c.elements.walk c.elements.level is.waits c.in-Inside.element
     (λ full. at_deep is.along.at c.look.new.elements c.in-Inside.element c.in-Inside.inner.document looks full) c.in-Err.error (c.in-Err.ensures.ends is.waits is.along.are_stored) in
-    told_of is c.args.depth c.elements.invariant.2 c.told.result (c.told.ensures.told c.elements.walk ends)
+    told_of is c.args.depth c.elements.invariant.2 c.told.result (c.told.ensures.told c.elements.walk.most_waiting (bytes_of c.elements.walk.document) ends)
 
 pub elements-smaller-in_default-enter : goal.elements-smaller-in_default-enter
 elements-smaller-in_default-enter c =
@@ -61,7 +61,7 @@ returns-in-Fault-clause-told c =
     let looks = rw c.in-Fault.is at c.look.ensures.sees in
     let bad = at_fault is.along.at c.look.new.elements c.in-Fault.key c.in-Fault.error looks in
     let ends = told_at walk is.waits _ offset (kind.Fault c.in-Fault.error) (fault_of bad.0, (bad.0, refl, bad.2), bad.1) c.barrier.result (c.barrier.ensures is.waits is.along.are_stored) in
-    told_of is c.args.depth c.elements.invariant.2 c.told-in-Fault.result (c.told-in-Fault.ensures.told walk ends)
+    told_of is c.args.depth c.elements.invariant.2 c.told-in-Fault.result (c.told-in-Fault.ensures.told walk.most_waiting (bytes_of walk.document) ends)
 
 pub returns-then-not-leave-clause-told : goal.returns-then-not-leave-clause-told
 returns-then-not-leave-clause-told c =

@@ -1,6 +1,6 @@
 use Rattle.std.proofs.Common.{◌≡◌, ◌-◌, ℕ, suc, length}
 use Rattle.raw_tree.proofs.Common.{bytes_of}
-use Rattle.raw_tree.proofs.walk.Levels.{IsWalking}
+use Rattle.raw_tree.proofs.walk.Common.{IsWalking}
 use Rattle.raw_tree.proofs.walk.faults.first_behind.Given as goal
 
 abbrev pub invariant-elements : goal.invariant-elements
