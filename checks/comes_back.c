@@ -44,7 +44,7 @@ int main(int count, char **words) {
     if (at == MAP_FAILED) return 2;
     for (; left >= 4; documents++) {
         size_t len = (size_t)at[0] | (size_t)at[1] << 8 | (size_t)at[2] << 16 | (size_t)at[3] << 24;
-        if (len > left) break;
+        if (len < 5 || len > left) break;
         if (!comes_back(at, len, 1, 0) || !comes_back(at, len, 0, 1)) printf("document %zu comes back as another one\n", documents);
         at += len;
         left -= len;
