@@ -15,12 +15,12 @@ pub use Rattle.raw_tree.proofs.writer.WrittenMembers.{IsWriting, begun_at, left_
 -- walks over all levels, first barriers and violations
 pub use Rattle.raw_tree.proofs.walk.Bounds.{barrier_bound, violation_bound}
 pub use Rattle.raw_tree.proofs.walk.Frames.{drop_frame, frame_size, item_at, walk_over, walk_step}
-pub use Rattle.raw_tree.proofs.walk.Come.{come_within}
+pub use Rattle.raw_tree.proofs.walk.Come.{come_front, come_within}
 pub use Rattle.raw_tree.proofs.walk.Offsets.{envelope_fits}
 pub use Rattle.raw_tree.proofs.walk.OneBarrier.{barred_at_one_place}
 pub use Rattle.raw_tree.proofs.walk.Rooms.{filled_more, filled_none}
 pub use Rattle.raw_tree.proofs.walk.Starts.{first_begins}
-pub use Rattle.raw_tree.proofs.walk.Visits.{reads_visits}
+pub use Rattle.raw_tree.proofs.walk.Visits.{end_behind, reads_visits}
 pub use Rattle.raw_tree.proofs.walk.Within.{barrier_told}
 -- sets of keys
 pub use Rattle.raw_tree.proofs.validator.KeyPlaces.{first_at, position_is}

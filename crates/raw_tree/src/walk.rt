@@ -117,7 +117,7 @@ impl<'a> Walk<'a> {
         Err(WalkError::Barrier(Barrier { kind, place }))
     }
 
-    /// What comes next, where this is the innermost level.
+    /// The next event, where the walk is in this level. Behind the end and an error it isn't called again.
     #[inline(always)]
     pub fn next(&mut self, alloc: Global, level: &mut Level<'a>) -> Result<Event<'a>, WalkError<'a>>
         requires { (document : RawDocument) × (most : ℕ) × (seen : List Visit) × HasCome document most self.old level.old seen }

@@ -21,9 +21,9 @@ pub use Rattle.raw_tree.specs.walk.Barriers.{IsBarrier, TellsBarrier, TellsBarri
 pub use Rattle.raw_tree.specs.walk.Looking.{AreReadBefore, FailsAt, HasNoneBefore, HasValue, HoldsNone, Looks, Sees, TakesFrame, size_of, step_at}
 pub use Rattle.raw_tree.specs.walk.Places.{AllAreBarredAtOnePlace, BarsFrameAt, BarsFrontAt, BeginsAt, FirstBarrierAt, FirstFaultAt, IsLastStep, IsOffsetOf, Step, last_key}
 pub use Rattle.raw_tree.specs.walk.Rooms.{filled_from}
-pub use Rattle.raw_tree.specs.walk.Visits.{HasVisits, Visit, VisitsEach, VisitsLevel, VisitsValue, enter, leave, whole}
+pub use Rattle.raw_tree.specs.walk.Visits.{HasVisits, Visit, VisitsEach, VisitsLevel, VisitsValue, end_of, enter, leave, whole}
 pub use Rattle.raw_tree.specs.walk.Waits.{LiesAt, ResumesBehind, StoreEach, Stores, Wait}
-pub use Rattle.raw_tree.specs.walk.Walks.{AreAhead, AreLinked, AreReadTo, AreToCome, ComesTo, HasCome, HoldsLevel, IsAlong, IsAt, IsAtFinal, IsBarrierAt, IsBehind, IsFurther, IsHeld, IsLooked, IsOpened, IsPassed, IsTooDeep, IsWalking, Span}
+pub use Rattle.raw_tree.specs.walk.Walks.{AreLinked, AreReadTo, ComesTo, HasCome, HasSeen, HoldsLevel, IsAlong, IsAt, IsAtFinal, IsBarrierAt, IsBehind, IsEntered, IsFurther, IsHeld, IsLooked, IsOpened, IsPassed, IsTooDeep, IsWalking, Span}
 pub use Rattle.raw_tree.specs.walk.Walks.{TellsError, outermost_of, wait_behind, whole_span, with_left}
 pub use Rattle.raw_view.specs.Errors.{SaysFault}
 pub use Rattle.raw_view.specs.Frame.{HasNoFrame, Malformed, Utf8}

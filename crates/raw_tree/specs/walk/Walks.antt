@@ -1,14 +1,14 @@
 -- What a walk over all levels of a document has passed, and what it comes to next. No contract of a call for users cites this file.
-use Rattle.std.specs.Prelude.{◌≡◌, ◌+◌, ◌++◌, ◌∷◌, ◌<◌, ◌≤◌, ℕ, zero, suc, Bool, true, false, List, Option, None, Some, Result, Ok, Err, drop, length, map, []}
+use Rattle.std.specs.Prelude.{◌≡◌, ◌+◌, ◌++◌, ◌∷◌, ◌<◌, ◌≤◌, ℕ, zero, suc, Bool, true, false, List, Option, Some, Result, Ok, Err, drop, length, map, []}
 use Rattle.bson_model.specs.Tree.{Tree}
 use Rattle.raw_view.specs.Document.{bytes_of}
 use Rattle.raw_view.specs.Frame.ElementSteps.{HasRead, frame_of}
-use Rattle.raw_view.specs.Frame.{Done, Frame, IsFrame, IsWalk, LeadsTo}
+use Rattle.raw_view.specs.Frame.{Frame, IsFrame, LeadsTo}
 use Rattle.raw_view.specs.Meaning.{RawValue, Means, value}
 use Rattle.raw_view.specs.Meaning.Value.{IsSingle, held_value, value_of}
 use Rattle.raw_view.specs.declared.document.RawDocument.{RawDocument}
 use Rattle.raw_view.specs.declared.element.RawElement.{RawElement}
-use Rattle.raw_tree.specs.reader.Reading.{Sort, as_document, tree_of_pairs, ReadsUpTo, StandForEach}
+use Rattle.raw_tree.specs.reader.Reading.{Holds, Sort, as_document, tree_of_pairs, ReadsUpTo, StandForEach}
 use Rattle.raw_tree.specs.validator.Validating.{HoldsAs, left_of}
 use Rattle.raw_tree.specs.declared.reader.limits.Limits.{Limits}
 use Rattle.raw_tree.specs.walk.Aheads.{Ahead}
@@ -16,7 +16,7 @@ use Rattle.raw_tree.specs.walk.Aheads as next
 use Rattle.raw_tree.specs.walk.Barriers.{TellsBarrier, TellsBarrierWithin, steps_of}
 use Rattle.raw_tree.specs.walk.Looking.{Looks, size_of, step_at}
 use Rattle.raw_tree.specs.walk.Places.{BeginsAt, Step}
-use Rattle.raw_tree.specs.walk.Visits.{HasVisits, Visit, VisitsEach, whole, enter, leave}
+use Rattle.raw_tree.specs.walk.Visits.{HasVisits, Visit, VisitsEach, end_of, whole, enter, leave}
 use Rattle.raw_tree.specs.walk.Waits.{ResumesBehind, LiesAt, StoreEach, Wait}
 use Rattle.raw_tree.specs.declared.walk.barrier.BarrierKind.{BarrierKind}
 use Rattle.raw_tree.specs.declared.walk.barrier.BarrierKind.TheVariants as kind
@@ -152,19 +152,37 @@ pub record IsBegun (document : RawDocument) (offset : ℕ) (walk : Walk) (level 
   pub offset_is : level.offset ≡ offset
   pub start_is : level.start ≡ 0
 
--- visits to come
+-- visits so far
 
--- of a level, of which this is left, and begins at this offset: so many levels may be inside
-abbrev pub AreAhead : ℕ → Option (List ℕ) → (offset : ℕ) → List Visit → Type 0
-AreAhead inside None offset vs = ⊥
-AreAhead inside (Some s) offset vs = (frames : List Frame) × IsWalk s frames Done × VisitsEach (HasVisits inside) offset frames vs
+-- A level that waits: these frames of the bytes b were passed, with these visits. The value of the frame behind them holds the
+-- level that was entered, which begins at `first`. So many levels may be inside that.
+pub record IsEntered (inside start : ℕ) (b : List ℕ) (w : Wait) : Type 0 where
+  pub frames : List Frame
+  pub before : List Visit
+  pub s : List ℕ
+  pub f : Frame
+  pub r : List ℕ
+  pub v : RawValue
+  pub d : List ℕ
+  pub first : ℕ
+  pub reaches : LeadsTo (drop 4 b) frames s
+  pub visits : VisitsEach (HasVisits (suc inside)) (start + 4) frames before
+  pub frame : IsFrame s f r
+  pub means : Means f (value v)
+  pub holds : Holds v d
+  pub ends : first + length d ≡ w.offset
+  pub left_is : w.elements ≡ Some r
+  pub far : w.offset ≡ end_of (start + 4) frames + size_of f
 
--- and of those that wait for it, the outermost first, inside of which so many may be
-abbrev pub AreToCome : ℕ → List Wait → Option (List ℕ) → (offset : ℕ) → List Visit → Type 0
-AreToCome inside [] left offset vs = AreAhead inside left offset vs
-AreToCome zero (w ∷ ws) left offset vs = ⊥
-AreToCome (suc inside) (w ∷ ws) left offset vs =
-    (inner own : List Visit) × AreToCome inside ws left offset inner × AreAhead (suc inside) w.elements w.offset own × (vs ≡ inner ++ leave ∷ own)
+-- The visits so far of the bytes b, which begin at `start`, where these levels wait, the outermost first: of each level those of the
+-- frames that were passed, and the entry into the next one. Of the innermost level this is left, and begins at this offset. So many
+-- levels may be inside b.
+abbrev pub HasSeen : ℕ → (start : ℕ) → List ℕ → List Wait → Option (List ℕ) → (offset : ℕ) → List Visit → Type 0
+HasSeen inside start b [] left offset seen =
+    (frames : List Frame) × HasRead (drop 4 b) frames left × VisitsEach (HasVisits inside) (start + 4) frames seen × (offset ≡ end_of (start + 4) frames)
+HasSeen zero start b (w ∷ ws) left offset seen = ⊥
+HasSeen (suc inside) start b (w ∷ ws) left offset seen =
+    (is : IsEntered inside start b w) × (inner : List Visit) × HasSeen inside is.first is.d ws left offset inner × (seen ≡ is.before ++ enter (end_of (start + 4) is.frames) is.f is.v ∷ inner)
 
 -- a walk over this document, for whose innermost level so many may wait
 pub record IsWalking (document : RawDocument) (most : ℕ) (walk : Walk) (level : Level) : Type 0 where
@@ -173,13 +191,12 @@ pub record IsWalking (document : RawDocument) (most : ℕ) (walk : Walk) (level 
   pub document_is : walk.document ≡ document
   pub most_is : walk.most_waiting ≡ most
 
--- So far it has come to these visits: if the document has visits, they are the first of those.
+-- and so far it has come to these visits
 pub record HasCome (document : RawDocument) (most : ℕ) (walk : Walk) (level : Level) (seen : List Visit) : Type 0 where
   pub walking : IsWalking document most walk level
-  pub ahead : (vs : List Visit) → HasVisits (suc most) 0 (bytes_of document) vs
-      → (rest : List Visit) × AreToCome most walking.waits level.elements level.offset rest × (vs ≡ seen ++ rest)
+  pub seen_is : HasSeen most 0 (bytes_of document) walking.waits level.elements level.offset seen
 
--- the document keeps to the limits so far, and the walk has come to nothing
+-- The document has few enough bytes, and the walk has come to nothing. Its depth isn't known yet.
 pub record BeginsWithin (limits : Limits) (document : RawDocument) (walk : Walk) (level : Level) : Type 0 where
   pub few : length (bytes_of document) ≤ limits.bytes
   pub most : ℕ
@@ -232,14 +249,19 @@ LeavesOrEnds old from ws new to true =
     × ResumesBehind w to.elements to.number to.offset to.start
 LeavesOrEnds old from ws new to false = (t : Tree) × ReadsUpTo (suc old.most_waiting) as_document (bytes_of old.document) t × (ws ≡ []) × IsAtFinal from.elements
 
+-- a barrier is at this offset
+abbrev pub IsThere : (offset : ℕ) → WalkError → Type 0
+IsThere offset (error.Barrier answer) = answer.place.offset ≡ offset
+IsThere offset error.OutOfMemory = Unit {0}
+
 -- behind an event: the walk has come to this visit, too, and some bytes have been passed
 pub record ComesTo (document : RawDocument) (most : ℕ) (from : Level) (seen : List Visit) (walk : Walk) (to : Level) (x : Visit) : Type 0 where
   pub come : HasCome document most walk to (seen ++ x ∷ [])
   pub further : from.offset < to.offset
   pub within : to.offset ≤ length (bytes_of document)
 
--- What a walk over this document comes to, for whose innermost level so many may wait. So far it has come to these visits, and is at
--- the level `from`; then it is at the level `to`.
+-- What a walk over this document comes to, for whose innermost level so many may wait. So far it has come to these visits, and is in
+-- the level `from`; then it is in the level `to`. At the end these are all visits of the document, and a barrier is behind them.
 abbrev pub Comes : RawDocument → (most : ℕ) → List Visit → Walk → (from : Level) → Walk → (to : Level) → Result Event WalkError → Type 0
 Comes document most seen old from new to (Ok (event.Whole e v)) =
     ComesTo document most from seen new to (whole from.offset (frame_of e) (value_of v)) × IsSingle (value_of v) × (to.number ≡ from.number + 1)
@@ -250,4 +272,4 @@ Comes document most seen old from new to (Ok event.Leave) =
     ComesTo document most from seen new to leave × (0 < to.number) × (length old.waiting.items ≡ suc (length new.waiting.items))
 Comes document most seen old from new to (Ok event.End) =
     HasVisits (suc most) 0 (bytes_of document) seen × ((t : Tree) × ReadsUpTo (suc most) as_document (bytes_of document) t) × (old.waiting.items ≡ [])
-Comes document most seen old from new to (Err e) = TellsError most (bytes_of document) e
+Comes document most seen old from new to (Err e) = TellsError most (bytes_of document) e × IsThere from.offset e

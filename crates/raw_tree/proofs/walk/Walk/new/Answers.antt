@@ -25,5 +25,5 @@ returns-clause-come c first =
     let left : c.in-Some.elements ≡ Some (drop c.args.start.offset (bytes_of c.args.document)) = rw c.in-Some.is at c.from_offset.ensures.left in
     record {
       walking = record { waits = []; along = returns-clause-along c; document_is = refl; most_is = refl };
-      ahead = λ vs has. (vs, rw (left, first) has, refl);
+      seen_is = rw (left, first) ([], refl, refl, refl);
     }

@@ -2,7 +2,7 @@ use Rattle.std.proofs.Common.{refl, subst}
 use Rattle.raw_tree.proofs.Common.{err_from_is_err_and, fault_of}
 use Rattle.raw_tree.proofs.walk.Common.{HasValue}
 use Rattle.raw_tree.specs.declared.walk.barrier.BarrierKind.TheVariants as kind
-use Rattle.raw_tree.proofs.walk.Come.{come_told, comes_end, comes_inside, comes_outside, comes_whole}
+use Rattle.raw_tree.proofs.walk.Come.{barred_there, come_told, comes_end, comes_inside, comes_outside, comes_whole, deep_there}
 use Rattle.raw_tree.proofs.walk.Levels.{at_deep, at_fault, deep_told, told_at}
 use Rattle.raw_tree.proofs.walk.Walk.next.Goals as goal
 
@@ -30,11 +30,12 @@ returns-in_err-enter-in-Inside c = record {
       let self = c.args.self.now in
       let along = is.walking.along in
       let looks = rw c.in-Inside.is at c.look.ensures.sees in
+      let e = c.in_err-enter-in-Inside.field-0.0 in
+      let deep = c.in_err-enter-in-Inside.ensures.ends is.walking.waits along.are_stored in
       let ends = deep_told self c.args.level.now is.walking.waits c.in-Inside.element
-      (λ full. at_deep along.at c.look.new.elements c.in-Inside.element c.in-Inside.inner.document looks full)
-      c.in_err-enter-in-Inside.field-0.0 (c.in_err-enter-in-Inside.ensures.ends is.walking.waits along.are_stored) in
+      (λ full. at_deep along.at c.look.new.elements c.in-Inside.element c.in-Inside.inner.document looks full) e deep in
       let p = err_from_is_err_and c.from_residual.result c.from_residual.ensures.1 in
-      rw p.1 (rw p.2 (come_told is _ ends));
+      rw p.1 (rw p.2 (come_told is e ends, deep_there self c.args.level.now is.walking.waits c.in-Inside.element e deep));
 }
 
 pub returns-in_ok-enter-in-Inside : goal.returns-in_ok-enter-in-Inside
@@ -54,9 +55,10 @@ returns-in-Fault c = record {
       let along = is.walking.along in
       let looks = rw c.in-Fault.is at c.look.ensures.sees in
       let bad = at_fault along.at c.look.new.elements c.in-Fault.key c.in-Fault.error looks in
-      come_told is c.barrier.result
-      (told_at self is.walking.waits _ c.args.level.now.offset (kind.Fault c.in-Fault.error) (fault_of bad.0, (bad.0, refl, bad.2), bad.1) c.barrier.result
-      (c.barrier.ensures is.walking.waits along.are_stored));
+      let at = c.barrier.ensures is.walking.waits along.are_stored in (
+        come_told is c.barrier.result (told_at self is.walking.waits _ c.args.level.now.offset (kind.Fault c.in-Fault.error) (fault_of bad.0, (bad.0, refl, bad.2), bad.1) c.barrier.result at),
+        barred_there is.walking.waits _ c.args.level.now.offset (kind.Fault c.in-Fault.error) c.barrier.result at,
+      );
 }
 
 pub returns-then-leave : goal.returns-then-leave
