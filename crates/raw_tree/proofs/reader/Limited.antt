@@ -16,7 +16,7 @@ read_within limits b t few h = record {
 }
 
 module _ (limits : Limits) (b : List ℕ) where
-  to_depth : (t : Tree) → ReadsWithin limits b t → ReadsUpTo limits.depth as_document b t
+  pub to_depth : (t : Tree) → ReadsWithin limits b t → ReadsUpTo limits.depth as_document b t
   to_depth t h = read_to_depth limits.depth as_document b t h.shallow.0 h.read h.shallow.1 h.shallow.2
 
   either_way : IsEnvelope b → ((t : Tree) × ReadsWithin limits b t) ⊎ ((x : Barrier) × FirstBarrier limits b x)

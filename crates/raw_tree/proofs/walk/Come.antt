@@ -4,9 +4,9 @@ use Rattle.raw_tree.proofs.Common.{IsSingle, Nested, RawBsonRef, RawElement, Rea
 use Rattle.raw_tree.proofs.walk.Common.{ComesTo, HasCome, HasSeen, HasVisits, BarrierKind, IsAlong, IsBarrierAt, IsFurther, IsTooDeep, Level, RawDocument, Step, TellsError, Visit, Wait, Walk, WalkError, enter, leave, whole}
 use Rattle.raw_tree.specs.walk.Looking.{IsHeldBy, IsValueOf}
 use Rattle.raw_tree.specs.declared.walk.WalkError.TheVariants as error
-use Rattle.raw_tree.specs.walk.Walks.{Enters, IsThere, LeavesOrEnds, Passes}
+use Rattle.raw_tree.specs.walk.Walks.{EndsWithin, Enters, IsThere, LeavesOrEnds, Passes}
 use Rattle.raw_tree.proofs.reader.Stacks.{held_holds}
-use Rattle.raw_tree.proofs.walk.Levels.{at_within}
+use Rattle.raw_tree.proofs.walk.Levels.{at_size, at_within}
 use Rattle.raw_tree.proofs.walk.Offsets.{stored_many}
 use Rattle.raw_tree.proofs.walk.Passed.{left_now, next_inside, next_whole}
 use Rattle.raw_tree.proofs.walk.Visits.{seen_all, seen_front, seen_inside, seen_outside, seen_whole}
@@ -38,14 +38,16 @@ module _ {document : RawDocument} {most : ℕ} {walk : Walk} {level : Level} {se
 
   module _ (new : Walk) (to : Level) (document_same : new.document ≡ walk.document) (most_same : new.most_waiting ≡ walk.most_waiting) where
     -- one visit more
-    comes_to : (x : Visit) (ws : List Wait) → IsFurther level new to ws → HasSeen most 0 (bytes_of document) ws to.elements to.offset (seen ++ x ∷ []) → ComesTo document most level seen new to x
-    comes_to x ws further seen_is = record {
+    comes_to : (x : Visit) (ws : List Wait) → EndsWithin (bytes_of walk.document) x → IsFurther level new to ws
+        → HasSeen most 0 (bytes_of document) ws to.elements to.offset (seen ++ x ∷ []) → ComesTo document most level seen new to x
+    comes_to x ws ends further seen_is = record {
       come = record {
         walking = record { waits = ws; along = further.along; document_is = document_same ∙ is.walking.document_is; most_is = most_same ∙ is.walking.most_is };
         seen_is = seen_is;
       };
       further = further.further;
       within = subst (λ (d : RawDocument). to.offset ≤ length (bytes_of d)) (document_same ∙ is.walking.document_is) further.within;
+      ends = subst (λ (d : RawDocument). EndsWithin (bytes_of d) x) is.walking.document_is ends;
     }
 
     pub comes_whole : (e : RawElement) (v : RawBsonRef) → Passes new level is.walking.waits to e → IsValueOf v e → IsSingle (value_of v)
@@ -53,7 +55,7 @@ module _ {document : RawDocument} {most : ℕ} {walk : Walk} {level : Level} {se
     comes_whole e v (further, looks, far, start_is, number_is) value single =
         let (u, none, at) = next_whole is.walking.along.at.is to.elements e looks in
         let waits = is.walking.waits in
-        comes_to (whole level.offset (frame_of e) (value_of v)) waits further (rw (at.new_is, far)
+        comes_to (whole level.offset (frame_of e) (value_of v)) waits (at_size is.walking.along.at to.elements (frame_of e) u at).1 further (rw (at.new_is, far)
         (seen_whole (value_of v) most 0 (bytes_of document) waits level.offset seen at.frame value single (rw at.old_is at is.seen_is)))
 
     pub comes_inside : (e : RawElement) (inner : Nested) (w : Wait) → Enters level is.walking.waits w new to e inner.document → IsHeldBy inner e
@@ -66,7 +68,7 @@ module _ {document : RawDocument} {most : ℕ} {walk : Walk} {level : Level} {se
         let entered = seen_inside w most 0 (bytes_of document) waits level.offset seen
         (record { frame = at.frame; means = held; holds = held_holds inner.holder (bytes_of inner.document); ends = opened.starts; left_is = at.new_is; far = far }) few
         (rw at.old_is at is.seen_is) in (
-          comes_to (enter level.offset (frame_of e) (held_value inner)) (waits ++ w ∷ []) further (rw (opened.left_is, first) entered),
+          comes_to (enter level.offset (frame_of e) (held_value inner)) (waits ++ w ∷ []) (at_size is.walking.along.at w.elements (frame_of e) u at).1 further (rw (opened.left_is, first) entered),
           omega (arith, many_wait further.along, many_wait is.walking.along, length-append waits (w ∷ [])),
         )
 
@@ -75,7 +77,7 @@ module _ {document : RawDocument} {most : ℕ} {walk : Walk} {level : Level} {se
     comes_outside (outer, w, same, further, over, goes) =
         let (s, left) = left_now is.walking.along.at.is in
         let seen_is = subst (λ (ws : List Wait). HasSeen most 0 (bytes_of document) ws (Some s) level.offset seen) same (rw left at is.seen_is) in (
-          comes_to leave outer further (rw (goes.elements_are, goes.offset_is) (seen_outside w most 0 (bytes_of document) outer s level.offset seen (over s left) seen_is)),
+          comes_to leave outer tt further (rw (goes.elements_are, goes.offset_is) (seen_outside w most 0 (bytes_of document) outer s level.offset seen (over s left) seen_is)),
           omega (arith, goes.number_is),
           omega (arith, many_wait further.along, many_wait is.walking.along, ap length same, length-append outer (w ∷ [])),
         )

@@ -141,7 +141,7 @@ module _ {depth : ℕ} {b : List ℕ} {ws : List Wait} {old : Option (List ℕ)}
       (omega (arith, passed_left at.inside at.d old number at.is, ends.0, ends.1), omega (arith, at.begins, ends.1))
 
   -- what is behind an element begins behind it, and within b
-  at_size : (new : Option (List ℕ)) (f : Frame) (v : RawValue) → IsNext at.inside at.d old new number f v → (size_of f + left_of new ≡ left_of old) × (offset + size_of f ≤ length b)
+  pub at_size : (new : Option (List ℕ)) (f : Frame) (v : RawValue) → IsNext at.inside at.d old new number f v → (size_of f + left_of new ≡ left_of old) × (offset + size_of f ≤ length b)
   at_size new f v is = (next_size is, omega (arith, next_size is, at_within.1))
 
   pub at_whole_size : (new : Option (List ℕ)) (e : RawElement) → Looks old new (next.Whole e)

@@ -254,11 +254,18 @@ abbrev pub IsThere : (offset : ℕ) → WalkError → Type 0
 IsThere offset (error.Barrier answer) = answer.place.offset ≡ offset
 IsThere offset error.OutOfMemory = Unit {0}
 
+-- the frame of an element that is visited ends within the bytes b
+abbrev pub EndsWithin : List ℕ → Visit → Type 0
+EndsWithin b (whole offset f v) = offset + size_of f ≤ length b
+EndsWithin b (enter offset f v) = offset + size_of f ≤ length b
+EndsWithin b leave = Unit {0}
+
 -- behind an event: the walk has come to this visit, too, and some bytes have been passed
 pub record ComesTo (document : RawDocument) (most : ℕ) (from : Level) (seen : List Visit) (walk : Walk) (to : Level) (x : Visit) : Type 0 where
   pub come : HasCome document most walk to (seen ++ x ∷ [])
   pub further : from.offset < to.offset
   pub within : to.offset ≤ length (bytes_of document)
+  pub ends : EndsWithin (bytes_of document) x
 
 -- What a walk over this document comes to, for whose innermost level so many may wait. So far it has come to these visits, and is in
 -- the level `from`; then it is in the level `to`. At the end these are all visits of the document, and a barrier is behind them.
