@@ -1,2 +1,1 @@
 pub mod Flattening
-pub mod Within

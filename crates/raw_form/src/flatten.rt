@@ -1,7 +1,8 @@
 //! The elements of all levels as tokens.
 #![tactic(auto)]
 
-ghost use Rattle.raw_form.specs.Flattening.{FlattensTo, IsAtDocument};
+ghost use Rattle.std.specs.Prelude.{◌≤◌, ℕ, suc, length};
+ghost use Rattle.raw_form.specs.Flattening.{IsAtDocument};
 ghost use Rattle.raw_tree.specs.Places.{AllAreBarredAtOnePlace};
 ghost use Rattle.raw_form.specs.Tokens.{Flattens};
 ghost use Rattle.raw_tree.specs.WithinLimits.{AllAreAnsweredOneWay};
@@ -45,14 +46,16 @@ fn flatten_to<'a>(
     most_waiting: MostWaiting,
     tokens: &mut [Token],
 ) -> std::result::Result<usize, FlattenError<'a>>
-    ensures { FlattensTo most_waiting (bytes_of document.entry) tokens.old tokens.new result }
+    ensures { (bytes : ℕ)
+        → length (bytes_of document.entry) ≤ bytes
+        → Flattens (record { bytes = bytes; depth = suc most_waiting }) (bytes_of document.entry) tokens.old tokens.new result }
 {
     let (mut walk, mut level) = Walk::new(alloc, document, FIRST, most_waiting);
     let mut places: Vec<u32> = Vec::new(alloc);
     let mut count = 0;
     'events: loop {
         let offset = level.offset;
-        let depth = places.len();
+        let depth = places.len() as u32;
         match walk.next(alloc, &mut level) {
             Ok(Event::Whole(element, _)) => {
                 put_at(tokens, count, Token::new(depth, offset, element));

@@ -31,15 +31,14 @@ pub struct Token {
 impl Token {
     /// The token of an element at this offset, with none inside.
     #[inline(always)]
-    pub(crate) fn new(depth: usize, offset: usize, element: RawElement<'_>) -> Token
-        requires small { offset + (2 + (length (frame_of element).key + length (frame_of element).payload)) < 2 ^ 32 }
-        requires shallow { depth < 2 ^ 32 }
+    pub(crate) fn new(depth: u32, offset: usize, element: RawElement<'_>) -> Token
+        requires { offset + (2 + (length (frame_of element).key + length (frame_of element).payload)) < 2 ^ 32 }
         ensures { IsTokenOf depth offset (frame_of element.entry) 0 result }
     {
         let key_len = element.key().len() as u32;
         Token {
             tag: element.element_type().to_tag() as u32,
-            depth: depth as u32,
+            depth,
             key_at: offset as u32 + 1,
             key_len,
             payload_at: offset as u32 + 2 + key_len,
@@ -50,7 +49,6 @@ impl Token {
 }
 
 /// Says how many tokens are inside the one at this place, if the room has it.
-#[tactic(auto, using(crate::proofs::flatten::Flattening::inside_one, crate::proofs::flatten::Flattening::inside_past))]
 pub(crate) fn set_inside(tokens: &mut [Token], place: usize, inside: usize)
     requires { inside < 2 ^ 32 }
     ensures { tokens.new ≡ with_inside place inside tokens.old }

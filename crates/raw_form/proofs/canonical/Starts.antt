@@ -1,8 +1,8 @@
 -- A search for the first barrier may begin at the element of the outermost level that breaches or holds what breaches, and what
 -- is before that is written as it is.
-use Rattle.std.proofs.Common.{◌≡◌, ◌≢◌, ◌∙◌, ◌≤◌, ◌-◌, ◌∷◌, [], ℕ, zero, suc, List, Option, None, Some, ◌⊎◌, ◌<◌, map, slice_index_or, length, drop, arith, ap, refl, sym, length-drop}
-use Rattle.raw_form.proofs.canonical.Common.{AreFramesCanonical, AreReadBefore, BeginsAt, FirstViolationTo, Frame, HasNoneBefore, IsAt, IsBehind, IsCanonicalUpTo, IsEnvelope, ValidatesFrontAt}
-use Rattle.raw_form.proofs.canonical.Common.{ValidatesMeaningAt, LeadsTo, LeadsTo-bound, Meaning, PathStep, Sort, Start, Step, Violation, Wait, as_document, canonical_frames_read, one_frame, step_of}
+use Rattle.std.proofs.Common.{◌≡◌, ◌≢◌, ◌∙◌, ◌≤◌, ◌∷◌, [], ℕ, zero, suc, List, None, Some, map, slice_index_or, length, drop, arith, ap, refl, sym, length-drop}
+use Rattle.raw_form.proofs.canonical.Common.{AreFramesCanonical, BeginsAt, FirstViolationTo, Frame, HasNoneBefore, IsBehind, IsCanonicalUpTo, ValidatesFrontAt}
+use Rattle.raw_form.proofs.canonical.Common.{ValidatesMeaningAt, LeadsTo, Meaning, PathStep, Sort, Start, Step, Violation, as_document, canonical_frames_read, one_frame, step_of}
 use Rattle.raw_form.proofs.canonical.Common.{steps_of}
 use Rattle.raw_tree.specs.ValidationSteps.{TellsFound, TellsOutermost, violation_of}
 use Rattle.raw_form.specs.Staying.{TellsStart}

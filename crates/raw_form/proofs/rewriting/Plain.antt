@@ -5,7 +5,6 @@ use Rattle.raw_form.proofs.canonical.Common.{payload_of, regular_expression, tre
 use Rattle.std.proofs.Math.Logic.{∥∥₁_elim}
 use Rattle.std.proofs.Props.{props}
 use Rattle.raw_view.specs.Meaning as raw
-use Rattle.raw_view.specs.declared.element_type.ElementType.TheVariants as kind
 
 -- a leaf of a plain kind stays as it is
 kept : (l : Leaf) → IsPlain (kind_of_leaf l) → leaf_in_order l ≡ l
