@@ -1,125 +1,102 @@
--- A document that is printed block by block.
-use Rattle.bson_json.proofs.Common.{Grows, GrowsFront, HasFront, IsJson, Level, Moves, Reads, ReadsUpTo, Style, Tree, after, end_text, level_sort}
-use Rattle.std.proofs.Common.{◌≡◌, ◌<◌, ◌⊎◌, inl, inr, ◌∷◌, ◌++◌, [], ℕ, List, Some, codes, length, refl, sym, ap, ◌∙◌, subst, append_assoc, append-nil}
-use Rattle.raw_tree.specs.Reading as reading
-use Rattle.bson_json.specs.declared.level.Sort.TheVariants as sort
-use Rattle.bson_json.proofs.Left.{AllReadable, readable_deep, readable_left}
-use Rattle.bson_json.proofs.Printing.{IsPrinting, opened, printing_begins, printing_closes, printing_ends, reads_begin}
-use Rattle.bson_json.proofs.Texts.{all_left_has}
+-- A text that is written block by block, of a document that may have a barrier.
+use Rattle.bson_json.proofs.Common.{Grows, GrowsFront, Guards, IsJson, Limits, Moves, PrintError, ReadsWithin, Style, TellsBarrier, TellsError, TellsPassError, TellsPrintError, Tree, WroteBefore, WroteWithin, error_of}
+use Rattle.std.proofs.Common.{◌≡◌, ◌≤◌, ◌++◌, [], inl, inr, Bool, true, false, ℕ, suc, List, Some, Result, Ok, Err, IfErr, IsErrAnd, length, refl, sym, ap, ◌∙◌, subst, append_assoc, append-nil}
+use Rattle.raw_tree.specs.Barriers.{TellsBarrierWithin}
+use Rattle.raw_tree.specs.declared.walk.barrier.Barrier.{Barrier}
+use Rattle.raw_tree.specs.declared.walk.WalkError.{WalkError}
+use Rattle.raw_tree.specs.declared.walk.WalkError.TheVariants as error
+use Rattle.raw_tree.proofs.Face.{barrier_told}
+use Rattle.bson_json.specs.declared.print.Failure.{Failure}
+use Rattle.bson_json.specs.declared.print.Failure.TheVariants as failure
+use Rattle.bson_json.specs.declared.print.PrintError.TheVariants as print
 
--- so many levels are as many as may be read, or the document b is read with as many
-abbrev pub Suffices : (depth : ℕ) → List ℕ → ℕ → Type 0
-Suffices depth b n = (n ≡ depth) ⊎ ((t : Tree) × ReadsUpTo n reading.as_document b t)
+-- what `?` returns is told as what it was made of
+pub told_as : {T : Type 0} (P : PrintError → Type 0) (r : Result T PrintError) (e : PrintError) → IsErrAnd r (λ y. y ≡ e) → P e → IfErr r P
+told_as P (Ok x) e is told = absurd is
+told_as P (Err y) e is told = subst P (sym is) told
 
 module _ {S : Type 0} (has : S → ℕ → List ℕ → Type 0) where
-  pub grows_nil : (old : S) → Grows has old old []
+  grows_nil : (old : S) → Grows has old old []
   grows_nil old most text h = subst (λ (x : List ℕ). has old most x) (sym (append-nil text)) h
 
-  pub grows_trans : (old now new : S) (bs cs : List ℕ) → Grows has old now bs → Grows has now new cs → Grows has old new (bs ++ cs)
+  grows_trans : (old now new : S) (bs cs : List ℕ) → Grows has old now bs → Grows has now new cs → Grows has old new (bs ++ cs)
   grows_trans old now new bs cs f g most text h = subst (λ (x : List ℕ). has new most x) (append_assoc text bs cs) (g most (text ++ bs) (f most text h))
 
-  -- a front behind what was passed
-  behind_passed : (passed block more : List ℕ) (old now new : S) → Grows has old now passed → GrowsFront has now new block → GrowsFront has old new ((passed ++ block) ++ more)
-  behind_passed passed block more old now new put f = record {
-    front = passed ++ f.front;
-    behind = f.behind ++ more;
-    whole = append_assoc passed block more ∙ ap (λ (x : List ℕ). passed ++ (x ++ more)) f.whole ∙ ap (λ (x : List ℕ). passed ++ x) (append_assoc f.front f.behind more)
-        ∙ sym (append_assoc passed f.front (f.behind ++ more));
-    put = grows_trans old now new passed f.front put f.put;
+  -- what was written, and the block behind it, which wasn't yet, are this text
+  pub record IsHeld (old now : S) (block text : List ℕ) : Type 0 where
+    pub passed : List ℕ
+    pub put : Grows has old now passed
+    pub whole : passed ++ block ≡ text
+
+module _ {S : Type 0} {has : S → ℕ → List ℕ → Type 0} {old now : S} {block text : List ℕ} (held : IsHeld has old now block text) where
+  pub held_moves : (new : S) (left : List ℕ) → Moves has now new block left → IsHeld has old new left text
+  held_moves new left moves = record {
+    passed = held.passed ++ moves.moved;
+    put = grows_trans has old now new held.passed moves.moved held.put moves.put;
+    whole = append_assoc held.passed moves.moved left ∙ ap (λ (x : List ℕ). held.passed ++ x) (sym moves.whole) ∙ held.whole;
   }
 
-  module _ (style : Style) (depth : ℕ) (b : List ℕ) where
-    -- what is written of the document b, and the block behind it, which isn't yet
-    pub record IsHalfway (ws : List Level) (l : Level) (old now : S) (block : List ℕ) : Type 0 where
-      pub passed : List ℕ
-      pub put : Grows has old now passed
-      pub printing : (n : ℕ) → Suffices depth b n → IsPrinting style b n ws l (passed ++ block)
-      pub readable : (n : ℕ) (t : Tree) → ReadsUpTo n reading.as_document b t → AllReadable n ws l
-
-  module _ (style : Style) (b : List ℕ) where
-    -- a text of which all but the block was written
-    pub record IsPrinted (old now : S) (block : List ℕ) : Type 0 where
-      pub passed : List ℕ
-      pub put : Grows has old now passed
-      pub json : IsJson style b (passed ++ block)
-
-  module _ (style : Style) (depth : ℕ) (b : List ℕ) where
-    pub halfway_begins : (old : S) (block : List ℕ) → block ≡ codes "{" → IsHalfway style depth b [] (opened b sort.Document) old old block
-    halfway_begins old block is = record {
-      passed = [];
-      put = grows_nil old;
-      printing = λ n _. subst (IsPrinting style b n [] (opened b sort.Document)) (sym is) (printing_begins style b n);
-      readable = reads_begin b;
-    }
-
-module _ {S : Type 0} {has : S → ℕ → List ℕ → Type 0} {style : Style} {depth : ℕ} {b : List ℕ} {ws : List Level} {l : Level} {old now : S} {block : List ℕ}
-    (is : IsHalfway has style depth b ws l old now block) where
-  -- there are enough levels for those that wait
-  pub deep : length ws < depth → (n : ℕ) → Suffices depth b n → length ws < n
-  deep few n (inl same) = subst (λ (m : ℕ). length ws < m) (sym same) few
-  deep few n (inr (t, reads)) = readable_deep n ws l (is.readable n t reads)
-
-  -- a piece more is in the block
-  pub halfway_grows : (after_ws : List Level) (next : Level) (more piece : List ℕ) → more ≡ block ++ piece
-      → ((n : ℕ) → Suffices depth b n → (told : List ℕ) → IsPrinting style b n ws l told → IsPrinting style b n after_ws next (told ++ piece))
-      → ((n : ℕ) → AllReadable n ws l → AllReadable n after_ws next) → IsHalfway has style depth b after_ws next old now more
-  halfway_grows after_ws next more piece grown steps reads = record {
-    passed = is.passed;
-    put = is.put;
-    printing = λ n enough. subst (IsPrinting style b n after_ws next) (append_assoc is.passed block piece ∙ ap (λ (x : List ℕ). is.passed ++ x) (sym grown))
-        (steps n enough (is.passed ++ block) (is.printing n enough));
-    readable = λ n t h. reads n (is.readable n t h);
+  pub held_more : (piece more : List ℕ) → more ≡ block ++ piece → IsHeld has old now more (text ++ piece)
+  held_more piece more put = record {
+    passed = held.passed;
+    put = held.put;
+    whole = ap (λ (x : List ℕ). held.passed ++ x) put ∙ sym (append_assoc held.passed block piece) ∙ ap (λ (x : List ℕ). x ++ piece) held.whole;
   }
 
-  pub halfway_moves : (new : S) (left : List ℕ) → Moves has now new block left → IsHalfway has style depth b ws l old new left
-  halfway_moves new left moves = record {
-    passed = is.passed ++ moves.moved;
-    put = grows_trans has old now new is.passed moves.moved is.put moves.put;
-    printing = λ n enough. subst (IsPrinting style b n ws l) (ap (λ (x : List ℕ). is.passed ++ x) moves.whole ∙ sym (append_assoc is.passed moves.moved left)) (is.printing n enough);
-    readable = is.readable;
-  }
+  pub held_whole : (new : S) → Grows has now new block → Grows has old new text
+  held_whole new put = subst (Grows has old new) held.whole (grows_trans has old now new held.passed block held.put put)
 
-  -- what was told goes on to a text
-  goes_on : (t : Tree) → Reads b t → (more : List ℕ) × IsJson style b ((is.passed ++ block) ++ more)
-  goes_on t (n, reads) =
-      let (more, left) = all_left_has style n 0 ws l (is.readable n t reads) in
-      (more, (n, (is.printing n (inr (t, reads))).rest more left))
+-- the text goes on to one of the document b, where b is read
+abbrev pub IsFrontOf : Style → Limits → (b text : List ℕ) → Type 0
+IsFrontOf style limits b text = (t : Tree) → ReadsWithin limits b t → (more : List ℕ) × IsJson style b (text ++ more)
 
-  -- the writer holds a front of a text, also where it takes a front of the block
-  pub halfway_front : (t : Tree) → Reads b t → HasFront has style b old now
-  halfway_front t reads =
-      let (more, json) = goes_on t reads in (
-        (is.passed ++ block) ++ more,
-        json,
-        record { front = is.passed; behind = block ++ more; whole = append_assoc is.passed block more; put = is.put },
-      )
+module _ {S : Type 0} {has : S → ℕ → List ℕ → Type 0} (style : Style) {limits : Limits} {b : List ℕ} {old now : S} {block text : List ℕ}
+    (held : IsHeld has old now block text) (is : IsFrontOf style limits b text) where
+  wrote_within : (new : S) (t : Tree) → ReadsWithin limits b t → GrowsFront has now new block → WroteWithin has style limits b old new
+  wrote_within new t within f =
+      let (more, json) = is t within in
+      let front : GrowsFront has old new (text ++ more) = record {
+        front = held.passed ++ f.front;
+        behind = f.behind ++ more;
+        whole = ap (λ (x : List ℕ). x ++ more) (sym held.whole ∙ ap (λ (x : List ℕ). held.passed ++ x) f.whole) ∙ simp append_assoc refl;
+        put = grows_trans has old now new held.passed f.front held.put f.put;
+      } in
+      (t, within, (text ++ more, json, front))
 
-  pub block_front : (new : S) (t : Tree) → Reads b t → GrowsFront has now new block → HasFront has style b old new
-  block_front new t reads f =
-      let (more, json) = goes_on t reads in ((is.passed ++ block) ++ more, json, behind_passed has is.passed block more old now new is.put f)
+  wrote_before : (unseen : Bool) → Guards limits b unseen old now → WroteBefore has style limits b old now (print.Failure failure.OutOfMemory)
+  wrote_before true guard = inl guard
+  wrote_before false guard = inr (wrote_within now guard.t guard.within (record { front = []; behind = block; whole = refl; put = grows_nil has now }))
 
--- a level is at its end
-pub halfway_closes : {S : Type 0} {has : S → ℕ → List ℕ → Type 0} {style : Style} {depth : ℕ} {b : List ℕ} {l : Level} {old now : S} {block : List ℕ}
-    (ws : List Level) (w : Level) (s more : List ℕ) → IsHalfway has style depth b (ws ++ w ∷ []) l old now block → length (ws ++ w ∷ []) < depth → l.elements ≡ Some s → s ≡ 0 ∷ []
-    → more ≡ block ++ (end_text style.layout (length (ws ++ w ∷ [])) (level_sort l.sort) l.first ++ after l.sort) → IsHalfway has style depth b ws w old now more
-halfway_closes {style = style} {b = b} {l = l} ws w s more is few e final grown =
-    halfway_grows is ws w more _ grown (λ n enough told printing. printing_closes style b n ws w l s told (deep is few n enough) printing e final) (λ n. readable_left n ws w l)
+  wrote_none : (unseen : Bool) (answer : Barrier) → Guards limits b unseen old now → TellsBarrier limits b (Some answer) → now ≡ old
+  wrote_none true answer guard told = guard
+  wrote_none false answer guard told = absurd (guard.none answer told)
 
-pub halfway_ends : {S : Type 0} {has : S → ℕ → List ℕ → Type 0} {style : Style} {depth : ℕ} {b : List ℕ} {l : Level} {old now : S} {block : List ℕ} (s more : List ℕ)
-    → IsHalfway has style depth b [] l old now block → 0 < depth → l.elements ≡ Some s → s ≡ 0 ∷ []
-    → more ≡ block ++ (end_text style.layout 0 (level_sort l.sort) l.first ++ after l.sort) → IsPrinted has style b old now more
-halfway_ends {style = style} {depth = depth} {b = b} {l = l} {block = block} s more is few e final grown =
-    let end = end_text style.layout 0 (level_sort l.sort) l.first ++ after l.sort in
-    record {
-      passed = is.passed;
-      put = is.put;
-      json = subst (IsJson style b) (append_assoc is.passed block end ∙ ap (λ (x : List ℕ). is.passed ++ x) (sym grown))
-          (printing_ends style b depth l s (is.passed ++ block) few (is.printing depth (inl refl)) e final);
-    }
+  module _ (few : length b ≤ limits.bytes) (careful unseen : Bool) (guard : careful ≡ true → Guards limits b unseen old now) where
+    -- a block isn't passed on
+    pub print_stops : (new : S) (e : PrintError) → TellsPassError has limits b unseen now new block e → TellsPrintError has style limits b careful old new e
+    print_stops new (print.Barrier answer) told = (told.0, λ safe. told.1 old (guard safe))
+    print_stops new (print.Failure failure.OutOfMemory) told =
+        (few, λ safe. elim (told old (guard safe)) [ inl same ↦ inl same | inr (seen, f) ↦ inr (wrote_within new seen.t seen.within f) ])
+    print_stops new (print.Failure (failure.Writing e)) told = (few, λ safe. let (seen, f) = told old (guard safe) in wrote_within new seen.t seen.within f)
 
-module _ {S : Type 0} {has : S → ℕ → List ℕ → Type 0} {style : Style} {b : List ℕ} {old now : S} {block : List ℕ} (is : IsPrinted has style b old now block) (new : S) where
-  pub printed_front : GrowsFront has now new block → HasFront has style b old new
-  printed_front f = (is.passed ++ block, is.json, subst (GrowsFront has old new) (append-nil (is.passed ++ block)) (behind_passed has is.passed block [] old now new is.put f))
+    -- memory ran out
+    pub print_fails : TellsPrintError has style limits b careful old now (print.Failure failure.OutOfMemory)
+    print_fails = (few, λ safe. wrote_before unseen (guard safe))
 
-  pub printed_whole : Grows has now new block → (text : List ℕ) × IsJson style b text × Grows has old new text
-  printed_whole put = (is.passed ++ block, is.json, grows_trans has old now new is.passed block is.put put)
+    -- the walk can't go on
+    pub print_barred : (most : ℕ) (e : WalkError) → suc most ≡ limits.depth → TellsError most b e → TellsPrintError has style limits b careful old now (error_of e)
+    print_barred most (error.Barrier answer) levels told =
+        let first = barrier_told limits b (Ok (Some answer)) few (subst (λ (n : ℕ). TellsBarrierWithin n b (Some answer)) levels told) in
+        (first, λ safe. wrote_none unseen answer (guard safe) first)
+    print_barred most error.OutOfMemory levels told = print_fails
+
+-- the document is read, and the last block isn't taken whole
+pub print_ends_early : {S : Type 0} {has : S → ℕ → List ℕ → Type 0} {limits : Limits} {b : List ℕ} {old now : S} {block text : List ℕ} (style : Style) (careful : Bool) (new : S) (f : Failure)
+    → IsHeld has old now block text → IsJson style b text → ((t : Tree) × ReadsWithin limits b t) → GrowsFront has now new block
+    → TellsPrintError has style limits b careful old new (print.Failure f)
+print_ends_early {has = has} {limits = limits} {b = b} {old = old} {text = text} style careful new f held json (t, within) taken =
+    tells f (wrote_within style held (λ _ _. ([], subst (IsJson style b) (sym (append-nil text)) json)) new t within taken)
+  where
+    tells : (f : Failure) → WroteWithin has style limits b old new → TellsPrintError has style limits b careful old new (print.Failure f)
+    tells failure.OutOfMemory wrote = (within.few_bytes, λ _. inr wrote)
+    tells (failure.Writing e) wrote = (within.few_bytes, λ _. wrote)

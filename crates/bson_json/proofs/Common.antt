@@ -41,8 +41,9 @@ pub use Rattle.raw_view.specs.declared.document.RawDocument.{RawDocument}
 pub use Rattle.raw_view.specs.declared.element.RawElement.{RawElement}
 pub use Rattle.raw_tree.specs.Barriers.{TellsBarrier}
 pub use Rattle.raw_tree.specs.Reading.{Holds, Reads, ReadsUpTo, StandsFor}
-pub use Rattle.raw_tree.specs.Waits.{Wait}
-pub use Rattle.raw_tree.specs.Walks.{BeginsWithin, Comes, IsAlong, IsFurther, LeavesOrEnds, TellsError}
+pub use Rattle.raw_tree.specs.Looking.{size_of}
+pub use Rattle.raw_tree.specs.Visits.{HasVisits, Visit, VisitsEach, VisitsLevel, VisitsValue}
+pub use Rattle.raw_tree.specs.Walks.{BeginsWithin, Comes, ComesTo, HasCome, TellsError}
 pub use Rattle.raw_tree.specs.WithinLimits.{ReadsWithin}
 pub use Rattle.raw_tree.specs.declared.reader.limits.Limits.{Limits}
 pub use Rattle.raw_tree.specs.declared.walk.Walk.{Walk}
@@ -51,7 +52,7 @@ pub use Rattle.bson_json.specs.Decimals.{behind_point, coefficient_of, combinati
 pub use Rattle.bson_json.specs.Doubles.{IsDoubleJson, IsDoubleText, IsWrappedDouble, wrapped_double}
 pub use Rattle.bson_json.specs.Json.{AreMembersJson, IsJson, IsJsonUpTo, IsValueJson, before_scope, closing, comma, end_text, head_text, line, member_key, opening}
 pub use Rattle.bson_json.specs.Leaves.{IsLeafJson, binary_json, boolean_json, int32_json, int64_json, object_id_json, pointer_json, regex_json, timestamp_json}
-pub use Rattle.bson_json.specs.Levels.{IsReadableUpTo, Level, PutsEvent, PutsOpening, PutsSingle, Suits, after, error_of, level_sort}
+pub use Rattle.bson_json.specs.Levels.{IsSingleJson, PutsEvent, PutsOpening, PutsSingle, Suits, after, end_of, error_of, head_of, level_sort, opening_text, sort_of}
 pub use Rattle.bson_json.specs.Passing.{Guards, IsSeen, TellsBriefly, TellsPassError, TellsPrintError, WroteBefore, WroteWithin}
 pub use Rattle.bson_json.specs.Written.{Grows, GrowsFront, HasFront, Moves, WroteFront}
 pub use Rattle.bson_json.specs.declared.decimals.Decimal.{Decimal}

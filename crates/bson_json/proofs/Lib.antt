@@ -4,15 +4,12 @@ pub mod Chunks
 pub mod Escapes
 pub mod Numbers
 pub mod Days
-pub mod Left
-pub mod Fronts
 pub mod Printing
-pub mod Passing
+pub mod Blocks
 pub mod Walking
 pub mod Utf8
 pub mod Exact
 pub mod Calendar
 pub mod Texts
-pub mod Blocks
 pub mod Sinks
 pub mod Lengths

@@ -1,150 +1,184 @@
--- The steps of printing the levels of a document.
-use Rattle.bson_json.proofs.Common.{Frame, Holds, IsFrame, IsJson, IsJsonUpTo, IsLeafJson, IsReadableUpTo, IsValueJson, Leaf, Level, Means, RawValue, ReadsUpTo, Style, Tree, after, before_scope, end_text, head_text, level_sort, value}
-use Rattle.std.proofs.Common.{◌≡◌, ◌+◌, ◌<◌, ℕ, zero, suc, Bool, true, false, List, [], ◌∷◌, ◌++◌, Option, Some, codes, length, length-append, drop, refl, sym, ap, ◌∙◌, subst, arith, append_assoc, append-nil}
+-- The text of what a walk over all levels of a document comes to.
+use Rattle.bson_json.proofs.Common.{AreMembersJson, Frame, HasVisits, IsJson, IsJsonUpTo, IsSingleJson, IsValueJson, RawValue, Style, Visit, VisitsEach, VisitsLevel, VisitsValue, after, before_scope, end_of, end_text, head_of, head_text, level_sort, opening, opening_text, size_of, sort_of}
+use Rattle.std.proofs.Common.{◌≡◌, ◌+◌, ℕ, zero, suc, Bool, true, false, List, [], ◌∷◌, ◌++◌, codes, length, length-append, refl, sym, ap, ◌∙◌, subst, arith, append_assoc, append-nil}
 use Rattle.raw_view.specs.Meaning as raw
 use Rattle.raw_tree.specs.Reading as reading
+use Rattle.raw_tree.specs.Visits.{whole, enter, leave}
 use Rattle.bson_json.specs.declared.level.Sort.{Sort}
 use Rattle.bson_json.specs.declared.level.Sort.TheVariants as sort
-use Rattle.bson_json.proofs.Left.{AllReadable, readable_changed, readable_entered, ReadsOn, Front, front, reads_on, held_read, GoesBehind, GoesInside, IsLast, LeftIn, LeftOf, AllLeft, left_changed, left_entered, left_closed}
+use Rattle.bson_json.proofs.Texts.{single_has}
 
--- what was told of the document b goes on with what is left, where at most n levels are read
-pub record IsPrinting (style : Style) (b : List ℕ) (n : ℕ) (ws : List Level) (l : Level) (told : List ℕ) : Type 0 where
-  pub rest : (text : List ℕ) → AllLeft style n 0 ws l text → IsJsonUpTo style n 0 reading.as_document b (told ++ text)
+-- Where a text is: levels of these sorts wait for the innermost, the outermost first; its sort, and whether nothing of it is printed yet.
+pub record Place : Type 0 where
+  pub waits : List Sort
+  pub sort : Sort
+  pub first : Bool
 
--- what is next where this is left: a frame that means a value, and the rest
-pub record IsNext (left : Option (List ℕ)) (f : Frame) (v : RawValue) (rest : Option (List ℕ)) : Type 0 where
-  pub s : List ℕ
-  pub r : List ℕ
-  pub left_is : left ≡ Some s
-  pub rest_is : rest ≡ Some r
-  pub at : IsFrame s f r
-  pub means : Means f (value v)
+abbrev pub place : List Sort → Sort → Bool → Place
+place os o first = record { waits = os; sort = o; first = first }
 
--- the level behind an element, before the rest
-abbrev pub behind : Level → Option (List ℕ) → Level
-behind l rest = record { elements = rest; sort = l.sort; first = false }
+-- behind a level of this sort; where none waits, the text stays in it
+abbrev pub around : List Sort → Sort → Place
+around [] o = place [] o false
+around (p ∷ []) o = place [] p false
+around (p ∷ q ∷ os) o = let outer = around (q ∷ os) o in place (p ∷ outer.waits) outer.sort false
 
--- the level of the bytes d, of which nothing is printed yet
-abbrev pub opened : List ℕ → Sort → Level
-opened d o = record { elements = Some (drop 4 d); sort = o; first = true }
+pub around_last : (os : List Sort) (p o : Sort) → around (os ++ p ∷ []) o ≡ place os p false
+around_last [] p o = refl
+around_last (q ∷ []) p o = refl
+around_last (q ∷ r ∷ os) p o = ap (λ (s : Place). place (q ∷ s.waits) s.sort false) (around_last (r ∷ os) p o)
 
--- what is before the first member of a value that holds the bytes d, and what their level is
-abbrev pub Opens : RawValue → List ℕ → Sort → List ℕ → Type 0
-Opens (raw.single l) d o piece = ⊥
-Opens (raw.document e) d o piece = (d ≡ e) × (o ≡ sort.Document) × (piece ≡ codes "{")
-Opens (raw.array e) d o piece = (d ≡ e) × (o ≡ sort.Array) × (piece ≡ codes "[")
-Opens (raw.scoped code e) d o piece = (d ≡ e) × (o ≡ sort.Scope) × (piece ≡ before_scope code ++ codes "{")
+abbrev pub behind : Place → Visit → Place
+behind s (whole at f v) = place s.waits s.sort false
+behind s (enter at f v) = place (s.waits ++ s.sort ∷ []) (sort_of v) true
+behind s leave = around s.waits s.sort
 
-opens_held : (v : RawValue) (d : List ℕ) (o : Sort) (piece : List ℕ) → Opens v d o piece → Holds v d
-opens_held v d o piece opens = grind arith
+-- before anything of a document but its bracket
+abbrev pub begun : Place
+begun = place [] sort.Document true
 
-module _ (style : Style) (b : List ℕ) where
-  begins : (n : ℕ) (text : List ℕ) → AllLeft style n 0 [] (opened b sort.Document) text → IsJsonUpTo style n 0 reading.as_document b (codes "{" ++ text)
-  begins zero text left = absurd left
-  begins (suc n) text (frames, members, walk, are, is) = (frames, members, walk, are, ap (λ (x : List ℕ). 123 ∷ x) (is ∙ append-nil members))
+enclosed : (a b c d e f : List ℕ) {text opened others closing closed : List ℕ} → text ≡ opened ++ others → opened ≡ a ++ b → others ≡ c ++ closing → closing ≡ closed ++ f → closed ≡ d ++ e
+    → text ≡ (a ++ (b ++ ((c ++ d) ++ e))) ++ f
+enclosed a b c d e f all first second third fourth =
+    all ∙ (λ i. first i ++ (second ∙ ap (λ (t : List ℕ). c ++ t) (third ∙ ap (λ (t : List ℕ). t ++ f) fourth)) i) ∙ simp append_assoc refl
 
-  pub printing_begins : (n : ℕ) → IsPrinting style b n [] (opened b sort.Document) (codes "{")
-  printing_begins n = record { rest = begins n }
+continued : (a b c : List ℕ) {text others : List ℕ} → text ≡ a ++ others → others ≡ b ++ c → text ≡ (a ++ b) ++ c
+continued a b c all more = all ∙ ap (λ (t : List ℕ). a ++ t) more ∙ sym (append_assoc a b c)
+
+joined : (a b c d : List ℕ) {first : List ℕ} → first ≡ a ++ b → (first ++ c) ++ d ≡ a ++ (b ++ (c ++ d))
+joined a b c d {first} is = append_assoc first c d ∙ ap (λ (t : List ℕ). t ++ (c ++ d)) is ∙ append_assoc a b (c ++ d)
 
 module _ (style : Style) where
-  -- a level that is at its end has its end as its text
-  ended : (m depth : ℕ) (l : Level) (s : List ℕ) → l.elements ≡ Some s → s ≡ 0 ∷ [] → LeftOf style m depth l (end_text style.layout depth (level_sort l.sort) l.first ++ after l.sort)
-  ended m depth l s e final = rw e ([], end_text style.layout depth (level_sort l.sort) l.first, final, refl, refl)
+  -- what a visit adds to the text
+  abbrev pub IsPiece : Place → Visit → List ℕ → Type 0
+  IsPiece s (whole at f v) piece = (shown : List ℕ) × IsSingleJson style.format v shown × (piece ≡ head_of style s.first s.waits s.sort f.key ++ shown)
+  IsPiece s (enter at f v) piece = piece ≡ head_of style s.first s.waits s.sort f.key ++ opening_text v
+  IsPiece s leave piece = piece ≡ end_of style s.first s.waits s.sort
 
-  pub printing_ends : (b : List ℕ) (n : ℕ) (l : Level) (s told : List ℕ) → 0 < n → IsPrinting style b n [] l told → l.elements ≡ Some s → s ≡ 0 ∷ []
-      → IsJson style b (told ++ (end_text style.layout 0 (level_sort l.sort) l.first ++ after l.sort))
-  printing_ends b zero l s told few is e final = absurd (omega (arith, few))
-  printing_ends b (suc n) l s told few is e final = (suc n, is.rest (end_text style.layout 0 (level_sort l.sort) l.first ++ after l.sort) (ended n 0 l s e final))
+  -- these visits have this text, which leads from one place to the other
+  abbrev pub AreWritten : Place → List Visit → List ℕ → Place → Type 0
+  AreWritten s [] text to = (text ≡ []) × (to ≡ s)
+  AreWritten s (x ∷ xs) text to = (piece others : List ℕ) × IsPiece s x piece × AreWritten (behind s x) xs others to × (text ≡ piece ++ others)
 
-  -- a frame more is in front of what is left of a level
-  frame_left : {left rest : Option (List ℕ)} {f : Frame} {v : RawValue} (m depth : ℕ) (o : Sort) (first : Bool) (shown a : List ℕ) → IsNext left f v rest
-      → IsValueJson style depth (IsJsonUpTo style m (suc depth)) v shown → LeftIn style m depth rest o false a
-      → LeftIn style m depth left o first (head_text style.layout (depth + 1) (level_sort o) first f.key ++ (shown ++ a))
-  frame_left {f = f} {v = v} m depth o first shown a next is left =
-      let head = head_text style.layout (depth + 1) (level_sort o) first f.key in
-      let one_more : depth + 1 ≡ suc depth = omega arith in
-      let here : LeftIn style m depth (Some next.r) o false a = rw next.rest_is at left in
-      rw next.left_is (
-        f ∷ here.0,
-        head ++ (shown ++ here.1),
-        (next.r, next.at, here.2),
-        (v, shown, here.1, next.means, is, here.3, ap (λ (k : ℕ). head_text style.layout k (level_sort o) first f.key ++ (shown ++ here.1)) one_more),
-        ap (λ (x : List ℕ). head ++ (shown ++ x)) here.4
-            ∙ sym (append_assoc head (shown ++ here.1) (after o) ∙ ap (λ (x : List ℕ). head ++ x) (append_assoc shown here.1 (after o))),
-      )
+  pub written_on : (s m to : Place) (xs ys : List Visit) (a b : List ℕ) → AreWritten s xs a m → AreWritten m ys b to → AreWritten s (xs ++ ys) (a ++ b) to
+  written_on s m to [] ys a b (none, same) more = rw (none, sym same) more
+  written_on s m to (x ∷ xs) ys a b (piece, others, is, are, all) more =
+      (piece, others ++ b, is, written_on (behind s x) m to xs ys others b are more, ap (λ (t : List ℕ). t ++ b) all ∙ append_assoc piece others b)
 
-  value_opened : (m depth : ℕ) (v : RawValue) (d : List ℕ) (o : Sort) (piece a : List ℕ) → Opens v d o piece → LeftOf style m (suc depth) (opened d o) a
-      → IsValueJson style depth (IsJsonUpTo style (suc m) (suc depth)) v (piece ++ a)
-  value_opened m depth (raw.single l) d o piece a opens left = absurd opens
-  value_opened m depth (raw.document e) d o piece a (same, sort_is, is) left =
-      let there : LeftOf style m (suc depth) (opened e sort.Document) a = rw (sort_is, same) at left in
-      (there.0, there.1, there.2, there.3, ap (λ (x : List ℕ). x ++ a) is ∙ ap (λ (x : List ℕ). 123 ∷ x) (there.4 ∙ append-nil there.1))
-  value_opened m depth (raw.array e) d o piece a (same, sort_is, is) left =
-      let there : LeftOf style m (suc depth) (opened e sort.Array) a = rw (sort_is, same) at left in
-      (there.0, there.1, there.2, there.3, ap (λ (x : List ℕ). x ++ a) is ∙ ap (λ (x : List ℕ). 91 ∷ x) (there.4 ∙ append-nil there.1))
-  value_opened m depth (raw.scoped code e) d o piece a (same, sort_is, is) left =
-      let there : LeftOf style m (suc depth) (opened e sort.Scope) a = rw (sort_is, same) at left in (
-        123 ∷ there.1,
-        (there.0, there.1, there.2, there.3, refl),
-        ap (λ (x : List ℕ). x ++ a) is ∙ append_assoc (before_scope code) (codes "{") a ∙ ap (λ (x : List ℕ). before_scope code ++ (123 ∷ x)) there.4,
-      )
+  -- each list of visits has a text
+  piece_has : (s : Place) (x : Visit) → (piece : List ℕ) × IsPiece s x piece
+  piece_has s (whole at f v) = let (shown, json) = single_has style.format v in (head_of style s.first s.waits s.sort f.key ++ shown, (shown, json, refl))
+  piece_has s (enter at f v) = (head_of style s.first s.waits s.sort f.key ++ opening_text v, refl)
+  piece_has s leave = (end_of style s.first s.waits s.sort, refl)
 
-module _ {style : Style} {b : List ℕ} {n : ℕ} {ws : List Level} {l : Level} {told : List ℕ} (is : IsPrinting style b n ws l told) where
-  -- this piece is behind what was told
-  printing_more : {vs : List Level} {k : Level} (piece : List ℕ) → ((text : List ℕ) → AllLeft style n 0 vs k text → AllLeft style n 0 ws l (piece ++ text))
-      → IsPrinting style b n vs k (told ++ piece)
-  printing_more piece step =
-      record { rest = λ text left. subst (IsJsonUpTo style n 0 reading.as_document b) (sym (append_assoc told piece text)) (is.rest (piece ++ text) (step text left)) }
+  written_has : (s : Place) (xs : List Visit) → (text : List ℕ) × (to : Place) × AreWritten s xs text to
+  written_has s [] = ([], s, (refl, refl))
+  written_has s (x ∷ xs) =
+      let (piece, is) = piece_has s x in
+      let (others, to, are) = written_has (behind s x) xs in (piece ++ others, to, (piece, others, is, are, refl))
 
-  -- a value that holds no others
-  pub printing_leaf : {f : Frame} {leaf : Leaf} {rest : Option (List ℕ)} (shown : List ℕ) → IsNext l.elements f (raw.single leaf) rest → IsLeafJson style.format leaf shown
-      → IsPrinting style b n ws (behind l rest) (told ++ (head_text style.layout (length ws + 1) (level_sort l.sort) l.first f.key ++ shown))
-  printing_leaf {f} {leaf} {rest} shown next json =
-      let depth = length ws in
-      let head = head_text style.layout (depth + 1) (level_sort l.sort) l.first f.key in
-      let goes : GoesBehind style depth l (behind l rest) (head ++ shown) =
-      record { step = λ m a left. subst (LeftOf style m depth l) (sym (append_assoc head shown a)) (frame_left style m depth l.sort l.first shown a next json left) } in
-      printing_more (head ++ shown) (λ text left. left_changed n 0 ws text (omega arith) goes left)
+  -- From this place these visits have a text of which P holds. Behind it the text is in the same level, and goes on with that of others.
+  abbrev Tell : Place → List Visit → (P : (last : Bool) → List ℕ → Type 0) → Type 0
+  Tell s vs P =
+      (zs : List Visit) (text : List ℕ) (to : Place) → AreWritten s (vs ++ zs) text to
+      → (last : Bool) × (front others : List ℕ) × P last front × AreWritten (place s.waits s.sort last) zs others to × (text ≡ front ++ others)
 
-  -- a value that holds others
-  pub printing_opens : {f : Frame} {v : RawValue} {rest : Option (List ℕ)} (d : List ℕ) (o : Sort) (piece : List ℕ) → IsNext l.elements f v rest → Opens v d o piece
-      → IsPrinting style b n (ws ++ behind l rest ∷ []) (opened d o) (told ++ (head_text style.layout (length ws + 1) (level_sort l.sort) l.first f.key ++ piece))
-  printing_opens {f} {v} {rest} d o piece next opens =
-      let depth = length ws in
-      let head = head_text style.layout (depth + 1) (level_sort l.sort) l.first f.key in
-      let goes : GoesInside style depth l (behind l rest) (opened d o) (head ++ piece) = record {
-        step = λ m a c inside left. subst (LeftOf style (suc m) depth l) (ap (λ (x : List ℕ). head ++ x) (append_assoc piece a c) ∙ sym (append_assoc head piece (a ++ c)))
-            (frame_left style (suc m) depth l.sort l.first (piece ++ a) c next (value_opened style m depth v d o piece a opens inside) left);
-      } in
-      printing_more (head ++ piece) (λ text left. left_entered n 0 ws text (omega arith) goes left)
+  abbrev end_in : Place → (last : Bool) → List ℕ
+  end_in s last = end_text style.layout (length s.waits) (level_sort s.sort) last
 
-pub printing_closes : (style : Style) (b : List ℕ) (n : ℕ) (ws : List Level) (w l : Level) (s told : List ℕ) → length (ws ++ w ∷ []) < n → IsPrinting style b n (ws ++ w ∷ []) l told
-    → l.elements ≡ Some s → s ≡ 0 ∷ [] → IsPrinting style b n ws w (told ++ (end_text style.layout (length (ws ++ w ∷ [])) (level_sort l.sort) l.first ++ after l.sort))
-printing_closes style b n ws w l s told few is e final =
-    let depth = length (ws ++ w ∷ []) in
-    let end = end_text style.layout depth (level_sort l.sort) l.first ++ after l.sort in
-    let at : depth ≡ suc 0 + length ws = length-append ws (w ∷ []) ∙ omega arith in
-    let last : IsLast style depth l end = record { left = λ m. ended style m depth l s e final } in
-    printing_more is end (λ text left. left_closed n 0 ws w text at (omega (arith, few, at)) last left)
+  -- with its brackets a text is that of the bytes d, whose level this is
+  abbrev IsLevelText : ℕ → Place → List ℕ → (last : Bool) → List ℕ → Type 0
+  IsLevelText n s d last text = IsJsonUpTo style n (length s.waits) (level_sort s.sort) d (opening (level_sort s.sort) ∷ (text ++ end_in s last))
 
--- readings
+  -- so it is of the visits of all bytes with at most so many levels
+  abbrev AreLevelTexts : ℕ → Type 0
+  AreLevelTexts n = (start : ℕ) (os : List Sort) (o : Sort) (d : List ℕ) (vs : List Visit) → HasVisits n start d vs → Tell (place os o true) vs (IsLevelText n (place os o true) d)
 
-pub reads_begin : (b : List ℕ) (n : ℕ) (t : Tree) → ReadsUpTo n reading.as_document b t → AllReadable n [] (opened b sort.Document)
-reads_begin b zero t h = absurd h
-reads_begin b (suc n) t (pairs, reads, is) = (pairs, reads)
+  module _ (n : ℕ) (nested : AreLevelTexts n) where
+    abbrev Nested : Place → reading.Sort → List ℕ → List ℕ → Type 0
+    Nested s = IsJsonUpTo style n (suc (length s.waits))
 
-pub reads_leaf : (l : Level) {f : Frame} {v : RawValue} {rest : Option (List ℕ)} (n : ℕ) (ws : List Level) → IsNext l.elements f v rest → AllReadable n ws l
-    → AllReadable n ws (behind l rest)
-reads_leaf l {f} {v} {rest} n ws next =
-    readable_changed n ws l (behind l rest) (λ (m : ℕ) (h : IsReadableUpTo m l.elements). subst (IsReadableUpTo m) (sym next.rest_is)
-    (reads_on next.s f next.r v next.at next.means m (subst (IsReadableUpTo m) next.left_is h)))
+    -- a value, behind its head
+    abbrev IsHeaded : Place → Frame → RawValue → (last : Bool) → List ℕ → Type 0
+    IsHeaded s f v last text =
+        (shown : List ℕ) × (last ≡ false) × IsValueJson style (length s.waits) (Nested s) v shown × (text ≡ head_of style s.first s.waits s.sort f.key ++ shown)
 
-pub reads_opens : (l : Level) {f : Frame} {v : RawValue} {rest : Option (List ℕ)} (n : ℕ) (ws : List Level) (d : List ℕ) (o : Sort) (piece : List ℕ)
-    → IsNext l.elements f v rest → Opens v d o piece → AllReadable n ws l → AllReadable n (ws ++ behind l rest ∷ []) (opened d o)
-reads_opens l {f} {v} {rest} n ws d o piece next opens =
-    let reads = λ (m : ℕ) (h : IsReadableUpTo m l.elements).
-    let at_front : Front next.s f next.r v next.at next.means m = front next.s f next.r v next.at next.means m (subst (IsReadableUpTo m) next.left_is h) in
-    let (k, fewer, inside) = held_read m v d at_front.stands.0 (opens_held v d o piece opens) at_front.stands.1 in
-    let both : ReadsOn m rest (Some (drop 4 d)) = (subst (IsReadableUpTo m) (sym next.rest_is) at_front.rest, k, fewer, inside) in
-    both in
-    readable_entered n ws l (behind l rest) (opened d o) reads
+    -- the value of the level d with any members
+    abbrev IsAround : Place → RawValue → (d : List ℕ) → Type 0
+    IsAround s v d = (members : List ℕ) → Nested s (level_sort (sort_of v)) d (opening (level_sort (sort_of v)) ∷ members)
+        → IsValueJson style (length s.waits) (Nested s) v (opening_text v ++ (members ++ after (sort_of v)))
+
+    held_text : (at : ℕ) (s : Place) (f : Frame) (v : RawValue) (d : List ℕ) (vs : List Visit) → IsAround s v d → VisitsLevel (HasVisits n) at f v d vs → Tell s vs (IsHeaded s f v)
+    held_text at s f v d vs around_is (start, inner, ends, has, all) zs text to are =
+        let os = s.waits ++ s.sort ∷ [] in
+        let p = sort_of v in
+        let (opened, others, opened_is, are_others, text_is) = subst (λ (xs : List Visit). AreWritten s (xs ++ zs) text to) all are in
+        let (last, front, closing, json, (closed, more, closed_is, goes_on, closing_is), others_is) = nested start os p d inner has (leave ∷ zs) others to
+        (subst (λ (xs : List Visit). AreWritten (place os p true) xs others to) (append_assoc inner (leave ∷ []) zs) are_others) in
+        let deeper : length os ≡ suc (length s.waits) = length-append s.waits (s.sort ∷ []) ∙ omega arith in
+        let members = front ++ end_in (place os p true) last in
+        let shown = opening_text v ++ (members ++ after p) in
+        let head = head_of style s.first s.waits s.sort f.key in (
+          false,
+          head ++ shown,
+          more,
+          (shown, refl, around_is members (subst (λ (k : ℕ). IsJsonUpTo style n k (level_sort p) d (opening (level_sort p) ∷ members)) deeper json), refl),
+          subst (λ (x : Place). AreWritten x zs more to) (around_last s.waits s.sort p) goes_on,
+          enclosed head (opening_text v) front (end_in (place os p true) last) (after p) more text_is opened_is others_is closing_is closed_is,
+        )
+
+    value_text : (at : ℕ) (s : Place) (f : Frame) (v : RawValue) (vs : List Visit) → VisitsValue (HasVisits n) at f v vs → Tell s vs (IsHeaded s f v)
+    value_text at s f (raw.single l) vs is zs text to are =
+        let (piece, others, (shown, json, piece_is), goes_on, all) = subst (λ (xs : List Visit). AreWritten s (xs ++ zs) text to) is are in
+        (false, piece, others, (shown, refl, json, piece_is), goes_on, all)
+    value_text at s f (raw.document d) vs is zs text to are = held_text at s f (raw.document d) d vs (λ members json. rw (append-nil members) json) is zs text to are
+    value_text at s f (raw.array d) vs is zs text to are = held_text at s f (raw.array d) d vs (λ members json. rw (append-nil members) json) is zs text to are
+    value_text at s f (raw.scoped code d) vs is zs text to are =
+        held_text at s f (raw.scoped code d) d vs (λ members json. (123 ∷ members, json, append_assoc (before_scope code) (codes "{") (members ++ codes "}"))) is zs text to are
+
+    -- members, with the end of their level
+    abbrev AreHeaded : Place → List Frame → (last : Bool) → List ℕ → Type 0
+    AreHeaded s fs last text = AreMembersJson style (length s.waits) (Nested s) (level_sort s.sort) s.first fs (text ++ end_in s last)
+
+    each_text : (at : ℕ) (s : Place) (fs : List Frame) (vs : List Visit) → VisitsEach (HasVisits n) at fs vs → Tell s vs (AreHeaded s fs)
+    each_text at s [] vs none zs text to are = (s.first, [], text, refl, subst (λ (xs : List Visit). AreWritten s (xs ++ zs) text to) none are, refl)
+    each_text at s (f ∷ fs) vs (v, xs, ys, means, value, each, all) zs text to are =
+        let (one_last, one, others, (shown, behind_one, json, one_is), goes_on, text_is) = value_text at s f v xs value (ys ++ zs) text to
+        (subst (λ (us : List Visit). AreWritten s us text to) (ap (λ (us : List Visit). us ++ zs) all ∙ append_assoc xs ys zs) are) in
+        let (last, front, rest, members, goes_further, others_is) = each_text (at + size_of f) (place s.waits s.sort false) fs ys each zs others to
+        (subst (λ (b : Bool). AreWritten (place s.waits s.sort b) (ys ++ zs) others to) behind_one goes_on) in
+        let head = head_text style.layout (suc (length s.waits)) (level_sort s.sort) s.first f.key in
+        let deeper : length s.waits + 1 ≡ suc (length s.waits) = omega arith in
+        let one_headed = one_is ∙ ap (λ (k : ℕ). head_text style.layout k (level_sort s.sort) s.first f.key ++ shown) deeper in (
+          last,
+          one ++ front,
+          rest,
+          (v, shown, front ++ end_in s last, means, json, members, joined head shown front (end_in s last) one_headed),
+          goes_further,
+          continued one front rest text_is others_is,
+        )
+
+  level_text : (n : ℕ) → AreLevelTexts n
+  level_text zero start os o d vs has zs text to are = absurd has
+  level_text (suc n) start os o d vs (frames, walk, each) zs text to are =
+      let s = place os o true in
+      let (last, front, others, members, goes_on, text_is) = each_text n (level_text n) (start + 4) s frames vs each zs text to are in
+      (last, front, others, (frames, front ++ end_in s last, walk, members, refl), goes_on, text_is)
+
+  -- the visits of a document have its text, but for its brackets
+  pub document_text : (n : ℕ) (b : List ℕ) (vs : List Visit) (text : List ℕ) (to : Place) → HasVisits n 0 b vs → AreWritten begun vs text to
+      → (last : Bool) × (to ≡ place [] sort.Document last) × IsJson style b (123 ∷ (text ++ end_of style last [] sort.Document))
+  document_text n b vs text to has are =
+      let (last, front, others, json, (none, there), text_is) =
+      level_text n 0 [] sort.Document b vs has [] text to (subst (λ (xs : List Visit). AreWritten begun xs text to) (sym (append-nil vs)) are) in
+      let all : front ++ end_text style.layout 0 reading.as_document last ≡ text ++ end_of style last [] sort.Document =
+      (λ i. (sym (append-nil front) ∙ ap (λ (t : List ℕ). front ++ t) (sym none) ∙ sym text_is) i ++ sym (append-nil (end_text style.layout 0 reading.as_document last)) i) in
+      (last, there, (n, subst (λ (t : List ℕ). IsJsonUpTo style n 0 reading.as_document b (123 ∷ t)) all json))
+
+  -- what the first of them have goes on to such a text
+  pub front_text : (n : ℕ) (b : List ℕ) (vs seen rest : List Visit) (told : List ℕ) (here : Place) → HasVisits n 0 b vs → vs ≡ seen ++ rest → AreWritten begun seen told here
+      → (more : List ℕ) × IsJson style b (123 ∷ (told ++ more))
+  front_text n b vs seen rest told here has all are =
+      let (more, to, others) = written_has here rest in
+      let (last, there, json) = document_text n b (seen ++ rest) (told ++ more) to (subst (HasVisits n 0 b) all has) (written_on begun here to seen rest told more are others) in
+      (more ++ end_of style last [] sort.Document, subst (λ (t : List ℕ). IsJson style b (123 ∷ t)) (append_assoc told more (end_of style last [] sort.Document)) json)

@@ -1,5 +1,5 @@
 -- The text of a document is UTF-8.
-use Rattle.bson_json.proofs.Common.{AllDigits, AreMembersJson, Canonical, Decimal, Done, Finite, Float, Frame, Infinity, IsAscii, IsAscii-encode_of, IsAscii-from_digits, IsDateJson, IsDoubleJson, IsDoubleText, IsInstantText, IsJson, IsJsonUpTo, IsLeafJson, IsUtf8, IsValueJson, IsWalk, IsWrappedDate, IsWrappedDouble, Leaf, MeansValue, NaN, RawValue, Relaxed, Style, behind_point, binary, boolean, closing, comma, date_time, db_pointer, decimal128, decimal128_text, decimal_of, decimal_text, digit_glyph, digits_onto, double, encode_lower, encode_of, end_text, exponent_of, fin, from_le_bytes, inf, int32, int64, javascript_code, line, lower_digits, max_key, member_key, min_key, nan, nat_tests, null, object_id, opening, quoted, regular_expression, second_text, signed_decimal, standard, string, subtype_byte, symbol, three_digits, timestamp, undefined, value, w64}
+use Rattle.bson_json.proofs.Common.{AllDigits, AreMembersJson, Canonical, Decimal, Done, Finite, Float, Frame, Infinity, IsAscii, IsAscii-encode_of, IsAscii-from_digits, IsDateJson, IsDoubleJson, IsDoubleText, IsInstantText, IsJson, IsJsonUpTo, IsLeafJson, IsUtf8, IsValueJson, IsWalk, IsWrappedDate, IsWrappedDouble, Leaf, MeansValue, NaN, RawValue, Relaxed, Style, behind_point, binary, boolean, closing, comma, date_time, db_pointer, decimal128, decimal128_text, decimal_of, decimal_text, digit_glyph, digits_onto, double, encode_lower, encode_of, end_text, exponent_of, fin, from_le_bytes, inf, int32, int64, javascript_code, line, lower_digits, max_key, member_key, min_key, nan, nat_tests, null, object_id, opening, quoted, regular_expression, second_text, signed_decimal, standard, string, subtype_byte, symbol, three_digits, timestamp, undefined, w64}
 use Rattle.std.specs.Fmt.{digits}
 use Rattle.std.proofs.Common.{◌≡◌, ◌+◌, ◌-◌, ◌*◌, ◌/◌, ◌%◌, ◌<◌, ◌++◌, [], ◌∷◌, ℕ, ℤ, pos, negsuc, zero, suc, Bool, true, false, cond, List, inl, inr, replicate, take, drop, length, codes, decimal, refl, sym, subst, arith, ◌||◌, nat_lt, nat_eq}
 use Rattle.std.proofs.lemmas.Str.{IsAscii-take, IsAscii-drop, IsUtf8-append, IsUtf8-from_ascii, IsUtf8-nil}

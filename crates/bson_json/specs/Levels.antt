@@ -1,12 +1,11 @@
 -- What is printed level by level. No public contract cites this file.
-use Rattle.std.specs.Prelude.{◌≡◌, ◌+◌, ℕ, Bool, true, false, List, [], ◌∷◌, ◌++◌, codes, drop, length, Option, None, Some}
+use Rattle.std.specs.Prelude.{◌≡◌, ◌+◌, ℕ, Bool, true, false, List, [], ◌∷◌, ◌++◌, codes, length, Option, Some}
 use Rattle.std.specs.Io.KnownBytes.{Appends}
-use Rattle.bson_model.specs.Tree.{Tree}
 use Rattle.raw_tree.specs.declared.walk.Event.{Event}
 use Rattle.raw_tree.specs.declared.walk.Event.TheVariants as event
 use Rattle.raw_tree.specs.declared.walk.WalkError.{WalkError}
 use Rattle.raw_tree.specs.declared.walk.WalkError.TheVariants as walk
-use Rattle.raw_tree.specs.Reading.{as_document, as_array, ReadsRest, ReadsUpTo}
+use Rattle.raw_tree.specs.Reading.{as_document, as_array}
 use Rattle.raw_tree.specs.Reading as reading
 use Rattle.raw_view.specs.Frame.ElementSteps.{frame_of}
 use Rattle.raw_view.specs.Meaning.{RawValue}
@@ -22,12 +21,6 @@ use Rattle.bson_json.specs.declared.print.PrintError.TheVariants as print
 use Rattle.bson_json.specs.declared.style.Format.{Format}
 use Rattle.bson_json.specs.declared.style.Style.{Style}
 
--- a level: what is left of it, what it is, and whether nothing of it is printed yet
-pub record Level : Type 0 where
-  pub elements : Option (List ℕ)
-  pub sort : Sort
-  pub first : Bool
-
 -- how the bytes of a level are read
 abbrev pub level_sort : Sort → reading.Sort
 level_sort sort.Document = as_document
@@ -39,28 +32,32 @@ abbrev pub after : Sort → List ℕ
 after sort.Scope = codes "}"
 after _ = []
 
--- what is left is read as pairs, with at most so many levels inside
-abbrev pub IsReadableUpTo : ℕ → Option (List ℕ) → Type 0
-IsReadableUpTo n None = ⊥
-IsReadableUpTo n (Some s) = (pairs : List (List ℕ × Tree)) × ReadsRest (ReadsUpTo n) s pairs
+-- what the level is that a value holds
+abbrev pub sort_of : RawValue → Sort
+sort_of (raw.single l) = sort.Document
+sort_of (raw.document d) = sort.Document
+sort_of (raw.array d) = sort.Array
+sort_of (raw.scoped code d) = sort.Scope
 
--- a level that is opened: the bytes d, of this sort, of which nothing is printed yet
-pub record IsOpened (d : List ℕ) (sort : Sort) (level : Level) : Type 0 where
-  pub elements : level.elements ≡ Some (drop 4 d)
-  pub sort_is : level.sort ≡ sort
-  pub first : level.first ≡ true
+-- what is before the first member of that level
+abbrev pub opening_text : RawValue → List ℕ
+opening_text (raw.single l) = []
+opening_text (raw.document d) = codes "{"
+opening_text (raw.array d) = codes "["
+opening_text (raw.scoped code d) = before_scope code ++ codes "{"
+
+-- a value that holds no others has this text
+abbrev pub IsSingleJson : Format → RawValue → List ℕ → Type 0
+IsSingleJson format (raw.single l) text = IsLeafJson format l text
+IsSingleJson format _ text = text ≡ []
 
 -- what is written of a value that holds others before the first of them, and what its level is
 abbrev pub PutsOpening : RawValue → Option (List ℕ) → Option (List ℕ) → Sort → Type 0
-PutsOpening (raw.single l) old new o = Unit {0}
-PutsOpening (raw.document d) old new o = (o ≡ sort.Document) × Appends old new (codes "{")
-PutsOpening (raw.array d) old new o = (o ≡ sort.Array) × Appends old new (codes "[")
-PutsOpening (raw.scoped code d) old new o = (o ≡ sort.Scope) × Appends old new (before_scope code ++ codes "{")
+PutsOpening v old new o = (o ≡ sort_of v) × Appends old new (opening_text v)
 
 -- what is written of a value that holds no others
 abbrev pub PutsSingle : Format → RawValue → Option (List ℕ) → Option (List ℕ) → Type 0
-PutsSingle format (raw.single l) old new = (text : List ℕ) × IsLeafJson format l text × Appends old new text
-PutsSingle format _ old new = Unit {0}
+PutsSingle format v old new = (text : List ℕ) × IsSingleJson format v text × Appends old new text
 
 -- the error of a walk as one of a print
 abbrev pub error_of : WalkError → PrintError
@@ -75,7 +72,7 @@ head_of style first os o key = head_text style.layout (length os + 1) (level_sor
 abbrev pub end_of : Style → (first : Bool) → List Sort → Sort → List ℕ
 end_of style first os o = end_text style.layout (length os) (level_sort o) first ++ after o
 
--- an event can be where levels of these sorts wait: one of them is around a level that is left
+-- a level that is left is inside another, which is one of these
 abbrev pub Suits : Event → List Sort → Type 0
 Suits event.Leave os = os ≡ [] → ⊥
 Suits _ os = Unit {0}

@@ -28,11 +28,13 @@ TellsLookError limits b (print.Barrier answer) = TellsBarrier limits b (Some ans
 TellsLookError limits b (print.Failure failure.OutOfMemory) = Unit {0}
 TellsLookError limits b (print.Failure (failure.Writing e)) = ⊥
 
--- Why a block isn't passed on: for what the look told, and then nothing of it was written; or it failed, when a front of it was.
+-- Why a block isn't passed on: for what the look told; or it failed, when a front of it was written. Nothing was written before of a
+-- document that wasn't looked through.
 abbrev pub TellsPassError : {S : Type 0} → (S → ℕ → List ℕ → Type 0) → Limits → List ℕ → (unseen : Bool) → (old new : S) → List ℕ → PrintError → Type 0
-TellsPassError has limits b unseen old new block (print.Barrier answer) = TellsBarrier limits b (Some answer) × (new ≡ old)
-TellsPassError has limits b unseen old new block (print.Failure failure.OutOfMemory) = (new ≡ old) ⊎ ((unseen ≡ true → IsSeen limits b) × GrowsFront has old new block)
-TellsPassError has limits b unseen old new block (print.Failure (failure.Writing e)) = (unseen ≡ true → IsSeen limits b) × GrowsFront has old new block
+TellsPassError {S} has limits b unseen old new block (print.Barrier answer) = TellsBarrier limits b (Some answer) × ((before : S) → Guards limits b unseen before old → new ≡ before)
+TellsPassError {S} has limits b unseen old new block (print.Failure failure.OutOfMemory) =
+    (before : S) → Guards limits b unseen before old → (new ≡ before) ⊎ (IsSeen limits b × GrowsFront has old new block)
+TellsPassError {S} has limits b unseen old new block (print.Failure (failure.Writing e)) = (before : S) → Guards limits b unseen before old → IsSeen limits b × GrowsFront has old new block
 
 -- the document is within the limits, and a front of its text was written
 abbrev pub WroteWithin : {S : Type 0} → (S → ℕ → List ℕ → Type 0) → Style → Limits → List ℕ → (old new : S) → Type 0

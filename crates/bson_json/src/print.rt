@@ -93,7 +93,7 @@ fn look_through<'a>(
     unseen: bool,
 ) -> Result<(), PrintError<'a>>
     ensures seen { OnOk result (unseen ≡ true → IsSeen limits (bytes_of document.entry)) }
-    ensures told { IfErr result (TellsLookError limits (bytes_of document.entry)) }
+    ensures told { IfErr result (λ error. (unseen ≡ true) × TellsLookError limits (bytes_of document.entry) error) }
 {
     if !unseen {
         return Ok(());
