@@ -24,11 +24,6 @@ abbrev pub placed : ℕ → List Frame → List (List ℕ × ℕ)
 placed at [] = []
 placed at (f ∷ fs) = (f.key, at) ∷ placed (at + size_of f) fs
 
--- where what is behind them begins
-abbrev pub end_of : ℕ → List Frame → ℕ
-end_of at [] = at
-end_of at (f ∷ fs) = end_of (at + size_of f) fs
-
 -- where the last frame of each key begins, in the order in which the keys come first
 abbrev pub last_places : List Frame → List ℕ
 last_places frames = map (λ p. p.1) (keep (placed 4 frames))

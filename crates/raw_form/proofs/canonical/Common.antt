@@ -8,9 +8,10 @@ pub use Rattle.raw_form.specs.Forms.{IsFormOf, RefusesFormOf}
 pub use Rattle.raw_tree.specs.Looking.{AreReadBefore, HasNoneBefore, HoldsNone, Looks, TakesFrame, size_of}
 pub use Rattle.raw_tree.specs.Places.{BeginsAt, Step}
 pub use Rattle.raw_form.specs.Rewriting.{AreLeftOwn, FailsFor, HasCode, IsLater, IsLeft, IsPlain, IsRest, TakesNext, TakesPair, ended_by, header_len, held_opening, member_key}
-pub use Rattle.raw_form.specs.Staying.{AreNextOwn, AreOwnBefore, IsLeftAt, IsOwnForm, IsOwnUpTo, IsWrittenAs, end_of, last_places, put_at}
+pub use Rattle.raw_form.specs.Staying.{AreNextOwn, AreOwnBefore, IsLeftAt, IsOwnForm, IsOwnUpTo, IsWrittenAs, last_places, put_at}
 pub use Rattle.raw_form.specs.Staying.{placed}
 pub use Rattle.raw_form.specs.Tokens.{AreInside, AreTokens, AreTokensOf, HasTokens, IsTokenOf, NestedUpTo, filled_from}
+pub use Rattle.raw_tree.specs.Visits.{end_of}
 pub use Rattle.raw_tree.specs.Violations.{FirstViolationTo, ValidatesFrontAt, ValidatesMeaningAt, Violation}
 pub use Rattle.raw_tree.specs.Waits.{Wait}
 pub use Rattle.raw_tree.specs.Walks.{IsAt, IsAtFinal, IsBehind, IsOpened}

@@ -29,7 +29,3 @@ last_front key x ps = ap (λ rs. value_at key rs) (reverse-append (x ∷ []) ps)
 pub placed_behind : (at : ℕ) (fs : List Frame) (f : Frame) → placed at (fs ++ f ∷ []) ≡ placed at fs ++ (f.key, end_of at fs) ∷ []
 placed_behind at [] f = refl
 placed_behind at (x ∷ fs) f = ap (λ l. (x.key, at) ∷ l) (placed_behind (at + size_of x) fs f)
-
-pub end_behind : (at : ℕ) (fs : List Frame) (f : Frame) → end_of at (fs ++ f ∷ []) ≡ end_of at fs + size_of f
-end_behind at [] f = refl
-end_behind at (x ∷ fs) f = end_behind (at + size_of x) fs f
