@@ -11,7 +11,7 @@ use Rattle.bson_model.specs.Leaf.{Leaf, javascript_code, max_key, min_key, symbo
 use Rattle.bson_model.specs.Tree.{Tree, Entries}
 use Rattle.bson_from_json.specs.DecimalTexts.{IsQuotedDecimal}
 use Rattle.bson_from_json.specs.Numbers.{IsPlain, IsQuotedDouble, IsQuotedInt32, IsQuotedInt64}
-use Rattle.bson_from_json.specs.Meaning.{AreMembers, IsWhole, Means, has_wrapper_key, is_wrapper_key}
+use Rattle.bson_from_json.specs.Meaning.{IsWhole, Means, has_wrapper_key, is_wrapper_key}
 use Rattle.bson_from_json.specs.Taken.{LacksToken, TakesNone}
 use Rattle.bson_from_json.specs.Wrapped.{InString, IsBinary, IsDate, IsDbPointer, IsOid, IsRegex, IsTimestamp, IsUuid, IsWrapped}
 use Rattle.bson_from_json.specs.Levels.{HasMembers, MayBeIn, wrapper_key}

@@ -1,6 +1,5 @@
 -- What may end what is left of a reader, from step to step; and what can't be next where a step fails.
-use Rattle.std.proofs.Common.{◌≡◌, ◌⊎◌, inl, inr, ℕ, ◌+◌, Bool, true, false, List, [], ◌∷◌, ◌++◌, Result, Ok, Err, IfErr, OnErr, codes, refl, sym, ap, ◌∙◌, subst, reverse, append_assoc, append-nil}
-use Rattle.std.proofs.lemmas.Bool.{false≢true}
+use Rattle.std.proofs.Common.{◌≡◌, ◌⊎◌, inl, inr, ℕ, ◌+◌, Bool, false, List, [], ◌∷◌, ◌++◌, Result, Ok, Err, IfErr, OnErr, codes, refl, sym, ap, ◌∙◌, subst, reverse, append_assoc, append-nil}
 use Rattle.json.specs.Json.{Json, Members}
 use Rattle.json.specs.Json as json
 use Rattle.json.specs.Lex.{tokens as text_tokens}
@@ -11,12 +10,11 @@ use Rattle.json.specs.Token.{Token}
 use Rattle.json.specs.Tree.{json_tokens, members_tokens}
 use Rattle.bson_model.specs.Leaf.{Leaf}
 use Rattle.bson_model.specs.Tree.{Entries}
-use Rattle.hex.specs.Hex.{decode_sized}
 use Rattle.bson_from_json.specs.Meaning.{AreMembers, IsWhole, is_wrapper_key}
 use Rattle.bson_from_json.specs.Numbers.{IsPlain}
 use Rattle.bson_from_json.specs.Levels.{HasMembers, MayBeIn, Rest, SaysBytes, TakesLeaf, TakesLevel, array_level, bytes_of, level_at, levels_of, wrapper_key}
-use Rattle.bson_from_json.specs.Ends.{CanEnd, InsideThen, ItemsThen, KeepsClosed, KeepsLevel, KeepsValue, LacksLeaf, LacksLevel, LacksValue, LacksWhole, LacksWrapper, LevelThen, MembersThen, OrdinaryThen, ValueThen, WrapperThen}
-use Rattle.bson_from_json.specs.Taken.{LacksToken, NoToken, TakesNone, TakesNoTwo}
+use Rattle.bson_from_json.specs.Ends.{CanEnd, ItemsThen, KeepsClosed, KeepsLevel, KeepsValue, LacksLeaf, LacksLevel, LacksValue, LacksWhole, LacksWrapper, LevelThen, MembersThen, ValueThen, WrapperThen}
+use Rattle.bson_from_json.specs.Taken.{LacksToken, NoToken}
 use Rattle.bson_from_json.specs.Texts.{LeavesOpen, SaysNone}
 use Rattle.bson_from_json.specs.declared.error.JsonReason.{JsonReason}
 use Rattle.bson_from_json.specs.declared.levels.Holder.{Holder}
@@ -27,7 +25,7 @@ use Rattle.bson_from_json.specs.declared.reading.Reader.{Reader}
 use Rattle.bson_from_json.specs.declared.source.Source.{Source}
 use Rattle.bson_from_json.specs.declared.wrapper.Wrapper.{Wrapper}
 use Rattle.bson_from_json.specs.declared.wrapper.Wrapper.TheVariants as wrapper
-use Rattle.bson_from_json.proofs.Ends.{CodeThen, ItemThen, KeyThen, LeafThen, ObjectThen, ScopeThen, Starts, WrapperValueThen, Writes, array_end_taken, empty_object, end_taken, item_next, key_taken, no_object, none_taken, none_wrapped, ordinary, same_value, starts, wrapper_value, writes}
+use Rattle.bson_from_json.proofs.Ends.{LeafThen, ObjectThen, ScopeThen, Starts, WrapperValueThen, Writes, array_end_taken, empty_object, end_taken, item_next, key_taken, no_object, none_taken, ordinary, same_value, starts, wrapper_value, writes}
 use Rattle.bson_from_json.proofs.Moments.{Whole}
 use Rattle.bson_from_json.proofs.Steps.{innermost}
 use denote.Ref.{Bor}

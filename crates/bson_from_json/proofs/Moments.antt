@@ -5,18 +5,14 @@ use Rattle.json.specs.Json.{Json, boolean, number, string, object}
 use Rattle.json.specs.Lex.{tokens as text_tokens}
 use Rattle.json.specs.Token.{Token}
 use Rattle.json.specs.Tree.{json_tokens, members_tokens}
-use Rattle.bson_model.specs.Leaf.{Leaf, binary, javascript_code, max_key, min_key, object_id, regular_expression, symbol, undefined}
+use Rattle.bson_model.specs.Leaf.{Leaf, javascript_code, max_key, min_key, object_id, regular_expression, symbol, undefined}
 use Rattle.bson_model.specs.Options.{sorted_options}
-use Rattle.bson_model.specs.Subtype.{subtype_byte}
-use Rattle.bson_model.specs.declared.binaries.BinarySubtype.{BinarySubtype}
-use Rattle.bson_model.specs.declared.binaries.BinarySubtype.TheVariants as subtype
 use Rattle.bson_model.specs.Tree.{leaf}
-use Rattle.raw_bson.specs.Format.{binary_payload, element_of, framed, plain_binary_payload}
-use Rattle.raw_bson.specs.ElementType.{ElementType}
-use Rattle.raw_bson.specs.Kind.{tag_of}
-use Rattle.raw_bson.specs.Payload.{unset}
+use Rattle.raw_bson.specs.Format.{framed}
+use Rattle.raw_bson.specs.Meaning.{RawValue, single}
+use Rattle.raw_bson.specs.Payload.{element_bytes, unset}
 use Rattle.bson_from_json.specs.Meaning.{Means, is_wrapper_key}
-use Rattle.bson_from_json.specs.Levels.{before_scope, headed, level_at, array_level, with_len, HasMembers, MayBeIn, bracket, behind_bracket, ended, Rest, ValueIn, levels_of, bytes_of, RestOf, TakesLevel, ClosesBracket, TakesValue, Puts, leaf_element, TakesLeaf, SaysBytes}
+use Rattle.bson_from_json.specs.Levels.{before_scope, headed, level_at, array_level, with_len, HasMembers, MayBeIn, bracket, behind_bracket, ended, Rest, ValueIn, levels_of, bytes_of, RestOf, TakesLevel, ClosesBracket, TakesValue, Puts, TakesLeaf, SaysBytes}
 use Rattle.bson_from_json.specs.declared.levels.Holder.{Holder}
 use Rattle.bson_from_json.specs.declared.levels.Holder.TheVariants as holder
 use Rattle.bson_from_json.specs.declared.levels.Level.{Level}
@@ -141,11 +137,16 @@ module _ (old new : Reader) where
   pub value_as : {k : List ℕ} {taken others : List Token} → taken ≡ others → TakesValue old new k taken → TakesValue old new k others
   value_as {k} {taken} {others} e value = subst (λ (x : List Token). TakesValue old new k x) e value
 
-  pub leaf_put : (k : List ℕ) (j : Json) (l : Leaf) → Means j (leaf l) → new.source ≡ old.source → Puts old new (leaf_element k l) → TakesValue old new k (json_tokens j)
-  leaf_put k j l means same puts = record {
+  pub leaf_put : {l : Leaf} {v : RawValue} (k : List ℕ) (j : Json) → Means j (leaf l) → new.source ≡ old.source → Puts old new k v → v ≡ single l
+      → TakesValue old new k (json_tokens j)
+  leaf_put {l} {v} k j means same puts value = record {
     made = λ out rest.
         puts_leaf (Rest out (levels_of old)) k (bytes_of old) j l old.source.tokens means
-        (rest_at {r = new} out (record { levels = puts.levels; bytes = puts.bytes; tokens = ap (λ (x : Source). x.tokens) same }) rest);
+        (rest_at {r = new} out (record {
+          levels = puts.levels;
+          bytes = puts.bytes ∙ ap (λ (x : RawValue). bytes_of old ++ element_bytes k x) value;
+          tokens = ap (λ (x : Source). x.tokens) same;
+        }) rest);
   }
 
   pub wrapped_put : {mid : Reader} {wrapper k : List ℕ} → TakesLeaf old mid wrapper k → mid.source.tokens ≡ Token.end_object ∷ new.source.tokens
@@ -161,14 +162,14 @@ module _ (old new : Reader) where
   }
 
   pub code_put : {mid : Reader} (k code : List ℕ) → old.source.tokens ≡ Token.string code ∷ Token.end_object ∷ new.source.tokens → mid.document ≡ old.document
-      → Puts mid new (leaf_element k (javascript_code code)) → TakesValue old new k (Token.begin_object ∷ Token.key (codes "$code") ∷ [])
+      → Puts mid new k (single (javascript_code code)) → TakesValue old new k (Token.begin_object ∷ Token.key (codes "$code") ∷ [])
   code_put {mid} k code e same puts = record {
     made = λ out rest.
         puts_wrapped (Rest out (levels_of old)) {old = old.source.tokens} k (bytes_of old) (codes "$code") (string code) (javascript_code code) (Token.end_object ∷ new.source.tokens) new.source.tokens
         (inr (inr (inr (inr (inr (inr (inr (inr (inr (inr (inr (inl (refl, refl))))))))))))) e refl
         (rest_at {r = new} out (record {
           levels = puts.levels ∙ ap (λ (d : Unfinished). d.levels.items) same;
-          bytes = puts.bytes ∙ ap (λ (d : Unfinished). d.bytes.items ++ leaf_element k (javascript_code code)) same;
+          bytes = puts.bytes ∙ ap (λ (d : Unfinished). d.bytes.items ++ element_bytes k (single (javascript_code code))) same;
           tokens = refl;
         }) rest);
   }
@@ -284,69 +285,18 @@ pub on_ok_two : {T E : Type 0} {A B C : Type 0} (r : Result T E) → (A → B �
 on_ok_two (Ok x) f a b = f a b
 on_ok_two (Err e) f a b = tt
 
-pub binary_is : {mid new : Reader} {s t : BinarySubtype} {p q : List ℕ} (k : List ℕ) → s ≡ t → p ≡ q → Puts mid new (leaf_element k (binary s p)) → Puts mid new (leaf_element k (binary t q))
-binary_is {mid} {new} {s} {t} {p} {q} k e f puts =
-    subst (λ (x : List ℕ). Puts mid new (leaf_element k (binary t x))) f (subst (λ (x : BinarySubtype). Puts mid new (leaf_element k (binary x p))) e puts)
-
-pub regex_is : {mid new : Reader} {p q p' q' : List ℕ} (k : List ℕ) → p ≡ p' → q ≡ q' → Puts mid new (leaf_element k (regular_expression p q))
-    → Puts mid new (leaf_element k (regular_expression p' q'))
-regex_is {mid} {new} {p} {q} {p'} {q'} k e f puts =
-    subst (λ (x : List ℕ). Puts mid new (leaf_element k (regular_expression p' x))) f (subst (λ (x : List ℕ). Puts mid new (leaf_element k (regular_expression x q))) e puts)
-
-pub payload_is : {mid new : Reader} {p q : List ℕ} (kind : ElementType) (k : List ℕ) → p ≡ q → Puts mid new (element_of kind k p) → Puts mid new (element_of kind k q)
-payload_is {mid} {new} {p} {q} kind k e puts = subst (λ (x : List ℕ). Puts mid new (element_of kind k x)) e puts
-
-pub leaf_taken : {old mid new : Reader} {k : List ℕ} {says : Json → Leaf → Type 0} {l : Leaf} (w : List ℕ) → ((j : Json) (l : Leaf) → says j l → IsWrapped w j l)
-    → Takes says old.source.tokens mid.source.tokens l → mid.document ≡ old.document → new.source ≡ mid.source → Puts mid new (leaf_element k l) → TakesLeaf old new w k
-leaf_taken {old} {mid} {new} {k} {says} {l} w inject (j, tokens, is) same source puts = record {
+pub leaf_taken : {old mid new : Reader} {k : List ℕ} {says : Json → Leaf → Type 0} {l : Leaf} {v : RawValue} (w : List ℕ) → ((j : Json) (l : Leaf) → says j l → IsWrapped w j l)
+    → Takes says old.source.tokens mid.source.tokens l → mid.document ≡ old.document → new.source ≡ mid.source → Puts mid new k v → v ≡ single l → TakesLeaf old new w k
+leaf_taken {old} {mid} {new} {k} {says} {l} {v} w inject (j, tokens, is) same source puts value = record {
   json = j;
   says = l;
   is = inject j l is;
   tokens = tokens ∙ ap (λ (x : List Token). json_tokens j ++ x) (sym (ap (λ (x : Source). x.tokens) source));
-  puts = record { levels = puts.levels ∙ ap (λ (d : Unfinished). d.levels.items) same; bytes = puts.bytes ∙ ap (λ (d : Unfinished). d.bytes.items ++ leaf_element k l) same };
+  puts = record {
+    levels = puts.levels ∙ ap (λ (d : Unfinished). d.levels.items) same;
+    bytes = puts.bytes ∙ ap (λ (x : RawValue). bytes_of mid ++ element_bytes k x) value ∙ ap (λ (d : Unfinished). d.bytes.items ++ element_bytes k (single l)) same;
+  };
 }
-
-pub leaf_is : {old new : Reader} {k : List ℕ} {says : Json → Leaf → Type 0} {l : Leaf} (w : List ℕ) → ((j : Json) (l : Leaf) → says j l → IsWrapped w j l)
-    → Takes says old.source.tokens new.source.tokens l → Puts old new (leaf_element k l) → TakesLeaf old new w k
-leaf_is {old} {new} {k} {says} {l} w inject (j, tokens, is) puts = record { json = j; says = l; is = inject j l is; tokens = tokens; puts = puts }
-
--- a piece behind an element is one behind its payload
-pub puts_more : {old mid new : Reader} {written : List ℕ} (kind : ElementType) (k p q : List ℕ) → written ≡ q → Puts old mid (element_of kind k p)
-    → new.document.levels.items ≡ mid.document.levels.items → bytes_of new ≡ bytes_of mid ++ written → Puts old new (element_of kind k (p ++ q))
-puts_more {old} {mid} {new} {written} kind k p q e puts levels bytes = record {
-  levels = levels ∙ puts.levels;
-  bytes = bytes ∙ ap (λ (x : List ℕ). bytes_of mid ++ x) e ∙ ap (λ (x : List ℕ). x ++ q) puts.bytes ∙ append_assoc (bytes_of old) (element_of kind k p) q
-      ∙ ap (λ (x : List ℕ). bytes_of old ++ tag_of kind ∷ x) (append_assoc k (0 ∷ p) q);
-}
-
--- an element in three parts
-pub in_three : {b c d : List ℕ} (a p q : List ℕ) (tag : ℕ) (k : List ℕ) → b ≡ a ++ tag ∷ (k ++ 0 ∷ []) → c ≡ b ++ (p ++ 0 ∷ []) → d ≡ c ++ (q ++ 0 ∷ [])
-    → d ≡ a ++ tag ∷ (k ++ 0 ∷ (p ++ 0 ∷ (q ++ 0 ∷ [])))
-in_three {b} {c} {d} a p q tag k e f g =
-    let whole : ((a ++ tag ∷ (k ++ 0 ∷ [])) ++ (p ++ 0 ∷ [])) ++ (q ++ 0 ∷ []) ≡ a ++ tag ∷ (k ++ 0 ∷ (p ++ 0 ∷ (q ++ 0 ∷ []))) = simp append_assoc in
-    g ∙ ap (λ (x : List ℕ). x ++ (q ++ 0 ∷ [])) (f ∙ ap (λ (x : List ℕ). x ++ (p ++ 0 ∷ [])) e) ∙ whole
-
--- a binary that isn't an old one
-pub plain_payload : (s : BinarySubtype) (b : List ℕ) → (s ≡ subtype.BinaryOld → ⊥) → plain_binary_payload (subtype_byte s) b ≡ binary_payload s b
-plain_payload subtype.Generic b other = refl
-plain_payload subtype.Function b other = refl
-plain_payload subtype.UuidOld b other = refl
-plain_payload subtype.Uuid b other = refl
-plain_payload subtype.Md5 b other = refl
-plain_payload subtype.Encrypted b other = refl
-plain_payload subtype.Column b other = refl
-plain_payload subtype.Sensitive b other = refl
-plain_payload subtype.Vector b other = refl
-plain_payload subtype.BinaryOld b other = absurd (other refl)
-plain_payload (subtype.Reserved n) b other = refl
-plain_payload (subtype.UserDefined n) b other = refl
-
--- a binary in its parts
-pub binary_parts : {b c d e : List ℕ} (a len : List ℕ) (subtype : ℕ) (bytes : List ℕ) (tag : ℕ) (k : List ℕ) → b ≡ a ++ tag ∷ (k ++ 0 ∷ []) → c ≡ b ++ len → d ≡ c ++ subtype ∷ []
-    → e ≡ d ++ bytes → e ≡ a ++ tag ∷ (k ++ 0 ∷ (len ++ subtype ∷ bytes))
-binary_parts {b} {c} {d} {e} a len subtype bytes tag k p q r s =
-    let whole : (((a ++ tag ∷ (k ++ 0 ∷ [])) ++ len) ++ subtype ∷ []) ++ bytes ≡ a ++ tag ∷ (k ++ 0 ∷ (len ++ subtype ∷ bytes)) = simp append_assoc in
-    s ∙ ap (λ (x : List ℕ). x ++ bytes) (r ∙ ap (λ (x : List ℕ). x ++ subtype ∷ []) (q ∙ ap (λ (x : List ℕ). x ++ len) p)) ∙ whole
 
 pub oid_says : (j : Json) (l : Leaf) → IsOid j l → IsWrapped (codes "$oid") j l
 oid_says j l h = inl (refl, h)

@@ -1,14 +1,13 @@
 -- What no value of a wrapper is next by, in terms of its tokens.
-use Rattle.std.proofs.Common.{◌≡◌, ◌⊎◌, ◌∷◌, ◌++◌, ◌∙◌, ℕ, List, true, Ok, ap, codes}
+use Rattle.std.proofs.Common.{◌≡◌, ◌++◌, ◌∙◌, ℕ, List, true, Ok, ap, codes}
 use Rattle.hex.specs.Hex.{decode_sized}
 use Rattle.json.specs.Json.{Json, Members}
 use Rattle.json.specs.Json as json
 use Rattle.json.specs.Token.{Token}
 use Rattle.json.specs.Tree.{json_tokens}
-use Rattle.bson_model.specs.Leaf.{Leaf, symbol}
+use Rattle.bson_model.specs.Leaf.{symbol}
 use Rattle.bson_from_json.specs.Ends.{LacksLeaf}
 use Rattle.bson_from_json.specs.Taken.{LacksToken, TakesNone, TakesNoTwo}
-use Rattle.bson_from_json.specs.Texts.{LeavesOpen}
 use Rattle.bson_from_json.specs.Wrapped.{InString, IsOid, IsRegex}
 use Rattle.bson_from_json.specs.declared.wrapper.Wrapper.TheVariants as wrapper
 use Rattle.bson_from_json.proofs.Ends.{none_wrapped}

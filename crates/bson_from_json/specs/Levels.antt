@@ -6,10 +6,10 @@ use Rattle.json.specs.Tree.{json_tokens, items_tokens, members_tokens}
 use Rattle.bson_model.specs.Leaf.{Leaf}
 use Rattle.bson_model.specs.Tree.{Tree, Trees, Entries, document}
 use Rattle.raw_bson.specs.Encoding.{encoding, entries_bytes, items_bytes, kind_of_tree, tree_payload}
-use Rattle.raw_bson.specs.Format.{element_of, leaf_payload, string_payload}
-use Rattle.raw_bson.specs.Kind.{kind_of_leaf}
+use Rattle.raw_bson.specs.Format.{element_of, string_payload}
+use Rattle.raw_bson.specs.Meaning.{RawValue, single}
 use Rattle.raw_bson.specs.Number.{le32}
-use Rattle.raw_bson.specs.Payload.{unset}
+use Rattle.raw_bson.specs.Payload.{element_bytes, unset}
 use Rattle.bson_from_json.specs.Meaning.{AreItems, AreMembers, Means, has_wrapper_key, is_wrapper_key}
 use Rattle.bson_from_json.specs.Wrapped.{IsWrapped}
 use Rattle.bson_from_json.specs.declared.levels.Holder.{Holder}
@@ -173,14 +173,10 @@ pub record ClosesBracket (old new : Reader) (l : Level) : Type 0 where
 pub record TakesValue (old new : Reader) (k : List ℕ) (taken : List Token) : Type 0 where
   pub made : (out : List ℕ) → RestOf out new → ValueIn (Rest out (levels_of old)) k (bytes_of old) (taken ++ old.source.tokens)
 
--- a piece is put behind the bytes, and the levels stay
-pub record Puts (old new : Reader) (piece : List ℕ) : Type 0 where
+-- the element of a value is put under a key behind the bytes, and the levels stay
+pub record Puts (old new : Reader) (k : List ℕ) (v : RawValue) : Type 0 where
   pub levels : new.document.levels.items ≡ old.document.levels.items
-  pub bytes : bytes_of new ≡ bytes_of old ++ piece
-
--- the element of a value that holds no others
-abbrev pub leaf_element : List ℕ → Leaf → List ℕ
-leaf_element k l = element_of (kind_of_leaf l) k (leaf_payload l)
+  pub bytes : bytes_of new ≡ bytes_of old ++ element_bytes k v
 
 -- the value of a wrapper with this key is taken, and what it says is put under a key
 pub record TakesLeaf (old new : Reader) (wrapper k : List ℕ) : Type 0 where
@@ -188,7 +184,7 @@ pub record TakesLeaf (old new : Reader) (wrapper k : List ℕ) : Type 0 where
   pub says : Leaf
   pub is : IsWrapped wrapper json says
   pub tokens : old.source.tokens ≡ json_tokens json ++ new.source.tokens
-  pub puts : Puts old new (leaf_element k says)
+  pub puts : Puts old new k (single says)
 
 -- the tokens are those of an object whose members say a document of these bytes
 abbrev pub SaysBytes : List Token → List ℕ → Type 0

@@ -2,7 +2,6 @@ pub mod Left
 pub mod Place
 pub mod Reasons
 pub mod Numbers
-pub mod Values
 pub mod DecimalTexts
 pub mod Digits
 pub mod Times

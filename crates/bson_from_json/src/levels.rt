@@ -1,17 +1,20 @@
 //! The bytes of a document whose levels are still open.
-ghost use Rattle.std.specs.Prelude.{◌≡◌, ◌≤◌, ◌+◌, ◌++◌, ◌∷◌, [], length, pos, vec_capacity, vec_len, IfErr, IfOk, OnOk, MatchOption};
+ghost use Rattle.std.specs.Prelude.{◌≡◌, ◌≤◌, ◌+◌, ◌++◌, ◌∷◌, [], length, vec_capacity, vec_len, IfErr, IfOk, OnOk, MatchOption};
 ghost use Rattle.raw_bson.specs.Format.{c_string as text_then, framed, string_payload};
 ghost use Rattle.raw_bson.specs.Kind.{tag_of};
-ghost use Rattle.raw_bson.specs.Number.{le32, max_length};
-ghost use Rattle.raw_bson.specs.Payload.{unset};
+ghost use Rattle.raw_bson.specs.Number.{max_length};
+ghost use Rattle.raw_bson.specs.Payload.{element_bytes, unset};
 ghost use Rattle.raw_bson.specs.Tree.{Tree};
+ghost use Rattle.raw_bson.specs.Value.{value_of};
 ghost use Rattle.raw_bson.specs.WithinLimits.{ReadsWithin};
 ghost use Rattle.bson_from_json.specs.Levels.{before_scope, headed, level_at, with_len};
 ghost use Rattle.bson_from_json.specs.Texts.{LeavesOpen};
 
 use crate::error::JsonReason;
-use raw_bson::{ElementType, Limits, RawDocumentBuf, total_len};
-use raw_tree::{BarrierKind, first_fault_within, put_head, put_string, set_len};
+use raw_bson::{ElementType, Limits, RawBsonRef, RawDocumentBuf, total_len};
+use raw_tree::{
+    BarrierKind, first_fault_within, payload_len, put_element, put_head, put_string, set_len,
+};
 use std::alloc::Global;
 
 /// What holds a level.
@@ -80,7 +83,7 @@ impl<'a> Unfinished<'a> {
     }
 
     /// Puts bytes at the end.
-    pub(crate) fn put(&mut self, bytes: &[u8]) -> Result<(), JsonReason>
+    fn put(&mut self, bytes: &[u8]) -> Result<(), JsonReason>
         ensures bytes { OnOk result (self.new.bytes.items ≡ self.old.bytes.items ++ bytes.now) }
         ensures levels { self.new.levels.items ≡ self.old.levels.items }
         ensures reason { IfErr result LeavesOpen }
@@ -116,7 +119,7 @@ impl<'a> Unfinished<'a> {
     }
 
     /// Puts the tag of a kind and a key at the end.
-    pub(crate) fn put_head(&mut self, kind: ElementType, key: &str) -> Result<(), JsonReason>
+    fn put_head(&mut self, kind: ElementType, key: &str) -> Result<(), JsonReason>
         ensures bytes { OnOk result (self.new.bytes.items ≡ self.old.bytes.items ++ tag_of kind ∷ text_then key.now []) }
         ensures levels { self.new.levels.items ≡ self.old.levels.items }
         ensures reason { IfErr result LeavesOpen }
@@ -126,36 +129,25 @@ impl<'a> Unfinished<'a> {
         Ok(())
     }
 
-    /// Puts a text and a 0 at the end.
-    pub(crate) fn put_c_string(&mut self, text: &str) -> Result<(), JsonReason>
-        ensures bytes { OnOk result (self.new.bytes.items ≡ self.old.bytes.items ++ text_then text.now []) }
-        ensures levels { self.new.levels.items ≡ self.old.levels.items }
-        ensures reason { IfErr result LeavesOpen }
-    {
-        self.put(text.as_bytes())?;
-        self.put(&[0])
-    }
-
-    /// Puts a length at the end.
-    pub(crate) fn put_len(&mut self, len: usize) -> Result<(), JsonReason>
-        ensures bytes { OnOk result (self.new.bytes.items ≡ self.old.bytes.items ++ le32 (pos len)) }
-        ensures levels { self.new.levels.items ≡ self.old.levels.items }
-        ensures reason { IfErr result LeavesOpen }
-    {
-        if len > 0x7FFF_FFFF {
-            return Err(JsonReason::TooManyBytes);
-        }
-        self.put(&(len as i32).to_le_bytes()[..])
-    }
-
     /// Puts a string at the end: its length, its text and a 0.
-    pub(crate) fn put_string(&mut self, text: &str) -> Result<(), JsonReason>
+    fn put_string(&mut self, text: &str) -> Result<(), JsonReason>
         ensures bytes { OnOk result (self.new.bytes.items ≡ self.old.bytes.items ++ string_payload text.now) }
         ensures levels { self.new.levels.items ≡ self.old.levels.items }
         ensures reason { IfErr result LeavesOpen }
     {
         self.make_room(text.len().saturating_add(5))?;
         put_string(&mut self.bytes, text);
+        Ok(())
+    }
+
+    /// Puts the element of a value under a key at the end.
+    pub(crate) fn put_element(&mut self, key: &str, value: RawBsonRef<'_>) -> Result<(), JsonReason>
+        ensures bytes { OnOk result (self.new.bytes.items ≡ self.old.bytes.items ++ element_bytes key.now (value_of value.entry)) }
+        ensures levels { self.new.levels.items ≡ self.old.levels.items }
+        ensures reason { IfErr result LeavesOpen }
+    {
+        self.make_room(payload_len(value).saturating_add(key.len() + 2))?;
+        put_element(&mut self.bytes, key, value);
         Ok(())
     }
 

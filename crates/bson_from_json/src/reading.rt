@@ -4,14 +4,12 @@
 ghost use Rattle.std.specs.Prelude.{◌≡◌, ◌<◌, ◌≤◌, ◌∷◌, ◌⊎◌, [], decimal, IfErr, IfOk, IfSome, OnErr, OnOk};
 ghost use Rattle.json.specs.Reads.{token_of};
 ghost use Rattle.json.specs.Token.{begin_object};
-ghost use Rattle.raw_bson.specs.Format.{element_of, string_payload};
 ghost use Rattle.bson_model.specs.Bytes.{NulFree};
-ghost use Rattle.bson_model.specs.Leaf.{Leaf};
-ghost use Rattle.bson_from_json.specs.Numbers.{IsPlain};
 ghost use Rattle.raw_bson.specs.Tree.{Tree};
+ghost use Rattle.raw_bson.specs.Value.{value_of};
 ghost use Rattle.raw_bson.specs.WithinLimits.{ReadsWithin};
 ghost use Rattle.bson_from_json.specs.Left.{left_of};
-ghost use Rattle.bson_from_json.specs.Levels.{ClosesBracket, HasMembers, MayBeIn, Puts, SaysBytes, TakesLevel, TakesValue, array_level, leaf_element};
+ghost use Rattle.bson_from_json.specs.Levels.{ClosesBracket, HasMembers, MayBeIn, Puts, SaysBytes, TakesLevel, TakesValue, array_level};
 ghost use Rattle.bson_from_json.specs.Place.{IsPlaceIn};
 ghost use Rattle.bson_from_json.specs.declared.levels.Holder.TheVariants.{Array};
 ghost use Rattle.bson_from_json.specs.Ends.{KeepsClosed, KeepsLevel, KeepsValue, LacksLevel, LacksValue, LacksWhole, LacksWrapper};
@@ -21,12 +19,12 @@ use crate::codes::{Codes, codes_of};
 use crate::error::{JsonError, JsonReason};
 use crate::fault::Wanted;
 use crate::levels::{Holder, Level, Unfinished};
-use crate::number::{Number, number_of};
+use crate::number::number_of;
 use crate::source::Source;
 use crate::wrapper::Wrapper;
 use itoa::Buffer;
 use json::{Reader as Tokens, Scratch, Token};
-use raw_bson::{ElementType, Limits, RawDocumentBuf};
+use raw_bson::{ElementType, Limits, RawBsonRef, RawDocumentBuf};
 use std::alloc::Global;
 
 /// A text and the document that is made of it.
@@ -236,11 +234,10 @@ impl<'a> Reader<'a> {
         ensures none { IfErr result (λ reason. LeavesOpen reason ⊎ LacksValue (token_of token.entry ∷ self.old.source.tokens)) }
     {
         match token {
-            Token::String(text) => self.put_text(ElementType::String, key, text),
-            Token::Number(text) => self.number(text, key),
-            Token::Bool(false) => self.put(ElementType::Boolean, key, &[0]),
-            Token::Bool(true) => self.put(ElementType::Boolean, key, &[1]),
-            Token::Null => self.put(ElementType::Null, key, &[]),
+            Token::String(text) => self.put(key, RawBsonRef::String(text)),
+            Token::Number(text) => self.put(key, number_of(text)?),
+            Token::Bool(value) => self.put(key, RawBsonRef::Boolean(value)),
+            Token::Null => self.put(key, RawBsonRef::Null),
             Token::BeginObject => self.object(key),
             Token::BeginArray => self
                 .document
@@ -276,47 +273,13 @@ impl<'a> Reader<'a> {
         }
     }
 
-    /// Puts a number without a wrapper under a key.
-    fn number(&mut self, text: &str, key: &str) -> Result<(), JsonReason>
-        ensures source { self.new.source ≡ self.old.source }
-        ensures puts { OnOk result ((l : Leaf) × IsPlain text.now l × Puts self.old self.new (leaf_element key.now l)) }
-        ensures none { IfErr result (λ reason. LeavesOpen reason ⊎ ((l : Leaf) → ¬ IsPlain text.now l)) }
-    {
-        match number_of(text)? {
-            Number::Int32(value) => self.put(ElementType::Int32, key, &value.to_le_bytes()),
-            Number::Int64(value) => self.put(ElementType::Int64, key, &value.to_le_bytes()),
-            Number::Double(bits) => self.put(ElementType::Double, key, &bits.to_le_bytes()),
-        }
-    }
-
     /// Puts a value under a key.
-    pub(crate) fn put(
-        &mut self,
-        kind: ElementType,
-        key: &str,
-        payload: &[u8],
-    ) -> Result<(), JsonReason>
+    pub(crate) fn put(&mut self, key: &str, value: RawBsonRef<'_>) -> Result<(), JsonReason>
         ensures source { self.new.source ≡ self.old.source }
-        ensures puts { OnOk result (Puts self.old self.new (element_of kind key.now payload.now)) }
+        ensures puts { OnOk result (Puts self.old self.new key.now (value_of value.entry)) }
         ensures reason { IfErr result LeavesOpen }
     {
-        self.document.put_head(kind, key)?;
-        self.document.put(payload)
-    }
-
-    /// Puts a text under a key, as a string, a symbol or code.
-    pub(crate) fn put_text(
-        &mut self,
-        kind: ElementType,
-        key: &str,
-        text: &str,
-    ) -> Result<(), JsonReason>
-        ensures source { self.new.source ≡ self.old.source }
-        ensures puts { OnOk result (Puts self.old self.new (element_of kind key.now (string_payload text.now))) }
-        ensures reason { IfErr result LeavesOpen }
-    {
-        self.document.put_head(kind, key)?;
-        self.document.put_string(text)
+        self.document.put_element(key, value)
     }
 }
 

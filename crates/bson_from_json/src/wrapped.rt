@@ -6,10 +6,7 @@ ghost use Rattle.json.specs.Token.{begin_object, key as key_token, string};
 ghost use Rattle.bson_from_json.specs.Ends.{KeepsValue, LacksLeaf, LacksValue};
 ghost use Rattle.bson_from_json.specs.Left.{left_of};
 ghost use Rattle.bson_from_json.specs.Texts.{LeavesOpen};
-ghost use Rattle.bson_from_json.specs.Levels.{Puts, TakesLeaf, TakesValue, leaf_element, wrapper_key};
-ghost use Rattle.bson_model.specs.Leaf.{binary, regular_expression};
-ghost use Rattle.raw_bson.specs.ElementType.TheVariants.{Binary};
-ghost use Rattle.raw_bson.specs.Format.{element_of, inner_payload, plain_binary_payload};
+ghost use Rattle.bson_from_json.specs.Levels.{TakesLeaf, TakesValue, wrapper_key};
 
 use crate::error::JsonReason;
 use crate::fault::Wanted;
@@ -17,7 +14,10 @@ use crate::levels::Holder;
 use crate::reading::Reader;
 use crate::wrapper::Wrapper;
 use json::Token;
-use raw_bson::{BinarySubtype, ElementType, Regex};
+use raw_bson::{
+    BinarySubtype, DateTime, Decimal128, DoubleBits, ObjectId, RawBinaryRef, RawBsonRef,
+    RawDbPointerRef, RawRegexRef, Regex, Timestamp,
+};
 
 impl Reader<'_> {
     /// Takes the value of a wrapper and its brace, or the beginning of one that is a level, and puts it under a key.
@@ -65,7 +65,7 @@ impl Reader<'_> {
         ensures none { IfErr result (λ reason. LeavesOpen reason ⊎ LacksLeaf (codes "$oid") self.old.source.tokens) }
     {
         let id = self.source.id()?;
-        self.put(ElementType::ObjectId, key, &id)
+        self.put(key, RawBsonRef::ObjectId(ObjectId::from_bytes(id)))
     }
 
     fn int32(&mut self, key: &str) -> Result<(), JsonReason>
@@ -73,7 +73,7 @@ impl Reader<'_> {
         ensures none { IfErr result (λ reason. LeavesOpen reason ⊎ LacksLeaf (codes "$numberInt") self.old.source.tokens) }
     {
         let value = self.source.int32()?;
-        self.put(ElementType::Int32, key, &value.to_le_bytes())
+        self.put(key, RawBsonRef::Int32(value))
     }
 
     fn int64(&mut self, key: &str) -> Result<(), JsonReason>
@@ -81,7 +81,7 @@ impl Reader<'_> {
         ensures none { IfErr result (λ reason. LeavesOpen reason ⊎ LacksLeaf (codes "$numberLong") self.old.source.tokens) }
     {
         let value = self.source.int64()?;
-        self.put(ElementType::Int64, key, &value.to_le_bytes())
+        self.put(key, RawBsonRef::Int64(value))
     }
 
     fn double(&mut self, key: &str) -> Result<(), JsonReason>
@@ -89,7 +89,7 @@ impl Reader<'_> {
         ensures none { IfErr result (λ reason. LeavesOpen reason ⊎ LacksLeaf (codes "$numberDouble") self.old.source.tokens) }
     {
         let bits = self.source.double()?;
-        self.put(ElementType::Double, key, &bits.to_le_bytes())
+        self.put(key, RawBsonRef::Double(DoubleBits(bits)))
     }
 
     fn decimal(&mut self, key: &str) -> Result<(), JsonReason>
@@ -97,7 +97,7 @@ impl Reader<'_> {
         ensures none { IfErr result (λ reason. LeavesOpen reason ⊎ LacksLeaf (codes "$numberDecimal") self.old.source.tokens) }
     {
         let bytes = self.source.decimal()?;
-        self.put(ElementType::Decimal128, key, &bytes)
+        self.put(key, RawBsonRef::Decimal128(Decimal128::from_bytes(bytes)))
     }
 
     fn uuid(&mut self, key: &str) -> Result<(), JsonReason>
@@ -105,7 +105,11 @@ impl Reader<'_> {
         ensures none { IfErr result (λ reason. LeavesOpen reason ⊎ LacksLeaf (codes "$uuid") self.old.source.tokens) }
     {
         let bytes = self.source.uuid()?;
-        self.put_binary(key, BinarySubtype::Uuid, &bytes)
+        let binary = RawBinaryRef {
+            subtype: BinarySubtype::Uuid,
+            bytes: &bytes,
+        };
+        self.put(key, RawBsonRef::Binary(binary))
     }
 
     fn date(&mut self, key: &str) -> Result<(), JsonReason>
@@ -113,7 +117,7 @@ impl Reader<'_> {
         ensures none { IfErr result (λ reason. LeavesOpen reason ⊎ LacksLeaf (codes "$date") self.old.source.tokens) }
     {
         let millis = self.source.date()?;
-        self.put(ElementType::DateTime, key, &millis.to_le_bytes())
+        self.put(key, RawBsonRef::DateTime(DateTime::from_millis(millis)))
     }
 
     fn undefined(&mut self, key: &str) -> Result<(), JsonReason>
@@ -121,7 +125,7 @@ impl Reader<'_> {
         ensures none { IfErr result (λ reason. LeavesOpen reason ⊎ LacksLeaf (codes "$undefined") self.old.source.tokens) }
     {
         self.source.undefined()?;
-        self.put(ElementType::Undefined, key, &[])
+        self.put(key, RawBsonRef::Undefined)
     }
 
     fn min_key(&mut self, key: &str) -> Result<(), JsonReason>
@@ -129,7 +133,7 @@ impl Reader<'_> {
         ensures none { IfErr result (λ reason. LeavesOpen reason ⊎ LacksLeaf (codes "$minKey") self.old.source.tokens) }
     {
         self.source.one(Wrapper::MinKey)?;
-        self.put(ElementType::MinKey, key, &[])
+        self.put(key, RawBsonRef::MinKey)
     }
 
     fn max_key(&mut self, key: &str) -> Result<(), JsonReason>
@@ -137,7 +141,7 @@ impl Reader<'_> {
         ensures none { IfErr result (λ reason. LeavesOpen reason ⊎ LacksLeaf (codes "$maxKey") self.old.source.tokens) }
     {
         self.source.one(Wrapper::MaxKey)?;
-        self.put(ElementType::MaxKey, key, &[])
+        self.put(key, RawBsonRef::MaxKey)
     }
 
     fn symbol(&mut self, key: &str) -> Result<(), JsonReason>
@@ -145,7 +149,7 @@ impl Reader<'_> {
         ensures none { IfErr result (λ reason. LeavesOpen reason ⊎ LacksLeaf (codes "$symbol") self.old.source.tokens) }
     {
         let text = self.source.text(Wrapper::Symbol)?;
-        self.put_text(ElementType::Symbol, key, text)
+        self.put(key, RawBsonRef::Symbol(text))
     }
 
     fn timestamp(&mut self, key: &str) -> Result<(), JsonReason>
@@ -153,8 +157,7 @@ impl Reader<'_> {
         ensures none { IfErr result (λ reason. LeavesOpen reason ⊎ LacksLeaf (codes "$timestamp") self.old.source.tokens) }
     {
         let (time, increment) = self.source.timestamp()?;
-        self.put(ElementType::Timestamp, key, &increment.to_le_bytes())?;
-        self.document.put(&time.to_le_bytes())
+        self.put(key, RawBsonRef::Timestamp(Timestamp { time, increment }))
     }
 
     fn binary(&mut self, key: &str) -> Result<(), JsonReason>
@@ -162,48 +165,11 @@ impl Reader<'_> {
         ensures none { IfErr result (λ reason. LeavesOpen reason ⊎ LacksLeaf (codes "$binary") self.old.source.tokens) }
     {
         let (bytes, subtype) = self.source.binary(self.alloc)?;
-        self.put_binary(key, BinarySubtype::from_u8(subtype), &bytes)
-    }
-
-    /// Puts a binary under a key; an old one has its length once more inside.
-    fn put_binary(
-        &mut self,
-        key: &str,
-        subtype: BinarySubtype,
-        bytes: &[u8],
-    ) -> Result<(), JsonReason>
-        ensures source { self.new.source ≡ self.old.source }
-        ensures puts { OnOk result (Puts self.old self.new (leaf_element key.now (binary subtype bytes.now))) }
-        ensures reason { IfErr result LeavesOpen }
-    {
-        match subtype {
-            BinarySubtype::BinaryOld => self.put_old_binary(key, bytes),
-            _ => self.put_plain_binary(key, subtype.to_u8(), bytes),
-        }
-    }
-
-    fn put_old_binary(&mut self, key: &str, bytes: &[u8]) -> Result<(), JsonReason>
-        ensures source { self.new.source ≡ self.old.source }
-        ensures puts { OnOk result (Puts self.old self.new (element_of Binary key.now (plain_binary_payload 2 (inner_payload bytes.now)))) }
-        ensures reason { IfErr result LeavesOpen }
-    {
-        let len = bytes.len().checked_add(4).ok_or(JsonReason::TooManyBytes)?;
-        self.document.put_head(ElementType::Binary, key)?;
-        self.document.put_len(len)?;
-        self.document.put(&[2])?;
-        self.document.put_len(bytes.len())?;
-        self.document.put(bytes)
-    }
-
-    fn put_plain_binary(&mut self, key: &str, subtype: u8, bytes: &[u8]) -> Result<(), JsonReason>
-        ensures source { self.new.source ≡ self.old.source }
-        ensures puts { OnOk result (Puts self.old self.new (element_of Binary key.now (plain_binary_payload subtype bytes.now))) }
-        ensures reason { IfErr result LeavesOpen }
-    {
-        self.document.put_head(ElementType::Binary, key)?;
-        self.document.put_len(bytes.len())?;
-        self.document.put(&[subtype])?;
-        self.document.put(bytes)
+        let binary = RawBinaryRef {
+            subtype: BinarySubtype::from_u8(subtype),
+            bytes: &bytes,
+        };
+        self.put(key, RawBsonRef::Binary(binary))
     }
 
     /// Takes a pattern and options, which are put in their order.
@@ -215,18 +181,11 @@ impl Reader<'_> {
         let Ok(regex) = Regex::new(self.alloc, pattern, options) else {
             return Err(JsonReason::OutOfMemory);
         };
-        self.put_regex(key, regex.pattern.as_str(), regex.options.as_str())
-    }
-
-    /// Puts a regular expression under a key.
-    fn put_regex(&mut self, key: &str, pattern: &str, options: &str) -> Result<(), JsonReason>
-        ensures source { self.new.source ≡ self.old.source }
-        ensures puts { OnOk result (Puts self.old self.new (leaf_element key.now (regular_expression pattern.now options.now))) }
-        ensures reason { IfErr result LeavesOpen }
-    {
-        self.document.put_head(ElementType::RegularExpression, key)?;
-        self.document.put_c_string(pattern)?;
-        self.document.put_c_string(options)
+        let regex = RawRegexRef {
+            pattern: regex.pattern.as_str(),
+            options: regex.options.as_str(),
+        };
+        self.put(key, RawBsonRef::RegularExpression(regex))
     }
 
     fn db_pointer(&mut self, key: &str) -> Result<(), JsonReason>
@@ -234,8 +193,8 @@ impl Reader<'_> {
         ensures none { IfErr result (λ reason. LeavesOpen reason ⊎ LacksLeaf (codes "$dbPointer") self.old.source.tokens) }
     {
         let (namespace, id) = self.source.db_pointer()?;
-        self.put_text(ElementType::DbPointer, key, namespace)?;
-        self.document.put(&id)
+        let pointer = RawDbPointerRef::new(namespace, ObjectId::from_bytes(id));
+        self.put(key, RawBsonRef::DbPointer(pointer))
     }
 
     /// Takes code, and the brace of its scope if one comes behind it.
@@ -248,7 +207,7 @@ impl Reader<'_> {
         let wrapper = Wrapper::Code;
         let code = self.source.text(wrapper)?;
         match self.source.token(Wanted::Part(wrapper))? {
-            Token::EndObject => { self.put_text(ElementType::JavaScriptCode, key, code) }
+            Token::EndObject => self.put(key, RawBsonRef::JavaScriptCode(code)),
             Token::Key("$scope") => self.scope_behind_code(key, code),
             Token::String(_) => Err(self.source.fault(Wanted::End(wrapper))),
             _ => Err(JsonReason::Malformed(wrapper)),

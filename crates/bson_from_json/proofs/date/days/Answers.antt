@@ -1,4 +1,4 @@
-use Rattle.std.proofs.Common.{◌∷◌, ◌++◌, pos, sym, arith}
+use Rattle.std.proofs.Common.{◌∷◌, ◌++◌, pos, sym}
 use Rattle.bson_from_json.specs.Times.{two_digits}
 use Rattle.bson_from_json.proofs.Only.{day_digits, month_digits}
 use Rattle.bson_from_json.proofs.date.days.Goals as goal

@@ -1,5 +1,5 @@
-use Rattle.std.proofs.Common.{◌≡◌, codes, refl, rules}
-use Rattle.bson_from_json.proofs.Moments.{binary_is, binary_says, leaf_taken, on_ok}
+use Rattle.std.proofs.Common.{codes, refl, rules}
+use Rattle.bson_from_json.proofs.Moments.{binary_says, leaf_taken, on_ok}
 use Rattle.std.proofs.lemmas.Result.{err_from_is_err_and}
 use Rattle.bson_from_json.specs.declared.error.JsonReason.TheVariants.{OutOfMemory}
 use Rattle.bson_from_json.proofs.Keeps.{one_open, only_open}
@@ -8,10 +8,8 @@ use Rattle.bson_from_json.proofs.Ends.{none_wrapped}
 use Rattle.bson_from_json.proofs.reading.Reader.binary.Goals as goal
 
 pub returns-clause-some : goal.returns-clause-some
-returns-clause-some c =
-    let items : c.deref.result.now ≡ c.in_ok-bytes.bytes.items = search rules in
-    on_ok c.put_binary.result
-    (λ puts. leaf_taken (codes "$binary") binary_says c.in_ok-bytes.ensures.some refl c.put_binary.ensures.source (binary_is c.args.key.now c.from_u8.ensures items puts)) c.put_binary.ensures.puts
+returns-clause-some c = on_ok c.put.result
+    (λ puts. leaf_taken (codes "$binary") binary_says c.in_ok-bytes.ensures.some refl c.put.ensures.source puts (search rules)) c.put.ensures.puts
 
 pub returns-in_err-bytes-clause-none : goal.returns-in_err-bytes-clause-none
 returns-in_err-bytes-clause-none c =
@@ -19,4 +17,4 @@ returns-in_err-bytes-clause-none c =
     rw (e.1, e.2) (one_open OutOfMemory _ tt (λ none. none_wrapped wrapper.Binary _ none) c.in_err-bytes.ensures.none)
 
 pub returns-clause-none : goal.returns-clause-none
-returns-clause-none c = only_open _ c.put_binary.result c.put_binary.ensures.reason
+returns-clause-none c = only_open _ c.put.result c.put.ensures.reason

@@ -1,7 +1,6 @@
 use Rattle.std.proofs.Common.{◌≡◌, ◌∙◌, refl, rules}
 use Rattle.bson_from_json.specs.declared.levels.Holder.TheVariants as holder
 use Rattle.bson_from_json.proofs.Moments.{code_closed, on_ok, plain_closed, scope_closed}
-use Rattle.std.proofs.lemmas.Result.{err_from_is_err_and}
 use Rattle.bson_from_json.specs.declared.error.JsonReason.TheVariants.{Unsound}
 use Rattle.bson_from_json.proofs.Keeps.{code_keeps, lacks_on, no_code_behind, no_scope_end, one_open, on_err, plain_keeps, scope_keeps}
 use Rattle.bson_from_json.proofs.reading.Reader.close.Goals as goal

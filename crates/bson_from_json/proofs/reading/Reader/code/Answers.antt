@@ -9,10 +9,10 @@ use Rattle.bson_from_json.proofs.reading.Reader.code.Goals as goal
 pub returns-in-EndObject-clause-rest : goal.returns-in-EndObject-clause-rest
 returns-in-EndObject-clause-rest c =
     let end : c.text.new.self.tokens ≡ Token.end_object ∷ c.token.new.self.tokens = search rules in
-    let same = ap (λ (x : Source). Token.end_object ∷ x.tokens) (sym c.put_text.ensures.source) in
-    on_ok c.put_text.result
+    let same = ap (λ (x : Source). Token.end_object ∷ x.tokens) (sym c.put.ensures.source) in
+    on_ok c.put.result
     (λ puts. code_put _ _ c.args.key.now c.in_ok-code.code.now (c.in_ok-code.ensures.some ∙ ap (λ (x : List Token). Token.string c.in_ok-code.code.now ∷ x) (end ∙ same)) refl puts)
-    c.put_text.ensures.puts
+    c.put.ensures.puts
 
 pub returns-in_err-code-clause-none : goal.returns-in_err-code-clause-none
 returns-in_err-code-clause-none c = lacks c.from_residual.result (no_code c.in_err-code.ensures.none)
@@ -23,12 +23,12 @@ returns-in_err-token-clause-none c = lacks c.from_residual-in_err-token.result (
 pub returns-in-EndObject-clause-keeps : goal.returns-in-EndObject-clause-keeps
 returns-in-EndObject-clause-keeps c =
     let end : c.text.new.self.tokens ≡ Token.end_object ∷ c.token.new.self.tokens = search rules in
-    let same = ap (λ (x : Source). Token.end_object ∷ x.tokens) (sym c.put_text.ensures.source) in
-    on_ok c.put_text.result
-    (λ puts. put_keeps _ _ puts.levels (code_behind (c.in_ok-code.ensures.some ∙ ap (λ (x : List Token). Token.string c.in_ok-code.code.now ∷ x) (end ∙ same)))) c.put_text.ensures.puts
+    let same = ap (λ (x : Source). Token.end_object ∷ x.tokens) (sym c.put.ensures.source) in
+    on_ok c.put.result
+    (λ puts. put_keeps _ _ puts.levels (code_behind (c.in_ok-code.ensures.some ∙ ap (λ (x : List Token). Token.string c.in_ok-code.code.now ∷ x) (end ∙ same)))) c.put.ensures.puts
 
 pub returns-in-EndObject-clause-none : goal.returns-in-EndObject-clause-none
-returns-in-EndObject-clause-none c = only_open _ c.put_text.result c.put_text.ensures.reason
+returns-in-EndObject-clause-none c = only_open _ c.put.result c.put.ensures.reason
 
 pub returns-in-Key-text-clause-none : goal.returns-in-Key-text-clause-none
 returns-in-Key-text-clause-none c =

@@ -1,16 +1,12 @@
-use Rattle.std.proofs.Common.{◌≡◌, codes, refl, rules}
-use Rattle.raw_bson.specs.Number.{le64}
-use Rattle.raw_bson.specs.ElementType.TheVariants as kind
-use Rattle.bson_from_json.proofs.Moments.{leaf_taken, on_ok, payload_is, date_says}
+use Rattle.std.proofs.Common.{codes, refl, rules}
+use Rattle.bson_from_json.proofs.Moments.{leaf_taken, on_ok, date_says}
 use Rattle.bson_from_json.specs.declared.wrapper.Wrapper.TheVariants as wrapper
 use Rattle.bson_from_json.proofs.Ends.{none_wrapped}
 use Rattle.bson_from_json.proofs.Keeps.{lacks, only_open}
 use Rattle.bson_from_json.proofs.reading.Reader.date.Goals as goal
 
 pub returns-clause-some : goal.returns-clause-some
-returns-clause-some c =
-    let bytes : c.to_le_bytes.result ≡ le64 c.in_ok-millis.millis = search rules in
-    on_ok c.put.result (λ puts. leaf_taken (codes "$date") date_says c.in_ok-millis.ensures.some refl c.put.ensures.source (payload_is kind.DateTime c.args.key.now bytes puts)) c.put.ensures.puts
+returns-clause-some c = on_ok c.put.result (λ puts. leaf_taken (codes "$date") date_says c.in_ok-millis.ensures.some refl c.put.ensures.source puts (search rules)) c.put.ensures.puts
 
 pub returns-in_err-millis-clause-none : goal.returns-in_err-millis-clause-none
 returns-in_err-millis-clause-none c = lacks c.from_residual.result (none_wrapped wrapper.Date _ c.in_err-millis.ensures.none)

@@ -1,6 +1,5 @@
-use Rattle.std.proofs.Common.{codes, refl}
-use Rattle.raw_bson.specs.ElementType.TheVariants as kind
-use Rattle.bson_from_json.proofs.Moments.{leaf_taken, on_ok, payload_is, double_says}
+use Rattle.std.proofs.Common.{codes, refl, rules}
+use Rattle.bson_from_json.proofs.Moments.{leaf_taken, on_ok, double_says}
 use Rattle.bson_from_json.specs.declared.wrapper.Wrapper.TheVariants as wrapper
 use Rattle.bson_from_json.proofs.Ends.{none_wrapped}
 use Rattle.bson_from_json.proofs.Keeps.{lacks, only_open}
@@ -8,7 +7,7 @@ use Rattle.bson_from_json.proofs.reading.Reader.double.Goals as goal
 
 pub returns-clause-some : goal.returns-clause-some
 returns-clause-some c = on_ok c.put.result
-    (λ puts. leaf_taken (codes "$numberDouble") double_says c.in_ok-bits.ensures.some refl c.put.ensures.source (payload_is kind.Double c.args.key.now c.to_le_bytes.ensures puts)) c.put.ensures.puts
+    (λ puts. leaf_taken (codes "$numberDouble") double_says c.in_ok-bits.ensures.some refl c.put.ensures.source puts (search rules)) c.put.ensures.puts
 
 pub returns-in_err-bits-clause-none : goal.returns-in_err-bits-clause-none
 returns-in_err-bits-clause-none c = lacks c.from_residual.result (none_wrapped wrapper.NumberDouble _ c.in_err-bits.ensures.none)

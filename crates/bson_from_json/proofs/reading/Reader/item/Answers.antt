@@ -1,7 +1,6 @@
 use Rattle.std.proofs.Common.{◌≡◌, ◌∙◌, ◌+◌, ◌++◌, ◌∷◌, [], ℕ, ap, arith, inr, refl, rules}
 use Rattle.bson_from_json.specs.Levels.{array_level}
 use Rattle.bson_from_json.proofs.Moments.{end_taken, item_taken, on_ok}
-use Rattle.std.proofs.lemmas.Result.{err_from_is_err_and}
 use Rattle.bson_from_json.proofs.Keeps.{array_end_keeps, item_keeps, lacks, no_array_end, no_item, no_item_token, or_lacks}
 use Rattle.json.specs.Token.{Token}
 use Rattle.bson_from_json.specs.Taken.{LacksToken}

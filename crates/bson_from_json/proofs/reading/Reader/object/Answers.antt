@@ -2,7 +2,6 @@ use Rattle.std.proofs.Common.{◌≡◌, ◌∷◌, false, refl, rules}
 use Rattle.json.specs.Token.{Token}
 use Rattle.bson_from_json.specs.Meaning.{is_wrapper_key}
 use Rattle.bson_from_json.proofs.Moments.{begun_opened, empty_put, on_ok, on_ok_two}
-use Rattle.std.proofs.lemmas.Result.{err_from_is_err_and}
 use Rattle.bson_from_json.specs.declared.levels.Holder.TheVariants as holder
 use Rattle.bson_from_json.proofs.Keeps.{begun_behind, empty_behind, lacks, no_first, only_open, open_keeps, put_keeps}
 use Rattle.bson_from_json.specs.Levels.{wrapper_key}

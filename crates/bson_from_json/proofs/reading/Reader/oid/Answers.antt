@@ -1,4 +1,4 @@
-use Rattle.std.proofs.Common.{codes, refl}
+use Rattle.std.proofs.Common.{codes, refl, rules}
 use Rattle.bson_from_json.proofs.Moments.{leaf_taken, on_ok, oid_says, takes_oid}
 use Rattle.bson_from_json.proofs.NoLeaf.{no_oid}
 use Rattle.bson_from_json.proofs.Keeps.{lacks, only_open}
@@ -6,7 +6,8 @@ use Rattle.bson_from_json.proofs.reading.Reader.oid.Goals as goal
 
 pub returns-clause-some : goal.returns-clause-some
 returns-clause-some c = on_ok c.put.result
-    (λ puts. leaf_taken (codes "$oid") oid_says (takes_oid c.in_ok-id.ensures.some.1 c.in_ok-id.ensures.some.2) refl c.put.ensures.source puts) c.put.ensures.puts
+    (λ puts. leaf_taken (codes "$oid") oid_says (takes_oid c.in_ok-id.ensures.some.1 c.in_ok-id.ensures.some.2)
+    refl c.put.ensures.source puts (search rules)) c.put.ensures.puts
 
 pub returns-in_err-id-clause-none : goal.returns-in_err-id-clause-none
 returns-in_err-id-clause-none c = lacks c.from_residual.result (no_oid c.in_err-id.ensures.none)

@@ -1,4 +1,4 @@
-use Rattle.std.proofs.Common.{codes, refl}
+use Rattle.std.proofs.Common.{codes, refl, rules}
 use Rattle.bson_from_json.proofs.Moments.{leaf_taken, on_ok, undefined_says}
 use Rattle.bson_from_json.proofs.NoLeaf.{no_undefined}
 use Rattle.bson_from_json.proofs.Keeps.{lacks, only_open}
@@ -6,7 +6,7 @@ use Rattle.bson_from_json.proofs.reading.Reader.undefined.Goals as goal
 
 pub returns-clause-some : goal.returns-clause-some
 returns-clause-some c = on_ok c.put.result
-    (λ puts. leaf_taken (codes "$undefined") undefined_says ((_, c.in_ok-undefined.ensures.some, (refl, refl))) refl c.put.ensures.source puts) c.put.ensures.puts
+    (λ puts. leaf_taken (codes "$undefined") undefined_says ((_, c.in_ok-undefined.ensures.some, (refl, refl))) refl c.put.ensures.source puts (search rules)) c.put.ensures.puts
 
 pub returns-in_err-undefined-clause-none : goal.returns-in_err-undefined-clause-none
 returns-in_err-undefined-clause-none c = lacks c.from_residual.result (no_undefined c.in_err-undefined.ensures.none)
