@@ -16,9 +16,6 @@ told_as P (Ok x) e is told = absurd is
 told_as P (Err y) e is told = subst P (sym is) told
 
 module _ {S : Type 0} (has : S → ℕ → List ℕ → Type 0) where
-  grows_nil : (old : S) → Grows has old old []
-  grows_nil old most text h = subst (λ (x : List ℕ). has old most x) (sym (append-nil text)) h
-
   grows_trans : (old now new : S) (bs cs : List ℕ) → Grows has old now bs → Grows has now new cs → Grows has old new (bs ++ cs)
   grows_trans old now new bs cs f g most text h = subst (λ (x : List ℕ). has new most x) (append_assoc text bs cs) (g most (text ++ bs) (f most text h))
 
@@ -65,7 +62,9 @@ module _ {S : Type 0} {has : S → ℕ → List ℕ → Type 0} (style : Style) 
 
   wrote_before : (unseen : Bool) → Guards limits b unseen old now → WroteBefore has style limits b old now (print.Failure failure.OutOfMemory)
   wrote_before true guard = inl guard
-  wrote_before false guard = inr (wrote_within now guard.t guard.within (record { front = []; behind = block; whole = refl; put = grows_nil has now }))
+  wrote_before false guard =
+      let nothing : GrowsFront has now now block = record { front = []; behind = block; whole = refl; put = λ most taken h. subst (has now most) (sym (append-nil taken)) h } in
+      inr (wrote_within now guard.t guard.within nothing)
 
   wrote_none : (unseen : Bool) (answer : Barrier) → Guards limits b unseen old now → TellsBarrier limits b (Some answer) → now ≡ old
   wrote_none true answer guard told = guard

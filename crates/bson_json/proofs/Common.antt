@@ -29,21 +29,19 @@ pub use Rattle.bson_model.specs.Leaf.{Leaf, binary, boolean, date_time, db_point
 pub use Rattle.bson_model.specs.Leaf.{symbol, timestamp, undefined}
 pub use Rattle.bson_model.specs.Scalars.{bytes_of_decimal128, bytes_of_object_id}
 pub use Rattle.bson_model.specs.Subtype.{subtype_byte}
-pub use Rattle.bson_model.specs.Tree.{Tree, document}
-pub use Rattle.raw_view.proofs.Face.{no_frame_at_final, one_frame, one_meaning}
+pub use Rattle.bson_model.specs.Tree.{Tree}
 pub use Rattle.raw_view.specs.Document.{bytes_of}
-pub use Rattle.raw_view.specs.Frame.{Done, Frame, IsFrame, IsWalk}
-pub use Rattle.raw_view.specs.Frame.ElementSteps.{HasRead, frame_of}
-pub use Rattle.raw_view.specs.Meaning.{Means, MeansValue, RawValue, value}
+pub use Rattle.raw_view.specs.Frame.{Done, Frame, IsWalk}
+pub use Rattle.raw_view.specs.Frame.ElementSteps.{frame_of}
+pub use Rattle.raw_view.specs.Meaning.{MeansValue, RawValue}
 pub use Rattle.raw_view.specs.Meaning.Value.{id_of, namespace_of, value_of}
 pub use Rattle.raw_view.specs.declared.bson_ref.RawBsonRef.{RawBsonRef}
 pub use Rattle.raw_view.specs.declared.document.RawDocument.{RawDocument}
-pub use Rattle.raw_view.specs.declared.element.RawElement.{RawElement}
 pub use Rattle.raw_tree.specs.Barriers.{TellsBarrier}
-pub use Rattle.raw_tree.specs.Reading.{Holds, Reads, ReadsUpTo, StandsFor}
+pub use Rattle.raw_tree.specs.Reading.{ReadsUpTo}
 pub use Rattle.raw_tree.specs.Looking.{size_of}
 pub use Rattle.raw_tree.specs.Visits.{HasVisits, Visit, VisitsEach, VisitsLevel, VisitsValue}
-pub use Rattle.raw_tree.specs.Walks.{BeginsWithin, Comes, ComesTo, HasCome, TellsError}
+pub use Rattle.raw_tree.specs.Walks.{Comes, ComesTo, HasCome, TellsError}
 pub use Rattle.raw_tree.specs.WithinLimits.{ReadsWithin}
 pub use Rattle.raw_tree.specs.declared.reader.limits.Limits.{Limits}
 pub use Rattle.raw_tree.specs.declared.walk.Walk.{Walk}
@@ -52,8 +50,8 @@ pub use Rattle.bson_json.specs.Decimals.{behind_point, coefficient_of, combinati
 pub use Rattle.bson_json.specs.Doubles.{IsDoubleJson, IsDoubleText, IsWrappedDouble, wrapped_double}
 pub use Rattle.bson_json.specs.Json.{AreMembersJson, IsJson, IsJsonUpTo, IsValueJson, before_scope, closing, comma, end_text, head_text, line, member_key, opening}
 pub use Rattle.bson_json.specs.Leaves.{IsLeafJson, binary_json, boolean_json, int32_json, int64_json, object_id_json, pointer_json, regex_json, timestamp_json}
-pub use Rattle.bson_json.specs.Levels.{IsSingleJson, PutsEvent, PutsOpening, PutsSingle, Suits, after, end_of, error_of, head_of, level_sort, opening_text, sort_of}
-pub use Rattle.bson_json.specs.Passing.{Guards, IsSeen, TellsBriefly, TellsPassError, TellsPrintError, WroteBefore, WroteWithin}
+pub use Rattle.bson_json.specs.Levels.{IsSingleJson, PutsEvent, PutsSingle, Suits, after, end_of, error_of, head_of, level_sort, opening_text, sort_of}
+pub use Rattle.bson_json.specs.Passing.{Guards, TellsPassError, TellsPrintError, WroteBefore, WroteWithin}
 pub use Rattle.bson_json.specs.Written.{Grows, GrowsFront, HasFront, Moves, WroteFront}
 pub use Rattle.bson_json.specs.declared.decimals.Decimal.{Decimal}
 pub use Rattle.bson_json.specs.declared.decimals.Decimal.TheVariants.{Finite, Infinity, NaN}

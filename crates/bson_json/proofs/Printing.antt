@@ -17,7 +17,7 @@ pub record Place : Type 0 where
 abbrev pub place : List Sort → Sort → Bool → Place
 place os o first = record { waits = os; sort = o; first = first }
 
--- behind a level of this sort; where none waits, the text stays in it
+-- the place behind a level of this sort, which is in the one that waits last; where none waits, the text stays in that level
 abbrev pub around : List Sort → Sort → Place
 around [] o = place [] o false
 around (p ∷ []) o = place [] p false
@@ -77,7 +77,7 @@ module _ (style : Style) where
       let (piece, is) = piece_has s x in
       let (others, to, are) = written_has (behind s x) xs in (piece ++ others, to, (piece, others, is, are, refl))
 
-  -- From this place these visits have a text of which P holds. Behind it the text is in the same level, and goes on with that of others.
+  -- A text that begins with that of these visits, from this place, begins with one of which P holds. Behind that it is in the same level.
   abbrev Tell : Place → List Visit → (P : (last : Bool) → List ℕ → Type 0) → Type 0
   Tell s vs P =
       (zs : List Visit) (text : List ℕ) (to : Place) → AreWritten s (vs ++ zs) text to
@@ -90,7 +90,7 @@ module _ (style : Style) where
   abbrev IsLevelText : ℕ → Place → List ℕ → (last : Bool) → List ℕ → Type 0
   IsLevelText n s d last text = IsJsonUpTo style n (length s.waits) (level_sort s.sort) d (opening (level_sort s.sort) ∷ (text ++ end_in s last))
 
-  -- so it is of the visits of all bytes with at most so many levels
+  -- the visits of all bytes with at most so many levels tell it
   abbrev AreLevelTexts : ℕ → Type 0
   AreLevelTexts n = (start : ℕ) (os : List Sort) (o : Sort) (d : List ℕ) (vs : List Visit) → HasVisits n start d vs → Tell (place os o true) vs (IsLevelText n (place os o true) d)
 
@@ -103,12 +103,10 @@ module _ (style : Style) where
     IsHeaded s f v last text =
         (shown : List ℕ) × (last ≡ false) × IsValueJson style (length s.waits) (Nested s) v shown × (text ≡ head_of style s.first s.waits s.sort f.key ++ shown)
 
-    -- the value of the level d with any members
-    abbrev IsAround : Place → RawValue → (d : List ℕ) → Type 0
-    IsAround s v d = (members : List ℕ) → Nested s (level_sort (sort_of v)) d (opening (level_sort (sort_of v)) ∷ members)
-        → IsValueJson style (length s.waits) (Nested s) v (opening_text v ++ (members ++ after (sort_of v)))
-
-    held_text : (at : ℕ) (s : Place) (f : Frame) (v : RawValue) (d : List ℕ) (vs : List Visit) → IsAround s v d → VisitsLevel (HasVisits n) at f v d vs → Tell s vs (IsHeaded s f v)
+    -- a value that holds the level d, whatever the members of that are
+    held_text : (at : ℕ) (s : Place) (f : Frame) (v : RawValue) (d : List ℕ) (vs : List Visit)
+        → ((members : List ℕ) → Nested s (level_sort (sort_of v)) d (opening (level_sort (sort_of v)) ∷ members)
+        → IsValueJson style (length s.waits) (Nested s) v (opening_text v ++ (members ++ after (sort_of v)))) → VisitsLevel (HasVisits n) at f v d vs → Tell s vs (IsHeaded s f v)
     held_text at s f v d vs around_is (start, inner, ends, has, all) zs text to are =
         let os = s.waits ++ s.sort ∷ [] in
         let p = sort_of v in
@@ -137,10 +135,8 @@ module _ (style : Style) where
         held_text at s f (raw.scoped code d) d vs (λ members json. (123 ∷ members, json, append_assoc (before_scope code) (codes "{") (members ++ codes "}"))) is zs text to are
 
     -- members, with the end of their level
-    abbrev AreHeaded : Place → List Frame → (last : Bool) → List ℕ → Type 0
-    AreHeaded s fs last text = AreMembersJson style (length s.waits) (Nested s) (level_sort s.sort) s.first fs (text ++ end_in s last)
-
-    each_text : (at : ℕ) (s : Place) (fs : List Frame) (vs : List Visit) → VisitsEach (HasVisits n) at fs vs → Tell s vs (AreHeaded s fs)
+    each_text : (at : ℕ) (s : Place) (fs : List Frame) (vs : List Visit) → VisitsEach (HasVisits n) at fs vs
+        → Tell s vs (λ last text. AreMembersJson style (length s.waits) (Nested s) (level_sort s.sort) s.first fs (text ++ end_in s last))
     each_text at s [] vs none zs text to are = (s.first, [], text, refl, subst (λ (xs : List Visit). AreWritten s (xs ++ zs) text to) none are, refl)
     each_text at s (f ∷ fs) vs (v, xs, ys, means, value, each, all) zs text to are =
         let (one_last, one, others, (shown, behind_one, json, one_is), goes_on, text_is) = value_text at s f v xs value (ys ++ zs) text to
@@ -161,9 +157,8 @@ module _ (style : Style) where
   level_text : (n : ℕ) → AreLevelTexts n
   level_text zero start os o d vs has zs text to are = absurd has
   level_text (suc n) start os o d vs (frames, walk, each) zs text to are =
-      let s = place os o true in
-      let (last, front, others, members, goes_on, text_is) = each_text n (level_text n) (start + 4) s frames vs each zs text to are in
-      (last, front, others, (frames, front ++ end_in s last, walk, members, refl), goes_on, text_is)
+      let (last, front, others, members, goes_on, text_is) = each_text n (level_text n) (start + 4) (place os o true) frames vs each zs text to are in
+      (last, front, others, (frames, front ++ end_in (place os o true) last, walk, members, refl), goes_on, text_is)
 
   -- the visits of a document have its text, but for its brackets
   pub document_text : (n : ℕ) (b : List ℕ) (vs : List Visit) (text : List ℕ) (to : Place) → HasVisits n 0 b vs → AreWritten begun vs text to
@@ -175,7 +170,7 @@ module _ (style : Style) where
       (λ i. (sym (append-nil front) ∙ ap (λ (t : List ℕ). front ++ t) (sym none) ∙ sym text_is) i ++ sym (append-nil (end_text style.layout 0 reading.as_document last)) i) in
       (last, there, (n, subst (λ (t : List ℕ). IsJsonUpTo style n 0 reading.as_document b (123 ∷ t)) all json))
 
-  -- what the first of them have goes on to such a text
+  -- the text of the first visits of a document goes on to one of the document
   pub front_text : (n : ℕ) (b : List ℕ) (vs seen rest : List Visit) (told : List ℕ) (here : Place) → HasVisits n 0 b vs → vs ≡ seen ++ rest → AreWritten begun seen told here
       → (more : List ℕ) × IsJson style b (123 ∷ (told ++ more))
   front_text n b vs seen rest told here has all are =

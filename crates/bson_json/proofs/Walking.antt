@@ -1,5 +1,5 @@
 -- A walk over a document whose levels are printed.
-use Rattle.bson_json.proofs.Common.{Comes, ComesTo, HasCome, HasVisits, IsJson, Limits, PutsEvent, RawDocument, ReadsUpTo, ReadsWithin, Style, Suits, Tree, Visit, Walk, bytes_of, end_of, frame_of, head_of, ne_eqb, opening_text, value_of}
+use Rattle.bson_json.proofs.Common.{Comes, ComesTo, HasCome, IsJson, Limits, PutsEvent, RawDocument, ReadsUpTo, ReadsWithin, Style, Suits, Tree, Visit, Walk, bytes_of, end_of, frame_of, head_of, ne_eqb, opening_text, value_of}
 use Rattle.std.proofs.Common.{◌≡◌, ◌≤◌, ◌<◌, ◌-◌, ℕ, suc, Bool, true, false, nat_eq, List, [], ◌∷◌, ◌++◌, Ok, length, length-append, refl, sym, ap, ◌∙◌, subst, arith, append_assoc, append-nil}
 use Rattle.raw_view.specs.Meaning.Value.{held_value}
 use Rattle.raw_tree.specs.declared.walk.level.Level as walk
@@ -60,16 +60,6 @@ module _ {style : Style} {limits : Limits} {document : RawDocument} {w : Walk} {
     omega (arith, comes.further, comes.within),
   )
 
-  going_ends : (t : Tree) → HasVisits (suc is.most) 0 b is.seen → ReadsUpTo (suc is.most) as_document b t
-      → IsJson style b (123 ∷ (told ++ end_of style (nat_eq l.number 0) sorts o)) × (t : Tree) × ReadsWithin limits b t
-  going_ends t visits reads =
-      let (last, there, json) = document_text style (suc is.most) b is.seen told here visits is.text in
-      let end_is = ap (λ (s : Place). end_of style s.first s.waits s.sort) there in (
-        subst (λ (x : List ℕ). IsJson style b (123 ∷ (told ++ x))) (sym end_is) json,
-        t,
-        read_within limits b t is.few (subst (λ (n : ℕ). ReadsUpTo n as_document b t) is.levels reads),
-      )
-
   pub going_on : (new : Walk) (to : walk.Level) (ps : List Sort) (p : Sort) (block more : List ℕ) (ended : Bool) (e : Event) → Comes document is.most is.seen w l new to (Ok e)
       → PutsEvent style (nat_eq l.number 0) e sorts o block ps p more ended → (piece : List ℕ) × (more ≡ block ++ piece) × Adds new to ps p ended piece
   going_on new to ps p block more ended (event.Whole e v) came (going, ps_are, p_is, (shown, json, put)) =
@@ -84,14 +74,14 @@ module _ {style : Style} {limits : Limits} {document : RawDocument} {w : Walk} {
       (omega (arith, ap length ps_are, length-append sorts (o ∷ []), is.as_many, came.2)) in
       rw going (piece, put ∙ append_assoc block head (opening_text (held_value inner)), adds)
   going_on new to ps p block more ended event.Leave (comes, number, waits) (going, sorts_are, put) =
-      let some = some_number to.number number in
-      let there = (λ i. place ps p (some i)) ∙ sym (ap (λ (os : List Sort). around os o) sorts_are ∙ around_last ps p o) in
+      let there = (λ i. place ps p (some_number to.number number i)) ∙ sym (ap (λ (os : List Sort). around os o) sorts_are ∙ around_last ps p o) in
       rw going (_, put, going_behind leave _ ps p comes refl there (omega (arith, ap length sorts_are, length-append ps (p ∷ []), is.as_many, waits)))
-  going_on new to ps p block more ended event.End (visits, (t, reads), none) (going, put) = rw going (_, put, going_ends t visits reads)
+  going_on new to ps p block more ended event.End (visits, (t, reads), none) (going, put) =
+      let (last, there, json) = document_text style (suc is.most) b is.seen told here visits is.text in
+      let whole_text = subst (λ (s : Place). IsJson style b (123 ∷ (told ++ end_of style s.first s.waits s.sort))) (sym there) json in
+      rw going (_, put, (whole_text, t, read_within limits b t is.few (subst (λ (n : ℕ). ReadsUpTo n as_document b t) is.levels reads)))
 
   -- what the walk comes to suits the levels
   pub going_suits : (new : Walk) (to : walk.Level) (e : Event) → Comes document is.most is.seen w l new to (Ok e) → Suits e sorts
-  going_suits new to (event.Whole e v) comes = tt
-  going_suits new to (event.Enter e inner) comes = tt
-  going_suits new to event.Leave (comes, number, waits) = λ none. omega (arith, ap length none, is.as_many, waits)
-  going_suits new to event.End comes = tt
+  going_suits new to e comes leaves none =
+      let left = subst (λ (x : Event). Comes document is.most is.seen w l new to (Ok x)) leaves comes in omega (arith, ap length none, is.as_many, left.2)

@@ -74,8 +74,7 @@ end_of style first os o = end_text style.layout (length os) (level_sort o) first
 
 -- a level that is left is inside another, which is one of these
 abbrev pub Suits : Event → List Sort → Type 0
-Suits event.Leave os = os ≡ [] → ⊥
-Suits _ os = Unit {0}
+Suits e os = e ≡ event.Leave → ¬ os ≡ []
 
 -- What is written of an event at a level of the sort o, for which levels of the sorts os wait. It is then at one of the sort p, for which those
 -- of the sorts ps wait; or the text is at its end.

@@ -28,8 +28,8 @@ TellsLookError limits b (print.Barrier answer) = TellsBarrier limits b (Some ans
 TellsLookError limits b (print.Failure failure.OutOfMemory) = Unit {0}
 TellsLookError limits b (print.Failure (failure.Writing e)) = ⊥
 
--- Why a block isn't passed on: for what the look told; or it failed, when a front of it was written. Nothing was written before of a
--- document that wasn't looked through.
+-- Why a block isn't passed on: for what the look told, and then nothing was written; or it failed, when a front of it was. Before it
+-- nothing was written of a document that wasn't looked through.
 abbrev pub TellsPassError : {S : Type 0} → (S → ℕ → List ℕ → Type 0) → Limits → List ℕ → (unseen : Bool) → (old new : S) → List ℕ → PrintError → Type 0
 TellsPassError {S} has limits b unseen old new block (print.Barrier answer) = TellsBarrier limits b (Some answer) × ((before : S) → Guards limits b unseen before old → new ≡ before)
 TellsPassError {S} has limits b unseen old new block (print.Failure failure.OutOfMemory) =
