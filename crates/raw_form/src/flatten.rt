@@ -40,6 +40,7 @@ fn whole<'a>(alloc: Global, kind: BarrierKind<'a>) -> FlattenError<'a>
 }
 
 /// Puts the tokens of a document, for whose innermost level so many may wait, to the front of a room.
+#[tactic(auto, using(raw_tree::proofs::Face::filled_none))]
 fn flatten_to<'a>(
     alloc: Global,
     document: RawDocument<'a>,

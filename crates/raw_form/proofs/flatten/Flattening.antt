@@ -15,9 +15,6 @@ abbrev pub token_of : (inside depth offset : ℕ) → Frame → Token
 token_of inside depth offset f =
     record { tag = tag_of f.kind; depth = depth; key_at = offset + 1; key_len = length f.key; payload_at = offset + (2 + length f.key); payload_len = length f.payload; inside = inside }
 
-its_token : (inside depth offset : ℕ) (f : Frame) → IsTokenOf depth offset f inside (token_of inside depth offset f)
-its_token inside depth offset f = record { tag = refl; depth_is = refl; key_at = refl; key_len = refl; payload_at = refl; payload_len = refl; inside_is = refl }
-
 one_token : {inside depth offset : ℕ} {f : Frame} {t : Token} → IsTokenOf depth offset f inside t → t ≡ token_of inside depth offset f
 one_token is i = record { tag = is.tag i; depth = is.depth_is i; key_at = is.key_at i; key_len = is.key_len i; payload_at = is.payload_at i; payload_len = is.payload_len i; inside = is.inside_is i }
 
@@ -61,13 +58,13 @@ module _ (n : ℕ) (inner_flat : (start : ℕ) (d : List ℕ) (vs : List Visit) 
       let entered = flat_with m (enter offset f v) in
       let (ts, has, same) = inner_flat start d within entered nested in (
         token_of (length ts) (length m.around) offset f ∷ ts,
-        (v, _, ts, means, inside ts (start, ends, has), its_token (length ts) (length m.around) offset f, refl),
+        (v, _, ts, means, inside ts (start, ends, has), search, refl),
         ap (fold flat_with m) is ∙ fold-append flat_with entered within (leave ∷ []) ∙ ap (λ (x : Flat). flat_with x leave) same,
       )
 
   value_flat : (offset : ℕ) (f : Frame) (v : RawValue) (vs : List Visit) (m : Flat) → Means f (value v) → VisitsValue (HasVisits n) offset f v vs
       → Puts (AreTokensOf (Inner m) (length m.around) offset f) m vs
-  value_flat offset f (raw.single l) vs m means is = (_, (raw.single l, _, [], means, refl, its_token 0 (length m.around) offset f, refl), ap (fold flat_with m) is)
+  value_flat offset f (raw.single l) vs m means is = (_, (raw.single l, _, [], means, refl, search, refl), ap (fold flat_with m) is)
   value_flat offset f (raw.document d) vs m means is = level_flat offset f (raw.document d) d vs m means (λ ts nested. nested) is
   value_flat offset f (raw.array d) vs m means is = level_flat offset f (raw.array d) d vs m means (λ ts nested. nested) is
   value_flat offset f (raw.scoped code d) vs m means is = level_flat offset f (raw.scoped code d) d vs m means (λ ts nested. nested) is

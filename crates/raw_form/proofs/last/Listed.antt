@@ -5,9 +5,8 @@ use Rattle.raw_form.proofs.canonical.Common.{last_places, left_of, no_frame_at_f
 use Rattle.raw_tree.specs.IndexedKeys.{with_key}
 use Rattle.raw_tree.specs.KeySets.{HasKeys, TellsPlace}
 use Rattle.raw_tree.specs.declared.validator.key_set.KeySet.{KeySet}
-use Rattle.raw_tree.proofs.Face.{frame_size}
+use Rattle.raw_tree.proofs.Face.{end_behind, frame_size}
 use Rattle.raw_form.proofs.last.KeptPairs.{placed_behind}
-use Rattle.raw_tree.proofs.Face.{end_behind}
 use Rattle.raw_form.proofs.last.Listing.{keys_with, places_with}
 
 -- the frames passed are those of the walk, where no frame is in front of what is left

@@ -1,8 +1,7 @@
 -- A document with repeated keys: where the last frame of each key is, and what is left to be written.
-use Rattle.std.proofs.Common.{◌≡◌, ◌∙◌, ◌<◌, ◌≤◌, ◌+◌, ◌-◌, ◌∷◌, [], ℕ, zero, suc, Bool, true, false, cond, List, Option, None, Some, IsTrue, drop, length, map, option_map, ltb, slice_get, arith, ap, refl, sym, subst, length-drop}
+use Rattle.std.proofs.Common.{◌≡◌, ◌∙◌, ◌<◌, ◌≤◌, ◌+◌, ◌-◌, ◌∷◌, [], ℕ, zero, suc, Bool, true, cond, List, Option, None, Some, IsTrue, drop, length, map, option_map, ltb, slice_get, arith, ap, refl, sym, subst, length-drop}
 use Rattle.std.proofs.lemmas.Bool.Decides.{nat_tests}
 use Rattle.std.proofs.lemmas.List.{drop-drop}
-use Rattle.std.proofs.lemmas.Slice.Eq.{bytes_eq-Decides}
 use Rattle.std.specs.List.{filter_map}
 use Rattle.std.specs.Str.{bytes_eq}
 use Rattle.bson_model.specs.Pairs.{first_keys, keep, keys_of, last_value_at}
@@ -17,7 +16,7 @@ use Rattle.raw_tree.specs.Looking.{size_of}
 use Rattle.raw_tree.proofs.Face.{drop_frame, frame_size}
 use Rattle.raw_form.specs.Staying.{AreFramesAt, AreOwnBefore, IsLeftAt, IsOwnForm, TakesMember, last_places, placed}
 use Rattle.raw_form.specs.declared.last.LastPlaces.{LastPlaces}
-use Rattle.raw_form.proofs.last.KeptPairs.{first_or, here, last_front}
+use Rattle.raw_form.proofs.last.KeptPairs.{first_or, here, last_front, same_key}
 
 -- the last frame of a key
 
@@ -35,20 +34,8 @@ record IsLast (known at : ℕ) (s : List ℕ) (pairs : List (List ℕ × Tree)) 
   pub own : o < known → IsOwnForm f
   pub last : last_value_at key pairs ≡ Some t
 
-none_first : {T : Type 0} (v w : Option T) → first_or v w ≡ None → (v ≡ None) × (w ≡ None)
-none_first (Some v) w e = cc
-none_first None w e = (refl, e)
-
 some_of : {T : Type 0} (b : Bool) (x y : T) → cond b (Some x) None ≡ Some y → (b ≡ true) × (x ≡ y)
-some_of true x y e = (refl, cc)
-some_of false x y e = cc
-
-none_of : {T : Type 0} (b : Bool) (x : T) → cond b (Some x) None ≡ None → b ≡ false
-none_of true x e = cc
-none_of false x e = refl
-
-same_text : (k l : List ℕ) → bytes_eq k l ≡ true → k ≡ l
-same_text k l e = (bytes_eq-Decides k l).0 e
+some_of b x y e = grind arith
 
 drop_both : (b : List ℕ) (o : ℕ) → 4 ≤ o → drop (o - 4) (drop 4 b) ≡ drop o b
 drop_both b o least =
@@ -58,13 +45,7 @@ drop_both b o least =
 no_value : (key : List ℕ) (at : ℕ) (fs : List Frame) (pairs : List (List ℕ × Tree)) → StandForEach ReadsAs fs pairs → last_value_at key (placed at fs) ≡ None → last_value_at key pairs ≡ None
 no_value key at [] pairs h e = ap (λ (ps : List (List ℕ × Tree)). last_value_at key ps) h
 no_value key at (f ∷ fs) pairs h e =
-    let none = none_first (last_value_at key (placed (at + size_of f) fs)) (here key (f.key, at)) (sym (last_front key (f.key, at) (placed (at + size_of f) fs)) ∙ e) in
-    let rest : last_value_at key h.2 ≡ None = no_value key (at + size_of f) fs h.2 h.6 none.0 in
-    let apart : bytes_eq key f.key ≡ false = none_of (bytes_eq key f.key) at none.1 in
-    ap (λ (ps : List (List ℕ × Tree)). last_value_at key ps) h.5
-    ∙ last_front key (f.key, h.1) h.2
-    ∙ ap (λ (o : Option Tree). first_or o (here key (f.key, h.1))) rest
-    ∙ ap (λ (b : Bool). cond b (Some h.1) None) apart
+    grind (arith, last_front key (f.key, at) (placed (at + size_of f) fs), last_front key (f.key, h.1) h.2, h.5, no_value key (at + size_of f) fs h.2 h.6)
 
 last_frame : (known : ℕ) (key : List ℕ) (at : ℕ) (s : List ℕ) (frames : List Frame) (pairs : List (List ℕ × Tree)) (o : ℕ) → IsWalk s frames Done
     → AreOwnBefore known at frames → StandForEach ReadsAs frames pairs → last_value_at key (placed at frames) ≡ Some o → IsLast known at s pairs key o
@@ -99,7 +80,7 @@ last_frame known key at s (f ∷ fs) pairs o w own h e =
             first = omega (arith, found.1);
             within = omega (arith, found.1);
             frame = subst (λ (m : ℕ). IsFrame (drop m s) f w.0) (sym none) w.1;
-            key_is = sym (same_text key f.key found.0);
+            key_is = sym (same_key key f.key found.0);
             stands = (h.0, h.3, h.4);
             own = λ less. own.0 (omega (arith, less, found.1));
             last = front ∙ ap (λ (v : Option Tree). first_or v (here key (f.key, h.1))) (no_value key (at + size_of f) fs h.2 h.6 n) ∙ ap (λ (b : Bool). cond b (Some h.1) None) found.0;
@@ -152,16 +133,10 @@ frames_at known d frames pairs w own h long =
 
 -- the next of them
 
-one_behind : (i : ℕ) (xs : List ℕ) (x : ℕ) → slice_get xs i ≡ Some x → drop i xs ≡ x ∷ drop (suc i) xs
-one_behind zero [] x e = cc
-one_behind zero (y ∷ xs) x e = let same : y ≡ x = cc in ap (λ (z : ℕ). z ∷ xs) same
-one_behind (suc i) [] x e = cc
-one_behind (suc i) (y ∷ xs) x e = one_behind i xs x e
-
 more_behind : (i : ℕ) (xs : List ℕ) (x : ℕ) → slice_get xs i ≡ Some x → drop i xs ≡ x ∷ drop (i + 1) xs
-more_behind i xs x e =
-    let next : suc i ≡ i + 1 = omega arith in
-    one_behind i xs x e ∙ ap (λ (n : ℕ). x ∷ drop n xs) next
+more_behind i [] x e = cc
+more_behind zero (y ∷ xs) x e = grind arith
+more_behind (suc i) (y ∷ xs) x e = grind (arith, more_behind i xs x e)
 
 next_left : (last : LastPlaces) (o : ℕ) (ms : List (MemberKey × Tree)) (is : IsLeftAt last ms) → slice_get last.places.items last.passed ≡ Some o
     → AreFramesAt last.known (bytes_of last.document) (o ∷ drop (last.passed + 1) last.places.items) is.0

@@ -1,10 +1,7 @@
 use Rattle.std.proofs.Common.{rules, Ok, Some, suc}
 use Rattle.raw_form.proofs.flatten.Flattening.{flat_more, flattens_end, flattens_enter, flattens_leave, flattens_whole, many_around}
-use Rattle.raw_tree.proofs.Face.{barrier_told, come_within, envelope_fits, filled_none}
+use Rattle.raw_tree.proofs.Face.{barrier_told, come_within, envelope_fits}
 use Rattle.raw_form.proofs.flatten.flatten_to.Goals as goal
-
-pub events-init : goal.events-init
-events-init c = search (rules, filled_none)
 
 pub overflow_cast-depth : goal.overflow_cast-depth
 overflow_cast-depth c = search (rules, come_within c.events.invariant.1, many_around, envelope_fits)

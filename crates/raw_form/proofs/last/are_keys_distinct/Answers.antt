@@ -1,4 +1,4 @@
-use Rattle.std.proofs.Common.{◌≡◌, ◌++◌, ◌∷◌, None, Bool, Option, [], false, is_some, arith, refl}
+use Rattle.std.proofs.Common.{rules, ◌≡◌, ◌++◌, ◌∷◌, None, Bool, Option, [], false, is_some, arith, refl}
 use Rattle.raw_form.proofs.canonical.Common.{Frame, frame_of, keys_of_frames, map-append}
 use Rattle.raw_tree.specs.References.{texts}
 use Rattle.raw_tree.proofs.Face.{keys_distinct}
@@ -13,13 +13,10 @@ elements-init c = record {
 }
 
 pub returns-in_default-clause-distinct : goal.returns-in_default-clause-distinct
-returns-in_default-clause-distinct c frames w = λ _.
-    let is = c.elements.invariant in
-    rw (passed_over is.passed c.next_element.new.elements c.in_default.ensures frames w)
-    (keys_distinct c.elements.keys c.elements.listed.items is.below (keys_of_frames is.passed.frames) is.keys)
+returns-in_default-clause-distinct c = search (rules, passed_over c.elements.invariant.passed, keys_distinct)
 
 pub elements-smaller : goal.elements-smaller
-elements-smaller c = omega (arith, (passed_more c.elements.invariant.passed c.next_element.new.elements c.in-Some.element c.in-Some.ensures).1)
+elements-smaller c = search (rules, passed_more c.elements.invariant.passed)
 
 -- a key that has no place
 none_added : {T : Type 0} (o : Option T) (some : Bool) → some ≡ is_some o → some ≡ false → o ≡ None

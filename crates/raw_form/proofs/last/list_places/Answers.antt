@@ -1,5 +1,4 @@
 use Rattle.std.proofs.Common.{rules, ◌≡◌, [], refl}
-use Rattle.raw_form.proofs.canonical.Common.{keep, keys_of, placed}
 use Rattle.raw_tree.specs.References.{texts}
 use Rattle.raw_form.proofs.last.Listed.{listed_more, passed_over}
 use Rattle.raw_form.proofs.last.list_places.Goals as goal
@@ -17,12 +16,7 @@ elements-init c =
     }
 
 pub returns-in_default-clause-places : goal.returns-in_default-clause-places
-returns-in_default-clause-places c frames w =
-    rw (passed_over c.elements.invariant.passed c.next_element.new.elements c.in_default.ensures frames w) c.elements.invariant.places_are
+returns-in_default-clause-places c = search (rules, passed_over c.elements.invariant.passed)
 
 pub elements-preserved : goal.elements-preserved
-elements-preserved c =
-    let is = c.elements.invariant in
-    listed_more is c.next_element.new.elements c.in-Some.element c.in-Some.ensures c.add.new.self c.add.new.listed.items c.in_ok-known.known
-    c.put_place.new.places.items c.behind-offset.result
-    (rw c.key.ensures at (c.in_ok-known.ensures.adds is.below (keys_of (keep (placed 4 is.passed.frames))) is.keys)) c.in_ok-put_place.ensures.put c.behind-offset.ensures
+elements-preserved c = search (rules, listed_more c.elements.invariant)

@@ -1,19 +1,14 @@
-use Rattle.std.proofs.Common.{List, ℕ, map, refl, arith, ap, ◌∙◌, ◌+◌}
+use Rattle.std.proofs.Common.{rules, List, ℕ, map, refl, arith, ap, ◌∙◌, ◌+◌}
 use Rattle.raw_form.proofs.canonical.Common.{Tree, entries, keyed, numbered, trees}
 use Rattle.raw_form.proofs.rewritten.KnownFrames.{one_known}
 use Rattle.raw_form.proofs.rewritten.Members.{pair_over, pair_taken, some_left}
 use Rattle.raw_form.proofs.rewritten.Rewritten.next.Goals as goal
 
 pub returns-in_err-element-in-Numbers-clause-next : goal.returns-in_err-element-in-Numbers-clause-next
-returns-in_err-element-in-Numbers-clause-next c ms left =
-    let here = rw c.in-Numbers.is at left in
-    rw (c.from_residual.ensures, here.3, pair_over c.args.self.now.elements c.next_element.new.elements here.1 here.2 c.in_err-element-in-Numbers.ensures) refl
+returns-in_err-element-in-Numbers-clause-next c = search (rules, pair_over)
 
 pub returns-in_err-element-in-Distinct-clause-next : goal.returns-in_err-element-in-Distinct-clause-next
-returns-in_err-element-in-Distinct-clause-next c ms left =
-    let here = rw c.in-Distinct.is at left in
-    let over = pair_over c.args.self.now.elements c.next_element-in-Distinct.new.elements here.0 here.1 c.in_err-element-in-Distinct.ensures in
-    rw (c.from_residual-in_err-element-in-Distinct.ensures, here.2, over) refl
+returns-in_err-element-in-Distinct-clause-next c = search (rules, pair_over)
 
 pub returns-in_ok-element-in-Numbers-clause-next : goal.returns-in_ok-element-in-Numbers-clause-next
 returns-in_ok-element-in-Numbers-clause-next c ms left =
