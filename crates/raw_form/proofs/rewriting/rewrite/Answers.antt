@@ -1,4 +1,4 @@
-use Rattle.std.proofs.Common.{IsTrue, ◌⊎◌, inl, inr, rules, ◌≡◌, ◌++◌, ◌∷◌, [], List, ℕ, length, arith, refl}
+use Rattle.std.proofs.Common.{IsTrue, ◌⊎◌, inl, inr, rules, ◌≡◌, [], List, ℕ, arith, refl}
 use Rattle.raw_form.proofs.canonical.Common.{IsPlain, IsWrittenAs, Means, begun_at, bytes_of, faulty, frame_of, held_value, key_bytes, member_key, one_meaning, value, writing_begins}
 use Rattle.raw_view.specs.Meaning.Value.{value_of}
 use Rattle.raw_view.specs.declared.level.Holder.TheVariants as holder
@@ -39,19 +39,15 @@ pub put_end-requires : goal.put_end-requires
 put_end-requires c = omega (arith, header_put c.levels.invariant c.next.ensures.later, c.levels.out.ok.0)
 
 pub returns-in_err-put_end-clause-err : goal.returns-in_err-put_end-clause-err
-returns-in_err-put_end-clause-err c =
-    refused c.levels.invariant c.from_residual-in_err-put_end.result _ _ c.from_residual-in_err-put_end.ensures.1 c.in_err-put_end.ensures.err
-    (omega (arith, room c.levels.invariant, c.levels.out.ok.0))
+returns-in_err-put_end-clause-err c = search (rules, refused c.levels.invariant, room c.levels.invariant)
 
 pub returns-in_default-pop-clause-form : goal.returns-in_default-pop-clause-form
 returns-in_default-pop-clause-form c =
-    rewriting_done c.levels.invariant c.next.ensures.later (c.in_default.ensures.next c.levels.invariant.here.left c.levels.invariant.begun.left) c.put_end.new.out.items
-    c.in_ok-put_end.ensures.items (search rules) (omega (arith, c.in_ok-put_end.ensures.fits, c.put_end.new.out.ok.0))
+    search (rules, rewriting_done c.levels.invariant c.next.ensures.later (c.in_default.ensures.next c.levels.invariant.here.left c.levels.invariant.begun.left))
 
 pub levels-preserved-in_default : goal.levels-preserved-in_default
 levels-preserved-in_default c =
-    rewriting_ends c.levels.invariant c.next.ensures.later (c.in_default.ensures.next c.levels.invariant.here.left c.levels.invariant.begun.left) c.put_end.new.out.items
-    c.in_ok-put_end.ensures.items c.pop.new.self.items c.in-Some-pop.outer c.in-Some-pop.ensures.items
+    search (rules, rewriting_ends c.levels.invariant c.next.ensures.later (c.in_default.ensures.next c.levels.invariant.here.left c.levels.invariant.begun.left))
 
 pub unreachable-requires : goal.unreachable-requires
 unreachable-requires c =
@@ -65,8 +61,7 @@ returns-in_err-put_leaf-clause-err c =
     let leaf = shows_leaf (value_of c.in-Ok.value) c.in_default-level.ensures in
     let member = next_of (goal.at.returns-in_err-put_leaf-clause-err c).In-Some c.key-key.ensures in
     let written = leaf_written c.levels.invariant c.next.ensures.later member (value_of c.in-Ok.value) leaf.0 c.in-Ok.ensures.value leaf.1 in
-    refused c.levels.invariant c.from_residual-in_err-put_leaf.result _ _ c.from_residual-in_err-put_leaf.ensures.1 (c.in_err-put_leaf.ensures.err leaf.0 leaf.1)
-    (omega (arith, put_fits c.levels.invariant c.next.ensures.later member _ _ written, c.levels.out.ok.0))
+    search (rules, refused c.levels.invariant, c.in_err-put_leaf.ensures.err leaf.0 leaf.1, put_fits c.levels.invariant c.next.ensures.later member _ _ written)
 
 pub levels-preserved-in_default-level : goal.levels-preserved-in_default-level
 levels-preserved-in_default-level c =
@@ -78,29 +73,24 @@ levels-preserved-in_default-level c =
 pub returns-in_err-put_start-clause-err : goal.returns-in_err-put_start-clause-err
 returns-in_err-put_start-clause-err c =
     let at = goal.at.returns-in_err-put_start-clause-err c in
-    let fits = head_fits c.levels.invariant c.next.ensures.later (next_of at.In-Some c.key-key.ensures) c.in-Some-level.inner (held_in at.In-Some-level) in
-    refused c.levels.invariant c.from_residual-in_err-put_start.result _ _ c.from_residual-in_err-put_start.ensures.1 c.in_err-put_start.ensures.err
-    (omega (arith, fits, c.levels.out.ok.0))
+    search (rules, refused c.levels.invariant, head_fits c.levels.invariant c.next.ensures.later (next_of at.In-Some c.key-key.ensures) c.in-Some-level.inner (held_in at.In-Some-level))
 
 pub returns-in_err-put_opening-2-clause-err : goal.returns-in_err-put_opening-2-clause-err
 returns-in_err-put_opening-2-clause-err c =
     let at = goal.at.returns-in_err-put_opening-2-clause-err c in
-    let fits = inside_fits c.levels.invariant c.next.ensures.later (next_of at.In-Some c.key-key.ensures) c.in-Some-level.inner (held_in at.In-Some-level)
-    (rw (c.element_type.ensures, c.in-Some-level.ensures) at c.in_ok-put_start.ensures.items) in
-    refused c.levels.invariant c.from_residual-in_err-put_opening-2.result _ _ c.from_residual-in_err-put_opening-2.ensures.1 c.in_err-put_opening-2.ensures.err
-    (omega (arith, fits, c.put_start.new.out.ok.0))
+    search (rules, refused c.levels.invariant, inside_fits c.levels.invariant c.next.ensures.later (next_of at.In-Some c.key-key.ensures) c.in-Some-level.inner (held_in at.In-Some-level))
 
 pub levels-preserved : goal.levels-preserved
 levels-preserved c =
     let at = goal.at.levels-preserved c in
     let is = c.levels.invariant in
     let member = next_of at.In-Some c.key-key.ensures in
-    let h = c.in-Some-level.inner in
-    let grown : c.push.new.self.items ≡ c.levels.waiting.items ++ c.next.new.self ∷ [] = search rules in
-    let start : c.in_ok-inner.inner.start ≡ length c.put_start.new.out.items = omega (arith, c.in_ok-inner.ensures.start, c.len-start.ensures, c.put_start.new.out.ok.0) in
-    rw (c.replace-outer.ensures.after, grown) (rewriting_inside is c.next.ensures.later member h (held_in at.In-Some-level)
-    (rw (c.element_type.ensures, c.in-Some-level.ensures) at c.in_ok-put_start.ensures.items) c.in_ok-inner.inner c.put_opening-in-levels.new.out.items start c.in_ok-put_opening-2.ensures.items
-    (c.in_ok-inner.ensures.left member.next.0 (stands is c.next.ensures.later member (held_value h) (held_in at.In-Some-level))))
+    search (
+      rules,
+      rewriting_inside is c.next.ensures.later member c.in-Some-level.inner (held_in at.In-Some-level),
+      c.in_ok-inner.ensures.left member.next.0,
+      stands is c.next.ensures.later member (held_value c.in-Some-level.inner) (held_in at.In-Some-level),
+    )
 
 pub new-requires-in-levels-clause-known : goal.new-requires-in-levels-clause-known
 new-requires-in-levels-clause-known c = known_to_first _ _ refl refl
