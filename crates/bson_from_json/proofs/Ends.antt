@@ -15,7 +15,7 @@ use Rattle.bson_from_json.specs.Meaning.{IsWhole, Means, has_wrapper_key, is_wra
 use Rattle.bson_from_json.specs.Taken.{LacksToken, TakesNone}
 use Rattle.bson_from_json.specs.Wrapped.{InString, IsBinary, IsDate, IsDbPointer, IsOid, IsRegex, IsTimestamp, IsUuid, IsWrapped}
 use Rattle.bson_from_json.specs.Levels.{HasMembers, MayBeIn, wrapper_key}
-use Rattle.bson_from_json.specs.Ends.{InsideThen, ItemsThen, MembersThen, OrdinaryThen, ValueThen}
+use Rattle.bson_from_json.specs.Ends.{InsideThen, ItemsThen, LacksLeaf, MembersThen, OrdinaryThen, ValueThen}
 use Rattle.bson_from_json.specs.declared.levels.Holder.{Holder}
 use Rattle.bson_from_json.specs.declared.levels.Holder.TheVariants as holder
 use Rattle.bson_from_json.specs.declared.wrapper.Wrapper.{Wrapper}
@@ -399,5 +399,25 @@ module _ (w : Wrapper) (j : Json) (l : Leaf) where
   writes (inr (inr (inr (inr (inr (inr (inr (inr (inr (inr (inr (inr (inr (inr (inl (e, is)))))))))))))))) = as_named wrapper.MinKey e.0 (e.1, is)
   writes (inr (inr (inr (inr (inr (inr (inr (inr (inr (inr (inr (inr (inr (inr (inr (e, is)))))))))))))))) = as_named wrapper.MaxKey e.0 (e.1, is)
 
-pub none_wrapped : (w : Wrapper) (ts : List Token) → TakesNone (Writes w) ts → TakesNone (IsWrapped (wrapper_key w)) ts
-none_wrapped w ts none j l is = none j l (writes w j l is)
+-- .. and back
+pub wrapped : (w : Wrapper) (j : Json) (l : Leaf) → Writes w j l → IsWrapped (wrapper_key w) j l
+wrapped wrapper.Oid j l h = inl (refl, h)
+wrapped wrapper.NumberInt j l h = inr (inl (refl, h))
+wrapped wrapper.NumberLong j l h = inr (inr (inl (refl, h)))
+wrapped wrapper.NumberDouble j l h = inr (inr (inr (inl (refl, h))))
+wrapped wrapper.NumberDecimal j l h = inr (inr (inr (inr (inl (refl, h)))))
+wrapped wrapper.Binary j l h = inr (inr (inr (inr (inr (inl (refl, h))))))
+wrapped wrapper.Uuid j l h = inr (inr (inr (inr (inr (inr (inl (refl, h)))))))
+wrapped wrapper.Date j l h = inr (inr (inr (inr (inr (inr (inr (inl (refl, h))))))))
+wrapped wrapper.RegularExpression j l h = inr (inr (inr (inr (inr (inr (inr (inr (inl (refl, h)))))))))
+wrapped wrapper.Timestamp j l h = inr (inr (inr (inr (inr (inr (inr (inr (inr (inl (refl, h))))))))))
+wrapped wrapper.DbPointer j l h = inr (inr (inr (inr (inr (inr (inr (inr (inr (inr (inl (refl, h)))))))))))
+wrapped wrapper.Code j l h = inr (inr (inr (inr (inr (inr (inr (inr (inr (inr (inr (inl (refl, h))))))))))))
+wrapped wrapper.Scope j l h = absurd h
+wrapped wrapper.Symbol j l h = inr (inr (inr (inr (inr (inr (inr (inr (inr (inr (inr (inr (inl (refl, h)))))))))))))
+wrapped wrapper.Undefined j l h = inr (inr (inr (inr (inr (inr (inr (inr (inr (inr (inr (inr (inr (inl ((refl, h.0), h.1))))))))))))))
+wrapped wrapper.MinKey j l h = inr (inr (inr (inr (inr (inr (inr (inr (inr (inr (inr (inr (inr (inr (inl ((refl, h.0), h.1)))))))))))))))
+wrapped wrapper.MaxKey j l h = inr (inr (inr (inr (inr (inr (inr (inr (inr (inr (inr (inr (inr (inr (inr ((refl, h.0), h.1)))))))))))))))
+
+pub none_wrapped : (w : Wrapper) (ts : List Token) → TakesNone (Writes w) ts → LacksLeaf (wrapper_key w) ts
+none_wrapped w ts none = record { none = λ j l is. none j l (writes w j l is) }

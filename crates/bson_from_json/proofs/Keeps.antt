@@ -253,7 +253,7 @@ module _ (w : Wrapper) (not_code : w ≡ wrapper.Code → ⊥) (not_scope : w �
       (λ behind value. same_behind e (end_behind taken.json taken.tokens behind (leaf_of old.source.tokens behind value)))
 
   pub no_leaf : {ts : List Token} → LacksLeaf (wrapper_key w) ts → LacksValue (Token.begin_object ∷ Token.key (wrapper_key w) ∷ ts)
-  no_leaf {ts} none behind value = let (j, l, is, e) = leaf_of ts behind value in none j l is (Token.end_object ∷ behind) e
+  no_leaf {ts} none behind value = let (j, l, is, e) = leaf_of ts behind value in none.none j l is (Token.end_object ∷ behind) e
 
   pub no_wrapper_end : {old mid : Reader} {k : List ℕ} → TakesLeaf old mid (wrapper_key w) k → LacksToken mid.source.tokens Token.end_object
       → LacksValue (Token.begin_object ∷ Token.key (wrapper_key w) ∷ old.source.tokens)
@@ -520,9 +520,6 @@ no_key_of read.Null differ k e = cc
 no_key_of read.Bad differ k e = cc
 
 -- by equations of what a match found
-
-pub leaf_as : {ts : List Token} (w v : Wrapper) → w ≡ v → LacksLeaf (wrapper_key v) ts → LacksLeaf (wrapper_key w) ts
-leaf_as {ts} w v e none = subst (λ (x : Wrapper). LacksLeaf (wrapper_key x) ts) (sym e) none
 
 pub wrapped_as : {ts : List Token} (w v : Wrapper) → w ≡ v → LacksValue (Token.begin_object ∷ Token.key (wrapper_key v) ∷ ts) → LacksValue (Token.begin_object ∷ Token.key (wrapper_key w) ∷ ts)
 wrapped_as {ts} w v e none = subst (λ (x : Wrapper). LacksValue (Token.begin_object ∷ Token.key (wrapper_key x) ∷ ts)) (sym e) none

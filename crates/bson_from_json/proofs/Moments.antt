@@ -1,29 +1,29 @@
 -- The steps of reading, between two moments of a reader.
-use Rattle.std.proofs.Common.{◌≡◌, ◌⊎◌, inl, inr, ℕ, ◌+◌, true, false, List, [], ◌∷◌, ◌++◌, Result, Ok, Err, OnOk, codes, decimal, length, refl, sym, ap, ◌∙◌, subst, reverse, append-nil, append_assoc}
+use Rattle.std.proofs.Common.{◌≡◌, ◌⊎◌, inl, inr, ℕ, ◌+◌, false, List, [], ◌∷◌, ◌++◌, Result, Ok, Err, OnOk, codes, decimal, length, refl, sym, ap, ◌∙◌, subst, reverse, append-nil, append_assoc}
 use Rattle.hex.specs.Hex.{decode_sized}
-use Rattle.json.specs.Json.{Json, boolean, number, string, object}
+use Rattle.json.specs.Json.{Json, string, object}
 use Rattle.json.specs.Lex.{tokens as text_tokens}
 use Rattle.json.specs.Token.{Token}
 use Rattle.json.specs.Tree.{json_tokens, members_tokens}
-use Rattle.bson_model.specs.Leaf.{Leaf, javascript_code, max_key, min_key, object_id, regular_expression, symbol, undefined}
+use Rattle.bson_model.specs.Leaf.{Leaf, javascript_code, object_id, regular_expression, symbol}
 use Rattle.bson_model.specs.Options.{sorted_options}
 use Rattle.bson_model.specs.Tree.{leaf}
 use Rattle.raw_bson.specs.Format.{framed}
 use Rattle.raw_bson.specs.Meaning.{RawValue, single}
 use Rattle.raw_bson.specs.Payload.{element_bytes, unset}
 use Rattle.bson_from_json.specs.Meaning.{Means, is_wrapper_key}
-use Rattle.bson_from_json.specs.Levels.{before_scope, headed, level_at, array_level, with_len, HasMembers, MayBeIn, bracket, behind_bracket, ended, Rest, ValueIn, levels_of, bytes_of, RestOf, TakesLevel, ClosesBracket, TakesValue, Puts, TakesLeaf, SaysBytes}
+use Rattle.bson_from_json.specs.Levels.{before_scope, headed, level_at, array_level, with_len, HasMembers, MayBeIn, bracket, behind_bracket, ended, Rest, ValueIn, levels_of, bytes_of, RestOf, TakesLevel, ClosesBracket, TakesValue, Puts, TakesLeaf, SaysBytes, wrapper_key}
 use Rattle.bson_from_json.specs.declared.levels.Holder.{Holder}
 use Rattle.bson_from_json.specs.declared.levels.Holder.TheVariants as holder
 use Rattle.bson_from_json.specs.declared.levels.Level.{Level}
 use Rattle.bson_from_json.specs.declared.reading.Reader.{Reader}
 use Rattle.bson_from_json.specs.declared.levels.Unfinished.{Unfinished}
 use Rattle.bson_from_json.specs.declared.source.Source.{Source}
-use Rattle.bson_from_json.specs.DecimalTexts.{IsQuotedDecimal}
-use Rattle.bson_from_json.specs.Numbers.{IsQuotedInt32, IsQuotedInt64, IsQuotedDouble}
 use Rattle.bson_from_json.specs.Texts.{IsWritten}
 use Rattle.bson_from_json.specs.Taken.{Takes, TakesToken, TakesTwo}
-use Rattle.bson_from_json.specs.Wrapped.{InString, IsBinary, IsDate, IsDbPointer, IsOid, IsRegex, IsTimestamp, IsUuid, IsWrapped}
+use Rattle.bson_from_json.specs.Wrapped.{InString, IsOid, IsRegex}
+use Rattle.bson_from_json.specs.declared.wrapper.Wrapper.{Wrapper}
+use Rattle.bson_from_json.proofs.Ends.{Writes, wrapped}
 use Rattle.bson_from_json.proofs.Steps.{innermost, closes as level_closes, takes_item, takes_member, takes_first, opens_text, opens_array, opens_begun, opens_scope, opens_before_code, puts_empty, puts_leaf, puts_wrapped}
 use denote.Ref.{Bor}
 
@@ -137,16 +137,11 @@ module _ (old new : Reader) where
   pub value_as : {k : List ℕ} {taken others : List Token} → taken ≡ others → TakesValue old new k taken → TakesValue old new k others
   value_as {k} {taken} {others} e value = subst (λ (x : List Token). TakesValue old new k x) e value
 
-  pub leaf_put : {l : Leaf} {v : RawValue} (k : List ℕ) (j : Json) → Means j (leaf l) → new.source ≡ old.source → Puts old new k v → v ≡ single l
-      → TakesValue old new k (json_tokens j)
-  leaf_put {l} {v} k j means same puts value = record {
+  pub leaf_put : {l : Leaf} (k : List ℕ) (j : Json) → Means j (leaf l) → new.source ≡ old.source → Puts old new k (single l) → TakesValue old new k (json_tokens j)
+  leaf_put {l} k j means same puts = record {
     made = λ out rest.
         puts_leaf (Rest out (levels_of old)) k (bytes_of old) j l old.source.tokens means
-        (rest_at {r = new} out (record {
-          levels = puts.levels;
-          bytes = puts.bytes ∙ ap (λ (x : RawValue). bytes_of old ++ element_bytes k x) value;
-          tokens = ap (λ (x : Source). x.tokens) same;
-        }) rest);
+        (rest_at {r = new} out (record { levels = puts.levels; bytes = puts.bytes; tokens = ap (λ (x : Source). x.tokens) same }) rest);
   }
 
   pub wrapped_put : {mid : Reader} {wrapper k : List ℕ} → TakesLeaf old mid wrapper k → mid.source.tokens ≡ Token.end_object ∷ new.source.tokens
@@ -285,66 +280,22 @@ pub on_ok_two : {T E : Type 0} {A B C : Type 0} (r : Result T E) → (A → B �
 on_ok_two (Ok x) f a b = f a b
 on_ok_two (Err e) f a b = tt
 
-pub leaf_taken : {old mid new : Reader} {k : List ℕ} {says : Json → Leaf → Type 0} {l : Leaf} {v : RawValue} (w : List ℕ) → ((j : Json) (l : Leaf) → says j l → IsWrapped w j l)
-    → Takes says old.source.tokens mid.source.tokens l → mid.document ≡ old.document → new.source ≡ mid.source → Puts mid new k v → v ≡ single l → TakesLeaf old new w k
-leaf_taken {old} {mid} {new} {k} {says} {l} {v} w inject (j, tokens, is) same source puts value = record {
+-- a value is put that is the same
+pub puts_as : {old new : Reader} {k : List ℕ} {v w : RawValue} → Puts old new k v → v ≡ w → Puts old new k w
+puts_as {old} {new} {k} {v} {w} puts e = subst (λ (x : RawValue). Puts old new k x) e puts
+
+pub leaf_taken : {old mid new : Reader} {k : List ℕ} {l : Leaf} (w : Wrapper) → Takes (Writes w) old.source.tokens mid.source.tokens l → mid.document ≡ old.document
+    → new.source ≡ mid.source → Puts mid new k (single l) → TakesLeaf old new (wrapper_key w) k
+leaf_taken {old} {mid} {new} {k} {l} w (j, tokens, is) same source puts = record {
   json = j;
   says = l;
-  is = inject j l is;
+  is = wrapped w j l is;
   tokens = tokens ∙ ap (λ (x : List Token). json_tokens j ++ x) (sym (ap (λ (x : Source). x.tokens) source));
   puts = record {
     levels = puts.levels ∙ ap (λ (d : Unfinished). d.levels.items) same;
-    bytes = puts.bytes ∙ ap (λ (x : RawValue). bytes_of mid ++ element_bytes k x) value ∙ ap (λ (d : Unfinished). d.bytes.items ++ element_bytes k (single l)) same;
+    bytes = puts.bytes ∙ ap (λ (d : Unfinished). d.bytes.items ++ element_bytes k (single l)) same;
   };
 }
-
-pub oid_says : (j : Json) (l : Leaf) → IsOid j l → IsWrapped (codes "$oid") j l
-oid_says j l h = inl (refl, h)
-
-pub int32_says : (j : Json) (l : Leaf) → InString IsQuotedInt32 j l → IsWrapped (codes "$numberInt") j l
-int32_says j l h = inr (inl (refl, h))
-
-pub int64_says : (j : Json) (l : Leaf) → InString IsQuotedInt64 j l → IsWrapped (codes "$numberLong") j l
-int64_says j l h = inr (inr (inl (refl, h)))
-
-pub double_says : (j : Json) (l : Leaf) → InString IsQuotedDouble j l → IsWrapped (codes "$numberDouble") j l
-double_says j l h = inr (inr (inr (inl (refl, h))))
-
-pub decimal_says : (j : Json) (l : Leaf) → InString IsQuotedDecimal j l → IsWrapped (codes "$numberDecimal") j l
-decimal_says j l h = inr (inr (inr (inr (inl (refl, h)))))
-
-pub binary_says : (j : Json) (l : Leaf) → IsBinary j l → IsWrapped (codes "$binary") j l
-binary_says j l h = inr (inr (inr (inr (inr (inl (refl, h))))))
-
-pub uuid_says : (j : Json) (l : Leaf) → IsUuid j l → IsWrapped (codes "$uuid") j l
-uuid_says j l h = inr (inr (inr (inr (inr (inr (inl (refl, h)))))))
-
-pub date_says : (j : Json) (l : Leaf) → IsDate j l → IsWrapped (codes "$date") j l
-date_says j l h = inr (inr (inr (inr (inr (inr (inr (inl (refl, h))))))))
-
-pub regex_says : (j : Json) (l : Leaf) → IsRegex j l → IsWrapped (codes "$regularExpression") j l
-regex_says j l h = inr (inr (inr (inr (inr (inr (inr (inr (inl (refl, h)))))))))
-
-pub timestamp_says : (j : Json) (l : Leaf) → IsTimestamp j l → IsWrapped (codes "$timestamp") j l
-timestamp_says j l h = inr (inr (inr (inr (inr (inr (inr (inr (inr (inl (refl, h))))))))))
-
-pub db_pointer_says : (j : Json) (l : Leaf) → IsDbPointer j l → IsWrapped (codes "$dbPointer") j l
-db_pointer_says j l h = inr (inr (inr (inr (inr (inr (inr (inr (inr (inr (inl (refl, h)))))))))))
-
-pub symbol_says : (j : Json) (l : Leaf) → InString (λ s l. l ≡ symbol s) j l → IsWrapped (codes "$symbol") j l
-symbol_says j l h = inr (inr (inr (inr (inr (inr (inr (inr (inr (inr (inr (inr (inl (refl, h)))))))))))))
-
-abbrev pub IsJust : Json → Leaf → Json → Leaf → Type 0
-IsJust v w j l = (j ≡ v) × (l ≡ w)
-
-pub undefined_says : (j : Json) (l : Leaf) → IsJust (boolean true) undefined j l → IsWrapped (codes "$undefined") j l
-undefined_says j l h = inr (inr (inr (inr (inr (inr (inr (inr (inr (inr (inr (inr (inr (inl ((refl, h.0), h.1))))))))))))))
-
-pub min_key_says : (j : Json) (l : Leaf) → IsJust (number (codes "1")) min_key j l → IsWrapped (codes "$minKey") j l
-min_key_says j l h = inr (inr (inr (inr (inr (inr (inr (inr (inr (inr (inr (inr (inr (inr (inl ((refl, h.0), h.1)))))))))))))))
-
-pub max_key_says : (j : Json) (l : Leaf) → IsJust (number (codes "1")) max_key j l → IsWrapped (codes "$maxKey") j l
-max_key_says j l h = inr (inr (inr (inr (inr (inr (inr (inr (inr (inr (inr (inr (inr (inr (inr ((refl, h.0), h.1)))))))))))))))
 
 pub takes_oid : {old new : List Token} {s id : List ℕ} → TakesToken old new (Token.string s) → decode_sized s 12 ≡ Ok id → Takes IsOid old new (object_id id)
 takes_oid {old} {new} {s} {id} t h = (string s, t, (id, h, refl))

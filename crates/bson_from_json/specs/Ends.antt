@@ -66,8 +66,8 @@ abbrev pub LacksWrapper : Holder → List Token → Type 0
 LacksWrapper h ts = (behind : List Token) → ¬ WrapperThen h ts behind
 
 -- no value of a wrapper with this key is next
-abbrev pub LacksLeaf : List ℕ → List Token → Type 0
-LacksLeaf wrapper ts = TakesNone (IsWrapped wrapper) ts
+pub record LacksLeaf (wrapper : List ℕ) (ts : List Token) : Type 0 where
+  pub none : TakesNone (IsWrapped wrapper) ts
 
 -- these aren't the tokens of an object whose members say a document
 abbrev pub LacksWhole : List Token → Type 0

@@ -141,6 +141,7 @@ impl<'a> Unfinished<'a> {
     }
 
     /// Puts the element of a value under a key at the end.
+    #[inline(always)]
     pub(crate) fn put_element(&mut self, key: &str, value: RawBsonRef<'_>) -> Result<(), JsonReason>
         ensures bytes { OnOk result (self.new.bytes.items ≡ self.old.bytes.items ++ element_bytes key.now (value_of value.entry)) }
         ensures levels { self.new.levels.items ≡ self.old.levels.items }

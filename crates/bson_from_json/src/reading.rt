@@ -1,5 +1,5 @@
 //! Documents from text: one loop over the members of the innermost level.
-#![tactic(auto, using(crate::proofs::Left::one_taken, crate::proofs::Left::some_taken))]
+#![tactic(auto, using(crate::proofs::Left::one_taken, crate::proofs::Left::some_taken, crate::proofs::Keeps::only_open))]
 
 ghost use Rattle.std.specs.Prelude.{◌≡◌, ◌<◌, ◌≤◌, ◌∷◌, ◌⊎◌, [], decimal, IfErr, IfOk, IfSome, OnErr, OnOk};
 ghost use Rattle.json.specs.Reads.{token_of};
@@ -19,7 +19,6 @@ use crate::codes::{Codes, codes_of};
 use crate::error::{JsonError, JsonReason};
 use crate::fault::Wanted;
 use crate::levels::{Holder, Level, Unfinished};
-use crate::number::number_of;
 use crate::source::Source;
 use crate::wrapper::Wrapper;
 use itoa::Buffer;
@@ -235,7 +234,7 @@ impl<'a> Reader<'a> {
     {
         match token {
             Token::String(text) => self.put(key, RawBsonRef::String(text)),
-            Token::Number(text) => self.put(key, number_of(text)?),
+            Token::Number(text) => self.number(key, text),
             Token::Bool(value) => self.put(key, RawBsonRef::Boolean(value)),
             Token::Null => self.put(key, RawBsonRef::Null),
             Token::BeginObject => self.object(key),
@@ -274,6 +273,7 @@ impl<'a> Reader<'a> {
     }
 
     /// Puts a value under a key.
+    #[inline(always)]
     pub(crate) fn put(&mut self, key: &str, value: RawBsonRef<'_>) -> Result<(), JsonReason>
         ensures source { self.new.source ≡ self.old.source }
         ensures puts { OnOk result (Puts self.old self.new key.now (value_of value.entry)) }

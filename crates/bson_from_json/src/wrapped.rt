@@ -1,5 +1,5 @@
 //! The values of wrappers, each behind its first key, as bytes of the document.
-#![tactic(auto, using(crate::proofs::Left::one_taken, crate::proofs::Left::some_taken, crate::proofs::Left::leaf_less))]
+#![tactic(auto, using(crate::proofs::Left::one_taken, crate::proofs::Left::some_taken, crate::proofs::Left::leaf_less, crate::proofs::Keeps::only_open))]
 
 ghost use Rattle.std.specs.Prelude.{◌≡◌, ◌≤◌, ◌⊎◌, ◌∷◌, [], IfErr, OnOk, codes};
 ghost use Rattle.json.specs.Token.{begin_object, key as key_token, string};

@@ -2,7 +2,7 @@ use Rattle.std.proofs.Common.{◌≡◌, ◌∙◌, ◌∷◌, List, ap, refl, s
 use Rattle.json.specs.Token.{Token}
 use Rattle.bson_from_json.specs.declared.source.Source.{Source}
 use Rattle.bson_from_json.proofs.Moments.{code_put, on_ok}
-use Rattle.bson_from_json.proofs.Keeps.{code_behind, lacks, no_code, no_code_token, only_open, put_keeps}
+use Rattle.bson_from_json.proofs.Keeps.{code_behind, lacks, no_code, no_code_token, put_keeps}
 use Rattle.bson_from_json.proofs.Keeps.{no_such_scope, or_lacks}
 use Rattle.bson_from_json.proofs.reading.Reader.code.Goals as goal
 
@@ -26,9 +26,6 @@ returns-in-EndObject-clause-keeps c =
     let same = ap (λ (x : Source). Token.end_object ∷ x.tokens) (sym c.put.ensures.source) in
     on_ok c.put.result
     (λ puts. put_keeps _ _ puts.levels (code_behind (c.in_ok-code.ensures.some ∙ ap (λ (x : List Token). Token.string c.in_ok-code.code.now ∷ x) (end ∙ same)))) c.put.ensures.puts
-
-pub returns-in-EndObject-clause-none : goal.returns-in-EndObject-clause-none
-returns-in-EndObject-clause-none c = only_open _ c.put.result c.put.ensures.reason
 
 pub returns-in-Key-text-clause-none : goal.returns-in-Key-text-clause-none
 returns-in-Key-text-clause-none c =

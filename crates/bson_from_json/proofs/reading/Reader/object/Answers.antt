@@ -3,7 +3,7 @@ use Rattle.json.specs.Token.{Token}
 use Rattle.bson_from_json.specs.Meaning.{is_wrapper_key}
 use Rattle.bson_from_json.proofs.Moments.{begun_opened, empty_put, on_ok, on_ok_two}
 use Rattle.bson_from_json.specs.declared.levels.Holder.TheVariants as holder
-use Rattle.bson_from_json.proofs.Keeps.{begun_behind, empty_behind, lacks, no_first, only_open, open_keeps, put_keeps}
+use Rattle.bson_from_json.proofs.Keeps.{begun_behind, empty_behind, lacks, no_first, open_keeps, put_keeps}
 use Rattle.bson_from_json.specs.Levels.{wrapper_key}
 use Rattle.bson_from_json.proofs.Keeps.{no_wrapped, or_lacks}
 use Rattle.bson_from_json.proofs.reading.Reader.object.Goals as goal
@@ -28,17 +28,11 @@ returns-in-EndObject-clause-keeps c =
     let end : c.args.self.now.source.tokens ≡ Token.end_object ∷ c.token.new.self.tokens = search rules in
     on_ok c.put_empty.result (λ bytes. put_keeps _ _ c.put_empty.ensures.levels (empty_behind end)) c.put_empty.ensures.bytes
 
-pub returns-in-EndObject-clause-none : goal.returns-in-EndObject-clause-none
-returns-in-EndObject-clause-none c = only_open _ c.put_empty.result c.put_empty.ensures.reason
-
 pub returns-in_ok-check_free-in-None-clause-keeps : goal.returns-in_ok-check_free-in-None-clause-keeps
 returns-in_ok-check_free-in-None-clause-keeps c =
     let plain : is_wrapper_key c.in-Key.first.now ≡ false = search rules in
     let first : c.args.self.now.source.tokens ≡ Token.key c.in-Key.first.now ∷ c.token.new.self.tokens = search rules in
     on_ok c.open_under.result (λ level. open_keeps _ _ (holder.Begun c.in-Key.first) _ level (begun_behind c.in-Key.first plain first)) c.open_under.ensures.level
-
-pub returns-in_ok-check_free-in-None-clause-none : goal.returns-in_ok-check_free-in-None-clause-none
-returns-in_ok-check_free-in-None-clause-none c = only_open _ c.open_under.result c.open_under.ensures.reason
 
 pub returns-in-Some-clause-none : goal.returns-in-Some-clause-none
 returns-in-Some-clause-none c =

@@ -2,7 +2,7 @@ use Rattle.std.proofs.Common.{refl, inl, length}
 use Rattle.bson_from_json.specs.declared.levels.Holder.TheVariants as holder
 use Rattle.bson_from_json.proofs.Moments.{before_code_opened, on_ok, on_ok_two, scope_at}
 use Rattle.std.proofs.lemmas.Result.{err_from_is_err_and}
-use Rattle.bson_from_json.proofs.Keeps.{before_code_begun, lacks, no_scope_before, only_open, opened_keeps}
+use Rattle.bson_from_json.proofs.Keeps.{before_code_begun, lacks, no_scope_before, opened_keeps}
 use Rattle.bson_from_json.proofs.reading.Reader.scope_before_code.Goals as goal
 
 pub returns-clause-rest : goal.returns-clause-rest
@@ -18,9 +18,6 @@ pub returns-in_err-start-clause-none : goal.returns-in_err-start-clause-none
 returns-in_err-start-clause-none c =
     let e = err_from_is_err_and c.from_residual-in_err-start.result c.from_residual-in_err-start.ensures.1 in
     rw (e.1, e.2) (inl c.in_err-start.ensures.reason)
-
-pub returns-clause-none : goal.returns-clause-none
-returns-clause-none c = only_open _ c.open.result c.open.ensures.reason
 
 pub returns-clause-keeps : goal.returns-clause-keeps
 returns-clause-keeps c = on_ok c.open.result
