@@ -1,7 +1,6 @@
 //! What the tests share: bytes and the faults that are in them, tables of what is returned of them, a value of each kind, borrowed
 //! and owned, the getters by kind, and checks of results.
 
-mod as_values;
 mod breaches;
 mod checks;
 mod documents;
@@ -12,15 +11,14 @@ mod keys;
 mod levels;
 mod owned_values;
 mod refusals;
+mod required;
 mod results;
-mod rows;
 mod tables;
 mod values;
 mod walks;
 
-pub use as_values::{got, is_got};
 pub use breaches::{BREACHES, BreachRow, CANONICAL, breach};
-pub use checks::{Checks, Mismatch, NoValue, Want};
+pub use checks::{Checks, NoValue};
 pub use documents::{
     ALL_KINDS, ARRAY_WITH_AN_EMPTY_KEY, ARRAY_WITH_TEXT_NOT_UTF8, BOOL_AND_INT32, BOOLEAN_TWO,
     DECLARED_LENGTH_THREE, DECLARED_LENGTH_THREE_APPENDED, EMPTY, FAULT_BEFORE_A_NUMBER,
@@ -35,10 +33,11 @@ pub use faults::{
     PAST_END_AT_A, SCOPE_LENGTH, STRING_PAST_END_AT_A, TWO_AT_0, TWO_AT_A, ZERO_IS_NO_TAG,
 };
 pub use forms::{A_THEN_B, B_THEN_A, FORMS};
-pub use keys::KEY_ANSWERS;
+pub use getters::one_if_got;
 pub use levels::{Holder, has_levels, levels_inside, nested, nested_in_turn};
 pub use owned_values::{array_of, document_of, owned, tree_of};
 pub use refusals::{is_malformed, is_refused};
+pub use required::{require_row, view, view_of_array};
 pub use results::{
     has_debug_text, has_display_text, has_error_texts, has_texts, is_printed, is_said,
 };

@@ -24,29 +24,21 @@ fn is_out_of_memory_said(alloc: Global, answer: &ValueAccessResult<bool>) -> boo
     }
 }
 
-/// Whether the fault is returned with its text, or out of memory; and the number behind it all the same.
-fn is_said_or_found(
-    alloc: Global,
-    numbers: RawArray<'_>,
-    answer: &ValueAccessResult<bool>,
-) -> bool {
+/// Whether the fault is returned with its text, or out of memory.
+fn is_said_fault(alloc: Global, answer: &ValueAccessResult<bool>) -> bool {
     is_out_of_memory_said(alloc, answer)
         && Checks::refusable(alloc).is_no_value(answer, NoValue::Invalid(&TWO_AT_0), "0")
-        && matches!(numbers.get_i32(alloc, 1), Ok(7))
 }
 
-/// The same of the numbers in these bytes. The first request of each look-up may be refused: what needs none is returned all the
-/// same.
-fn is_found_behind(alloc: Global, bytes: &[u8]) -> bool {
-    match array_view(bytes) {
-        Ok(numbers) => is_said_or_found(alloc, numbers, &numbers.get_bool(alloc, 0)),
-        Err(_) => false,
-    }
+/// Whether it is, and the number behind it all the same. The first request of each look-up may be refused: what needs none is
+/// returned all the same.
+fn is_found_behind(alloc: Global, numbers: RawArray<'_>) -> bool {
+    is_said_fault(alloc, &numbers.get_bool(alloc, 0)) & (numbers.get_i32(alloc, 1).ok() == Some(7))
 }
 
 #[test]
 fn fault_before_a_number_or_out_of_memory(rt: HostRuntime) {
-    assert!(rt; is_found_behind(rt.alloc(), FAULT_BEFORE_A_NUMBER));
+    assert!(rt; is_found_behind(rt.alloc(), view_of_array(&rt, FAULT_BEFORE_A_NUMBER)));
 }
 
 /// Whether the result is out of memory, with the empty key.
@@ -59,19 +51,12 @@ fn is_access_out_of_memory(answer: &ValueAccessResult<bool>) -> bool {
     }
 }
 
-/// Whether that of the boolean in front of the numbers is.
-fn is_boolean_out_of_memory(alloc: Global, bytes: &[u8]) -> bool {
-    match array_view(bytes) {
-        Ok(numbers) => is_access_out_of_memory(&numbers.get_bool(alloc, 0)),
-        Err(_) => false,
-    }
-}
-
 // `bin/test` wants the line of these two in each run in which a request was refused, and in no other.
 
 #[test]
 fn a_refused_get_bool_is_out_of_memory(rt: HostRuntime) -> Result<(), Fail> {
-    if is_boolean_out_of_memory(rt.alloc(), FAULT_BEFORE_A_NUMBER) {
+    let numbers = view_of_array(&rt, FAULT_BEFORE_A_NUMBER);
+    if is_access_out_of_memory(&numbers.get_bool(rt.alloc(), 0)) {
         println!(rt; "out of memory")?;
     }
     Ok(())
@@ -85,17 +70,10 @@ fn is_item_out_of_memory(answer: &raw_bson::Result<Option<RawBsonRef<'_>>>) -> b
     }
 }
 
-/// Whether that of the first item in these bytes is.
-fn is_first_out_of_memory(alloc: Global, bytes: &[u8]) -> bool {
-    match array_view(bytes) {
-        Ok(array) => is_item_out_of_memory(&array.get(alloc, 0)),
-        Err(_) => false,
-    }
-}
-
 #[test]
 fn a_refused_get_is_out_of_memory(rt: HostRuntime) -> Result<(), Fail> {
-    if is_first_out_of_memory(rt.alloc(), NEGATIVE_DOCUMENT_LENGTH) {
+    let array = view_of_array(&rt, NEGATIVE_DOCUMENT_LENGTH);
+    if is_item_out_of_memory(&array.get(rt.alloc(), 0)) {
         println!(rt; "out of memory")?;
     }
     Ok(())

@@ -18,7 +18,9 @@ fn is_barrier(
     offset: usize,
 ) -> bool {
     match answer {
-        Ok(Some(barrier)) => barrier.place.path.len() == levels && barrier.place.offset == offset,
+        Ok(Some(barrier)) => {
+            (barrier.place.path.len() == levels) & (barrier.place.offset == offset)
+        }
         Ok(None) => false,
         Err(error) => is_out_of_memory(error),
     }
@@ -32,9 +34,9 @@ fn is_stop(
 ) -> bool {
     match answer {
         Ok(Some(breach)) => {
-            breach.cause == Cause::Stop
-                && breach.place.path.len() == levels
-                && breach.place.offset == offset
+            (breach.cause == Cause::Stop)
+                & (breach.place.path.len() == levels)
+                & (breach.place.offset == offset)
         }
         Err(ValidateError::OutOfMemory) => true,
         _ => false,
@@ -67,7 +69,7 @@ fn is_end_of_tokens(
         Ok(_) => false,
         Err(FlattenError::OutOfMemory) => true,
         Err(FlattenError::Barrier(barrier)) => {
-            barrier.place.path.len() == levels && barrier.place.offset == offset
+            (barrier.place.path.len() == levels) & (barrier.place.offset == offset)
         }
     }
 }
@@ -78,35 +80,31 @@ const LIMITS: Limits = Limits {
     depth: 2,
 };
 
-/// Whether each call goes as far as the stop two levels down in these bytes.
-fn is_stopped(alloc: Global, bytes: &[u8]) -> bool {
-    match RawDocument::from_bytes(bytes) {
-        Ok(view) => {
-            is_barrier(&first_fault_within(alloc, view, LIMITS), 2, 13)
-                && is_stop(&validate_within(alloc, view, LIMITS), 2, 13)
-                && is_end_of_tokens(&flatten_within(alloc, view, LIMITS, &mut []), 2, 13)
-        }
-        Err(_) => false,
-    }
+/// Whether each call goes as far as the stop two levels down in the document.
+fn is_stopped(alloc: Global, view: RawDocument<'_>) -> bool {
+    is_barrier(&first_fault_within(alloc, view, LIMITS), 2, 13)
+        & is_stop(&validate_within(alloc, view, LIMITS), 2, 13)
+        & is_end_of_tokens(&flatten_within(alloc, view, LIMITS, &mut []), 2, 13)
 }
 
 #[test]
 fn a_stop_or_out_of_memory(rt: HostRuntime) {
-    assert!(rt; is_stopped(rt.alloc(), NESTED_STOP));
+    assert!(rt; is_stopped(rt.alloc(), view(&rt, NESTED_STOP)));
 }
 
-/// Whether these bytes have so many tokens, or memory runs out.
-fn are_counted(alloc: Global, bytes: &[u8], count: usize) -> bool {
-    match RawDocument::from_bytes(bytes) {
-        Ok(view) => are_tokens(&flatten_within(alloc, view, LIMITS, &mut []), count),
-        Err(_) => false,
-    }
+/// Whether these bytes have that form, or memory runs out.
+fn is_form(alloc: Global, bytes: &[u8]) -> bool {
+    is_list(&canonical_within(alloc, bytes, LIMITS), FORM)
+}
+
+/// Whether the document has so many tokens, or memory runs out.
+fn are_counted(alloc: Global, view: RawDocument<'_>, count: usize) -> bool {
+    are_tokens(&flatten_within(alloc, view, LIMITS, &mut []), count)
 }
 
 #[test]
 fn forms_and_tokens_or_out_of_memory(rt: HostRuntime) {
     let alloc = rt.alloc();
-    assert!(rt; is_list(&canonical_within(alloc, REPEATED, LIMITS), FORM));
-    assert!(rt; is_list(&canonical_within(alloc, FORM, LIMITS), FORM));
-    assert!(rt; are_counted(alloc, REPEATED, 6));
+    assert!(rt; is_form(alloc, REPEATED) & is_form(alloc, FORM));
+    assert!(rt; are_counted(alloc, view(&rt, REPEATED), 6));
 }

@@ -15,7 +15,7 @@ fn is_fault_of_one_element(error: &Error, count: usize) -> bool {
     let two = ErrorKind::MalformedValue {
         reason: Reason::BadBoolean(2),
     };
-    error.kind == two && error.key() == Some("a") && count == 1
+    (error.kind == two) & (error.key() == Some("a")) & (count == 1)
 }
 
 /// Whether the document was read up to that fault.
@@ -26,47 +26,34 @@ fn is_read_to_fault(answer: &raw_bson::Result<Document>, count: usize) -> bool {
     }
 }
 
-/// Whether these bytes were.
-fn is_counted_to_fault(alloc: Global, bytes: &[u8]) -> bool {
-    match RawDocument::from_bytes(bytes) {
-        Ok(view) => {
-            let (answer, steps) = document_from_raw_counted(alloc, view);
-            is_read_to_fault(&answer, steps.count())
-        }
-        Err(_) => false,
-    }
+/// Whether it was now.
+fn is_counted_to_fault(alloc: Global, view: RawDocument<'_>) -> bool {
+    let (answer, steps) = document_from_raw_counted(alloc, view);
+    is_read_to_fault(&answer, steps.count())
 }
 
 #[test]
 fn elements_until_a_fault_or_out_of_memory(rt: HostRuntime) {
-    assert!(rt; is_counted_to_fault(rt.alloc(), FAULT_UNDER_A_LATER_GOOD_KEY));
+    assert!(rt; is_counted_to_fault(rt.alloc(), view(&rt, FAULT_UNDER_A_LATER_GOOD_KEY)));
 }
 
 /// Whether so many levels were read, each an element but the innermost; or memory ran out, with no more elements.
 fn are_levels_counted(answer: &raw_bson::Result<Document>, count: usize, levels: usize) -> bool {
     match answer {
-        Ok(tree) => has_levels(tree, levels) && count == levels,
-        Err(error) => is_out_of_memory(error) && count <= levels,
+        Ok(tree) => has_levels(tree, levels) & (count == levels),
+        Err(error) => is_out_of_memory(error) & (count <= levels),
     }
 }
 
-fn are_levels_read(alloc: Global, bytes: &[u8], levels: usize) -> bool {
-    let Ok(view) = RawDocument::from_bytes(bytes) else {
-        return false;
-    };
+fn are_levels_read(alloc: Global, view: RawDocument<'_>, levels: usize) -> bool {
     let (answer, steps) = document_from_raw_counted(alloc, view);
     are_levels_counted(&answer, steps.count(), levels)
 }
 
-/// Whether they are read where there is memory for their bytes.
-fn are_levels_of(alloc: Global, levels: usize) -> bool {
-    match &nested(alloc, Holder::Document, levels, EMPTY) {
-        Ok(bytes) => are_levels_read(alloc, bytes, levels),
-        Err(_) => true,
-    }
-}
-
+/// They are read where there is memory for their bytes.
 #[test]
 fn elements_of_five_hundred_levels_or_out_of_memory(rt: HostRuntime) {
-    assert!(rt; are_levels_of(rt.alloc(), 499));
+    if let Ok(bytes) = nested(rt.alloc(), Holder::Document, 499, EMPTY) {
+        assert!(rt; are_levels_read(rt.alloc(), view(&rt, &bytes), 499));
+    }
 }

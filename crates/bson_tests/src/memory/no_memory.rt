@@ -1,39 +1,23 @@
 use crate::fixtures::*;
-use raw_bson::{Bson, ElementType, Limits, RawBson, RawBsonRef, RawDocument};
+use raw_bson::{Bson, Limits, RawArray, RawBson, RawBsonRef, RawDocument};
 use raw_form::flatten_within;
 use std::alloc::Global;
 use std::process::Abort;
 
 // None of these calls asks for memory: `bin/test` counts the requests of each test, and there are none.
 
-/// Whether the tables without keys at faults have their results.
-fn are_read(alloc: Global) -> bool {
-    let checks = Checks::silent(alloc);
-    checks.frames_without_a_key().is_ok()
-        && checks.iterations_without_a_key().is_ok()
-        && checks.look_ups_without_a_key().is_ok()
-        && checks.values_of_getters().is_ok()
-}
-
-/// Whether values are found under keys and at positions, also behind a fault, and nothing behind the last one.
-fn are_found(alloc: Global) -> bool {
-    let checks = Checks::silent(alloc);
-    let (text, million, seven) = (
-        RawBsonRef::String("y'all"),
-        RawBsonRef::Int32(1000000),
-        RawBsonRef::Int32(7),
-    );
-    checks.is_typed_under(GREETING, ElementType::String, "hi", text)
-        && checks.is_typed_under(BOOL_AND_INT32, ElementType::Int32, "i32", million)
-        && checks.is_typed_at(ARRAY_WITH_TEXT_NOT_UTF8, ElementType::Int32, 1, "1", seven)
-        && checks.is_typed_at(FAULT_BEFORE_A_NUMBER, ElementType::Int32, 1, "1", seven)
-        && checks.is_position(NEGATIVE_DOCUMENT_LENGTH, 1, Want::Nothing)
+/// Whether a typed getter has a number behind another value, also where that has a fault.
+fn are_found(alloc: Global, mixed: RawDocument<'_>, faulty: RawArray<'_>) -> bool {
+    (mixed.get_i32(alloc, "i32").ok() == Some(1000000)) & (faulty.get_i32(alloc, 1).ok() == Some(7))
 }
 
 #[test]
 fn reading_takes_no_memory(rt: HostRuntime) {
-    assert!(rt; are_read(rt.alloc()));
-    assert!(rt; are_found(rt.alloc()));
+    let checks = Checks::silent(rt.alloc());
+    checks.rows_without_a_key(&rt);
+    assert!(rt; checks.values_of_getters(view(&rt, ALL_KINDS)) == 24);
+    let faulty = view_of_array(&rt, FAULT_BEFORE_A_NUMBER);
+    assert!(rt; are_found(rt.alloc(), view(&rt, BOOL_AND_INT32), faulty));
 }
 
 /// Whether an owned 7 becomes a 7.
@@ -49,32 +33,33 @@ fn is_made(made: &raw_bson::Result<RawBson>, want: RawBsonRef<'_>) -> bool {
     }
 }
 
-#[test]
-fn conversions_of_small_values_take_no_memory(rt: HostRuntime) {
-    let alloc = rt.alloc();
-    assert!(rt; is_seven(&RawBson::Int32(7).into_bson(alloc)));
-    assert!(rt;
-        is_made(
+/// Whether small values become those of the other kind.
+fn are_converted(alloc: Global) -> bool {
+    is_seven(&RawBson::Int32(7).into_bson(alloc))
+        & is_made(
             &RawBson::try_from_bson(alloc, Bson::Int32(7)),
-            RawBsonRef::Int32(7)
+            RawBsonRef::Int32(7),
         )
-    );
-    assert!(rt; is_made(&RawBson::try_from_bson(alloc, Bson::Null), RawBsonRef::Null));
+        & is_made(&RawBson::try_from_bson(alloc, Bson::Null), RawBsonRef::Null)
 }
 
-/// Whether the document of these bytes, of one level, is one token.
-fn is_one_token(alloc: Global, bytes: &[u8]) -> bool {
-    let limits = Limits {
-        bytes: 19,
-        depth: 2,
-    };
-    match RawDocument::from_bytes(bytes) {
-        Ok(document) => matches!(flatten_within(alloc, document, limits, &mut []), Ok(1)),
-        Err(_) => false,
-    }
+#[test]
+fn conversions_of_small_values_take_no_memory(rt: HostRuntime) {
+    assert!(rt; are_converted(rt.alloc()));
+}
+
+/// Of the document.
+const LIMITS: Limits = Limits {
+    bytes: 19,
+    depth: 2,
+};
+
+/// Whether the document, of one level, is one token.
+fn is_one_token(alloc: Global, document: RawDocument<'_>) -> bool {
+    flatten_within(alloc, document, LIMITS, &mut []).ok() == Some(1)
 }
 
 #[test]
 fn flatten_within_of_one_level_takes_no_memory(rt: HostRuntime) {
-    assert!(rt; is_one_token(rt.alloc(), GREETING));
+    assert!(rt; is_one_token(rt.alloc(), view(&rt, GREETING)));
 }

@@ -33,7 +33,7 @@ const OTHER_SPELLING: &[u8] = b"\x3D\0\0\0\
 /// Whether the tree has this part at this place.
 fn has_part(tree: &Document, index: usize, wanted: &str) -> bool {
     match tree.pair_at(index) {
-        Some((key, value)) => key == wanted && is_part(key, value),
+        Some((key, value)) => (key == wanted) & is_part(key, value),
         None => false,
     }
 }
@@ -41,11 +41,11 @@ fn has_part(tree: &Document, index: usize, wanted: &str) -> bool {
 /// Whether the tree has these parts in this order.
 fn has_parts(tree: &Document) -> bool {
     has_part(tree, 0, "d")
-        && has_part(tree, 1, "l")
-        && has_part(tree, 2, "t")
-        && has_part(tree, 3, "r")
-        && has_part(tree, 4, "c")
-        && tree.len() == 5
+        & has_part(tree, 1, "l")
+        & has_part(tree, 2, "t")
+        & has_part(tree, 3, "r")
+        & has_part(tree, 4, "c")
+        & (tree.len() == 5)
 }
 
 /// Whether the result is a tree of these parts, or out of memory.
@@ -61,8 +61,8 @@ fn is_buffer_read(answer: &raw_bson::Result<RawDocumentBuf>, bytes: &[u8]) -> bo
     match answer {
         Ok(buffer) => {
             is_tree(&buffer.to_document())
-                && is_tree(&buffer.to_document_within(LIMITS))
-                && buffer.as_bytes() == bytes
+                & is_tree(&buffer.to_document_within(LIMITS))
+                & (buffer.as_bytes() == bytes)
         }
         Err(error) => is_out_of_memory(error),
     }
@@ -76,22 +76,21 @@ fn is_buffer_taken(answer: raw_bson::Result<RawDocumentBuf>) -> bool {
     }
 }
 
-/// Whether the document of these bytes has these parts, also within limits.
-fn is_view_read(alloc: Global, bytes: &[u8]) -> bool {
-    match RawDocument::from_bytes(bytes) {
-        Ok(view) => {
-            is_tree(&document_from_raw(alloc, view))
-                && is_tree(&document_from_raw_within(alloc, view, LIMITS))
-        }
-        Err(_) => false,
-    }
+/// Whether the document has these parts, also within limits.
+fn is_view_read(alloc: Global, view: RawDocument<'_>) -> bool {
+    is_tree(&document_from_raw(alloc, view))
+        & is_tree(&document_from_raw_within(alloc, view, LIMITS))
+}
+
+/// Whether so have buffers of these bytes, that are read and that are taken.
+fn are_buffers_read(alloc: Global, bytes: &[u8]) -> bool {
+    is_buffer_read(&document_of(alloc, bytes), bytes) & is_buffer_taken(document_of(alloc, bytes))
 }
 
 #[test]
 fn trees_of_documents_or_out_of_memory(rt: HostRuntime) {
-    assert!(rt; is_view_read(rt.alloc(), OTHER_SPELLING));
-    assert!(rt; is_buffer_read(&document_of(rt.alloc(), OTHER_SPELLING), OTHER_SPELLING));
-    assert!(rt; is_buffer_taken(document_of(rt.alloc(), OTHER_SPELLING)));
+    assert!(rt; is_view_read(rt.alloc(), view(&rt, OTHER_SPELLING)));
+    assert!(rt; are_buffers_read(rt.alloc(), OTHER_SPELLING));
 }
 
 /// The bytes of that document, and its levels.
@@ -116,43 +115,26 @@ fn is_null_list(answer: &raw_bson::Result<Vec<Bson>>) -> bool {
     }
 }
 
-/// Whether the value under this key becomes a tree, and where it is an array, a list.
-fn is_value_read(alloc: Global, key: &str, value: RawBsonRef<'_>) -> bool {
-    is_part_answered(key, &bson_from_raw(alloc, value))
-        && match value.as_array() {
-            Some(array) => is_null_list(&list_from_raw(alloc, array)),
-            None => true,
-        }
+/// Whether a value that is an array becomes a list.
+fn is_list_read(alloc: Global, value: RawBsonRef<'_>) -> bool {
+    match value.as_array() {
+        Some(array) => is_null_list(&list_from_raw(alloc, array)),
+        None => true,
+    }
 }
 
 /// Whether the element becomes the tree under its key, and so does its value.
-fn is_element_read(alloc: Global, element: RawElement<'_>) -> bool {
+fn is_element_read(alloc: Global, element: RawElement<'_>, value: RawBsonRef<'_>) -> bool {
     is_part_answered(element.key(), &bson_from_element(alloc, element))
-        && match element.value(alloc) {
-            Ok(value) => is_value_read(alloc, element.key(), value),
-            Err(_) => false,
-        }
-}
-
-/// Whether each element does.
-fn are_elements_read(alloc: Global, document: RawDocument<'_>) -> bool {
-    for item in document.iter_elements(alloc) {
-        let is_read = match item {
-            Ok(element) => is_element_read(alloc, element),
-            Err(_) => false,
-        };
-        if !is_read {
-            return false;
-        }
-    }
-    true
+        & is_part_answered(element.key(), &bson_from_raw(alloc, value))
+        & is_list_read(alloc, value)
 }
 
 /// Whether each call that writes the tree gives its bytes, or runs out of memory, and leaves the tree as it was.
 fn is_written(alloc: Global, tree: &Document) -> bool {
     is_document(&RawDocumentBuf::from_document(alloc, tree), PARTS)
-        && is_document(&RawDocumentBuf::try_from_document(alloc, tree), PARTS)
-        && has_parts(tree)
+        & is_document(&RawDocumentBuf::try_from_document(alloc, tree), PARTS)
+        & has_parts(tree)
 }
 
 /// Whether the tree is written, or memory ran out for it.
@@ -163,23 +145,20 @@ fn is_tree_written(alloc: Global, answer: &raw_bson::Result<Document>) -> bool {
     }
 }
 
-/// Whether the tree of the document of these bytes is.
-fn is_read_and_written(alloc: Global, bytes: &[u8]) -> bool {
-    match RawDocument::from_bytes(bytes) {
-        Ok(view) => is_tree_written(alloc, &document_from_raw(alloc, view)),
-        Err(_) => false,
-    }
+/// Whether each call that writes the parts does.
+fn are_parts_written(alloc: Global) -> bool {
+    is_list(&canonical_bytes(alloc, OTHER_SPELLING), PARTS)
+        & is_tree_written(alloc, &tree_of(alloc, PARTS))
 }
 
 #[test]
 fn bytes_of_trees_or_out_of_memory(rt: HostRuntime) {
-    assert!(rt; is_list(&canonical_bytes(rt.alloc(), OTHER_SPELLING), PARTS));
-    assert!(rt; is_read_and_written(rt.alloc(), PARTS));
+    assert!(rt; are_parts_written(rt.alloc()));
 }
 
 /// Whether memory ran out for the value under this key. A text and a regular expression are moved, which takes none.
 fn is_copy_refused(key: &str, error: &Error) -> bool {
-    key != "t" && key != "r" && is_out_of_memory(error)
+    (key != "t") & (key != "r") & is_out_of_memory(error)
 }
 
 /// Whether this is the tree under this key, or memory ran out for its copy.
@@ -231,51 +210,40 @@ fn is_tree_owned(
     }
 }
 
-/// The same of an element.
-fn is_element_owned(alloc: Global, element: RawElement<'_>) -> bool {
+/// Whether the element becomes a tree and back, be it spelled as its tree is written or not.
+fn is_element_right(alloc: Global, element: RawElement<'_>, is_form: bool) -> bool {
     match element.value(alloc) {
         Ok(value) => {
-            is_tree_owned(
-                alloc,
-                element.key(),
-                bson_from_element(alloc, element),
-                value,
-            )
+            is_element_read(alloc, element, value)
+                & (!is_form
+                    || is_tree_owned(
+                        alloc,
+                        element.key(),
+                        bson_from_element(alloc, element),
+                        value,
+                    ))
         }
         Err(_) => false,
     }
 }
 
-/// Whether the tree of each element goes to its value and back.
-fn are_elements_owned(alloc: Global, document: RawDocument<'_>) -> bool {
+/// Whether each element does.
+fn are_elements_right(alloc: Global, document: RawDocument<'_>, is_form: bool) -> bool {
+    let mut are_right = true;
     for item in document.iter_elements(alloc) {
-        let is_owned = match item {
-            Ok(element) => is_element_owned(alloc, element),
-            Err(_) => false,
-        };
-        if !is_owned {
-            return false;
-        }
+        are_right = are_right
+            & match item {
+                Ok(element) => is_element_right(alloc, element, is_form),
+                Err(_) => false,
+            };
     }
-    true
-}
-
-/// Whether those of the documents of these bytes do, and become trees.
-fn are_values_read(alloc: Global, other: &[u8], bytes: &[u8]) -> bool {
-    match (
-        RawDocument::from_bytes(other),
-        RawDocument::from_bytes(bytes),
-    ) {
-        (Ok(other), Ok(document)) => {
-            are_elements_read(alloc, other) && are_elements_owned(alloc, document)
-        }
-        _ => false,
-    }
+    are_right
 }
 
 #[test]
 fn values_or_out_of_memory(rt: HostRuntime) {
-    assert!(rt; are_values_read(rt.alloc(), OTHER_SPELLING, PARTS));
+    assert!(rt; are_elements_right(rt.alloc(), view(&rt, OTHER_SPELLING), false));
+    assert!(rt; are_elements_right(rt.alloc(), view(&rt, PARTS), true));
 }
 
 /// Whether just this form was written.
@@ -311,7 +279,7 @@ fn becomes(
 ) -> bool {
     match answer {
         Ok(buffer) => {
-            is_tree_of_form(alloc, &buffer.to_document(), form) && buffer.as_bytes() == bytes
+            is_tree_of_form(alloc, &buffer.to_document(), form) & (buffer.as_bytes() == bytes)
         }
         Err(error) => is_out_of_memory(error),
     }
@@ -324,13 +292,13 @@ fn have_form(alloc: Global, bytes: &[u8], form: &[u8]) -> bool {
 
 /// Whether they also do so by one call.
 fn are_forms(alloc: Global, bytes: &[u8], form: &[u8]) -> bool {
-    have_form(alloc, bytes, form) && is_list(&canonical_bytes(alloc, bytes), form)
+    have_form(alloc, bytes, form) & is_list(&canonical_bytes(alloc, bytes), form)
 }
 
 #[test]
 fn forms_or_out_of_memory(rt: HostRuntime) {
-    for (bytes, form) in FORMS {
-        assert!(rt; are_forms(rt.alloc(), bytes, form), "{bytes:?}");
+    for (row, (bytes, form)) in FORMS.iter().enumerate() {
+        require_row(&rt, are_forms(rt.alloc(), bytes, form), "forms", row);
     }
 }
 

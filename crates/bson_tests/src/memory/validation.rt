@@ -11,7 +11,7 @@ use std::process::Abort;
 /// Whether the result is this breach, or out of memory.
 fn is_breach(answer: &raw_bson::Result<Option<Breach>>, path: &[usize], cause: Cause) -> bool {
     match answer {
-        Ok(Some(breach)) => breach.path.as_slice() == path && breach.cause == cause,
+        Ok(Some(breach)) => (breach.path.as_slice() == path) & (breach.cause == cause),
         Ok(None) => false,
         Err(error) => is_out_of_memory(error),
     }
@@ -27,15 +27,11 @@ fn is_canonical(answer: &raw_bson::Result<Option<Breach>>) -> bool {
 
 /// Whether the place has these numbers.
 fn is_at(place: &Place<'_>, path: &[usize]) -> bool {
-    if place.path.len() != path.len() {
-        return false;
-    }
+    let mut is_right = place.path.len() == path.len();
     for (step, number) in place.path.iter().zip(path) {
-        if step.number != *number {
-            return false;
-        }
+        is_right = is_right & (step.number == *number);
     }
-    true
+    is_right
 }
 
 /// Whether this breach is found within limits, or out of memory.
@@ -45,7 +41,7 @@ fn is_placed(
     cause: Cause,
 ) -> bool {
     match answer {
-        Ok(Some(breach)) => breach.cause == cause && is_at(&breach.place, path),
+        Ok(Some(breach)) => (breach.cause == cause) & is_at(&breach.place, path),
         Err(ValidateError::OutOfMemory) => true,
         _ => false,
     }
@@ -66,47 +62,36 @@ const LIMITS: Limits = Limits {
 };
 
 /// Whether the first breach of the document is this one, or memory runs out.
-fn is_row(alloc: Global, (bytes, path, cause): BreachRow) -> bool {
-    match RawDocument::from_bytes(bytes) {
-        Ok(view) => {
-            is_breach(&validate(alloc, view), path, cause)
-                && is_placed(&validate_within(alloc, view, LIMITS), path, cause)
-        }
-        Err(_) => false,
-    }
+fn is_broken(alloc: Global, view: RawDocument<'_>, path: &[usize], cause: Cause) -> bool {
+    is_breach(&validate(alloc, view), path, cause)
+        & is_placed(&validate_within(alloc, view, LIMITS), path, cause)
 }
 
 /// The same of each row.
-fn are_rows(alloc: Global, rows: &[BreachRow]) -> bool {
-    for row in rows {
-        if !is_row(alloc, *row) {
-            return false;
-        }
+fn check_rows(rt: &impl Abort, alloc: Global, table: &str, rows: &[BreachRow]) {
+    for (row, (bytes, path, cause)) in rows.iter().enumerate() {
+        let is_right = is_broken(alloc, view(rt, bytes), path, *cause);
+        require_row(rt, is_right, table, row);
     }
-    true
 }
 
 #[test]
 fn breaches_or_out_of_memory(rt: HostRuntime) {
-    for (place, rows) in BREACHES.iter().enumerate() {
-        assert!(rt; are_rows(rt.alloc(), rows), "{place}");
+    for (table, rows) in BREACHES {
+        check_rows(&rt, rt.alloc(), table, rows);
     }
 }
 
-/// Whether the document of these bytes is canonical, or memory runs out.
-fn is_without_breach(alloc: Global, bytes: &[u8]) -> bool {
-    match RawDocument::from_bytes(bytes) {
-        Ok(view) => {
-            is_canonical(&validate(alloc, view)) && is_sound(&validate_within(alloc, view, LIMITS))
-        }
-        Err(_) => false,
-    }
+/// Whether the document is canonical, or memory runs out.
+fn is_without_breach(alloc: Global, view: RawDocument<'_>) -> bool {
+    is_canonical(&validate(alloc, view)) & is_sound(&validate_within(alloc, view, LIMITS))
 }
 
 #[test]
 fn canonical_or_out_of_memory(rt: HostRuntime) {
-    for bytes in CANONICAL {
-        assert!(rt; is_without_breach(rt.alloc(), bytes), "{bytes:?}");
+    for (row, bytes) in CANONICAL.iter().enumerate() {
+        let is_right = is_without_breach(rt.alloc(), view(&rt, bytes));
+        require_row(&rt, is_right, "canonical", row);
     }
 }
 
@@ -130,6 +115,13 @@ const FIRST_KEY_LAST: &[u8] = b"\xA9\0\0\0\
 
 #[test]
 fn many_keys_or_out_of_memory(rt: HostRuntime) {
-    assert!(rt; is_without_breach(rt.alloc(), DISTINCT_KEYS));
-    assert!(rt; is_row(rt.alloc(), (FIRST_KEY_LAST, &[40], Cause::RepeatedKey)));
+    assert!(rt; is_without_breach(rt.alloc(), view(&rt, DISTINCT_KEYS)));
+    assert!(rt;
+        is_broken(
+            rt.alloc(),
+            view(&rt, FIRST_KEY_LAST),
+            &[40],
+            Cause::RepeatedKey
+        )
+    );
 }
