@@ -8,19 +8,22 @@ fn number(alloc: Global, bytes: &[u8]) -> Result<i32, AnyError> {
     Ok(RawDocument::from_bytes(bytes)?.get_i32(alloc, "a")?)
 }
 
-/// Bytes, and the text of the error.
-const ERRORS: &[(&[u8], &str)] = &[
-    (b"\x04\0\0\0", "malformed value: \"document too short\""),
-    (GREETING, "error at key: \"a\": value not present"),
-];
+/// Whether the error that these bytes have has this text.
+fn is_number_said(alloc: Global, bytes: &[u8], text: &str) -> bool {
+    is_said(alloc, &number(alloc, bytes), text)
+}
+
+/// Whether the error of memory that ran out has its text.
+fn is_no_memory_said(alloc: Global) -> bool {
+    has_display_text(alloc, &AnyError::from(NoMemory), "out of memory")
+}
 
 #[test]
 fn each_error_keeps_its_text(rt: HostRuntime) {
-    for (bytes, text) in ERRORS {
-        assert!(rt;
-            is_said(rt.alloc(), &number(rt.alloc(), bytes), text),
-            "{text}"
-        );
-    }
-    assert!(rt; has_display_text(rt.alloc(), &AnyError::from(NoMemory), "out of memory"));
+    let alloc = rt.alloc();
+    let text = "malformed value: \"document too short\"";
+    assert!(rt; is_number_said(alloc, b"\x04\0\0\0", text));
+    let text = "error at key: \"a\": value not present";
+    assert!(rt; is_number_said(alloc, GREETING, text));
+    assert!(rt; is_no_memory_said(alloc));
 }

@@ -34,7 +34,7 @@ pub use faults::{
 };
 pub use forms::{A_THEN_B, B_THEN_A, FORMS};
 pub use getters::one_if_got;
-pub use levels::{Holder, has_levels, levels_inside, nested, nested_in_turn};
+pub use levels::{Holder, levels_inside, nested, nested_in_turn};
 pub use owned_values::{array_of, document_of, owned, tree_of};
 pub use refusals::{is_malformed, is_refused};
 pub use required::{require_row, view, view_of_array};

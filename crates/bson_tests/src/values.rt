@@ -7,7 +7,7 @@ use std::process::Abort;
 /// Whether the value is of this kind, and its view is the borrowed value of that kind.
 fn is_viewed(value: &RawBson, kind: ElementType) -> bool {
     match borrowed(kind) {
-        Ok(wanted) => value.element_type() == kind && value.as_raw_bson_ref() == wanted,
+        Ok(wanted) => (value.element_type() == kind) & (value.as_raw_bson_ref() == wanted),
         Err(_) => false,
     }
 }
@@ -41,7 +41,7 @@ fn other_accessors(value: &RawBson) -> usize {
 /// view.
 fn are_accessed(value: &RawBson, kind: ElementType) -> bool {
     let count = fixed_accessors(value).wrapping_add(other_accessors(value));
-    count == usize::from(has_accessor(kind)) && is_viewed(value, kind)
+    (count == usize::from(has_accessor(kind))) & is_viewed(value, kind)
 }
 
 /// Whether the value of this kind is made, and that holds of it.
@@ -54,7 +54,7 @@ fn is_accessed(alloc: Global, kind: ElementType) -> bool {
 
 #[test]
 fn an_accessor_answers_its_own_kind_alone(rt: HostRuntime) {
-    for &(key, kind) in KINDS.iter() {
-        assert!(rt; is_accessed(rt.alloc(), kind), "{key}");
+    for (row, (_, kind)) in KINDS.iter().enumerate() {
+        require_row(&rt, is_accessed(rt.alloc(), *kind), "kinds", row);
     }
 }

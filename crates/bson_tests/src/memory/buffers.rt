@@ -53,17 +53,21 @@ const APPENDS: &[Append] = &[
     (TWO_INT32, "c", Value::Int32(0), THREE_INT32),
 ];
 
+/// Whether new buffers are empty, or memory ran out.
+fn are_empty(alloc: Global) -> bool {
+    is_document(&RawDocumentBuf::new(alloc), EMPTY) & is_array(&RawArrayBuf::new(alloc), EMPTY)
+}
+
 #[test]
 fn new_or_out_of_memory(rt: HostRuntime) {
-    assert!(rt; is_document(&RawDocumentBuf::new(rt.alloc()), EMPTY));
-    assert!(rt; is_array(&RawArrayBuf::new(rt.alloc()), EMPTY));
+    assert!(rt; are_empty(rt.alloc()));
 }
 
 /// After an append that went well the bytes are those after it; else memory ran out, and they are those before.
 fn is_appended(answer: &Result<()>, found: &[u8], before: &[u8], after: &[u8]) -> bool {
     match answer {
         Ok(()) => found == after,
-        Err(error) => is_out_of_memory(error) && found == before,
+        Err(error) => is_out_of_memory(error) & (found == before),
     }
 }
 
@@ -118,9 +122,14 @@ fn is_borrowed_appended(alloc: Global, append: Append) -> bool {
 
 #[test]
 fn append_or_out_of_memory(rt: HostRuntime) {
-    for append in APPENDS {
-        assert!(rt; is_owned_appended(rt.alloc(), *append), "{}", append.1);
-        assert!(rt; is_borrowed_appended(rt.alloc(), *append), "{}", append.1);
+    for (row, append) in APPENDS.iter().enumerate() {
+        require_row(&rt, is_owned_appended(rt.alloc(), *append), "owned", row);
+        require_row(
+            &rt,
+            is_borrowed_appended(rt.alloc(), *append),
+            "borrowed",
+            row,
+        );
     }
 }
 
@@ -154,18 +163,18 @@ fn is_first_appended(alloc: Global, item: Option<RawElement<'_>>) -> bool {
 
 #[test]
 fn append_element_or_out_of_memory(rt: HostRuntime) {
-    assert!(rt; is_first_appended(rt.alloc(), first_element(rt.alloc(), NUMBER)));
+    assert!(rt; is_first_appended(rt.alloc(), first_element(rt.alloc(), view(&rt, NUMBER))));
 }
 
 /// Whether an append was refused for a 0 in the key, and the document is still empty.
 fn is_nul_refused(answer: &Result<()>, document: &RawDocumentBuf) -> bool {
-    is_refused(answer, Reason::InteriorNul, None) && document.as_bytes() == EMPTY
+    is_refused(answer, Reason::InteriorNul, None) & (document.as_bytes() == EMPTY)
 }
 
 /// Whether a 0 in the key is refused, be the value owned or borrowed.
 fn are_nuls_refused(document: &mut RawDocumentBuf) -> bool {
     is_nul_refused(&document.append("a\0b", RawBson::Null), document)
-        && is_nul_refused(&document.append_ref("a\0b", RawBsonRef::Null), document)
+        & is_nul_refused(&document.append_ref("a\0b", RawBsonRef::Null), document)
 }
 
 /// The same of the buffer of the empty document, if there is memory for it.
@@ -197,7 +206,7 @@ fn are_nulls_pushed(alloc: Global, bytes: &[u8]) -> bool {
     match array_of(alloc, bytes) {
         Ok(mut array) => {
             is_null_pushed(&mut array, bytes, SWALLOWED_TERMINATOR_PUSHED)
-                && is_null_pushed(&mut array, SWALLOWED_TERMINATOR_PUSHED, PUSHED_TWICE)
+                & is_null_pushed(&mut array, SWALLOWED_TERMINATOR_PUSHED, PUSHED_TWICE)
         }
         Err(error) => is_out_of_memory(&error),
     }

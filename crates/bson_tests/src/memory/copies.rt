@@ -2,8 +2,8 @@ use crate::fixtures::*;
 use crate::memory::asserts::is_out_of_memory;
 use crate::memory::kinds::has_memory;
 use raw_bson::{
-    ElementType, RawArrayBuf, RawBson, RawBsonRef, RawDocument, RawDocumentBuf, RawElement,
-    ToRawArrayBuf, ToRawBson, ToRawDocumentBuf,
+    ElementType, RawArray, RawArrayBuf, RawBson, RawBsonRef, RawDocument, RawDocumentBuf,
+    RawElement, ToRawArrayBuf, ToRawBson, ToRawDocumentBuf,
 };
 use std::alloc::{AllocError, Global};
 use std::process::Abort;
@@ -21,7 +21,7 @@ fn is_clone<T: PartialEq>(copy: &Result<T, AllocError>, cloned: &T) -> bool {
 /// Whether the clone of the document is equal, and the document has these bytes, if there is memory for it.
 fn has_document_clone(document: &raw_bson::Result<RawDocumentBuf>, bytes: &[u8]) -> bool {
     match document {
-        Ok(document) => is_clone(&document.clone(), document) && document.as_bytes() == bytes,
+        Ok(document) => is_clone(&document.clone(), document) & (document.as_bytes() == bytes),
         Err(error) => is_out_of_memory(error),
     }
 }
@@ -29,31 +29,21 @@ fn has_document_clone(document: &raw_bson::Result<RawDocumentBuf>, bytes: &[u8])
 /// The same of an array.
 fn has_array_clone(array: &raw_bson::Result<RawArrayBuf>, bytes: &[u8]) -> bool {
     match array {
-        Ok(array) => is_clone(&array.clone(), array) && array.as_bytes() == bytes,
+        Ok(array) => is_clone(&array.clone(), array) & (array.as_bytes() == bytes),
         Err(error) => is_out_of_memory(error),
     }
 }
 
-/// Whether a buffer of these bytes has a clone.
-fn is_buffer_cloned(alloc: Global, bytes: &[u8]) -> bool {
-    match RawDocument::from_bytes(bytes) {
-        Ok(view) => has_document_clone(&view.to_raw_document_buf(alloc), bytes),
-        Err(_) => false,
-    }
-}
-
-/// The same of an array.
-fn is_array_buffer_cloned(alloc: Global, bytes: &[u8]) -> bool {
-    match array_view(bytes) {
-        Ok(view) => has_array_clone(&view.to_raw_array_buf(alloc), bytes),
-        Err(_) => false,
-    }
+/// Whether buffers of these documents have clones.
+fn are_buffers_cloned(alloc: Global, document: RawDocument<'_>, array: RawArray<'_>) -> bool {
+    has_document_clone(&document.to_raw_document_buf(alloc), document.as_bytes())
+        & has_array_clone(&array.to_raw_array_buf(alloc), array.as_bytes())
 }
 
 #[test]
 fn clones_of_buffers_or_out_of_memory(rt: HostRuntime) {
-    assert!(rt; is_buffer_cloned(rt.alloc(), GREETING));
-    assert!(rt; is_array_buffer_cloned(rt.alloc(), SWALLOWED_TERMINATOR));
+    let array = view_of_array(&rt, SWALLOWED_TERMINATOR);
+    assert!(rt; are_buffers_cloned(rt.alloc(), view(&rt, GREETING), array));
 }
 
 /// Whether the clone is the wanted value; without one, the value has memory of its own.
@@ -76,7 +66,7 @@ fn has_value_clone(
 ) -> bool {
     match value {
         Ok(value) => {
-            is_value_clone(&value.clone(), want, kind) && value.as_raw_bson_ref() == want
+            is_value_clone(&value.clone(), want, kind) & (value.as_raw_bson_ref() == want)
         }
         Err(error) => is_out_of_memory(error),
     }
@@ -92,8 +82,8 @@ fn is_kind_cloned(alloc: Global, kind: ElementType) -> bool {
 
 #[test]
 fn clones_of_values_or_out_of_memory(rt: HostRuntime) {
-    for (key, kind) in KINDS {
-        assert!(rt; is_kind_cloned(rt.alloc(), *kind), "{key}");
+    for (row, (_, kind)) in KINDS.iter().enumerate() {
+        require_row(&rt, is_kind_cloned(rt.alloc(), *kind), "kinds", row);
     }
 }
 
@@ -101,21 +91,24 @@ fn clones_of_values_or_out_of_memory(rt: HostRuntime) {
 fn is_copy(answer: &raw_bson::Result<RawBson>, want: RawBsonRef<'_>, kind: ElementType) -> bool {
     match answer {
         Ok(copy) => copy.as_raw_bson_ref() == want,
-        Err(error) => has_memory(kind) && is_out_of_memory(error),
+        Err(error) => has_memory(kind) & is_out_of_memory(error),
     }
 }
 
-/// Whether the value of this kind and its element are copied.
+/// Whether the value of this element and the element are copied.
+fn is_element_copied(alloc: Global, element: RawElement<'_>, want: RawBsonRef<'_>) -> bool {
+    is_copy(&want.to_raw_bson(alloc), want, element.element_type())
+        & is_copy(&element.to_raw_bson(alloc), want, element.element_type())
+}
+
+/// The same of the value of this kind, and of an item of the document of all kinds.
 fn is_kind_copied(
     alloc: Global,
     kind: ElementType,
     item: &Option<raw_bson::Result<RawElement<'_>>>,
 ) -> bool {
     match (borrowed(kind), item) {
-        (Ok(want), Some(Ok(element))) => {
-            is_copy(&want.to_raw_bson(alloc), want, kind)
-                && is_copy(&element.to_raw_bson(alloc), want, kind)
-        }
+        (Ok(want), Some(Ok(element))) => is_element_copied(alloc, *element, want),
         _ => false,
     }
 }
@@ -123,35 +116,23 @@ fn is_kind_copied(
 /// Whether the values and the elements of all kinds are copied.
 fn are_copied(alloc: Global, document: RawDocument<'_>) -> bool {
     let mut elements = document.iter_elements(alloc);
+    let mut are_right = true;
     for (_, kind) in KINDS {
-        if !is_kind_copied(alloc, *kind, &elements.next()) {
-            return false;
-        }
+        are_right = are_right & is_kind_copied(alloc, *kind, &elements.next());
     }
-    true
-}
-
-/// Whether those of the document of these bytes are.
-fn are_copied_of(alloc: Global, bytes: &[u8]) -> bool {
-    match RawDocument::from_bytes(bytes) {
-        Ok(document) => are_copied(alloc, document),
-        Err(_) => false,
-    }
+    are_right
 }
 
 #[test]
 fn to_raw_bson_or_out_of_memory(rt: HostRuntime) {
-    assert!(rt; are_copied_of(rt.alloc(), ALL_KINDS));
+    assert!(rt; are_copied(rt.alloc(), view(&rt, ALL_KINDS)));
 }
 
-/// The first element of a document of these bytes.
-pub(crate) fn first_element(alloc: Global, bytes: &[u8]) -> Option<RawElement<'_>> {
-    match RawDocument::from_bytes(bytes) {
-        Ok(view) => match view.iter_elements(alloc).next() {
-            Some(Ok(element)) => Some(element),
-            _ => None,
-        },
-        Err(_) => None,
+/// The first element of a document.
+pub(crate) fn first_element(alloc: Global, view: RawDocument<'_>) -> Option<RawElement<'_>> {
+    match view.iter_elements(alloc).next() {
+        Some(Ok(element)) => Some(element),
+        _ => None,
     }
 }
 
@@ -173,7 +154,12 @@ fn has_fault(alloc: Global, item: Option<RawElement<'_>>) -> bool {
 
 #[test]
 fn fault_of_an_element_or_out_of_memory(rt: HostRuntime) {
-    assert!(rt; has_fault(rt.alloc(), first_element(rt.alloc(), BOOLEAN_TWO)));
+    assert!(rt;
+        has_fault(
+            rt.alloc(),
+            first_element(rt.alloc(), view(&rt, BOOLEAN_TWO))
+        )
+    );
 }
 
 fn is_text(answer: &raw_bson::Result<RawBson>, text: &str) -> bool {
@@ -183,7 +169,12 @@ fn is_text(answer: &raw_bson::Result<RawBson>, text: &str) -> bool {
     }
 }
 
+/// Whether the value of this text is made, or memory ran out.
+fn is_made(alloc: Global, text: &str) -> bool {
+    is_text(&RawBson::from_str(alloc, text), text)
+}
+
 #[test]
 fn from_str_or_out_of_memory(rt: HostRuntime) {
-    assert!(rt; is_text(&RawBson::from_str(rt.alloc(), "a"), "a"));
+    assert!(rt; is_made(rt.alloc(), "a"));
 }

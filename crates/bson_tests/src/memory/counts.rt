@@ -40,7 +40,7 @@ fn elements_until_a_fault_or_out_of_memory(rt: HostRuntime) {
 /// Whether so many levels were read, each an element but the innermost; or memory ran out, with no more elements.
 fn are_levels_counted(answer: &raw_bson::Result<Document>, count: usize, levels: usize) -> bool {
     match answer {
-        Ok(tree) => has_levels(tree, levels) & (count == levels),
+        Ok(tree) => (levels_inside(tree, levels.saturating_add(1)) == levels) & (count == levels),
         Err(error) => is_out_of_memory(error) & (count <= levels),
     }
 }

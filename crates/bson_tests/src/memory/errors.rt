@@ -1,9 +1,8 @@
 use crate::fixtures::*;
 use raw_bson::{
-    DoubleBits, Error, ErrorKind, RawBsonRef, RawDocument, Reason, ValueAccessError,
-    ValueAccessErrorKind, ValueAccessResult,
+    DoubleBits, Error, ErrorKind, RawBsonRef, Reason, ValueAccessError, ValueAccessErrorKind,
+    ValueAccessResult,
 };
-use std::alloc::Global;
 use std::process::Abort;
 
 // Each copy is equal, or there is none because memory ran out. What has no memory of its own is copied in any run.
@@ -41,21 +40,17 @@ const FAULTS: &[(&[u8], &str)] = &[
     (SWALLOWED_TERMINATOR, "a"),
 ];
 
-/// The same of the document of these bytes.
-fn is_row(alloc: Global, (bytes, key): (&[u8], &str)) -> bool {
-    match RawDocument::from_bytes(bytes) {
-        Ok(view) => has_a_copy(&view.get(alloc, key)),
-        Err(_) => false,
-    }
+/// Whether kinds that have no memory of their own are copied.
+fn are_kinds_copied(reason: Reason) -> bool {
+    is_kind_copied(&ErrorKind::OutOfMemory) & is_kind_copied(&ErrorKind::MalformedValue { reason })
 }
 
 #[test]
 fn error_copies_or_out_of_memory(rt: HostRuntime) {
-    let reason = Reason::BadBoolean(2);
-    assert!(rt; is_kind_copied(&ErrorKind::OutOfMemory));
-    assert!(rt; is_kind_copied(&ErrorKind::MalformedValue { reason }));
-    for row in FAULTS {
-        assert!(rt; is_row(rt.alloc(), *row), "{}", row.1);
+    assert!(rt; are_kinds_copied(Reason::BadBoolean(2)));
+    for (row, (bytes, key)) in FAULTS.iter().enumerate() {
+        let is_right = has_a_copy(&view(&rt, bytes).get(rt.alloc(), key));
+        require_row(&rt, is_right, "faults", row);
     }
 }
 
@@ -79,7 +74,7 @@ fn is_access_copied(error: &ValueAccessError) -> bool {
 fn has_access_copies(answer: &ValueAccessResult<DoubleBits>) -> bool {
     match answer {
         Ok(_) => false,
-        Err(error) => is_access_kind_copied(&error.kind) && is_access_copied(error),
+        Err(error) => is_access_kind_copied(&error.kind) & is_access_copied(error),
     }
 }
 
@@ -91,17 +86,10 @@ const NO_DOUBLES: &[(&[u8], &str)] = &[
     (KEY_NOT_UTF8, "a"),
 ];
 
-/// The same of the document of these bytes.
-fn is_access_row(alloc: Global, (bytes, key): (&[u8], &str)) -> bool {
-    match RawDocument::from_bytes(bytes) {
-        Ok(view) => has_access_copies(&view.get_f64(alloc, key)),
-        Err(_) => false,
-    }
-}
-
 #[test]
 fn access_error_copies_or_out_of_memory(rt: HostRuntime) {
-    for row in NO_DOUBLES {
-        assert!(rt; is_access_row(rt.alloc(), *row), "{}", row.1);
+    for (row, (bytes, key)) in NO_DOUBLES.iter().enumerate() {
+        let is_right = has_access_copies(&view(&rt, bytes).get_f64(rt.alloc(), key));
+        require_row(&rt, is_right, "no doubles", row);
     }
 }

@@ -32,17 +32,16 @@ const FEW: usize = 16;
 
 /// Whether the document is the first of the pairs, so many of them.
 fn has_pairs(document: &Document, count: usize) -> bool {
+    let mut are_right = document.len() == count;
     for (index, (key, number)) in PAIRS.iter().enumerate() {
-        let is_right = if index < count {
-            is_numbered(document, index, key, *number)
-        } else {
-            is_missing(document, index, key)
-        };
-        if !is_right {
-            return false;
-        }
+        are_right = are_right
+            & if index < count {
+                is_numbered(document, index, key, *number)
+            } else {
+                is_missing(document, index, key)
+            };
     }
-    document.len() == count
+    are_right
 }
 
 /// Whether memory sufficed to insert the pair, whose key is a new one.
@@ -53,17 +52,21 @@ fn is_inserted(alloc: Global, document: &mut Document, key: &str, number: i32) -
     }
 }
 
-/// Whether the first so many pairs are inserted. A refused insert leaves the document as it was, and goes well when it is
-/// made again.
+/// Whether the next pair is inserted behind so many. A refused insert leaves the document as it was, and goes well when it
+/// is made again.
+fn is_next(alloc: Global, document: &mut Document, before: usize, pair: (&str, i32)) -> bool {
+    let is_in = is_inserted(alloc, document, pair.0, pair.1)
+        || has_pairs(document, before) & is_inserted(alloc, document, pair.0, pair.1);
+    is_in & has_pairs(document, before.saturating_add(1))
+}
+
+/// Whether the first so many pairs are inserted.
 fn are_inserted(alloc: Global, document: &mut Document, count: usize) -> bool {
-    for (before, (key, number)) in PAIRS.iter().take(count).enumerate() {
-        let is_in = is_inserted(alloc, document, key, *number)
-            || has_pairs(document, before) && is_inserted(alloc, document, key, *number);
-        if !is_in || !has_pairs(document, before.saturating_add(1)) {
-            return false;
-        }
+    let mut are_right = true;
+    for (before, pair) in PAIRS.iter().take(count).enumerate() {
+        are_right = are_right & is_next(alloc, document, before, *pair);
     }
-    true
+    are_right
 }
 
 #[test]
@@ -89,25 +92,24 @@ fn is_null_at(document: &Document, index: usize) -> bool {
 /// that it can't be refused.
 fn is_replaced(alloc: Global, document: &mut Document, index: usize, pair: (&str, i32)) -> bool {
     match String::from_str(alloc, pair.0) {
-        Ok(key) => is_old(&document.insert(key, Bson::Null), pair.1) && is_null_at(document, index),
+        Ok(key) => is_old(&document.insert(key, Bson::Null), pair.1) & is_null_at(document, index),
         Err(_) => true,
     }
 }
 
 /// Whether each of the first so many keys is inserted a second time.
 fn are_inserted_again(alloc: Global, document: &mut Document, count: usize) -> bool {
+    let mut are_right = true;
     for (index, pair) in PAIRS.iter().take(count).enumerate() {
-        if !is_replaced(alloc, document, index, *pair) {
-            return false;
-        }
+        are_right = are_right & is_replaced(alloc, document, index, *pair);
     }
-    document.len() == count
+    are_right & (document.len() == count)
 }
 
 /// Whether each of the first so many keys is inserted, and then a second time.
 fn are_inserted_twice(alloc: Global, count: usize) -> bool {
     let mut document = Document::new(alloc);
-    are_inserted(alloc, &mut document, count) && are_inserted_again(alloc, &mut document, count)
+    are_inserted(alloc, &mut document, count) & are_inserted_again(alloc, &mut document, count)
 }
 
 #[test]
@@ -119,12 +121,17 @@ fn insert_of_a_key_that_is_there_or_out_of_memory(rt: HostRuntime) {
 /// Whether the regular expression has these texts, or memory ran out.
 fn is_regex(answer: &Result<Regex, NoMemory>, pattern: &str, options: &str) -> bool {
     match answer {
-        Ok(regex) => regex.pattern.as_str() == pattern && regex.options.as_str() == options,
+        Ok(regex) => (regex.pattern.as_str() == pattern) & (regex.options.as_str() == options),
         Err(NoMemory) => true,
     }
 }
 
+/// Whether a regular expression puts these options in this order, or memory ran out.
+fn is_ordered(alloc: Global, pattern: &str, given: &str, options: &str) -> bool {
+    is_regex(&Regex::new(alloc, pattern, given), pattern, options)
+}
+
 #[test]
 fn regex_or_out_of_memory(rt: HostRuntime) {
-    assert!(rt; is_regex(&Regex::new(rt.alloc(), "^a", "mi"), "^a", "im"));
+    assert!(rt; is_ordered(rt.alloc(), "^a", "mi", "im"));
 }

@@ -41,15 +41,11 @@ fn empty_in(mut room: Vec<u8>) -> Result<RawDocumentBuf> {
 
 /// Whether the numbers are appended.
 fn are_appended(document: &mut RawDocumentBuf) -> bool {
+    let mut are_right = true;
     for (key, number) in NUMBERS {
-        if document
-            .append_ref(key, RawBsonRef::Int32(*number))
-            .is_err()
-        {
-            return false;
-        }
+        are_right = are_right & document.append_ref(key, RawBsonRef::Int32(*number)).is_ok();
     }
-    document.as_bytes() == THREE_INT32
+    are_right & (document.as_bytes() == THREE_INT32)
 }
 
 /// Whether they are to the empty document where there is room for them.

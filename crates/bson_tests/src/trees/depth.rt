@@ -11,54 +11,59 @@ use std::process::Abort;
 
 const MILLION: usize = 1_000_000;
 
-/// Bytes, where there is memory for them.
-type Made = Result<Vec<u8>, AllocError>;
-
 /// All holders.
 const IN_TURN: &[Holder] = &[Holder::Document, Holder::Array, Holder::CodeWithScope];
 
 /// The bytes of a million levels.
-fn million(alloc: Global, holders: &[Holder]) -> Made {
-    nested_in_turn(alloc, holders, MILLION, EMPTY)
+fn million(rt: &impl Abort, alloc: Global, holders: &[Holder]) -> Vec<u8> {
+    nested_in_turn(alloc, holders, MILLION, EMPTY).expect(rt, "no memory for the levels")
 }
 
 /// Whether the tree has a million levels, and is written as these bytes.
 fn is_million(alloc: Global, tree: &Document, bytes: &[u8]) -> bool {
-    levels_inside(tree, MILLION + 1) == MILLION && is_written(&encode(alloc, tree), bytes)
+    (levels_inside(tree, MILLION + 1) == MILLION) & is_written(&encode(alloc, tree), bytes)
 }
 
-/// Whether a million levels come back, and are dropped.
-fn are_read(alloc: Global, made: &Made) -> bool {
-    let Ok(bytes) = made else { return false };
-    match tree_of(alloc, bytes) {
-        Ok(tree) => is_million(alloc, &tree, bytes),
+/// Whether the tree was made, and is that.
+fn is_million_read(alloc: Global, made: &Result<Document, Error>, bytes: &[u8]) -> bool {
+    match made {
+        Ok(tree) => is_million(alloc, tree, bytes),
         Err(_) => false,
     }
 }
 
+/// Whether a million levels come back, and are dropped.
+fn come_back(alloc: Global, bytes: &[u8]) -> bool {
+    is_million_read(alloc, &tree_of(alloc, bytes), bytes)
+}
+
+/// Whether those do that are held so.
+fn are_read(rt: &impl Abort, alloc: Global, holders: &[Holder]) -> bool {
+    come_back(alloc, &million(rt, alloc, holders))
+}
+
 #[test]
 fn a_million_documents_come_back(rt: HostRuntime) {
-    assert!(rt; are_read(rt.alloc(), &million(rt.alloc(), &[Holder::Document])));
+    assert!(rt; are_read(&rt, rt.alloc(), &[Holder::Document]));
 }
 
 #[test]
 fn a_million_arrays_come_back(rt: HostRuntime) {
-    assert!(rt; are_read(rt.alloc(), &million(rt.alloc(), &[Holder::Array])));
+    assert!(rt; are_read(&rt, rt.alloc(), &[Holder::Array]));
 }
 
 #[test]
 fn a_million_scopes_come_back(rt: HostRuntime) {
-    assert!(rt; are_read(rt.alloc(), &million(rt.alloc(), &[Holder::CodeWithScope])));
+    assert!(rt; are_read(&rt, rt.alloc(), &[Holder::CodeWithScope]));
 }
 
 #[test]
 fn a_million_levels_in_turn_come_back(rt: HostRuntime) {
-    assert!(rt; are_read(rt.alloc(), &million(rt.alloc(), IN_TURN)));
+    assert!(rt; are_read(&rt, rt.alloc(), IN_TURN));
 }
 
 /// Whether a million levels come back; they are never dropped.
-fn are_forgotten(alloc: Global, made: &Made) -> bool {
-    let Ok(bytes) = made else { return false };
+fn are_forgotten(alloc: Global, bytes: &[u8]) -> bool {
     match tree_of(alloc, bytes) {
         Ok(tree) => {
             let is_million = is_million(alloc, &tree, bytes);
@@ -72,7 +77,7 @@ fn are_forgotten(alloc: Global, made: &Made) -> bool {
 /// The same levels, which are never dropped: what `bin/test` compares the requests for memory with.
 #[test]
 fn a_million_levels_in_turn_are_forgotten(rt: HostRuntime) {
-    assert!(rt; are_forgotten(rt.alloc(), &million(rt.alloc(), IN_TURN)));
+    assert!(rt; are_forgotten(rt.alloc(), &million(&rt, rt.alloc(), IN_TURN)));
 }
 
 /// Whether the document of these bytes is pushed.
@@ -85,18 +90,17 @@ fn is_pushed(alloc: Global, array: &mut RawArrayBuf, bytes: &[u8]) -> bool {
 
 /// Whether a thousand documents of these bytes are pushed.
 fn are_pushed(alloc: Global, array: &mut RawArrayBuf, bytes: &[u8]) -> bool {
+    let mut are_right = true;
     for _ in 0..1000 {
-        if !is_pushed(alloc, array, bytes) {
-            return false;
-        }
+        are_right = are_right & is_pushed(alloc, array, bytes);
     }
-    true
+    are_right
 }
 
 /// Whether the list was read, has a thousand values, and is written as the array is.
-fn comes_back(alloc: Global, read: &Result<Vec<Bson>, Error>, bytes: &[u8]) -> bool {
+fn is_list_read(alloc: Global, read: &Result<Vec<Bson>, Error>, bytes: &[u8]) -> bool {
     match read {
-        Ok(list) => list.len() == 1000 && is_written(&encode_list(alloc, list), bytes),
+        Ok(list) => (list.len() == 1000) & is_written(&encode_list(alloc, list), bytes),
         Err(_) => false,
     }
 }
@@ -104,7 +108,7 @@ fn comes_back(alloc: Global, read: &Result<Vec<Bson>, Error>, bytes: &[u8]) -> b
 /// Whether a thousand documents of these bytes are pushed, and come back.
 fn is_pushed_and_read(alloc: Global, array: &mut RawArrayBuf, bytes: &[u8]) -> bool {
     are_pushed(alloc, array, bytes)
-        && comes_back(
+        & is_list_read(
             alloc,
             &list_from_raw(alloc, array.as_ref()),
             array.as_bytes(),
@@ -112,8 +116,7 @@ fn is_pushed_and_read(alloc: Global, array: &mut RawArrayBuf, bytes: &[u8]) -> b
 }
 
 /// Whether an empty array takes and gives them.
-fn are_deep_documents_read(alloc: Global, made: &Made) -> bool {
-    let Ok(bytes) = made else { return false };
+fn are_deep_documents_read(alloc: Global, bytes: &[u8]) -> bool {
     match RawArrayBuf::new(alloc) {
         Ok(mut array) => is_pushed_and_read(alloc, &mut array, bytes),
         Err(_) => false,
@@ -122,8 +125,11 @@ fn are_deep_documents_read(alloc: Global, made: &Made) -> bool {
 
 #[test]
 fn a_list_of_deep_documents_comes_back(rt: HostRuntime) {
-    let made = nested_in_turn(rt.alloc(), IN_TURN, 1000, EMPTY);
-    assert!(rt; are_deep_documents_read(rt.alloc(), &made));
+    let bytes = nested_in_turn(rt.alloc(), IN_TURN, 1000, EMPTY).expect(
+        &rt,
+        "no memory for the levels",
+    );
+    assert!(rt; are_deep_documents_read(rt.alloc(), &bytes));
 }
 
 /// The digits of the numbers below 16.
@@ -177,12 +183,11 @@ fn has_text(alloc: Global, value: &RawBson, bytes: &[u8]) -> bool {
 
 /// Whether the value is equal to its copy and printed as a document of these bytes.
 fn is_value(alloc: Global, value: &RawBson, bytes: &[u8]) -> bool {
-    is_copy(&value.clone(), value) && has_text(alloc, value, bytes)
+    is_copy(&value.clone(), value) & has_text(alloc, value, bytes)
 }
 
 /// Whether the value of the document of these bytes is.
-fn is_owned_value(alloc: Global, made: &Made) -> bool {
-    let Ok(bytes) = made else { return false };
+fn is_owned_value(alloc: Global, bytes: &[u8]) -> bool {
     match document_of(alloc, bytes) {
         Ok(document) => is_value(alloc, &RawBson::from(document), bytes),
         Err(_) => false,
@@ -191,5 +196,5 @@ fn is_owned_value(alloc: Global, made: &Made) -> bool {
 
 #[test]
 fn a_million_owned_levels_are_compared_and_printed(rt: HostRuntime) {
-    assert!(rt; is_owned_value(rt.alloc(), &million(rt.alloc(), IN_TURN)));
+    assert!(rt; is_owned_value(rt.alloc(), &million(&rt, rt.alloc(), IN_TURN)));
 }

@@ -3,6 +3,7 @@
 use crate::trees::checks::is_written;
 use raw_bson::Limits;
 use raw_form::canonical_within;
+use std::alloc::Global;
 use std::process::Abort;
 
 /// The keys b, a, b, of which the last holds a document; a code whose scope has the keys x and x; an array under the keys z and
@@ -22,9 +23,12 @@ const LIMITS: Limits = Limits {
     depth: 2,
 };
 
+/// Whether these bytes have that form.
+fn is_form(alloc: Global, bytes: &[u8]) -> bool {
+    is_written(&canonical_within(alloc, bytes, LIMITS), MIXED_FORM)
+}
+
 #[test]
 fn a_form_within_limits(rt: HostRuntime) {
-    let alloc = rt.alloc();
-    assert!(rt; is_written(&canonical_within(alloc, MIXED, LIMITS), MIXED_FORM));
-    assert!(rt; is_written(&canonical_within(alloc, MIXED_FORM, LIMITS), MIXED_FORM));
+    assert!(rt; is_form(rt.alloc(), MIXED) & is_form(rt.alloc(), MIXED_FORM));
 }

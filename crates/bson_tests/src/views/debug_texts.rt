@@ -50,7 +50,7 @@ fn is_value_printed(
     copy: &Result<RawBson>,
     (_, text, owned_text): Row,
 ) -> bool {
-    has_debug_text(alloc, &value, text) && is_printed(alloc, copy, owned_text)
+    has_debug_text(alloc, &value, text) & is_printed(alloc, copy, owned_text)
 }
 
 /// The same of the value of a row.
@@ -63,13 +63,18 @@ fn is_row(alloc: Global, row: Row) -> bool {
 
 #[test]
 fn values_have_debug_texts(rt: HostRuntime) {
-    for row in VALUES {
-        assert!(rt; is_row(rt.alloc(), *row), "{}", row.1);
+    for (row, value) in VALUES.iter().enumerate() {
+        require_row(&rt, is_row(rt.alloc(), *value), "values", row);
     }
-    // digits of each half of a byte
-    let digits = array_view(b"\x0C\0\0\0\x03a\0\xFF\xFE\xAB\xCD\0");
+}
+
+/// Bytes with digits of each half of a byte.
+const DIGITS: &[u8] = b"\x0C\0\0\0\x03a\0\xFF\xFE\xAB\xCD\0";
+
+#[test]
+fn bytes_have_hexadecimal_digits(rt: HostRuntime) {
     let text = "RawArray { data: \"0c000000036100fffeabcd00\" }";
-    assert!(rt; is_printed(rt.alloc(), &digits, text));
+    assert!(rt; has_debug_text(rt.alloc(), &view_of_array(&rt, DIGITS), text));
 }
 
 /// The tree of the document of all kinds.
@@ -96,16 +101,26 @@ const TREE: &str = "Document { pairs: {\
 \"t\": MaxKey, \
 \"u\": MinKey} }";
 
+/// Whether the tree of these bytes has this text.
+fn is_tree_printed(alloc: Global, bytes: &[u8], text: &str) -> bool {
+    is_printed(alloc, &tree_of(alloc, bytes), text)
+}
+
 #[test]
 fn a_tree_has_a_debug_text(rt: HostRuntime) {
-    assert!(rt; is_printed(rt.alloc(), &tree_of(rt.alloc(), ALL_KINDS), TREE));
+    assert!(rt; is_tree_printed(rt.alloc(), ALL_KINDS, TREE));
+}
+
+const POINTER: &str =
+    "RawDbPointerRef { namespace: \"db.c\", id: ObjectId { bytes: [12, 11, 10, 9, 8, 7, 6, 5, 4, 3, 2, 1] } }";
+
+/// Whether a pointer and `NoMemory` have their texts.
+fn are_parts_printed(alloc: Global) -> bool {
+    has_debug_text(alloc, &RawDbPointerRef::new("db.c", pointed()), POINTER)
+        & has_debug_text(alloc, &NoMemory, "NoMemory")
 }
 
 #[test]
 fn parts_of_values_have_a_debug_text(rt: HostRuntime) {
-    let pointer = RawDbPointerRef::new("db.c", pointed());
-    let text =
-        "RawDbPointerRef { namespace: \"db.c\", id: ObjectId { bytes: [12, 11, 10, 9, 8, 7, 6, 5, 4, 3, 2, 1] } }";
-    assert!(rt; has_debug_text(rt.alloc(), &pointer, text));
-    assert!(rt; has_debug_text(rt.alloc(), &NoMemory, "NoMemory"));
+    assert!(rt; are_parts_printed(rt.alloc()));
 }

@@ -1,6 +1,6 @@
 //! Documents of many levels. `bin/test` also runs the first of these on a stack of 256 KiB, and sees that all is released.
 
-use crate::fixtures::{EMPTY, Holder, nested_in_turn, tree_of};
+use crate::fixtures::{EMPTY, Holder, nested_in_turn, require_row, tree_of};
 use bson_model::Document;
 use std::alloc::{AllocError, Global};
 use std::process::Abort;
@@ -40,16 +40,14 @@ fn is_branch(made: &raw_bson::Result<Document>) -> bool {
 }
 
 /// Whether these bytes are read as a branch, which is dropped.
-fn is_let_go(alloc: Global, made: &Result<Vec<u8>, AllocError>) -> bool {
-    match made {
-        Ok(bytes) => is_branch(&tree_of(alloc, bytes)),
-        Err(_) => false,
-    }
+fn is_let_go(alloc: Global, bytes: &[u8]) -> bool {
+    is_branch(&tree_of(alloc, bytes))
 }
 
 #[test]
 fn a_deep_branch_among_others_is_let_go(rt: HostRuntime) {
-    assert!(rt; is_let_go(rt.alloc(), &branch(rt.alloc(), 200_000)));
+    let bytes = branch(rt.alloc(), 200_000).expect(&rt, "no memory for the levels");
+    assert!(rt; is_let_go(rt.alloc(), &bytes));
 }
 
 /// Whether both were made, and are equal.
@@ -61,20 +59,21 @@ fn are_equal(tree: &raw_bson::Result<Document>, other: &raw_bson::Result<Documen
 }
 
 /// Whether two trees of these bytes are.
-fn are_levels_equal(alloc: Global, made: &Result<Vec<u8>, AllocError>) -> bool {
-    match made {
-        Ok(bytes) => are_equal(&tree_of(alloc, bytes), &tree_of(alloc, bytes)),
-        Err(_) => false,
-    }
+fn are_levels_equal(alloc: Global, bytes: &[u8]) -> bool {
+    are_equal(&tree_of(alloc, bytes), &tree_of(alloc, bytes))
+}
+
+/// So many levels.
+fn levels(rt: &impl Abort, alloc: Global, holder: Holder, levels: usize) -> Vec<u8> {
+    nested_in_turn(alloc, &[holder], levels, EMPTY).expect(rt, "no memory for the levels")
 }
 
 #[test]
 fn levels_are_compared(rt: HostRuntime) {
-    let alloc = rt.alloc();
-    for (holder, _) in TEXTS {
+    for (row, (holder, _)) in TEXTS.iter().enumerate() {
         // as many as the page of `Bson` says
-        let made = nested_in_turn(alloc, &[*holder], 40_000, EMPTY);
-        assert!(rt; are_levels_equal(alloc, &made));
+        let bytes = levels(&rt, rt.alloc(), *holder, 40_000);
+        require_row(&rt, are_levels_equal(rt.alloc(), &bytes), "holders", row);
     }
 }
 
@@ -153,24 +152,16 @@ fn is_tree_printed(
 }
 
 /// The same of the tree of these bytes.
-fn are_levels_printed(
-    alloc: Global,
-    made: &Result<Vec<u8>, AllocError>,
-    wanted: &LevelsText,
-    levels: usize,
-) -> bool {
-    match made {
-        Ok(bytes) => is_tree_printed(alloc, &tree_of(alloc, bytes), wanted, levels),
-        Err(_) => false,
-    }
+fn are_levels_printed(alloc: Global, bytes: &[u8], wanted: &LevelsText, levels: usize) -> bool {
+    is_tree_printed(alloc, &tree_of(alloc, bytes), wanted, levels)
 }
 
 #[test]
 fn levels_are_printed(rt: HostRuntime) {
-    let alloc = rt.alloc();
-    for (holder, wanted) in TEXTS {
+    for (row, (holder, wanted)) in TEXTS.iter().enumerate() {
         // as many as the page of `Bson` says
-        let made = nested_in_turn(alloc, &[*holder], 15_000, EMPTY);
-        assert!(rt; are_levels_printed(alloc, &made, wanted, 15_000));
+        let bytes = levels(&rt, rt.alloc(), *holder, 15_000);
+        let is_right = are_levels_printed(rt.alloc(), &bytes, wanted, 15_000);
+        require_row(&rt, is_right, "holders", row);
     }
 }

@@ -1,8 +1,7 @@
 //! What is printed of reasons. `c/tests/reasons.c` has documents with each.
 
-use crate::fixtures::has_texts;
+use crate::fixtures::{has_texts, require_row};
 use raw_view::Reason;
-use std::process::Abort;
 
 /// Each reason with its texts.
 const REASONS: &[(Reason, &str, &str)] = &[
@@ -110,7 +109,8 @@ const REASONS: &[(Reason, &str, &str)] = &[
 
 #[test]
 fn reasons_are_printed(rt: HostRuntime) {
-    for (reason, text, debug_text) in REASONS {
-        assert!(rt; has_texts(rt.alloc(), reason, text, debug_text), "{text}");
+    for (row, (reason, text, debug_text)) in REASONS.iter().enumerate() {
+        let is_right = has_texts(rt.alloc(), reason, text, debug_text);
+        require_row(&rt, is_right, "reasons", row);
     }
 }

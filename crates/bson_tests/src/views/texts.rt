@@ -1,7 +1,7 @@
 //! What is printed of errors and of kinds.
 
 use crate::fixtures::*;
-use raw_view::{ElementType, Error, ErrorKind, RawDocument, ValueAccessErrorKind};
+use raw_view::{ElementType, Error, ErrorKind, RawArray, RawDocument, ValueAccessErrorKind};
 use std::alloc::Global;
 use std::process::Abort;
 
@@ -44,22 +44,34 @@ const LOOK_UPS: &[Row] = &[
     ),
 ];
 
-/// Whether the look-up of this key in the document of these bytes has an error of these texts.
-fn is_look_up_printed(alloc: Global, (bytes, key, text, debug_text): Row) -> bool {
-    match RawDocument::from_bytes(bytes) {
-        Ok(view) => has_error_texts(alloc, &view.get(alloc, key), text, debug_text),
-        Err(_) => false,
-    }
+/// Whether the look-up of this key in the document has an error of these texts.
+fn is_look_up_printed(
+    alloc: Global,
+    view: RawDocument<'_>,
+    (_, key, text, debug_text): Row,
+) -> bool {
+    has_error_texts(alloc, &view.get(alloc, key), text, debug_text)
 }
 
 #[test]
 fn errors_are_printed(rt: HostRuntime) {
+    for (row, look_up) in LOOK_UPS.iter().enumerate() {
+        let is_right = is_look_up_printed(rt.alloc(), view(&rt, look_up.0), *look_up);
+        require_row(&rt, is_right, "look-ups", row);
+    }
+}
+
+/// Whether the error that memory ran out has its texts.
+fn is_out_of_memory_printed(alloc: Global) -> bool {
     let debug_text = "Error { kind: OutOfMemory, key: None }";
     let error = Error::new(ErrorKind::OutOfMemory);
-    assert!(rt; has_texts(rt.alloc(), &error, "out of memory", debug_text));
-    for row in LOOK_UPS {
-        assert!(rt; is_look_up_printed(rt.alloc(), *row), "{}", row.2);
-    }
+    has_texts(alloc, &error, "out of memory", debug_text)
+        & has_debug_text(alloc, &ValueAccessErrorKind::OutOfMemory, "OutOfMemory")
+}
+
+#[test]
+fn out_of_memory_is_printed(rt: HostRuntime) {
+    assert!(rt; is_out_of_memory_printed(rt.alloc()));
 }
 
 /// Getters of an int32 that find none.
@@ -90,32 +102,33 @@ const ACCESSES: &[Row] = &[
     ),
 ];
 
-/// Whether the getter of an int32 under this key, in the document of these bytes, has an error of these texts.
-fn is_access_printed(alloc: Global, (bytes, key, text, debug_text): Row) -> bool {
-    match RawDocument::from_bytes(bytes) {
-        Ok(view) => has_error_texts(alloc, &view.get_i32(alloc, key), text, debug_text),
-        Err(_) => false,
-    }
-}
-
-/// Whether that of an array of these bytes at this index has an error of this text.
-fn is_index_said(alloc: Global, bytes: &[u8], index: usize, text: &str) -> bool {
-    match array_view(bytes) {
-        Ok(view) => is_said(alloc, &view.get_i32(alloc, index), text),
-        Err(_) => false,
-    }
+/// Whether the getter of an int32 under this key has an error of these texts.
+fn is_access_printed(
+    alloc: Global,
+    view: RawDocument<'_>,
+    (_, key, text, debug_text): Row,
+) -> bool {
+    has_error_texts(alloc, &view.get_i32(alloc, key), text, debug_text)
 }
 
 #[test]
 fn access_errors_are_printed(rt: HostRuntime) {
-    let none = &ValueAccessErrorKind::OutOfMemory;
-    assert!(rt; has_debug_text(rt.alloc(), none, "OutOfMemory"));
-    for row in ACCESSES {
-        assert!(rt; is_access_printed(rt.alloc(), *row), "{}", row.2);
+    for (row, access) in ACCESSES.iter().enumerate() {
+        let is_right = is_access_printed(rt.alloc(), view(&rt, access.0), *access);
+        require_row(&rt, is_right, "accesses", row);
     }
-    // an index in decimal
+}
+
+/// Whether that of an array at this index has an error of this text.
+fn is_index_said(alloc: Global, array: RawArray<'_>, index: usize, text: &str) -> bool {
+    is_said(alloc, &array.get_i32(alloc, index), text)
+}
+
+#[test]
+fn an_index_is_printed_in_decimal(rt: HostRuntime) {
     let text = "error at key: \"18446744073709551615\": value not present";
-    assert!(rt; is_index_said(rt.alloc(), EMPTY, usize::MAX, text));
+    let array = view_of_array(&rt, EMPTY);
+    assert!(rt; is_index_said(rt.alloc(), array, usize::MAX, text));
 }
 
 /// The names of the kinds, which their `Display` has by its contract.
@@ -148,7 +161,7 @@ const NAMES: &[(ElementType, &str)] = &[
 
 #[test]
 fn every_kind_has_its_name_as_debug_text(rt: HostRuntime) {
-    for (kind, name) in NAMES {
-        assert!(rt; has_debug_text(rt.alloc(), kind, name), "{name}");
+    for (row, (kind, name)) in NAMES.iter().enumerate() {
+        require_row(&rt, has_debug_text(rt.alloc(), kind, name), "names", row);
     }
 }
