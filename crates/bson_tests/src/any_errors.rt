@@ -10,12 +10,12 @@ fn number(alloc: Global, bytes: &[u8]) -> Result<i32, AnyError> {
 
 /// Whether the error that these bytes have has this text.
 fn is_number_said(alloc: Global, bytes: &[u8], text: &str) -> bool {
-    is_said(alloc, &number(alloc, bytes), text)
+    let_go!(made = number(alloc, bytes); is_said(alloc, &made, text))
 }
 
 /// Whether the error of memory that ran out has its text.
 fn is_no_memory_said(alloc: Global) -> bool {
-    has_display_text(alloc, &AnyError::from(NoMemory), "out of memory")
+    let_go!(made = AnyError::from(NoMemory); has_display_text(alloc, &made, "out of memory"))
 }
 
 #[test]

@@ -67,7 +67,7 @@ fn got(made: &Result<RawDocumentBuf>) -> usize {
 
 #[test]
 fn twelve_getters_of_documents(rt: HostRuntime) {
-    assert!(rt; got(&document_of(rt.alloc(), ALL_KINDS)) == 13);
+    assert!(rt; let_go!(made = document_of(rt.alloc(), ALL_KINDS); got(&made)) == 13);
 }
 
 /// How many of the first six getters have a value in the array of the same bytes.
@@ -100,5 +100,5 @@ fn got_at(made: &Result<RawArrayBuf>) -> usize {
 
 #[test]
 fn twelve_getters_of_arrays(rt: HostRuntime) {
-    assert!(rt; got_at(&array_of(rt.alloc(), ALL_KINDS)) == 12);
+    assert!(rt; let_go!(made = array_of(rt.alloc(), ALL_KINDS); got_at(&made)) == 12);
 }

@@ -8,6 +8,7 @@ mod faults;
 mod forms;
 mod getters;
 mod keys;
+mod let_go;
 mod levels;
 mod owned_values;
 mod refusals;
@@ -34,6 +35,7 @@ pub use faults::{
 };
 pub use forms::{A_THEN_B, B_THEN_A, FORMS};
 pub use getters::one_if_got;
+pub(crate) use let_go::let_go;
 pub use levels::{Holder, levels_inside, nested, nested_in_turn};
 pub use owned_values::{array_of, document_of, owned, tree_of};
 pub use refusals::{is_malformed, is_refused};

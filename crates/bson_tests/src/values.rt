@@ -1,8 +1,6 @@
 use crate::checks::one_if;
 use crate::fixtures::*;
-use raw_bson::{ElementType, RawBson};
-use std::alloc::Global;
-use std::process::Abort;
+use raw_bson::{ElementType, RawBson, Result};
 
 /// Whether the value is of this kind, and its view is the borrowed value of that kind.
 fn is_viewed(value: &RawBson, kind: ElementType) -> bool {
@@ -44,10 +42,10 @@ fn are_accessed(value: &RawBson, kind: ElementType) -> bool {
     (count == usize::from(has_accessor(kind))) & is_viewed(value, kind)
 }
 
-/// Whether the value of this kind is made, and that holds of it.
-fn is_accessed(alloc: Global, kind: ElementType) -> bool {
-    match owned(alloc, kind) {
-        Ok(value) => are_accessed(&value, kind),
+/// Whether the value was made, and that holds of it.
+fn is_accessed(made: &Result<RawBson>, kind: ElementType) -> bool {
+    match made {
+        Ok(value) => are_accessed(value, kind),
         Err(_) => false,
     }
 }
@@ -55,6 +53,7 @@ fn is_accessed(alloc: Global, kind: ElementType) -> bool {
 #[test]
 fn an_accessor_answers_its_own_kind_alone(rt: HostRuntime) {
     for (row, (_, kind)) in KINDS.iter().enumerate() {
-        require_row(&rt, is_accessed(rt.alloc(), *kind), "kinds", row);
+        let is_right = let_go!(made = owned(rt.alloc(), *kind); is_accessed(&made, *kind));
+        require_row(&rt, is_right, "kinds", row);
     }
 }

@@ -7,10 +7,7 @@ use std::test::Fail;
 
 /// Whether the error has its text.
 fn is_said(alloc: Global, error: &ValueAccessError) -> bool {
-    match format!(in alloc; "{error}") {
-        Ok(text) => text.as_str() == "error at key: \"\": out of memory",
-        Err(_) => false,
-    }
+    has_display_text(alloc, error, "error at key: \"\": out of memory")
 }
 
 /// Whether the error has its text, if it is out of memory.
@@ -33,7 +30,8 @@ fn is_said_fault(alloc: Global, answer: &ValueAccessResult<bool>) -> bool {
 /// Whether it is, and the number behind it all the same. The first request of each look-up may be refused: what needs none is
 /// returned all the same.
 fn is_found_behind(alloc: Global, numbers: RawArray<'_>) -> bool {
-    is_said_fault(alloc, &numbers.get_bool(alloc, 0)) & (numbers.get_i32(alloc, 1).ok() == Some(7))
+    let_go!(made = numbers.get_bool(alloc, 0); is_said_fault(alloc, &made))
+        & (numbers.get_i32(alloc, 1).ok() == Some(7))
 }
 
 #[test]
@@ -56,7 +54,7 @@ fn is_access_out_of_memory(answer: &ValueAccessResult<bool>) -> bool {
 #[test]
 fn a_refused_get_bool_is_out_of_memory(rt: HostRuntime) -> Result<(), Fail> {
     let numbers = view_of_array(&rt, FAULT_BEFORE_A_NUMBER);
-    if is_access_out_of_memory(&numbers.get_bool(rt.alloc(), 0)) {
+    if let_go!(made = numbers.get_bool(rt.alloc(), 0); is_access_out_of_memory(&made)) {
         println!(rt; "out of memory")?;
     }
     Ok(())
@@ -73,7 +71,7 @@ fn is_item_out_of_memory(answer: &raw_bson::Result<Option<RawBsonRef<'_>>>) -> b
 #[test]
 fn a_refused_get_is_out_of_memory(rt: HostRuntime) -> Result<(), Fail> {
     let array = view_of_array(&rt, NEGATIVE_DOCUMENT_LENGTH);
-    if is_item_out_of_memory(&array.get(rt.alloc(), 0)) {
+    if let_go!(made = array.get(rt.alloc(), 0); is_item_out_of_memory(&made)) {
         println!(rt; "out of memory")?;
     }
     Ok(())

@@ -82,9 +82,9 @@ const LIMITS: Limits = Limits {
 
 /// Whether each call goes as far as the stop two levels down in the document.
 fn is_stopped(alloc: Global, view: RawDocument<'_>) -> bool {
-    is_barrier(&first_fault_within(alloc, view, LIMITS), 2, 13)
-        & is_stop(&validate_within(alloc, view, LIMITS), 2, 13)
-        & is_end_of_tokens(&flatten_within(alloc, view, LIMITS, &mut []), 2, 13)
+    let_go!(made = first_fault_within(alloc, view, LIMITS); is_barrier(&made, 2, 13))
+        & let_go!(made = validate_within(alloc, view, LIMITS); is_stop(&made, 2, 13))
+        & let_go!(made = flatten_within(alloc, view, LIMITS, &mut []); is_end_of_tokens(&made, 2, 13))
 }
 
 #[test]
@@ -94,12 +94,12 @@ fn a_stop_or_out_of_memory(rt: HostRuntime) {
 
 /// Whether these bytes have that form, or memory runs out.
 fn is_form(alloc: Global, bytes: &[u8]) -> bool {
-    is_list(&canonical_within(alloc, bytes, LIMITS), FORM)
+    let_go!(made = canonical_within(alloc, bytes, LIMITS); is_list(&made, FORM))
 }
 
 /// Whether the document has so many tokens, or memory runs out.
 fn are_counted(alloc: Global, view: RawDocument<'_>, count: usize) -> bool {
-    are_tokens(&flatten_within(alloc, view, LIMITS, &mut []), count)
+    let_go!(made = flatten_within(alloc, view, LIMITS, &mut []); are_tokens(&made, count))
 }
 
 #[test]

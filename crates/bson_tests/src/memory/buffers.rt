@@ -55,7 +55,8 @@ const APPENDS: &[Append] = &[
 
 /// Whether new buffers are empty, or memory ran out.
 fn are_empty(alloc: Global) -> bool {
-    is_document(&RawDocumentBuf::new(alloc), EMPTY) & is_array(&RawArrayBuf::new(alloc), EMPTY)
+    let_go!(made = RawDocumentBuf::new(alloc); is_document(&made, EMPTY))
+        & let_go!(made = RawArrayBuf::new(alloc); is_array(&made, EMPTY))
 }
 
 #[test]
@@ -77,19 +78,17 @@ fn goes_well_at_last(
     document: &mut RawDocumentBuf,
     (before, key, value, after): Append,
 ) -> bool {
-    if !is_appended(answer, document.as_bytes(), before, after) {
-        return false;
-    }
-    answer.is_ok()
-        || (document.append_ref(key, value.borrowed()).is_ok() && document.as_bytes() == after)
+    is_appended(answer, document.as_bytes(), before, after)
+        && (answer.is_ok()
+            || let_go!(made = document.append_ref(key, value.borrowed()); made.is_ok())
+                & (document.as_bytes() == after))
 }
 
 /// Whether an owned copy of the value is appended in the end, or memory ran out for the copy.
 fn is_copy_appended(document: &mut RawDocumentBuf, copy: Result<RawBson>, append: Append) -> bool {
     match copy {
         Ok(copy) => {
-            let answer = document.append(append.1, copy);
-            goes_well_at_last(&answer, document, append)
+            let_go!(made = document.append(append.1, copy); goes_well_at_last(&made, document, append))
         }
         Err(error) => is_out_of_memory(&error),
     }
@@ -97,8 +96,7 @@ fn is_copy_appended(document: &mut RawDocumentBuf, copy: Result<RawBson>, append
 
 /// Whether the value itself is appended in the end.
 fn is_appended_by_reference(document: &mut RawDocumentBuf, append: Append) -> bool {
-    let answer = document.append_ref(append.1, append.2.borrowed());
-    goes_well_at_last(&answer, document, append)
+    let_go!(made = document.append_ref(append.1, append.2.borrowed()); goes_well_at_last(&made, document, append))
 }
 
 /// Whether an owned copy of the value is appended in the end to the buffer of the bytes before, if there is memory for it.
@@ -136,13 +134,16 @@ fn append_or_out_of_memory(rt: HostRuntime) {
 /// One number.
 const NUMBER: &[u8] = b"\x0C\0\0\0\x10b\0\x02\0\0\0\0";
 
+/// Whether the element is appended to the empty document.
+fn is_appended_again(document: &mut RawDocumentBuf, element: RawElement<'_>) -> bool {
+    let_go!(made = document.append_element(element); made.is_ok()) & (document.as_bytes() == NUMBER)
+}
+
 /// Whether the element is appended to the empty document, or memory ran out and nothing changed, and it is appended
 /// when it is tried again.
 fn is_element_appended(document: &mut RawDocumentBuf, element: RawElement<'_>) -> bool {
-    let answer = document.append_element(element);
-    is_appended(&answer, document.as_bytes(), EMPTY, NUMBER)
-        && (answer.is_ok()
-            || (document.append_element(element).is_ok() && document.as_bytes() == NUMBER))
+    let_go!(made = document.append_element(element); is_appended(&made, document.as_bytes(), EMPTY, NUMBER)
+        && (made.is_ok() || is_appended_again(document, element)))
 }
 
 /// The same of the buffer of the empty document, if there is memory for it.
@@ -173,8 +174,8 @@ fn is_nul_refused(answer: &Result<()>, document: &RawDocumentBuf) -> bool {
 
 /// Whether a 0 in the key is refused, be the value owned or borrowed.
 fn are_nuls_refused(document: &mut RawDocumentBuf) -> bool {
-    is_nul_refused(&document.append("a\0b", RawBson::Null), document)
-        & is_nul_refused(&document.append_ref("a\0b", RawBsonRef::Null), document)
+    let_go!(made = document.append("a\0b", RawBson::Null); is_nul_refused(&made, document))
+        & let_go!(made = document.append_ref("a\0b", RawBsonRef::Null); is_nul_refused(&made, document))
 }
 
 /// The same of the buffer of the empty document, if there is memory for it.
@@ -191,11 +192,15 @@ fn interior_nul_or_out_of_memory(rt: HostRuntime) {
     assert!(rt; has_nul_refused(rt.alloc()));
 }
 
+/// Whether a null is pushed.
+fn is_pushed_again(array: &mut RawArrayBuf, after: &[u8]) -> bool {
+    let_go!(made = array.push(RawBson::Null); made.is_ok()) & (array.as_bytes() == after)
+}
+
 /// Whether a null is pushed, at once or, where memory ran out and nothing changed, when it is pushed again.
 fn is_null_pushed(array: &mut RawArrayBuf, before: &[u8], after: &[u8]) -> bool {
-    let answer = array.push(RawBson::Null);
-    is_appended(&answer, array.as_bytes(), before, after)
-        && (answer.is_ok() || (array.push(RawBson::Null).is_ok() && array.as_bytes() == after))
+    let_go!(made = array.push(RawBson::Null); is_appended(&made, array.as_bytes(), before, after)
+        && (made.is_ok() || is_pushed_again(array, after)))
 }
 
 /// The same array with two more nulls pushed.
@@ -225,18 +230,24 @@ fn are_three_collected(alloc: Global) -> bool {
         ("b", RawBson::Int32(123)),
         ("c", RawBson::Int32(0)),
     ];
-    is_document(
-        &RawDocumentBuf::from_iter(alloc, numbers.into_iter()),
+    let_go!(made = RawDocumentBuf::from_iter(alloc, numbers.into_iter()); is_document(
+        &made,
         THREE_INT32,
-    )
+    ))
+}
+
+/// Whether there is none for a 0 in a key, or because memory ran out.
+fn is_nul_or_out_of_memory(answer: &Result<RawDocumentBuf>) -> bool {
+    match answer {
+        Ok(_) => false,
+        Err(error) => is_malformed(error, Reason::InteriorNul, None) | is_out_of_memory(error),
+    }
 }
 
 /// Whether there is no document of a pair, for the 0 in the key or because memory ran out.
 fn is_nul_not_collected(alloc: Global) -> bool {
-    match &RawDocumentBuf::from_iter(alloc, [("a\0b", RawBson::Null)].into_iter()) {
-        Ok(_) => false,
-        Err(error) => is_malformed(error, Reason::InteriorNul, None) || is_out_of_memory(error),
-    }
+    let numbers = [("a\0b", RawBson::Null)];
+    let_go!(made = RawDocumentBuf::from_iter(alloc, numbers.into_iter()); is_nul_or_out_of_memory(&made))
 }
 
 #[test]
@@ -249,7 +260,7 @@ fn from_iter_or_out_of_memory(rt: HostRuntime) {
 fn are_two_collected(alloc: Global) -> bool {
     let numbers = [RawBson::Int32(-1), RawBson::Int32(123)];
     let bytes = b"\x13\0\0\0\x100\0\xFF\xFF\xFF\xFF\x101\0\x7B\0\0\0\0";
-    is_array(&RawArrayBuf::from_iter(alloc, numbers.into_iter()), bytes)
+    let_go!(made = RawArrayBuf::from_iter(alloc, numbers.into_iter()); is_array(&made, bytes))
 }
 
 #[test]

@@ -21,7 +21,8 @@ fn is_clone<T: PartialEq>(copy: &Result<T, AllocError>, cloned: &T) -> bool {
 /// Whether the clone of the document is equal, and the document has these bytes, if there is memory for it.
 fn has_document_clone(document: &raw_bson::Result<RawDocumentBuf>, bytes: &[u8]) -> bool {
     match document {
-        Ok(document) => is_clone(&document.clone(), document) & (document.as_bytes() == bytes),
+        Ok(document) => let_go!(made: Result<_, _> = document.clone(); is_clone(&made, document))
+            & (document.as_bytes() == bytes),
         Err(error) => is_out_of_memory(error),
     }
 }
@@ -29,15 +30,16 @@ fn has_document_clone(document: &raw_bson::Result<RawDocumentBuf>, bytes: &[u8])
 /// The same of an array.
 fn has_array_clone(array: &raw_bson::Result<RawArrayBuf>, bytes: &[u8]) -> bool {
     match array {
-        Ok(array) => is_clone(&array.clone(), array) & (array.as_bytes() == bytes),
+        Ok(array) => let_go!(made: Result<_, _> = array.clone(); is_clone(&made, array))
+            & (array.as_bytes() == bytes),
         Err(error) => is_out_of_memory(error),
     }
 }
 
 /// Whether buffers of these documents have clones.
 fn are_buffers_cloned(alloc: Global, document: RawDocument<'_>, array: RawArray<'_>) -> bool {
-    has_document_clone(&document.to_raw_document_buf(alloc), document.as_bytes())
-        & has_array_clone(&array.to_raw_array_buf(alloc), array.as_bytes())
+    let_go!(made = document.to_raw_document_buf(alloc); has_document_clone(&made, document.as_bytes()))
+        & let_go!(made = array.to_raw_array_buf(alloc); has_array_clone(&made, array.as_bytes()))
 }
 
 #[test]
@@ -66,7 +68,8 @@ fn has_value_clone(
 ) -> bool {
     match value {
         Ok(value) => {
-            is_value_clone(&value.clone(), want, kind) & (value.as_raw_bson_ref() == want)
+            let_go!(made: Result<_, _> = value.clone(); is_value_clone(&made, want, kind))
+                & (value.as_raw_bson_ref() == want)
         }
         Err(error) => is_out_of_memory(error),
     }
@@ -75,7 +78,7 @@ fn has_value_clone(
 /// The same of a copy of the value of this kind.
 fn is_kind_cloned(alloc: Global, kind: ElementType) -> bool {
     match borrowed(kind) {
-        Ok(want) => has_value_clone(&want.to_raw_bson(alloc), want, kind),
+        Ok(want) => let_go!(made = want.to_raw_bson(alloc); has_value_clone(&made, want, kind)),
         Err(_) => false,
     }
 }
@@ -97,8 +100,8 @@ fn is_copy(answer: &raw_bson::Result<RawBson>, want: RawBsonRef<'_>, kind: Eleme
 
 /// Whether the value of this element and the element are copied.
 fn is_element_copied(alloc: Global, element: RawElement<'_>, want: RawBsonRef<'_>) -> bool {
-    is_copy(&want.to_raw_bson(alloc), want, element.element_type())
-        & is_copy(&element.to_raw_bson(alloc), want, element.element_type())
+    let_go!(made = want.to_raw_bson(alloc); is_copy(&made, want, element.element_type()))
+        & let_go!(made = element.to_raw_bson(alloc); is_copy(&made, want, element.element_type()))
 }
 
 /// The same of the value of this kind, and of an item of the document of all kinds.
@@ -118,7 +121,8 @@ fn are_copied(alloc: Global, document: RawDocument<'_>) -> bool {
     let mut elements = document.iter_elements(alloc);
     let mut are_right = true;
     for (_, kind) in KINDS {
-        are_right = are_right & is_kind_copied(alloc, *kind, &elements.next());
+        are_right = are_right
+            & let_go!(made = elements.next(); is_kind_copied(alloc, *kind, &made));
     }
     are_right
 }
@@ -128,12 +132,17 @@ fn to_raw_bson_or_out_of_memory(rt: HostRuntime) {
     assert!(rt; are_copied(rt.alloc(), view(&rt, ALL_KINDS)));
 }
 
-/// The first element of a document.
-pub(crate) fn first_element(alloc: Global, view: RawDocument<'_>) -> Option<RawElement<'_>> {
-    match view.iter_elements(alloc).next() {
-        Some(Ok(element)) => Some(element),
+fn element_of<'a>(item: &Option<raw_bson::Result<RawElement<'a>>>) -> Option<RawElement<'a>> {
+    match item {
+        Some(Ok(element)) => Some(*element),
         _ => None,
     }
+}
+
+/// The first element of a document.
+pub(crate) fn first_element(alloc: Global, view: RawDocument<'_>) -> Option<RawElement<'_>> {
+    let mut iter = view.iter_elements(alloc);
+    let_go!(item = iter.next(); element_of(&item))
 }
 
 /// Whether the result is the fault of the boolean of the byte 2, or out of memory.
@@ -147,7 +156,8 @@ fn is_fault(checks: Checks, answer: &raw_bson::Result<RawBson>) -> bool {
 /// Whether the value of the element isn't copied, for that.
 fn has_fault(alloc: Global, item: Option<RawElement<'_>>) -> bool {
     match item {
-        Some(element) => is_fault(Checks::refusable(alloc), &element.to_raw_bson(alloc)),
+        Some(element) =>
+            let_go!(made = element.to_raw_bson(alloc); is_fault(Checks::refusable(alloc), &made)),
         None => false,
     }
 }
@@ -171,7 +181,7 @@ fn is_text(answer: &raw_bson::Result<RawBson>, text: &str) -> bool {
 
 /// Whether the value of this text is made, or memory ran out.
 fn is_made(alloc: Global, text: &str) -> bool {
-    is_text(&RawBson::from_str(alloc, text), text)
+    let_go!(made = RawBson::from_str(alloc, text); is_text(&made, text))
 }
 
 #[test]

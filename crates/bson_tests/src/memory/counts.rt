@@ -29,7 +29,7 @@ fn is_read_to_fault(answer: &raw_bson::Result<Document>, count: usize) -> bool {
 /// Whether it was now.
 fn is_counted_to_fault(alloc: Global, view: RawDocument<'_>) -> bool {
     let (answer, steps) = document_from_raw_counted(alloc, view);
-    is_read_to_fault(&answer, steps.count())
+    let_go!(made = answer; is_read_to_fault(&made, steps.count()))
 }
 
 #[test]
@@ -47,7 +47,7 @@ fn are_levels_counted(answer: &raw_bson::Result<Document>, count: usize, levels:
 
 fn are_levels_read(alloc: Global, view: RawDocument<'_>, levels: usize) -> bool {
     let (answer, steps) = document_from_raw_counted(alloc, view);
-    are_levels_counted(&answer, steps.count(), levels)
+    let_go!(made = answer; are_levels_counted(&made, steps.count(), levels))
 }
 
 /// They are read where there is memory for their bytes.

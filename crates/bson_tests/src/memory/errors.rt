@@ -49,7 +49,7 @@ fn are_kinds_copied(reason: Reason) -> bool {
 fn error_copies_or_out_of_memory(rt: HostRuntime) {
     assert!(rt; are_kinds_copied(Reason::BadBoolean(2)));
     for (row, (bytes, key)) in FAULTS.iter().enumerate() {
-        let is_right = has_a_copy(&view(&rt, bytes).get(rt.alloc(), key));
+        let is_right = let_go!(made = view(&rt, bytes).get(rt.alloc(), key); has_a_copy(&made));
         require_row(&rt, is_right, "faults", row);
     }
 }
@@ -89,7 +89,8 @@ const NO_DOUBLES: &[(&[u8], &str)] = &[
 #[test]
 fn access_error_copies_or_out_of_memory(rt: HostRuntime) {
     for (row, (bytes, key)) in NO_DOUBLES.iter().enumerate() {
-        let is_right = has_access_copies(&view(&rt, bytes).get_f64(rt.alloc(), key));
+        let is_right =
+            let_go!(made = view(&rt, bytes).get_f64(rt.alloc(), key); has_access_copies(&made));
         require_row(&rt, is_right, "no doubles", row);
     }
 }

@@ -1,5 +1,6 @@
 //! `bin/test` runs these with each request for memory refused in turn, alone.
 
+use crate::fixtures::let_go;
 use crate::memory::keys::{is_missing, is_numbered};
 use bson_model::{Bson, Document, NoMemory, Regex};
 use std::alloc::Global;
@@ -47,7 +48,8 @@ fn has_pairs(document: &Document, count: usize) -> bool {
 /// Whether memory sufficed to insert the pair, whose key is a new one.
 fn is_inserted(alloc: Global, document: &mut Document, key: &str, number: i32) -> bool {
     match String::from_str(alloc, key) {
-        Ok(key) => matches!(&document.insert(key, Bson::Int32(number)), Ok(None)),
+        Ok(key) =>
+            let_go!(made = document.insert(key, Bson::Int32(number)); matches!(made, Ok(None))),
         Err(_) => false,
     }
 }
@@ -92,7 +94,8 @@ fn is_null_at(document: &Document, index: usize) -> bool {
 /// that it can't be refused.
 fn is_replaced(alloc: Global, document: &mut Document, index: usize, pair: (&str, i32)) -> bool {
     match String::from_str(alloc, pair.0) {
-        Ok(key) => is_old(&document.insert(key, Bson::Null), pair.1) & is_null_at(document, index),
+        Ok(key) => let_go!(made = document.insert(key, Bson::Null); is_old(&made, pair.1))
+            & is_null_at(document, index),
         Err(_) => true,
     }
 }
@@ -128,7 +131,7 @@ fn is_regex(answer: &Result<Regex, NoMemory>, pattern: &str, options: &str) -> b
 
 /// Whether a regular expression puts these options in this order, or memory ran out.
 fn is_ordered(alloc: Global, pattern: &str, given: &str, options: &str) -> bool {
-    is_regex(&Regex::new(alloc, pattern, given), pattern, options)
+    let_go!(made = Regex::new(alloc, pattern, given); is_regex(&made, pattern, options))
 }
 
 #[test]

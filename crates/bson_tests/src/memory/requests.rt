@@ -11,12 +11,17 @@ const NUMBERS: &[(&str, i32)] = &[("a", -1), ("b", 123), ("c", 0)];
 
 const LONG: &str = "a text that outgrows the room of a new buffer many times over";
 
-/// Whether a long text is appended, or memory ran out.
-fn is_long_text_appended(document: &mut RawDocumentBuf) -> bool {
-    match &document.append_ref("text", RawBsonRef::String(LONG)) {
-        Ok(()) => document.as_bytes().len() == 5 + 6 + 5 + LONG.len(),
+/// Whether the long text is in so many bytes, or memory ran out.
+fn is_in(answer: &Result<()>, len: usize) -> bool {
+    match answer {
+        Ok(()) => len == 5 + 6 + 5 + LONG.len(),
         Err(error) => is_out_of_memory(error),
     }
+}
+
+/// Whether a long text is appended, or memory ran out.
+fn is_long_text_appended(document: &mut RawDocumentBuf) -> bool {
+    let_go!(made = document.append_ref("text", RawBsonRef::String(LONG)); is_in(&made, document.as_bytes().len()))
 }
 
 /// The same of a new document, if there is memory for it.
@@ -43,7 +48,8 @@ fn empty_in(mut room: Vec<u8>) -> Result<RawDocumentBuf> {
 fn are_appended(document: &mut RawDocumentBuf) -> bool {
     let mut are_right = true;
     for (key, number) in NUMBERS {
-        are_right = are_right & document.append_ref(key, RawBsonRef::Int32(*number)).is_ok();
+        are_right = are_right
+            & let_go!(made = document.append_ref(key, RawBsonRef::Int32(*number)); made.is_ok());
     }
     are_right & (document.as_bytes() == THREE_INT32)
 }

@@ -6,7 +6,7 @@ use raw_bson::{
     bson_from_element, bson_from_raw, canonical_bytes, document_from_raw, document_from_raw_within,
     encode, list_from_raw,
 };
-use std::alloc::Global;
+use std::alloc::{AllocError, Global};
 use std::process::Abort;
 
 // `bin/test` runs these with each request for memory refused in turn, alone: each call returns what it returns with
@@ -60,8 +60,8 @@ fn is_tree(answer: &raw_bson::Result<Document>) -> bool {
 fn is_buffer_read(answer: &raw_bson::Result<RawDocumentBuf>, bytes: &[u8]) -> bool {
     match answer {
         Ok(buffer) => {
-            is_tree(&buffer.to_document())
-                & is_tree(&buffer.to_document_within(LIMITS))
+            let_go!(made = buffer.to_document(); is_tree(&made))
+                & let_go!(made = buffer.to_document_within(LIMITS); is_tree(&made))
                 & (buffer.as_bytes() == bytes)
         }
         Err(error) => is_out_of_memory(error),
@@ -71,20 +71,21 @@ fn is_buffer_read(answer: &raw_bson::Result<RawDocumentBuf>, bytes: &[u8]) -> bo
 /// Whether the buffer becomes a tree of these parts.
 fn is_buffer_taken(answer: raw_bson::Result<RawDocumentBuf>) -> bool {
     match answer {
-        Ok(buffer) => is_tree(&buffer.into_document()),
+        Ok(buffer) => let_go!(made = buffer.into_document(); is_tree(&made)),
         Err(error) => is_out_of_memory(&error),
     }
 }
 
 /// Whether the document has these parts, also within limits.
 fn is_view_read(alloc: Global, view: RawDocument<'_>) -> bool {
-    is_tree(&document_from_raw(alloc, view))
-        & is_tree(&document_from_raw_within(alloc, view, LIMITS))
+    let_go!(made = document_from_raw(alloc, view); is_tree(&made))
+        & let_go!(made = document_from_raw_within(alloc, view, LIMITS); is_tree(&made))
 }
 
 /// Whether so have buffers of these bytes, that are read and that are taken.
 fn are_buffers_read(alloc: Global, bytes: &[u8]) -> bool {
-    is_buffer_read(&document_of(alloc, bytes), bytes) & is_buffer_taken(document_of(alloc, bytes))
+    let_go!(made = document_of(alloc, bytes); is_buffer_read(&made, bytes))
+        & is_buffer_taken(document_of(alloc, bytes))
 }
 
 #[test]
@@ -118,22 +119,22 @@ fn is_null_list(answer: &raw_bson::Result<Vec<Bson>>) -> bool {
 /// Whether a value that is an array becomes a list.
 fn is_list_read(alloc: Global, value: RawBsonRef<'_>) -> bool {
     match value.as_array() {
-        Some(array) => is_null_list(&list_from_raw(alloc, array)),
+        Some(array) => let_go!(made = list_from_raw(alloc, array); is_null_list(&made)),
         None => true,
     }
 }
 
 /// Whether the element becomes the tree under its key, and so does its value.
 fn is_element_read(alloc: Global, element: RawElement<'_>, value: RawBsonRef<'_>) -> bool {
-    is_part_answered(element.key(), &bson_from_element(alloc, element))
-        & is_part_answered(element.key(), &bson_from_raw(alloc, value))
+    let_go!(made = bson_from_element(alloc, element); is_part_answered(element.key(), &made))
+        & let_go!(made = bson_from_raw(alloc, value); is_part_answered(element.key(), &made))
         & is_list_read(alloc, value)
 }
 
 /// Whether each call that writes the tree gives its bytes, or runs out of memory, and leaves the tree as it was.
 fn is_written(alloc: Global, tree: &Document) -> bool {
-    is_document(&RawDocumentBuf::from_document(alloc, tree), PARTS)
-        & is_document(&RawDocumentBuf::try_from_document(alloc, tree), PARTS)
+    let_go!(made = RawDocumentBuf::from_document(alloc, tree); is_document(&made, PARTS))
+        & let_go!(made = RawDocumentBuf::try_from_document(alloc, tree); is_document(&made, PARTS))
         & has_parts(tree)
 }
 
@@ -147,8 +148,8 @@ fn is_tree_written(alloc: Global, answer: &raw_bson::Result<Document>) -> bool {
 
 /// Whether each call that writes the parts does.
 fn are_parts_written(alloc: Global) -> bool {
-    is_list(&canonical_bytes(alloc, OTHER_SPELLING), PARTS)
-        & is_tree_written(alloc, &tree_of(alloc, PARTS))
+    let_go!(made = canonical_bytes(alloc, OTHER_SPELLING); is_list(&made, PARTS))
+        & let_go!(made = tree_of(alloc, PARTS); is_tree_written(alloc, &made))
 }
 
 #[test]
@@ -180,21 +181,22 @@ fn is_value(key: &str, answer: &raw_bson::Result<RawBson>, value: RawBsonRef<'_>
 /// Whether an owned value becomes the tree under this key, if there is one.
 fn is_tree_again(alloc: Global, key: &str, answer: raw_bson::Result<RawBson>) -> bool {
     match answer {
-        Ok(owned) => comes_back(key, &owned.into_bson(alloc)),
+        Ok(owned) => let_go!(made = owned.into_bson(alloc); comes_back(key, &made)),
         Err(_) => true,
     }
 }
 
-/// Whether the tree under this key becomes this value, and that the tree again, or memory runs out for a copy.
+/// Whether the tree under this key becomes a value, this one where it was spelled as trees are written, and that the tree
+/// again; or memory runs out for a copy.
 fn goes_and_comes_back(
     alloc: Global,
     key: &str,
     answer: raw_bson::Result<RawBson>,
     value: RawBsonRef<'_>,
+    is_form: bool,
 ) -> bool {
-    let is_value = is_value(key, &answer, value);
-    let is_tree = is_tree_again(alloc, key, answer);
-    is_value && is_tree
+    let is_value = !is_form || is_value(key, &answer, value);
+    is_value & is_tree_again(alloc, key, answer)
 }
 
 /// The same of what an element becomes, or memory ran out for it.
@@ -203,39 +205,58 @@ fn is_tree_owned(
     key: &str,
     made: raw_bson::Result<Bson>,
     value: RawBsonRef<'_>,
+    is_form: bool,
 ) -> bool {
     match made {
-        Ok(tree) => goes_and_comes_back(alloc, key, RawBson::try_from_bson(alloc, tree), value),
+        Ok(tree) => {
+            let answer = RawBson::try_from_bson(alloc, tree);
+            goes_and_comes_back(alloc, key, answer, value, is_form)
+        }
         Err(error) => is_out_of_memory(&error),
     }
 }
 
-/// Whether the element becomes a tree and back, be it spelled as its tree is written or not.
-fn is_element_right(alloc: Global, element: RawElement<'_>, is_form: bool) -> bool {
-    match element.value(alloc) {
-        Ok(value) => {
-            is_element_read(alloc, element, value)
-                & (!is_form
-                    || is_tree_owned(
-                        alloc,
-                        element.key(),
-                        bson_from_element(alloc, element),
-                        value,
-                    ))
+/// Whether the element becomes a tree, and that the element where this is as trees are written.
+fn is_element_right(
+    alloc: Global,
+    element: RawElement<'_>,
+    value: RawBsonRef<'_>,
+    is_form: bool,
+) -> bool {
+    let made = bson_from_element(alloc, element);
+    is_element_read(alloc, element, value)
+        & is_tree_owned(alloc, element.key(), made, value, is_form)
+}
+
+/// The same of an element whose value was read.
+fn is_value_right(
+    alloc: Global,
+    element: RawElement<'_>,
+    answer: &raw_bson::Result<RawBsonRef<'_>>,
+    is_form: bool,
+) -> bool {
+    match answer {
+        Ok(value) => is_element_right(alloc, element, *value, is_form),
+        Err(_) => false,
+    }
+}
+
+/// The same of an item.
+fn is_item_right(alloc: Global, item: &raw_bson::Result<RawElement<'_>>, is_form: bool) -> bool {
+    match item {
+        Ok(element) => {
+            let_go!(made = element.value(alloc); is_value_right(alloc, *element, &made, is_form))
         }
         Err(_) => false,
     }
 }
 
-/// Whether each element does.
+/// The same of each element.
 fn are_elements_right(alloc: Global, document: RawDocument<'_>, is_form: bool) -> bool {
     let mut are_right = true;
     for item in document.iter_elements(alloc) {
-        are_right = are_right
-            & match item {
-                Ok(element) => is_element_right(alloc, element, is_form),
-                Err(_) => false,
-            };
+        are_right = are_right & is_item_right(alloc, &item, is_form);
+        drop(item);
     }
     are_right
 }
@@ -254,12 +275,15 @@ fn is_written_as(written: &raw_bson::Result<Vec<u8>>, form: &[u8]) -> bool {
     }
 }
 
+/// Whether the tree is written as the form.
+fn is_written_again(alloc: Global, tree: &Document, form: &[u8]) -> bool {
+    let_go!(made = encode(alloc, tree); is_written_as(&made, form))
+}
+
 /// Whether the tree is written as the form; where memory runs out, it is so when it is written again.
 fn has_form(alloc: Global, tree: &Document, form: &[u8]) -> bool {
-    match &encode(alloc, tree) {
-        Ok(written) => written.as_slice() == form,
-        Err(error) => is_out_of_memory(error) && is_written_as(&encode(alloc, tree), form),
-    }
+    let_go!(made = encode(alloc, tree); is_list(&made, form)
+        && (made.is_ok() || is_written_again(alloc, tree, form)))
 }
 
 /// Whether the tree has the form, or memory ran out for it.
@@ -279,7 +303,8 @@ fn becomes(
 ) -> bool {
     match answer {
         Ok(buffer) => {
-            is_tree_of_form(alloc, &buffer.to_document(), form) & (buffer.as_bytes() == bytes)
+            let_go!(made = buffer.to_document(); is_tree_of_form(alloc, &made, form))
+                & (buffer.as_bytes() == bytes)
         }
         Err(error) => is_out_of_memory(error),
     }
@@ -287,12 +312,13 @@ fn becomes(
 
 /// Whether by way of a buffer and a tree the bytes become the form, or memory runs out.
 fn have_form(alloc: Global, bytes: &[u8], form: &[u8]) -> bool {
-    becomes(alloc, &document_of(alloc, bytes), bytes, form)
+    let_go!(made = document_of(alloc, bytes); becomes(alloc, &made, bytes, form))
 }
 
 /// Whether they also do so by one call.
 fn are_forms(alloc: Global, bytes: &[u8], form: &[u8]) -> bool {
-    have_form(alloc, bytes, form) & is_list(&canonical_bytes(alloc, bytes), form)
+    have_form(alloc, bytes, form)
+        & let_go!(made = canonical_bytes(alloc, bytes); is_list(&made, form))
 }
 
 #[test]
@@ -302,12 +328,17 @@ fn forms_or_out_of_memory(rt: HostRuntime) {
     }
 }
 
-/// Whether so many levels are their own form, or memory ran out for them.
-fn are_levels_form(alloc: Global, levels: usize) -> bool {
-    match &nested(alloc, Holder::Document, levels, EMPTY) {
+/// Whether these bytes are their own form, or memory ran out for them.
+fn are_form(alloc: Global, made: &Result<Vec<u8>, AllocError>) -> bool {
+    match made {
         Ok(bytes) => have_form(alloc, bytes, bytes),
         Err(_) => true,
     }
+}
+
+/// Whether so many levels are.
+fn are_levels_form(alloc: Global, levels: usize) -> bool {
+    let_go!(made = nested(alloc, Holder::Document, levels, EMPTY); are_form(alloc, &made))
 }
 
 #[test]

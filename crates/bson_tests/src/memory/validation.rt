@@ -63,8 +63,8 @@ const LIMITS: Limits = Limits {
 
 /// Whether the first breach of the document is this one, or memory runs out.
 fn is_broken(alloc: Global, view: RawDocument<'_>, path: &[usize], cause: Cause) -> bool {
-    is_breach(&validate(alloc, view), path, cause)
-        & is_placed(&validate_within(alloc, view, LIMITS), path, cause)
+    let_go!(made = validate(alloc, view); is_breach(&made, path, cause))
+        & let_go!(made = validate_within(alloc, view, LIMITS); is_placed(&made, path, cause))
 }
 
 /// The same of each row.
@@ -84,7 +84,8 @@ fn breaches_or_out_of_memory(rt: HostRuntime) {
 
 /// Whether the document is canonical, or memory runs out.
 fn is_without_breach(alloc: Global, view: RawDocument<'_>) -> bool {
-    is_canonical(&validate(alloc, view)) & is_sound(&validate_within(alloc, view, LIMITS))
+    let_go!(made = validate(alloc, view); is_canonical(&made))
+        & let_go!(made = validate_within(alloc, view, LIMITS); is_sound(&made))
 }
 
 #[test]

@@ -1,4 +1,4 @@
-use crate::fixtures::{EMPTY, is_refused};
+use crate::fixtures::{EMPTY, is_refused, let_go};
 use crate::memory::asserts::is_list;
 use raw_bson::{Bson, Document, Reason, encode, encode_list};
 use std::alloc::Global;
@@ -6,12 +6,12 @@ use std::alloc::Global;
 /// Whether the list of `true` is written, or memory ran out.
 fn is_true_written(alloc: Global) -> bool {
     let bytes = b"\x09\0\0\0\x080\0\x01\0";
-    is_list(&encode_list(alloc, &[Bson::Boolean(true)]), bytes)
+    let_go!(made = encode_list(alloc, &[Bson::Boolean(true)]); is_list(&made, bytes))
 }
 
 /// Whether the empty document is written, or memory ran out.
 fn is_empty_written(alloc: Global) -> bool {
-    is_list(&encode(alloc, &Document::new(alloc)), EMPTY)
+    let_go!(tree = Document::new(alloc); let_go!(made = encode(alloc, &tree); is_list(&made, EMPTY)))
 }
 
 #[test]
@@ -36,12 +36,18 @@ fn nul_below(alloc: Global, levels: usize) -> raw_bson::Result<Document> {
     Ok(tree)
 }
 
-/// Whether a 0 below so many levels is found, if there is memory for them.
-fn is_nul_found(alloc: Global, levels: usize) -> bool {
-    match &nul_below(alloc, levels) {
-        Ok(tree) => is_refused(&encode(alloc, tree), Reason::InteriorNul, None),
+/// Whether the tree isn't written for a 0, if there was memory for it.
+fn is_nul_refused(alloc: Global, made: &raw_bson::Result<Document>) -> bool {
+    match made {
+        Ok(tree) =>
+            let_go!(made = encode(alloc, tree); is_refused(&made, Reason::InteriorNul, None)),
         Err(_) => true,
     }
+}
+
+/// Whether a 0 below so many levels is found, if there is memory for them.
+fn is_nul_found(alloc: Global, levels: usize) -> bool {
+    let_go!(made = nul_below(alloc, levels); is_nul_refused(alloc, &made))
 }
 
 // A 0 is found whichever request is refused.

@@ -11,7 +11,7 @@ fn is_overflow(answer: &Result<Document>, found: usize, count: usize) -> bool {
 /// Whether so many elements are framed of the document until nothing is left for one.
 fn is_counted(alloc: Global, view: RawDocument<'_>, count: usize) -> bool {
     let (answer, steps) = document_from_raw_counted(alloc, view);
-    is_overflow(&answer, steps.count(), count)
+    let_go!(made = answer; is_overflow(&made, steps.count(), count))
 }
 
 #[test]

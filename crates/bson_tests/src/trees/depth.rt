@@ -21,7 +21,8 @@ fn million(rt: &impl Abort, alloc: Global, holders: &[Holder]) -> Vec<u8> {
 
 /// Whether the tree has a million levels, and is written as these bytes.
 fn is_million(alloc: Global, tree: &Document, bytes: &[u8]) -> bool {
-    (levels_inside(tree, MILLION + 1) == MILLION) & is_written(&encode(alloc, tree), bytes)
+    (levels_inside(tree, MILLION + 1) == MILLION)
+        & let_go!(made = encode(alloc, tree); is_written(&made, bytes))
 }
 
 /// Whether the tree was made, and is that.
@@ -34,12 +35,12 @@ fn is_million_read(alloc: Global, made: &Result<Document, Error>, bytes: &[u8]) 
 
 /// Whether a million levels come back, and are dropped.
 fn come_back(alloc: Global, bytes: &[u8]) -> bool {
-    is_million_read(alloc, &tree_of(alloc, bytes), bytes)
+    let_go!(made = tree_of(alloc, bytes); is_million_read(alloc, &made, bytes))
 }
 
 /// Whether those do that are held so.
 fn are_read(rt: &impl Abort, alloc: Global, holders: &[Holder]) -> bool {
-    come_back(alloc, &million(rt, alloc, holders))
+    let_go!(made = million(rt, alloc, holders); come_back(alloc, &made))
 }
 
 #[test]
@@ -77,7 +78,9 @@ fn are_forgotten(alloc: Global, bytes: &[u8]) -> bool {
 /// The same levels, which are never dropped: what `bin/test` compares the requests for memory with.
 #[test]
 fn a_million_levels_in_turn_are_forgotten(rt: HostRuntime) {
-    assert!(rt; are_forgotten(rt.alloc(), &million(&rt, rt.alloc(), IN_TURN)));
+    assert!(rt;
+        let_go!(made = million(&rt, rt.alloc(), IN_TURN); are_forgotten(rt.alloc(), &made))
+    );
 }
 
 /// Whether the document of these bytes is pushed.
@@ -100,7 +103,8 @@ fn are_pushed(alloc: Global, array: &mut RawArrayBuf, bytes: &[u8]) -> bool {
 /// Whether the list was read, has a thousand values, and is written as the array is.
 fn is_list_read(alloc: Global, read: &Result<Vec<Bson>, Error>, bytes: &[u8]) -> bool {
     match read {
-        Ok(list) => (list.len() == 1000) & is_written(&encode_list(alloc, list), bytes),
+        Ok(list) => (list.len() == 1000)
+            & let_go!(made = encode_list(alloc, list); is_written(&made, bytes)),
         Err(_) => false,
     }
 }
@@ -108,11 +112,11 @@ fn is_list_read(alloc: Global, read: &Result<Vec<Bson>, Error>, bytes: &[u8]) ->
 /// Whether a thousand documents of these bytes are pushed, and come back.
 fn is_pushed_and_read(alloc: Global, array: &mut RawArrayBuf, bytes: &[u8]) -> bool {
     are_pushed(alloc, array, bytes)
-        & is_list_read(
+        & let_go!(made = list_from_raw(alloc, array.as_ref()); is_list_read(
             alloc,
-            &list_from_raw(alloc, array.as_ref()),
+            &made,
             array.as_bytes(),
-        )
+        ))
 }
 
 /// Whether an empty array takes and gives them.
@@ -183,18 +187,21 @@ fn has_text(alloc: Global, value: &RawBson, bytes: &[u8]) -> bool {
 
 /// Whether the value is equal to its copy and printed as a document of these bytes.
 fn is_value(alloc: Global, value: &RawBson, bytes: &[u8]) -> bool {
-    is_copy(&value.clone(), value) & has_text(alloc, value, bytes)
+    let_go!(made: Result<_, _> = value.clone(); is_copy(&made, value))
+        & has_text(alloc, value, bytes)
 }
 
 /// Whether the value of the document of these bytes is.
 fn is_owned_value(alloc: Global, bytes: &[u8]) -> bool {
     match document_of(alloc, bytes) {
-        Ok(document) => is_value(alloc, &RawBson::from(document), bytes),
+        Ok(document) => let_go!(made = RawBson::from(document); is_value(alloc, &made, bytes)),
         Err(_) => false,
     }
 }
 
 #[test]
 fn a_million_owned_levels_are_compared_and_printed(rt: HostRuntime) {
-    assert!(rt; is_owned_value(rt.alloc(), &million(&rt, rt.alloc(), IN_TURN)));
+    assert!(rt;
+        let_go!(made = million(&rt, rt.alloc(), IN_TURN); is_owned_value(rt.alloc(), &made))
+    );
 }

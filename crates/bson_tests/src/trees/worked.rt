@@ -1,5 +1,6 @@
 //! A worked document. `memory::trees` has others.
 
+use crate::fixtures::let_go;
 use crate::trees::checks::is_written;
 use raw_bson::Limits;
 use raw_form::canonical_within;
@@ -25,7 +26,7 @@ const LIMITS: Limits = Limits {
 
 /// Whether these bytes have that form.
 fn is_form(alloc: Global, bytes: &[u8]) -> bool {
-    is_written(&canonical_within(alloc, bytes, LIMITS), MIXED_FORM)
+    let_go!(made = canonical_within(alloc, bytes, LIMITS); is_written(&made, MIXED_FORM))
 }
 
 #[test]

@@ -60,9 +60,9 @@ fn are_kinds(alloc: Global, document: RawDocument<'_>) -> bool {
     let mut iter = document.iter(alloc);
     let mut are_right = true;
     for (key, kind) in KINDS {
-        are_right = are_right & is_item(&iter.next(), key, *kind);
+        are_right = are_right & let_go!(made = iter.next(); is_item(&made, key, *kind));
     }
-    are_right & iter.next().is_none()
+    are_right & let_go!(made = iter.next(); made.is_none())
 }
 
 #[test]

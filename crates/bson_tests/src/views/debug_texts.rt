@@ -56,7 +56,8 @@ fn is_value_printed(
 /// The same of the value of a row.
 fn is_row(alloc: Global, row: Row) -> bool {
     match borrowed(row.0) {
-        Ok(value) => is_value_printed(alloc, value, &value.to_raw_bson(alloc), row),
+        Ok(value) =>
+            let_go!(made = value.to_raw_bson(alloc); is_value_printed(alloc, value, &made, row)),
         Err(_) => false,
     }
 }
@@ -103,7 +104,7 @@ const TREE: &str = "Document { pairs: {\
 
 /// Whether the tree of these bytes has this text.
 fn is_tree_printed(alloc: Global, bytes: &[u8], text: &str) -> bool {
-    is_printed(alloc, &tree_of(alloc, bytes), text)
+    let_go!(made = tree_of(alloc, bytes); is_printed(alloc, &made, text))
 }
 
 #[test]

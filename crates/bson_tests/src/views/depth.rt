@@ -1,6 +1,6 @@
 //! Documents of many levels. `bin/test` also runs the first of these on a stack of 256 KiB, and sees that all is released.
 
-use crate::fixtures::{EMPTY, Holder, nested_in_turn, require_row, tree_of};
+use crate::fixtures::{EMPTY, Holder, let_go, nested_in_turn, require_row, tree_of};
 use bson_model::Document;
 use std::alloc::{AllocError, Global};
 use std::process::Abort;
@@ -41,7 +41,7 @@ fn is_branch(made: &raw_bson::Result<Document>) -> bool {
 
 /// Whether these bytes are read as a branch, which is dropped.
 fn is_let_go(alloc: Global, bytes: &[u8]) -> bool {
-    is_branch(&tree_of(alloc, bytes))
+    let_go!(made = tree_of(alloc, bytes); is_branch(&made))
 }
 
 #[test]
@@ -60,7 +60,7 @@ fn are_equal(tree: &raw_bson::Result<Document>, other: &raw_bson::Result<Documen
 
 /// Whether two trees of these bytes are.
 fn are_levels_equal(alloc: Global, bytes: &[u8]) -> bool {
-    are_equal(&tree_of(alloc, bytes), &tree_of(alloc, bytes))
+    let_go!(made = tree_of(alloc, bytes); let_go!(made = tree_of(alloc, bytes); are_equal(&made, &made)))
 }
 
 /// So many levels.
@@ -153,7 +153,7 @@ fn is_tree_printed(
 
 /// The same of the tree of these bytes.
 fn are_levels_printed(alloc: Global, bytes: &[u8], wanted: &LevelsText, levels: usize) -> bool {
-    is_tree_printed(alloc, &tree_of(alloc, bytes), wanted, levels)
+    let_go!(made = tree_of(alloc, bytes); is_tree_printed(alloc, &made, wanted, levels))
 }
 
 #[test]

@@ -1,4 +1,4 @@
-use crate::fixtures::tree_of;
+use crate::fixtures::{let_go, tree_of};
 use bson_model::{Bson, Document};
 use std::process::Abort;
 
@@ -49,5 +49,5 @@ const TREE: &[u8] = b"\x2D\0\0\0\x04a\0\x21\0\0\0\x100\0\x01\0\0\0\x0F1\0\
 
 #[test]
 fn leaves_are_counted_at_any_depth(rt: HostRuntime) {
-    assert!(rt; leaves(&tree_of(rt.alloc(), TREE)) == 3);
+    assert!(rt; let_go!(made = tree_of(rt.alloc(), TREE); leaves(&made)) == 3);
 }

@@ -50,7 +50,7 @@ fn is_look_up_printed(
     view: RawDocument<'_>,
     (_, key, text, debug_text): Row,
 ) -> bool {
-    has_error_texts(alloc, &view.get(alloc, key), text, debug_text)
+    let_go!(made = view.get(alloc, key); has_error_texts(alloc, &made, text, debug_text))
 }
 
 #[test]
@@ -64,8 +64,7 @@ fn errors_are_printed(rt: HostRuntime) {
 /// Whether the error that memory ran out has its texts.
 fn is_out_of_memory_printed(alloc: Global) -> bool {
     let debug_text = "Error { kind: OutOfMemory, key: None }";
-    let error = Error::new(ErrorKind::OutOfMemory);
-    has_texts(alloc, &error, "out of memory", debug_text)
+    let_go!(error = Error::new(ErrorKind::OutOfMemory); has_texts(alloc, &error, "out of memory", debug_text))
         & has_debug_text(alloc, &ValueAccessErrorKind::OutOfMemory, "OutOfMemory")
 }
 
@@ -108,7 +107,7 @@ fn is_access_printed(
     view: RawDocument<'_>,
     (_, key, text, debug_text): Row,
 ) -> bool {
-    has_error_texts(alloc, &view.get_i32(alloc, key), text, debug_text)
+    let_go!(made = view.get_i32(alloc, key); has_error_texts(alloc, &made, text, debug_text))
 }
 
 #[test]
@@ -121,7 +120,7 @@ fn access_errors_are_printed(rt: HostRuntime) {
 
 /// Whether that of an array at this index has an error of this text.
 fn is_index_said(alloc: Global, array: RawArray<'_>, index: usize, text: &str) -> bool {
-    is_said(alloc, &array.get_i32(alloc, index), text)
+    let_go!(made = array.get_i32(alloc, index); is_said(alloc, &made, text))
 }
 
 #[test]
