@@ -84,7 +84,10 @@ const LIMITS: Limits = Limits {
 fn is_stopped(alloc: Global, view: RawDocument<'_>) -> bool {
     let_go!(made = first_fault_within(alloc, view, LIMITS); is_barrier(&made, 2, 13))
         & let_go!(made = validate_within(alloc, view, LIMITS); is_stop(&made, 2, 13))
-        & let_go!(made = flatten_within(alloc, view, LIMITS, &mut []); is_end_of_tokens(&made, 2, 13))
+        & let_go!(
+            made = flatten_within(alloc, view, LIMITS, &mut []);
+            is_end_of_tokens(&made, 2, 13)
+        )
 }
 
 #[test]

@@ -88,7 +88,10 @@ fn goes_well_at_last(
 fn is_copy_appended(document: &mut RawDocumentBuf, copy: Result<RawBson>, append: Append) -> bool {
     match copy {
         Ok(copy) => {
-            let_go!(made = document.append(append.1, copy); goes_well_at_last(&made, document, append))
+            let_go!(
+                made = document.append(append.1, copy);
+                goes_well_at_last(&made, document, append)
+            )
         }
         Err(error) => is_out_of_memory(&error),
     }
@@ -96,7 +99,10 @@ fn is_copy_appended(document: &mut RawDocumentBuf, copy: Result<RawBson>, append
 
 /// Whether the value itself is appended in the end.
 fn is_appended_by_reference(document: &mut RawDocumentBuf, append: Append) -> bool {
-    let_go!(made = document.append_ref(append.1, append.2.borrowed()); goes_well_at_last(&made, document, append))
+    let_go!(
+        made = document.append_ref(append.1, append.2.borrowed());
+        goes_well_at_last(&made, document, append)
+    )
 }
 
 /// Whether an owned copy of the value is appended in the end to the buffer of the bytes before, if there is memory for it.
@@ -142,8 +148,10 @@ fn is_appended_again(document: &mut RawDocumentBuf, element: RawElement<'_>) -> 
 /// Whether the element is appended to the empty document, or memory ran out and nothing changed, and it is appended
 /// when it is tried again.
 fn is_element_appended(document: &mut RawDocumentBuf, element: RawElement<'_>) -> bool {
-    let_go!(made = document.append_element(element); is_appended(&made, document.as_bytes(), EMPTY, NUMBER)
-        && (made.is_ok() || is_appended_again(document, element)))
+    let_go!(
+        made = document.append_element(element);
+        is_appended(&made, document.as_bytes(), EMPTY, NUMBER) && (made.is_ok() || is_appended_again(document, element))
+    )
 }
 
 /// The same of the buffer of the empty document, if there is memory for it.
@@ -175,7 +183,10 @@ fn is_nul_refused(answer: &Result<()>, document: &RawDocumentBuf) -> bool {
 /// Whether a 0 in the key is refused, be the value owned or borrowed.
 fn are_nuls_refused(document: &mut RawDocumentBuf) -> bool {
     let_go!(made = document.append("a\0b", RawBson::Null); is_nul_refused(&made, document))
-        & let_go!(made = document.append_ref("a\0b", RawBsonRef::Null); is_nul_refused(&made, document))
+        & let_go!(
+            made = document.append_ref("a\0b", RawBsonRef::Null);
+            is_nul_refused(&made, document)
+        )
 }
 
 /// The same of the buffer of the empty document, if there is memory for it.
@@ -199,8 +210,10 @@ fn is_pushed_again(array: &mut RawArrayBuf, after: &[u8]) -> bool {
 
 /// Whether a null is pushed, at once or, where memory ran out and nothing changed, when it is pushed again.
 fn is_null_pushed(array: &mut RawArrayBuf, before: &[u8], after: &[u8]) -> bool {
-    let_go!(made = array.push(RawBson::Null); is_appended(&made, array.as_bytes(), before, after)
-        && (made.is_ok() || is_pushed_again(array, after)))
+    let_go!(
+        made = array.push(RawBson::Null);
+        is_appended(&made, array.as_bytes(), before, after) && (made.is_ok() || is_pushed_again(array, after))
+    )
 }
 
 /// The same array with two more nulls pushed.
@@ -230,10 +243,10 @@ fn are_three_collected(alloc: Global) -> bool {
         ("b", RawBson::Int32(123)),
         ("c", RawBson::Int32(0)),
     ];
-    let_go!(made = RawDocumentBuf::from_iter(alloc, numbers.into_iter()); is_document(
-        &made,
-        THREE_INT32,
-    ))
+    let_go!(
+        made = RawDocumentBuf::from_iter(alloc, numbers.into_iter());
+        is_document(&made, THREE_INT32)
+    )
 }
 
 /// Whether there is none for a 0 in a key, or because memory ran out.
@@ -247,7 +260,10 @@ fn is_nul_or_out_of_memory(answer: &Result<RawDocumentBuf>) -> bool {
 /// Whether there is no document of a pair, for the 0 in the key or because memory ran out.
 fn is_nul_not_collected(alloc: Global) -> bool {
     let numbers = [("a\0b", RawBson::Null)];
-    let_go!(made = RawDocumentBuf::from_iter(alloc, numbers.into_iter()); is_nul_or_out_of_memory(&made))
+    let_go!(
+        made = RawDocumentBuf::from_iter(alloc, numbers.into_iter());
+        is_nul_or_out_of_memory(&made)
+    )
 }
 
 #[test]

@@ -38,8 +38,10 @@ fn has_array_clone(array: &raw_bson::Result<RawArrayBuf>, bytes: &[u8]) -> bool 
 
 /// Whether buffers of these documents have clones.
 fn are_buffers_cloned(alloc: Global, document: RawDocument<'_>, array: RawArray<'_>) -> bool {
-    let_go!(made = document.to_raw_document_buf(alloc); has_document_clone(&made, document.as_bytes()))
-        & let_go!(made = array.to_raw_array_buf(alloc); has_array_clone(&made, array.as_bytes()))
+    let_go!(
+        made = document.to_raw_document_buf(alloc);
+        has_document_clone(&made, document.as_bytes())
+    ) & let_go!(made = array.to_raw_array_buf(alloc); has_array_clone(&made, array.as_bytes()))
 }
 
 #[test]

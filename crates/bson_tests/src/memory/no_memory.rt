@@ -36,11 +36,14 @@ fn is_made(made: &raw_bson::Result<RawBson>, want: RawBsonRef<'_>) -> bool {
 /// Whether small values become those of the other kind.
 fn are_converted(alloc: Global) -> bool {
     is_seven(&RawBson::Int32(7).into_bson(alloc))
-        & let_go!(made = RawBson::try_from_bson(alloc, Bson::Int32(7)); is_made(
-            &made,
-            RawBsonRef::Int32(7),
-        ))
-        & let_go!(made = RawBson::try_from_bson(alloc, Bson::Null); is_made(&made, RawBsonRef::Null))
+        & let_go!(
+            made = RawBson::try_from_bson(alloc, Bson::Int32(7));
+            is_made(&made, RawBsonRef::Int32(7))
+        )
+        & let_go!(
+            made = RawBson::try_from_bson(alloc, Bson::Null);
+            is_made(&made, RawBsonRef::Null)
+        )
 }
 
 #[test]

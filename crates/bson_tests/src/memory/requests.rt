@@ -21,7 +21,10 @@ fn is_in(answer: &Result<()>, len: usize) -> bool {
 
 /// Whether a long text is appended, or memory ran out.
 fn is_long_text_appended(document: &mut RawDocumentBuf) -> bool {
-    let_go!(made = document.append_ref("text", RawBsonRef::String(LONG)); is_in(&made, document.as_bytes().len()))
+    let_go!(
+        made = document.append_ref("text", RawBsonRef::String(LONG));
+        is_in(&made, document.as_bytes().len())
+    )
 }
 
 /// The same of a new document, if there is memory for it.

@@ -282,8 +282,10 @@ fn is_written_again(alloc: Global, tree: &Document, form: &[u8]) -> bool {
 
 /// Whether the tree is written as the form; where memory runs out, it is so when it is written again.
 fn has_form(alloc: Global, tree: &Document, form: &[u8]) -> bool {
-    let_go!(made = encode(alloc, tree); is_list(&made, form)
-        && (made.is_ok() || is_written_again(alloc, tree, form)))
+    let_go!(
+        made = encode(alloc, tree);
+        is_list(&made, form) && (made.is_ok() || is_written_again(alloc, tree, form))
+    )
 }
 
 /// Whether the tree has the form, or memory ran out for it.

@@ -11,7 +11,10 @@ fn is_true_written(alloc: Global) -> bool {
 
 /// Whether the empty document is written, or memory ran out.
 fn is_empty_written(alloc: Global) -> bool {
-    let_go!(tree = Document::new(alloc); let_go!(made = encode(alloc, &tree); is_list(&made, EMPTY)))
+    let_go!(
+        tree = Document::new(alloc);
+        let_go!(made = encode(alloc, &tree); is_list(&made, EMPTY))
+    )
 }
 
 #[test]

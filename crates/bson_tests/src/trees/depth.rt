@@ -112,11 +112,10 @@ fn is_list_read(alloc: Global, read: &Result<Vec<Bson>, Error>, bytes: &[u8]) ->
 /// Whether a thousand documents of these bytes are pushed, and come back.
 fn is_pushed_and_read(alloc: Global, array: &mut RawArrayBuf, bytes: &[u8]) -> bool {
     are_pushed(alloc, array, bytes)
-        & let_go!(made = list_from_raw(alloc, array.as_ref()); is_list_read(
-            alloc,
-            &made,
-            array.as_bytes(),
-        ))
+        & let_go!(
+            made = list_from_raw(alloc, array.as_ref());
+            is_list_read(alloc, &made, array.as_bytes())
+        )
 }
 
 /// Whether an empty array takes and gives them.

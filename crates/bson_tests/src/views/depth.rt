@@ -60,7 +60,10 @@ fn are_equal(tree: &raw_bson::Result<Document>, other: &raw_bson::Result<Documen
 
 /// Whether two trees of these bytes are.
 fn are_levels_equal(alloc: Global, bytes: &[u8]) -> bool {
-    let_go!(made = tree_of(alloc, bytes); let_go!(made = tree_of(alloc, bytes); are_equal(&made, &made)))
+    let_go!(
+        tree = tree_of(alloc, bytes);
+        let_go!(other = tree_of(alloc, bytes); are_equal(&tree, &other))
+    )
 }
 
 /// So many levels.

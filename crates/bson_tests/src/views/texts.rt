@@ -64,8 +64,10 @@ fn errors_are_printed(rt: HostRuntime) {
 /// Whether the error that memory ran out has its texts.
 fn is_out_of_memory_printed(alloc: Global) -> bool {
     let debug_text = "Error { kind: OutOfMemory, key: None }";
-    let_go!(error = Error::new(ErrorKind::OutOfMemory); has_texts(alloc, &error, "out of memory", debug_text))
-        & has_debug_text(alloc, &ValueAccessErrorKind::OutOfMemory, "OutOfMemory")
+    let_go!(
+        error = Error::new(ErrorKind::OutOfMemory);
+        has_texts(alloc, &error, "out of memory", debug_text)
+    ) & has_debug_text(alloc, &ValueAccessErrorKind::OutOfMemory, "OutOfMemory")
 }
 
 #[test]
