@@ -15,9 +15,9 @@ fn is_appended(alloc: Global, document: &mut RawDocumentBuf, key: &str, kind: El
 fn are_appended(alloc: Global, document: &mut RawDocumentBuf) -> bool {
     let mut are_right = true;
     for &(key, kind) in KINDS.iter() {
-        are_right = are_right & is_appended(alloc, document, key, kind);
+        are_right = are_right && is_appended(alloc, document, key, kind);
     }
-    are_right & (document.as_bytes() == ALL_KINDS)
+    are_right && document.as_bytes() == ALL_KINDS
 }
 
 /// Whether that holds of an empty document, where there is memory for it.

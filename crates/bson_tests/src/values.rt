@@ -5,7 +5,7 @@ use raw_bson::{ElementType, RawBson, Result};
 /// Whether the value is of this kind, and its view is the borrowed value of that kind.
 fn is_viewed(value: &RawBson, kind: ElementType) -> bool {
     match borrowed(kind) {
-        Ok(wanted) => (value.element_type() == kind) & (value.as_raw_bson_ref() == wanted),
+        Ok(wanted) => value.element_type() == kind && value.as_raw_bson_ref() == wanted,
         Err(_) => false,
     }
 }
@@ -39,7 +39,7 @@ fn other_accessors(value: &RawBson) -> usize {
 /// view.
 fn are_accessed(value: &RawBson, kind: ElementType) -> bool {
     let count = fixed_accessors(value).wrapping_add(other_accessors(value));
-    (count == usize::from(has_accessor(kind))) & is_viewed(value, kind)
+    count == usize::from(has_accessor(kind)) && is_viewed(value, kind)
 }
 
 /// Whether the value was made, and that holds of it.

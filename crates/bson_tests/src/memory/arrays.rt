@@ -31,7 +31,7 @@ fn is_said_fault(alloc: Global, answer: &ValueAccessResult<bool>) -> bool {
 /// returned all the same.
 fn is_found_behind(alloc: Global, numbers: RawArray<'_>) -> bool {
     let_go!(made = numbers.get_bool(alloc, 0); is_said_fault(alloc, &made))
-        & (numbers.get_i32(alloc, 1).ok() == Some(7))
+        && numbers.get_i32(alloc, 1).ok() == Some(7)
 }
 
 #[test]

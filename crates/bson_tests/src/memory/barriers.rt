@@ -19,7 +19,7 @@ fn is_barrier(
 ) -> bool {
     match answer {
         Ok(Some(barrier)) => {
-            (barrier.place.path.len() == levels) & (barrier.place.offset == offset)
+            barrier.place.path.len() == levels && barrier.place.offset == offset
         }
         Ok(None) => false,
         Err(error) => is_out_of_memory(error),
@@ -34,9 +34,9 @@ fn is_stop(
 ) -> bool {
     match answer {
         Ok(Some(breach)) => {
-            (breach.cause == Cause::Stop)
-                & (breach.place.path.len() == levels)
-                & (breach.place.offset == offset)
+            breach.cause == Cause::Stop
+                && breach.place.path.len() == levels
+                && breach.place.offset == offset
         }
         Err(ValidateError::OutOfMemory) => true,
         _ => false,
@@ -69,7 +69,7 @@ fn is_end_of_tokens(
         Ok(_) => false,
         Err(FlattenError::OutOfMemory) => true,
         Err(FlattenError::Barrier(barrier)) => {
-            (barrier.place.path.len() == levels) & (barrier.place.offset == offset)
+            barrier.place.path.len() == levels && barrier.place.offset == offset
         }
     }
 }
@@ -83,8 +83,8 @@ const LIMITS: Limits = Limits {
 /// Whether each call goes as far as the stop two levels down in the document.
 fn is_stopped(alloc: Global, view: RawDocument<'_>) -> bool {
     let_go!(made = first_fault_within(alloc, view, LIMITS); is_barrier(&made, 2, 13))
-        & let_go!(made = validate_within(alloc, view, LIMITS); is_stop(&made, 2, 13))
-        & let_go!(
+        && let_go!(made = validate_within(alloc, view, LIMITS); is_stop(&made, 2, 13))
+        && let_go!(
             made = flatten_within(alloc, view, LIMITS, &mut []);
             is_end_of_tokens(&made, 2, 13)
         )
@@ -108,6 +108,6 @@ fn are_counted(alloc: Global, view: RawDocument<'_>, count: usize) -> bool {
 #[test]
 fn forms_and_tokens_or_out_of_memory(rt: HostRuntime) {
     let alloc = rt.alloc();
-    assert!(rt; is_form(alloc, REPEATED) & is_form(alloc, FORM));
+    assert!(rt; is_form(alloc, REPEATED) && is_form(alloc, FORM));
     assert!(rt; are_counted(alloc, view(&rt, REPEATED), 6));
 }

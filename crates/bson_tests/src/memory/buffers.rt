@@ -56,7 +56,7 @@ const APPENDS: &[Append] = &[
 /// Whether new buffers are empty, or memory ran out.
 fn are_empty(alloc: Global) -> bool {
     let_go!(made = RawDocumentBuf::new(alloc); is_document(&made, EMPTY))
-        & let_go!(made = RawArrayBuf::new(alloc); is_array(&made, EMPTY))
+        && let_go!(made = RawArrayBuf::new(alloc); is_array(&made, EMPTY))
 }
 
 #[test]
@@ -68,7 +68,7 @@ fn new_or_out_of_memory(rt: HostRuntime) {
 fn is_appended(answer: &Result<()>, found: &[u8], before: &[u8], after: &[u8]) -> bool {
     match answer {
         Ok(()) => found == after,
-        Err(error) => is_out_of_memory(error) & (found == before),
+        Err(error) => is_out_of_memory(error) && found == before,
     }
 }
 
@@ -81,7 +81,7 @@ fn goes_well_at_last(
     is_appended(answer, document.as_bytes(), before, after)
         && (answer.is_ok()
             || let_go!(made = document.append_ref(key, value.borrowed()); made.is_ok())
-                & (document.as_bytes() == after))
+                && document.as_bytes() == after)
 }
 
 /// Whether an owned copy of the value is appended in the end, or memory ran out for the copy.
@@ -142,7 +142,7 @@ const NUMBER: &[u8] = b"\x0C\0\0\0\x10b\0\x02\0\0\0\0";
 
 /// Whether the element is appended to the empty document.
 fn is_appended_again(document: &mut RawDocumentBuf, element: RawElement<'_>) -> bool {
-    let_go!(made = document.append_element(element); made.is_ok()) & (document.as_bytes() == NUMBER)
+    let_go!(made = document.append_element(element); made.is_ok()) && document.as_bytes() == NUMBER
 }
 
 /// Whether the element is appended to the empty document, or memory ran out and nothing changed, and it is appended
@@ -177,13 +177,13 @@ fn append_element_or_out_of_memory(rt: HostRuntime) {
 
 /// Whether an append was refused for a 0 in the key, and the document is still empty.
 fn is_nul_refused(answer: &Result<()>, document: &RawDocumentBuf) -> bool {
-    is_refused(answer, Reason::InteriorNul, None) & (document.as_bytes() == EMPTY)
+    is_refused(answer, Reason::InteriorNul, None) && document.as_bytes() == EMPTY
 }
 
 /// Whether a 0 in the key is refused, be the value owned or borrowed.
 fn are_nuls_refused(document: &mut RawDocumentBuf) -> bool {
     let_go!(made = document.append("a\0b", RawBson::Null); is_nul_refused(&made, document))
-        & let_go!(
+        && let_go!(
             made = document.append_ref("a\0b", RawBsonRef::Null);
             is_nul_refused(&made, document)
         )
@@ -205,7 +205,7 @@ fn interior_nul_or_out_of_memory(rt: HostRuntime) {
 
 /// Whether a null is pushed.
 fn is_pushed_again(array: &mut RawArrayBuf, after: &[u8]) -> bool {
-    let_go!(made = array.push(RawBson::Null); made.is_ok()) & (array.as_bytes() == after)
+    let_go!(made = array.push(RawBson::Null); made.is_ok()) && array.as_bytes() == after
 }
 
 /// Whether a null is pushed, at once or, where memory ran out and nothing changed, when it is pushed again.
@@ -224,7 +224,7 @@ fn are_nulls_pushed(alloc: Global, bytes: &[u8]) -> bool {
     match array_of(alloc, bytes) {
         Ok(mut array) => {
             is_null_pushed(&mut array, bytes, SWALLOWED_TERMINATOR_PUSHED)
-                & is_null_pushed(&mut array, SWALLOWED_TERMINATOR_PUSHED, PUSHED_TWICE)
+                && is_null_pushed(&mut array, SWALLOWED_TERMINATOR_PUSHED, PUSHED_TWICE)
         }
         Err(error) => is_out_of_memory(&error),
     }

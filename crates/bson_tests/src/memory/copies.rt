@@ -22,7 +22,7 @@ fn is_clone<T: PartialEq>(copy: &Result<T, AllocError>, cloned: &T) -> bool {
 fn has_document_clone(document: &raw_bson::Result<RawDocumentBuf>, bytes: &[u8]) -> bool {
     match document {
         Ok(document) => let_go!(made: Result<_, _> = document.clone(); is_clone(&made, document))
-            & (document.as_bytes() == bytes),
+            && document.as_bytes() == bytes,
         Err(error) => is_out_of_memory(error),
     }
 }
@@ -31,7 +31,7 @@ fn has_document_clone(document: &raw_bson::Result<RawDocumentBuf>, bytes: &[u8])
 fn has_array_clone(array: &raw_bson::Result<RawArrayBuf>, bytes: &[u8]) -> bool {
     match array {
         Ok(array) => let_go!(made: Result<_, _> = array.clone(); is_clone(&made, array))
-            & (array.as_bytes() == bytes),
+            && array.as_bytes() == bytes,
         Err(error) => is_out_of_memory(error),
     }
 }
@@ -41,7 +41,7 @@ fn are_buffers_cloned(alloc: Global, document: RawDocument<'_>, array: RawArray<
     let_go!(
         made = document.to_raw_document_buf(alloc);
         has_document_clone(&made, document.as_bytes())
-    ) & let_go!(made = array.to_raw_array_buf(alloc); has_array_clone(&made, array.as_bytes()))
+    ) && let_go!(made = array.to_raw_array_buf(alloc); has_array_clone(&made, array.as_bytes()))
 }
 
 #[test]
@@ -71,7 +71,7 @@ fn has_value_clone(
     match value {
         Ok(value) => {
             let_go!(made: Result<_, _> = value.clone(); is_value_clone(&made, want, kind))
-                & (value.as_raw_bson_ref() == want)
+                && value.as_raw_bson_ref() == want
         }
         Err(error) => is_out_of_memory(error),
     }
@@ -96,14 +96,14 @@ fn clones_of_values_or_out_of_memory(rt: HostRuntime) {
 fn is_copy(answer: &raw_bson::Result<RawBson>, want: RawBsonRef<'_>, kind: ElementType) -> bool {
     match answer {
         Ok(copy) => copy.as_raw_bson_ref() == want,
-        Err(error) => has_memory(kind) & is_out_of_memory(error),
+        Err(error) => has_memory(kind) && is_out_of_memory(error),
     }
 }
 
 /// Whether the value of this element and the element are copied.
 fn is_element_copied(alloc: Global, element: RawElement<'_>, want: RawBsonRef<'_>) -> bool {
     let_go!(made = want.to_raw_bson(alloc); is_copy(&made, want, element.element_type()))
-        & let_go!(made = element.to_raw_bson(alloc); is_copy(&made, want, element.element_type()))
+        && let_go!(made = element.to_raw_bson(alloc); is_copy(&made, want, element.element_type()))
 }
 
 /// The same of the value of this kind, and of an item of the document of all kinds.
@@ -124,7 +124,7 @@ fn are_copied(alloc: Global, document: RawDocument<'_>) -> bool {
     let mut are_right = true;
     for (_, kind) in KINDS {
         are_right = are_right
-            & let_go!(made = elements.next(); is_kind_copied(alloc, *kind, &made));
+            && let_go!(made = elements.next(); is_kind_copied(alloc, *kind, &made));
     }
     are_right
 }

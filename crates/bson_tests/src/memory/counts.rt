@@ -15,7 +15,7 @@ fn is_fault_of_one_element(error: &Error, count: usize) -> bool {
     let two = ErrorKind::MalformedValue {
         reason: Reason::BadBoolean(2),
     };
-    (error.kind == two) & (error.key() == Some("a")) & (count == 1)
+    error.kind == two && error.key() == Some("a") && count == 1
 }
 
 /// Whether the document was read up to that fault.
@@ -40,8 +40,8 @@ fn elements_until_a_fault_or_out_of_memory(rt: HostRuntime) {
 /// Whether so many levels were read, each an element but the innermost; or memory ran out, with no more elements.
 fn are_levels_counted(answer: &raw_bson::Result<Document>, count: usize, levels: usize) -> bool {
     match answer {
-        Ok(tree) => (levels_inside(tree, levels.saturating_add(1)) == levels) & (count == levels),
-        Err(error) => is_out_of_memory(error) & (count <= levels),
+        Ok(tree) => levels_inside(tree, levels.saturating_add(1)) == levels && count == levels,
+        Err(error) => is_out_of_memory(error) && count <= levels,
     }
 }
 

@@ -42,7 +42,7 @@ const FAULTS: &[(&[u8], &str)] = &[
 
 /// Whether kinds that have no memory of their own are copied.
 fn are_kinds_copied(reason: Reason) -> bool {
-    is_kind_copied(&ErrorKind::OutOfMemory) & is_kind_copied(&ErrorKind::MalformedValue { reason })
+    is_kind_copied(&ErrorKind::OutOfMemory) && is_kind_copied(&ErrorKind::MalformedValue { reason })
 }
 
 #[test]
@@ -74,7 +74,7 @@ fn is_access_copied(error: &ValueAccessError) -> bool {
 fn has_access_copies(answer: &ValueAccessResult<DoubleBits>) -> bool {
     match answer {
         Ok(_) => false,
-        Err(error) => is_access_kind_copied(&error.kind) & is_access_copied(error),
+        Err(error) => is_access_kind_copied(&error.kind) && is_access_copied(error),
     }
 }
 

@@ -8,7 +8,7 @@ use std::process::Abort;
 
 /// Whether a typed getter has a number behind another value, also where that has a fault.
 fn are_found(alloc: Global, mixed: RawDocument<'_>, faulty: RawArray<'_>) -> bool {
-    (mixed.get_i32(alloc, "i32").ok() == Some(1000000)) & (faulty.get_i32(alloc, 1).ok() == Some(7))
+    mixed.get_i32(alloc, "i32").ok() == Some(1000000) && faulty.get_i32(alloc, 1).ok() == Some(7)
 }
 
 #[test]
@@ -36,11 +36,11 @@ fn is_made(made: &raw_bson::Result<RawBson>, want: RawBsonRef<'_>) -> bool {
 /// Whether small values become those of the other kind.
 fn are_converted(alloc: Global) -> bool {
     is_seven(&RawBson::Int32(7).into_bson(alloc))
-        & let_go!(
+        && let_go!(
             made = RawBson::try_from_bson(alloc, Bson::Int32(7));
             is_made(&made, RawBsonRef::Int32(7))
         )
-        & let_go!(
+        && let_go!(
             made = RawBson::try_from_bson(alloc, Bson::Null);
             is_made(&made, RawBsonRef::Null)
         )

@@ -36,7 +36,7 @@ fn has_pairs(document: &Document, count: usize) -> bool {
     let mut are_right = document.len() == count;
     for (index, (key, number)) in PAIRS.iter().enumerate() {
         are_right = are_right
-            & if index < count {
+            && if index < count {
                 is_numbered(document, index, key, *number)
             } else {
                 is_missing(document, index, key)
@@ -58,15 +58,15 @@ fn is_inserted(alloc: Global, document: &mut Document, key: &str, number: i32) -
 /// is made again.
 fn is_next(alloc: Global, document: &mut Document, before: usize, pair: (&str, i32)) -> bool {
     let is_in = is_inserted(alloc, document, pair.0, pair.1)
-        || has_pairs(document, before) & is_inserted(alloc, document, pair.0, pair.1);
-    is_in & has_pairs(document, before.saturating_add(1))
+        || has_pairs(document, before) && is_inserted(alloc, document, pair.0, pair.1);
+    is_in && has_pairs(document, before.saturating_add(1))
 }
 
 /// Whether the first so many pairs are inserted.
 fn are_inserted(alloc: Global, document: &mut Document, count: usize) -> bool {
     let mut are_right = true;
     for (before, pair) in PAIRS.iter().take(count).enumerate() {
-        are_right = are_right & is_next(alloc, document, before, *pair);
+        are_right = are_right && is_next(alloc, document, before, *pair);
     }
     are_right
 }
@@ -95,7 +95,7 @@ fn is_null_at(document: &Document, index: usize) -> bool {
 fn is_replaced(alloc: Global, document: &mut Document, index: usize, pair: (&str, i32)) -> bool {
     match String::from_str(alloc, pair.0) {
         Ok(key) => let_go!(made = document.insert(key, Bson::Null); is_old(&made, pair.1))
-            & is_null_at(document, index),
+            && is_null_at(document, index),
         Err(_) => true,
     }
 }
@@ -104,15 +104,15 @@ fn is_replaced(alloc: Global, document: &mut Document, index: usize, pair: (&str
 fn are_inserted_again(alloc: Global, document: &mut Document, count: usize) -> bool {
     let mut are_right = true;
     for (index, pair) in PAIRS.iter().take(count).enumerate() {
-        are_right = are_right & is_replaced(alloc, document, index, *pair);
+        are_right = are_right && is_replaced(alloc, document, index, *pair);
     }
-    are_right & (document.len() == count)
+    are_right && document.len() == count
 }
 
 /// Whether each of the first so many keys is inserted, and then a second time.
 fn are_inserted_twice(alloc: Global, count: usize) -> bool {
     let mut document = Document::new(alloc);
-    are_inserted(alloc, &mut document, count) & are_inserted_again(alloc, &mut document, count)
+    are_inserted(alloc, &mut document, count) && are_inserted_again(alloc, &mut document, count)
 }
 
 #[test]
@@ -124,7 +124,7 @@ fn insert_of_a_key_that_is_there_or_out_of_memory(rt: HostRuntime) {
 /// Whether the regular expression has these texts, or memory ran out.
 fn is_regex(answer: &Result<Regex, NoMemory>, pattern: &str, options: &str) -> bool {
     match answer {
-        Ok(regex) => (regex.pattern.as_str() == pattern) & (regex.options.as_str() == options),
+        Ok(regex) => regex.pattern.as_str() == pattern && regex.options.as_str() == options,
         Err(NoMemory) => true,
     }
 }

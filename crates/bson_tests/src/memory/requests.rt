@@ -52,9 +52,9 @@ fn are_appended(document: &mut RawDocumentBuf) -> bool {
     let mut are_right = true;
     for (key, number) in NUMBERS {
         are_right = are_right
-            & let_go!(made = document.append_ref(key, RawBsonRef::Int32(*number)); made.is_ok());
+            && let_go!(made = document.append_ref(key, RawBsonRef::Int32(*number)); made.is_ok());
     }
-    are_right & (document.as_bytes() == THREE_INT32)
+    are_right && document.as_bytes() == THREE_INT32
 }
 
 /// Whether they are to the empty document where there is room for them.

@@ -33,7 +33,7 @@ const OTHER_SPELLING: &[u8] = b"\x3D\0\0\0\
 /// Whether the tree has this part at this place.
 fn has_part(tree: &Document, index: usize, wanted: &str) -> bool {
     match tree.pair_at(index) {
-        Some((key, value)) => (key == wanted) & is_part(key, value),
+        Some((key, value)) => key == wanted && is_part(key, value),
         None => false,
     }
 }
@@ -41,11 +41,11 @@ fn has_part(tree: &Document, index: usize, wanted: &str) -> bool {
 /// Whether the tree has these parts in this order.
 fn has_parts(tree: &Document) -> bool {
     has_part(tree, 0, "d")
-        & has_part(tree, 1, "l")
-        & has_part(tree, 2, "t")
-        & has_part(tree, 3, "r")
-        & has_part(tree, 4, "c")
-        & (tree.len() == 5)
+        && has_part(tree, 1, "l")
+        && has_part(tree, 2, "t")
+        && has_part(tree, 3, "r")
+        && has_part(tree, 4, "c")
+        && tree.len() == 5
 }
 
 /// Whether the result is a tree of these parts, or out of memory.
@@ -61,8 +61,8 @@ fn is_buffer_read(answer: &raw_bson::Result<RawDocumentBuf>, bytes: &[u8]) -> bo
     match answer {
         Ok(buffer) => {
             let_go!(made = buffer.to_document(); is_tree(&made))
-                & let_go!(made = buffer.to_document_within(LIMITS); is_tree(&made))
-                & (buffer.as_bytes() == bytes)
+                && let_go!(made = buffer.to_document_within(LIMITS); is_tree(&made))
+                && buffer.as_bytes() == bytes
         }
         Err(error) => is_out_of_memory(error),
     }
@@ -79,13 +79,13 @@ fn is_buffer_taken(answer: raw_bson::Result<RawDocumentBuf>) -> bool {
 /// Whether the document has these parts, also within limits.
 fn is_view_read(alloc: Global, view: RawDocument<'_>) -> bool {
     let_go!(made = document_from_raw(alloc, view); is_tree(&made))
-        & let_go!(made = document_from_raw_within(alloc, view, LIMITS); is_tree(&made))
+        && let_go!(made = document_from_raw_within(alloc, view, LIMITS); is_tree(&made))
 }
 
 /// Whether so have buffers of these bytes, that are read and that are taken.
 fn are_buffers_read(alloc: Global, bytes: &[u8]) -> bool {
     let_go!(made = document_of(alloc, bytes); is_buffer_read(&made, bytes))
-        & is_buffer_taken(document_of(alloc, bytes))
+        && is_buffer_taken(document_of(alloc, bytes))
 }
 
 #[test]
@@ -127,15 +127,15 @@ fn is_list_read(alloc: Global, value: RawBsonRef<'_>) -> bool {
 /// Whether the element becomes the tree under its key, and so does its value.
 fn is_element_read(alloc: Global, element: RawElement<'_>, value: RawBsonRef<'_>) -> bool {
     let_go!(made = bson_from_element(alloc, element); is_part_answered(element.key(), &made))
-        & let_go!(made = bson_from_raw(alloc, value); is_part_answered(element.key(), &made))
-        & is_list_read(alloc, value)
+        && let_go!(made = bson_from_raw(alloc, value); is_part_answered(element.key(), &made))
+        && is_list_read(alloc, value)
 }
 
 /// Whether each call that writes the tree gives its bytes, or runs out of memory, and leaves the tree as it was.
 fn is_written(alloc: Global, tree: &Document) -> bool {
     let_go!(made = RawDocumentBuf::from_document(alloc, tree); is_document(&made, PARTS))
-        & let_go!(made = RawDocumentBuf::try_from_document(alloc, tree); is_document(&made, PARTS))
-        & has_parts(tree)
+        && let_go!(made = RawDocumentBuf::try_from_document(alloc, tree); is_document(&made, PARTS))
+        && has_parts(tree)
 }
 
 /// Whether the tree is written, or memory ran out for it.
@@ -149,7 +149,7 @@ fn is_tree_written(alloc: Global, answer: &raw_bson::Result<Document>) -> bool {
 /// Whether each call that writes the parts does.
 fn are_parts_written(alloc: Global) -> bool {
     let_go!(made = canonical_bytes(alloc, OTHER_SPELLING); is_list(&made, PARTS))
-        & let_go!(made = tree_of(alloc, PARTS); is_tree_written(alloc, &made))
+        && let_go!(made = tree_of(alloc, PARTS); is_tree_written(alloc, &made))
 }
 
 #[test]
@@ -159,7 +159,7 @@ fn bytes_of_trees_or_out_of_memory(rt: HostRuntime) {
 
 /// Whether memory ran out for the value under this key. A text and a regular expression are moved, which takes none.
 fn is_copy_refused(key: &str, error: &Error) -> bool {
-    (key != "t") & (key != "r") & is_out_of_memory(error)
+    key != "t" && key != "r" && is_out_of_memory(error)
 }
 
 /// Whether this is the tree under this key, or memory ran out for its copy.
@@ -196,7 +196,8 @@ fn goes_and_comes_back(
     is_form: bool,
 ) -> bool {
     let is_value = !is_form || is_value(key, &answer, value);
-    is_value & is_tree_again(alloc, key, answer)
+    let is_tree = is_tree_again(alloc, key, answer);
+    is_value && is_tree
 }
 
 /// The same of what an element becomes, or memory ran out for it.
@@ -224,8 +225,8 @@ fn is_element_right(
     is_form: bool,
 ) -> bool {
     let made = bson_from_element(alloc, element);
-    is_element_read(alloc, element, value)
-        & is_tree_owned(alloc, element.key(), made, value, is_form)
+    let is_owned = is_tree_owned(alloc, element.key(), made, value, is_form);
+    is_owned && is_element_read(alloc, element, value)
 }
 
 /// The same of an element whose value was read.
@@ -255,7 +256,7 @@ fn is_item_right(alloc: Global, item: &raw_bson::Result<RawElement<'_>>, is_form
 fn are_elements_right(alloc: Global, document: RawDocument<'_>, is_form: bool) -> bool {
     let mut are_right = true;
     for item in document.iter_elements(alloc) {
-        are_right = are_right & is_item_right(alloc, &item, is_form);
+        are_right = are_right && is_item_right(alloc, &item, is_form);
         drop(item);
     }
     are_right
@@ -306,7 +307,7 @@ fn becomes(
     match answer {
         Ok(buffer) => {
             let_go!(made = buffer.to_document(); is_tree_of_form(alloc, &made, form))
-                & (buffer.as_bytes() == bytes)
+                && buffer.as_bytes() == bytes
         }
         Err(error) => is_out_of_memory(error),
     }
@@ -320,7 +321,7 @@ fn have_form(alloc: Global, bytes: &[u8], form: &[u8]) -> bool {
 /// Whether they also do so by one call.
 fn are_forms(alloc: Global, bytes: &[u8], form: &[u8]) -> bool {
     have_form(alloc, bytes, form)
-        & let_go!(made = canonical_bytes(alloc, bytes); is_list(&made, form))
+        && let_go!(made = canonical_bytes(alloc, bytes); is_list(&made, form))
 }
 
 #[test]

@@ -11,7 +11,7 @@ use std::process::Abort;
 /// Whether the result is this breach, or out of memory.
 fn is_breach(answer: &raw_bson::Result<Option<Breach>>, path: &[usize], cause: Cause) -> bool {
     match answer {
-        Ok(Some(breach)) => (breach.path.as_slice() == path) & (breach.cause == cause),
+        Ok(Some(breach)) => breach.path.as_slice() == path && breach.cause == cause,
         Ok(None) => false,
         Err(error) => is_out_of_memory(error),
     }
@@ -29,7 +29,7 @@ fn is_canonical(answer: &raw_bson::Result<Option<Breach>>) -> bool {
 fn is_at(place: &Place<'_>, path: &[usize]) -> bool {
     let mut is_right = place.path.len() == path.len();
     for (step, number) in place.path.iter().zip(path) {
-        is_right = is_right & (step.number == *number);
+        is_right = is_right && step.number == *number;
     }
     is_right
 }
@@ -41,7 +41,7 @@ fn is_placed(
     cause: Cause,
 ) -> bool {
     match answer {
-        Ok(Some(breach)) => (breach.cause == cause) & is_at(&breach.place, path),
+        Ok(Some(breach)) => breach.cause == cause && is_at(&breach.place, path),
         Err(ValidateError::OutOfMemory) => true,
         _ => false,
     }
@@ -64,7 +64,7 @@ const LIMITS: Limits = Limits {
 /// Whether the first breach of the document is this one, or memory runs out.
 fn is_broken(alloc: Global, view: RawDocument<'_>, path: &[usize], cause: Cause) -> bool {
     let_go!(made = validate(alloc, view); is_breach(&made, path, cause))
-        & let_go!(made = validate_within(alloc, view, LIMITS); is_placed(&made, path, cause))
+        && let_go!(made = validate_within(alloc, view, LIMITS); is_placed(&made, path, cause))
 }
 
 /// The same of each row.
@@ -85,7 +85,7 @@ fn breaches_or_out_of_memory(rt: HostRuntime) {
 /// Whether the document is canonical, or memory runs out.
 fn is_without_breach(alloc: Global, view: RawDocument<'_>) -> bool {
     let_go!(made = validate(alloc, view); is_canonical(&made))
-        & let_go!(made = validate_within(alloc, view, LIMITS); is_sound(&made))
+        && let_go!(made = validate_within(alloc, view, LIMITS); is_sound(&made))
 }
 
 #[test]

@@ -30,7 +30,7 @@ fn is_item_out_of_memory(item: &Option<raw_bson::Result<(&str, RawBsonRef<'_>)>>
 fn is_out_of_memory_alone(alloc: Global, document: RawDocument<'_>) -> bool {
     let mut iter = document.iter(alloc);
     let is_first = let_go!(made = iter.next(); is_item_out_of_memory(&made));
-    is_first & let_go!(made = iter.next(); made.is_none())
+    is_first && let_go!(made = iter.next(); made.is_none())
 }
 
 /// `bin/test` wants the line in each run in which a request was refused, and in no other.

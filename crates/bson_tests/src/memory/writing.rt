@@ -19,7 +19,7 @@ fn is_empty_written(alloc: Global) -> bool {
 
 #[test]
 fn encode_or_out_of_memory(rt: HostRuntime) {
-    assert!(rt; is_empty_written(rt.alloc()) & is_true_written(rt.alloc()));
+    assert!(rt; is_empty_written(rt.alloc()) && is_true_written(rt.alloc()));
 }
 
 /// The document that holds this value under this key.

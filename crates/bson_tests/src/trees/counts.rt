@@ -5,7 +5,7 @@ use std::process::Abort;
 
 /// Whether nothing was left for an element, behind so many.
 fn is_overflow(answer: &Result<Document>, found: usize, count: usize) -> bool {
-    (found == count) & is_refused(answer, Reason::Overflowed, None)
+    found == count && is_refused(answer, Reason::Overflowed, None)
 }
 
 /// Whether so many elements are framed of the document until nothing is left for one.

@@ -21,8 +21,8 @@ fn million(rt: &impl Abort, alloc: Global, holders: &[Holder]) -> Vec<u8> {
 
 /// Whether the tree has a million levels, and is written as these bytes.
 fn is_million(alloc: Global, tree: &Document, bytes: &[u8]) -> bool {
-    (levels_inside(tree, MILLION + 1) == MILLION)
-        & let_go!(made = encode(alloc, tree); is_written(&made, bytes))
+    levels_inside(tree, MILLION + 1) == MILLION
+        && let_go!(made = encode(alloc, tree); is_written(&made, bytes))
 }
 
 /// Whether the tree was made, and is that.
@@ -95,7 +95,7 @@ fn is_pushed(alloc: Global, array: &mut RawArrayBuf, bytes: &[u8]) -> bool {
 fn are_pushed(alloc: Global, array: &mut RawArrayBuf, bytes: &[u8]) -> bool {
     let mut are_right = true;
     for _ in 0..1000 {
-        are_right = are_right & is_pushed(alloc, array, bytes);
+        are_right = are_right && is_pushed(alloc, array, bytes);
     }
     are_right
 }
@@ -104,7 +104,7 @@ fn are_pushed(alloc: Global, array: &mut RawArrayBuf, bytes: &[u8]) -> bool {
 fn is_list_read(alloc: Global, read: &Result<Vec<Bson>, Error>, bytes: &[u8]) -> bool {
     match read {
         Ok(list) => (list.len() == 1000)
-            & let_go!(made = encode_list(alloc, list); is_written(&made, bytes)),
+            && let_go!(made = encode_list(alloc, list); is_written(&made, bytes)),
         Err(_) => false,
     }
 }
@@ -112,7 +112,7 @@ fn is_list_read(alloc: Global, read: &Result<Vec<Bson>, Error>, bytes: &[u8]) ->
 /// Whether a thousand documents of these bytes are pushed, and come back.
 fn is_pushed_and_read(alloc: Global, array: &mut RawArrayBuf, bytes: &[u8]) -> bool {
     are_pushed(alloc, array, bytes)
-        & let_go!(
+        && let_go!(
             made = list_from_raw(alloc, array.as_ref());
             is_list_read(alloc, &made, array.as_bytes())
         )
@@ -187,7 +187,7 @@ fn has_text(alloc: Global, value: &RawBson, bytes: &[u8]) -> bool {
 /// Whether the value is equal to its copy and printed as a document of these bytes.
 fn is_value(alloc: Global, value: &RawBson, bytes: &[u8]) -> bool {
     let_go!(made: Result<_, _> = value.clone(); is_copy(&made, value))
-        & has_text(alloc, value, bytes)
+        && has_text(alloc, value, bytes)
 }
 
 /// Whether the value of the document of these bytes is.

@@ -31,5 +31,5 @@ fn is_form(alloc: Global, bytes: &[u8]) -> bool {
 
 #[test]
 fn a_form_within_limits(rt: HostRuntime) {
-    assert!(rt; is_form(rt.alloc(), MIXED) & is_form(rt.alloc(), MIXED_FORM));
+    assert!(rt; is_form(rt.alloc(), MIXED) && is_form(rt.alloc(), MIXED_FORM));
 }

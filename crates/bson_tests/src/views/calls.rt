@@ -32,7 +32,7 @@ fn other_accessors(value: RawBsonRef<'_>) -> usize {
 /// Whether the value is that of this kind.
 fn is_value(value: RawBsonRef<'_>, kind: ElementType) -> bool {
     match borrowed(kind) {
-        Ok(wanted) => (value == wanted) & (value.element_type() == kind),
+        Ok(wanted) => value == wanted && value.element_type() == kind,
         Err(_) => false,
     }
 }
@@ -40,7 +40,7 @@ fn is_value(value: RawBsonRef<'_>, kind: ElementType) -> bool {
 /// Whether the value is that of this kind, and just one accessor returns something of it, where there is one for it.
 fn is_kind(value: RawBsonRef<'_>, kind: ElementType) -> bool {
     let count = fixed_accessors(value).wrapping_add(other_accessors(value));
-    (count == usize::from(has_accessor(kind))) & is_value(value, kind)
+    count == usize::from(has_accessor(kind)) && is_value(value, kind)
 }
 
 /// Whether the item has this key, and a value of this kind.
@@ -50,7 +50,7 @@ fn is_item(
     kind: ElementType,
 ) -> bool {
     match item {
-        Some(Ok((found, value))) => (*found == key) & is_kind(*value, kind),
+        Some(Ok((found, value))) => *found == key && is_kind(*value, kind),
         _ => false,
     }
 }
@@ -60,9 +60,9 @@ fn are_kinds(alloc: Global, document: RawDocument<'_>) -> bool {
     let mut iter = document.iter(alloc);
     let mut are_right = true;
     for (key, kind) in KINDS {
-        are_right = are_right & let_go!(made = iter.next(); is_item(&made, key, *kind));
+        are_right = are_right && let_go!(made = iter.next(); is_item(&made, key, *kind));
     }
-    are_right & let_go!(made = iter.next(); made.is_none())
+    are_right && let_go!(made = iter.next(); made.is_none())
 }
 
 #[test]

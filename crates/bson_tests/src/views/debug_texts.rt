@@ -50,7 +50,7 @@ fn is_value_printed(
     copy: &Result<RawBson>,
     (_, text, owned_text): Row,
 ) -> bool {
-    has_debug_text(alloc, &value, text) & is_printed(alloc, copy, owned_text)
+    has_debug_text(alloc, &value, text) && is_printed(alloc, copy, owned_text)
 }
 
 /// The same of the value of a row.
@@ -118,7 +118,7 @@ const POINTER: &str =
 /// Whether a pointer and `NoMemory` have their texts.
 fn are_parts_printed(alloc: Global) -> bool {
     has_debug_text(alloc, &RawDbPointerRef::new("db.c", pointed()), POINTER)
-        & has_debug_text(alloc, &NoMemory, "NoMemory")
+        && has_debug_text(alloc, &NoMemory, "NoMemory")
 }
 
 #[test]

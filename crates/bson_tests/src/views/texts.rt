@@ -67,7 +67,7 @@ fn is_out_of_memory_printed(alloc: Global) -> bool {
     let_go!(
         error = Error::new(ErrorKind::OutOfMemory);
         has_texts(alloc, &error, "out of memory", debug_text)
-    ) & has_debug_text(alloc, &ValueAccessErrorKind::OutOfMemory, "OutOfMemory")
+    ) && has_debug_text(alloc, &ValueAccessErrorKind::OutOfMemory, "OutOfMemory")
 }
 
 #[test]
