@@ -1,6 +1,7 @@
 //! The command line.
 #![tactic(auto)]
 
+use crate::line::Line;
 use crate::reading::Reading;
 use crate::version::VERSION;
 use bson_json::{Format, Layout, Style as JsonStyle};
@@ -44,10 +45,7 @@ fn output<'a>(alloc: Global) -> Arg<'a> {
 }
 
 /// How findings are printed, with the short form of one of the ways, or that they aren't.
-fn findings<'a>(
-    alloc: Global,
-    command: clap::Command<'a>,
-) -> Result<clap::Command<'a>, AllocError> {
+fn findings<'a>(alloc: Global, command: Line<'a>) -> Line<'a> {
     let form = Arg::new(alloc, "findings")
         .long("findings")
         .value_name("FORM")
@@ -57,9 +55,9 @@ fn findings<'a>(
     let limit = "Prints the first N findings only; the last line says how many others there are";
     let quiet = "Prints no findings and no counts; the exit status says what was found";
     command
-        .arg(form)?
-        .arg(switch(alloc, "json", "As --findings=json"))?
-        .arg(switch(alloc, "quiet", quiet).short('q'))?
+        .arg(form)
+        .arg(switch(alloc, "json", "As --findings=json"))
+        .arg(switch(alloc, "quiet", quiet).short('q'))
         .arg(number(alloc, "limit", "N", 0, u64::MAX, limit))
 }
 
@@ -91,101 +89,86 @@ fn number<'a>(
 }
 
 /// What a document may cost.
-fn limits<'a>(alloc: Global, command: clap::Command<'a>) -> Result<clap::Command<'a>, AllocError> {
+fn limits<'a>(alloc: Global, command: Line<'a>) -> Line<'a> {
     let bytes = "A length over N bytes is unsound; 16793600 if it isn't given";
     let depth = "A document of more than N levels is too deep; 500 if it isn't given";
     command
-        .arg(number(alloc, "max-bytes", "N", 5, LARGEST, bytes))?
+        .arg(number(alloc, "max-bytes", "N", 5, LARGEST, bytes))
         .arg(number(alloc, "max-depth", "N", 1, LARGEST, depth))
 }
 
 /// Which documents of an input are asked for.
-fn portion<'a>(alloc: Global, command: clap::Command<'a>) -> Result<clap::Command<'a>, AllocError> {
+fn portion<'a>(alloc: Global, command: Line<'a>) -> Line<'a> {
     let at = "Reads each FILE from this offset on";
     let skip = "Passes over the first N documents of each FILE, by their lengths";
     let take = "Reads at most N documents of each FILE";
     command
-        .arg(number(alloc, "at", "OFFSET", 0, u64::MAX, at))?
-        .arg(number(alloc, "skip", "N", 0, u64::MAX, skip))?
+        .arg(number(alloc, "at", "OFFSET", 0, u64::MAX, at))
+        .arg(number(alloc, "skip", "N", 0, u64::MAX, skip))
         .arg(number(alloc, "take", "N", 0, u64::MAX, take))
 }
 
 /// A command that reads FILEs.
-fn reading<'a>(alloc: Global, command: clap::Command<'a>) -> Result<clap::Command<'a>, AllocError> {
+fn reading<'a>(alloc: Global, command: Line<'a>) -> Line<'a> {
     let help =
         "Goes on behind an unsound length, at the next place where two sound documents begin";
-    limits(alloc, portion(alloc, command)?)?
-        .arg(switch(alloc, "resync", help))?
+    limits(alloc, portion(alloc, command))
+        .arg(switch(alloc, "resync", help))
         .arg(files(alloc, "Dumps; nothing or -: standard input"))
 }
 
 /// A command that writes documents.
-fn writing<'a>(alloc: Global, command: clap::Command<'a>) -> Result<clap::Command<'a>, AllocError> {
-    reading(alloc, findings(alloc, command)?.arg(output(alloc))?)
+fn writing<'a>(alloc: Global, command: Line<'a>) -> Line<'a> {
+    reading(alloc, findings(alloc, command).arg(output(alloc)))
 }
 
 /// A command that prints documents as Extended JSON.
-fn printing<'a>(
-    alloc: Global,
-    command: clap::Command<'a>,
-) -> Result<clap::Command<'a>, AllocError> {
+fn printing<'a>(alloc: Global, command: Line<'a>) -> Line<'a> {
+    let canonical = "Prints each number and time with its kind";
+    let indent = "Prints a line for each member, indented by two spaces a level";
     command
-        .arg(switch(
-            alloc,
-            "canonical",
-            "Prints each number and time with its kind",
-        ))?
-        .arg(switch(
-            alloc,
-            "indent",
-            "Prints a line for each member, indented by two spaces a level",
-        ))
+        .arg(switch(alloc, "canonical", canonical))
+        .arg(switch(alloc, "indent", indent))
 }
 
-fn uniques<'a>(alloc: Global) -> Result<clap::Command<'a>, AllocError> {
+/// The command that writes each canonical form once.
+fn uniques<'a>(alloc: Global) -> Line<'a> {
     let repeats =
         "Names each document whose form came before, with the first of that form; takes 170 bytes a form at most";
-    let command = clap::Command::new(alloc, "unique")
-        .about("Writes each canonical form once; takes 100 bytes of memory a form at most")
-        .arg(switch(alloc, "repeats", repeats))?
-        .arg(switch(
-            alloc,
-            "as-is",
-            "Writes the first document of each form unchanged, in place of the form",
-        ))?;
+    let as_is = "Writes the first document of each form unchanged, in place of the form";
+    let about = "Writes each canonical form once; takes 100 bytes of memory a form at most";
+    let command = Line::new(alloc, "unique", about)
+        .arg(switch(alloc, "repeats", repeats))
+        .arg(switch(alloc, "as-is", as_is));
     writing(alloc, command)
 }
 
-fn documents_as_json<'a>(alloc: Global) -> Result<clap::Command<'a>, AllocError> {
-    let command = clap::Command::new(alloc, "json").about(
-        "Writes each document without damage as MongoDB Extended JSON v2, a line each",
-    );
-    writing(alloc, printing(alloc, command)?)
+/// The command that writes documents as JSON.
+fn documents_as_json<'a>(alloc: Global) -> Line<'a> {
+    let about = "Writes each document without damage as MongoDB Extended JSON v2, a line each";
+    writing(alloc, printing(alloc, Line::new(alloc, "json", about)))
 }
 
-fn picks<'a>(alloc: Global) -> Result<clap::Command<'a>, AllocError> {
+/// The command that writes the elements of some paths.
+fn picks<'a>(alloc: Global) -> Line<'a> {
     let paths = Arg::new(alloc, "PATHS")
         .help("Keys with dots between them, as items.0.name, and commas between the paths")
         .required(true)
         .action(ArgAction::Set);
-    let command = clap::Command::new(alloc, "pick")
-        .about("Writes these elements of each document without damage, as json does")
-        .arg(switch(alloc, "bson", "Writes them as a dump"))?
-        .arg(paths)?;
-    writing(alloc, printing(alloc, command)?)
+    let about = "Writes these elements of each document without damage, as json does";
+    let command = Line::new(alloc, "pick", about)
+        .arg(switch(alloc, "bson", "Writes them as a dump"))
+        .arg(paths);
+    writing(alloc, printing(alloc, command))
 }
 
-fn texts<'a>(alloc: Global) -> Result<clap::Command<'a>, AllocError> {
-    let command = clap::Command::new(alloc, "bson").about(
-        "Writes the documents of texts of MongoDB Extended JSON v2, one behind the other",
-    );
-    findings(alloc, command)?
-        .arg(output(alloc))?
-        .arg(switch(
-            alloc,
-            "keep-going",
-            "Goes on behind a fault, and leaves out its document",
-        ))?
+/// The command that reads texts.
+fn texts<'a>(alloc: Global) -> Line<'a> {
+    let about = "Writes the documents of texts of MongoDB Extended JSON v2, one behind the other";
+    let keep_going = "Goes on behind a fault, and leaves out its document";
+    findings(alloc, Line::new(alloc, "bson", about))
+        .arg(output(alloc))
+        .arg(switch(alloc, "keep-going", keep_going))
         .arg(files(alloc, "Texts; nothing or -: standard input"))
 }
 
@@ -193,91 +176,74 @@ fn texts<'a>(alloc: Global) -> Result<clap::Command<'a>, AllocError> {
 const PATHS: usize = 10_000;
 
 /// The command that counts elements.
-fn fields<'a>(alloc: Global) -> Result<clap::Command<'a>, AllocError> {
-    let command = clap::Command::new(alloc, "fields").about(
-        "Counts the elements of documents without damage by their paths, with kinds and lengths",
-    );
+fn fields<'a>(alloc: Global) -> Line<'a> {
+    let about =
+        "Counts the elements of documents without damage by their paths, with kinds and lengths";
     let paths = "Counts elements of at most N paths; 10000 if it isn't given";
-    let command = command.arg(number(alloc, "paths", "N", 0, LARGEST, paths))?;
-    reading(alloc, command)
+    let command = Line::new(alloc, "fields", about);
+    reading(
+        alloc,
+        command.arg(number(alloc, "paths", "N", 0, LARGEST, paths)),
+    )
 }
 
 /// The command that judges documents.
-fn checks<'a>(alloc: Global) -> Result<clap::Command<'a>, AllocError> {
-    let command = clap::Command::new(alloc, "check").about(
-        "Names each document that isn't canonical, and counts",
-    );
-    reading(alloc, findings(alloc, command)?)
+fn checks<'a>(alloc: Global) -> Line<'a> {
+    let about = "Names each document that isn't canonical, and counts";
+    reading(alloc, findings(alloc, Line::new(alloc, "check", about)))
 }
 
 /// The command that lists elements.
-fn lists<'a>(alloc: Global) -> Result<clap::Command<'a>, AllocError> {
-    let command = clap::Command::new(alloc, "list").about(
-        "Lists the elements of each document, at every level",
-    );
-    reading(alloc, command)
+fn lists<'a>(alloc: Global) -> Line<'a> {
+    let about = "Lists the elements of each document, at every level";
+    reading(alloc, Line::new(alloc, "list", about))
 }
 
 /// The command that counts documents.
-fn counts<'a>(alloc: Global) -> Result<clap::Command<'a>, AllocError> {
-    let command = clap::Command::new(alloc, "count").about(
-        "Counts documents and bytes by lengths alone, and judges none",
-    );
-    reading(alloc, findings(alloc, command)?)
+fn counts<'a>(alloc: Global) -> Line<'a> {
+    let about = "Counts documents and bytes by lengths alone, and judges none";
+    reading(alloc, findings(alloc, Line::new(alloc, "count", about)))
 }
 
 /// The command that writes canonical forms.
-fn forms<'a>(alloc: Global) -> Result<clap::Command<'a>, AllocError> {
-    let command = clap::Command::new(alloc, "canon").about(
-        "Writes the canonical form of each document without damage",
-    );
-    writing(alloc, command)
+fn forms<'a>(alloc: Global) -> Line<'a> {
+    let about = "Writes the canonical form of each document without damage";
+    writing(alloc, Line::new(alloc, "canon", about))
 }
 
 /// The command that leaves out damaged documents.
-fn sounds<'a>(alloc: Global) -> Result<clap::Command<'a>, AllocError> {
-    let command = clap::Command::new(alloc, "sound").about(
-        "Writes each document without damage, unchanged",
-    );
-    writing(alloc, command)
+fn sounds<'a>(alloc: Global) -> Line<'a> {
+    let about = "Writes each document without damage, unchanged";
+    writing(alloc, Line::new(alloc, "sound", about))
 }
 
 /// A command line with the commands that print what they find.
-fn with_reports<'a>(
-    alloc: Global,
-    line: clap::Command<'a>,
-) -> Result<clap::Command<'a>, AllocError> {
-    line.subcommand(checks(alloc)?)?
-        .subcommand(lists(alloc)?)?
-        .subcommand(counts(alloc)?)?
-        .subcommand(fields(alloc)?)
+fn with_reports<'a>(alloc: Global, line: Line<'a>) -> Line<'a> {
+    line.subcommand(checks(alloc))
+        .subcommand(lists(alloc))
+        .subcommand(counts(alloc))
+        .subcommand(fields(alloc))
 }
 
 /// A command line with the commands that write documents anew, as BSON.
-fn with_copies<'a>(
-    alloc: Global,
-    line: clap::Command<'a>,
-) -> Result<clap::Command<'a>, AllocError> {
-    line.subcommand(forms(alloc)?)?
-        .subcommand(sounds(alloc)?)?
-        .subcommand(uniques(alloc)?)
+fn with_copies<'a>(alloc: Global, line: Line<'a>) -> Line<'a> {
+    line.subcommand(forms(alloc))
+        .subcommand(sounds(alloc))
+        .subcommand(uniques(alloc))
 }
 
 /// A command line with the commands that write or read JSON.
-fn with_json<'a>(alloc: Global, line: clap::Command<'a>) -> Result<clap::Command<'a>, AllocError> {
-    line.subcommand(documents_as_json(alloc)?)?
-        .subcommand(picks(alloc)?)?
-        .subcommand(texts(alloc)?)
+fn with_json<'a>(alloc: Global, line: Line<'a>) -> Line<'a> {
+    line.subcommand(documents_as_json(alloc))
+        .subcommand(picks(alloc))
+        .subcommand(texts(alloc))
 }
 
 /// The command line as a whole.
 pub fn command_line<'a>(alloc: Global) -> Result<clap::Command<'a>, AllocError> {
-    let line = clap::Command::new(alloc, "bsonraw-dump")
-        .bin_name("bsonraw-dump")?
-        .version(VERSION)
-        .about("Checks dumps: BSON documents one behind the other")
-        .subcommand_required(true);
-    with_json(alloc, with_copies(alloc, with_reports(alloc, line)?)?)
+    let about = "Checks dumps: BSON documents one behind the other";
+    let line = Line::of_program(alloc, "bsonraw-dump", VERSION, about);
+    with_json(alloc, with_copies(alloc, with_reports(alloc, line))).finish()
 }
 
 fn style_of(matches: &ArgMatches<'_>) -> Style {

@@ -4,6 +4,7 @@
 mod args;
 mod files;
 mod guess;
+mod line;
 mod names;
 mod output;
 mod prompt;

@@ -1,0 +1,62 @@
+//! Commands that are put together.
+#![tactic(auto)]
+
+use clap::Arg;
+use std::alloc::{AllocError, Global};
+
+/// A command that is put together, part by part: where memory runs out for one, `finish` says so.
+#[derive(Drop)]
+pub(crate) struct Line<'a> {
+    command: Result<clap::Command<'a>, AllocError>,
+}
+
+impl<'a> Line<'a> {
+    pub(crate) fn new(alloc: Global, name: &'a str, about: &'a str) -> Line<'a> {
+        Line {
+            command: Ok(clap::Command::new(alloc, name).about(about)),
+        }
+    }
+
+    /// The command of a program with this version, which takes a command of its own.
+    pub(crate) fn of_program(
+        alloc: Global,
+        name: &'a str,
+        version: &'a str,
+        about: &'a str,
+    ) -> Line<'a> {
+        let command = clap::Command::new(alloc, name)
+            .version(version)
+            .about(about)
+            .subcommand_required(true);
+        Line {
+            command: command.bin_name(name),
+        }
+    }
+
+    pub(crate) fn arg(self, arg: Arg<'a>) -> Line<'a> {
+        Line {
+            command: match self.command {
+                Ok(command) => command.arg(arg),
+                Err(error) => Err(error),
+            },
+        }
+    }
+
+    pub(crate) fn subcommand(self, inner: Line<'a>) -> Line<'a> {
+        Line {
+            command: with_inner(self.command, inner.command),
+        }
+    }
+
+    /// The command as a whole; the only error is out of memory.
+    pub(crate) fn finish(self) -> Result<clap::Command<'a>, AllocError> {
+        self.command
+    }
+}
+
+fn with_inner<'a>(
+    outer: Result<clap::Command<'a>, AllocError>,
+    inner: Result<clap::Command<'a>, AllocError>,
+) -> Result<clap::Command<'a>, AllocError> {
+    outer?.subcommand(inner?)
+}
