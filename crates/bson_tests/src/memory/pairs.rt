@@ -64,11 +64,12 @@ fn is_next(alloc: Global, document: &mut Document, before: usize, pair: (&str, i
 
 /// Whether the first so many pairs are inserted.
 fn are_inserted(alloc: Global, document: &mut Document, count: usize) -> bool {
-    let mut are_right = true;
     for (before, pair) in PAIRS.iter().take(count).enumerate() {
-        are_right = are_right && is_next(alloc, document, before, *pair);
+        if !is_next(alloc, document, before, *pair) {
+            return false;
+        }
     }
-    are_right
+    true
 }
 
 #[test]
@@ -102,11 +103,12 @@ fn is_replaced(alloc: Global, document: &mut Document, index: usize, pair: (&str
 
 /// Whether each of the first so many keys is inserted a second time.
 fn are_inserted_again(alloc: Global, document: &mut Document, count: usize) -> bool {
-    let mut are_right = true;
     for (index, pair) in PAIRS.iter().take(count).enumerate() {
-        are_right = are_right && is_replaced(alloc, document, index, *pair);
+        if !is_replaced(alloc, document, index, *pair) {
+            return false;
+        }
     }
-    are_right && document.len() == count
+    document.len() == count
 }
 
 /// Whether each of the first so many keys is inserted, and then a second time.

@@ -27,11 +27,15 @@ fn is_canonical(answer: &raw_bson::Result<Option<Breach>>) -> bool {
 
 /// Whether the place has these numbers.
 fn is_at(place: &Place<'_>, path: &[usize]) -> bool {
-    let mut is_right = place.path.len() == path.len();
-    for (step, number) in place.path.iter().zip(path) {
-        is_right = is_right && step.number == *number;
+    if place.path.len() != path.len() {
+        return false;
     }
-    is_right
+    for (step, number) in place.path.iter().zip(path) {
+        if step.number != *number {
+            return false;
+        }
+    }
+    true
 }
 
 /// Whether this breach is found within limits, or out of memory.
