@@ -427,7 +427,7 @@ class Prover:
     def forget(self, crate):
         """Gives back the room that the crate's edits took."""
         shutil.rmtree(self.room / f"edited-{crate}", ignore_errors=True)
-        shutil.rmtree(self.room / "kept" / "crates" / crate)
+        shutil.rmtree(self.room / "kept" / "crates" / crate, ignore_errors=True)
 
 
 def round_of(edits, folder):

@@ -215,6 +215,16 @@ class Edits(unittest.TestCase):
             "the_file_is_wrong": script.REFUSED, "there_is_no_such_function": script.BAD,
         })
 
+    def test_a_crate_whose_edits_are_all_settled_needs_no_check(self):
+        (self.top / "crates/tiny/edits/next_is_wrong.edit").write_text(edit(NEXT_IS_WRONG, functions="next"))
+        settled = script.edits_of(self.top, ["tiny"])
+        for it in settled:
+            it.settle(script.REFUSED, "by an earlier run")
+        prover = script.Prover(self.top, 1, keep=None, from_nothing=True)
+        self.addCleanup(shutil.rmtree, prover.room)
+        script.try_crate(prover, "tiny", settled)
+        self.assertEqual(prover.checks, 0)
+
     def test_a_body_below_is_no_part_of_what_a_verdict_rests_on_beside_a_run(self):
         low = self.top / "crates/low"
         (self.top / "crates.txt").write_text("low:\ntiny: low\n")
