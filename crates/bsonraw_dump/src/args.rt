@@ -1,7 +1,7 @@
 //! The command line.
 #![tactic(auto)]
 
-use crate::line::Line;
+use crate::builder::CommandBuilder;
 use crate::reading::Reading;
 use crate::version::VERSION;
 use bson_json::{Format, Layout, Style as JsonStyle};
@@ -45,7 +45,7 @@ fn output<'a>(alloc: Global) -> Arg<'a> {
 }
 
 /// How findings are printed, with the short form of one of the ways, or that they aren't.
-fn findings<'a>(alloc: Global, command: Line<'a>) -> Line<'a> {
+fn findings<'a>(alloc: Global, command: CommandBuilder<'a>) -> CommandBuilder<'a> {
     let form = Arg::new(alloc, "findings")
         .long("findings")
         .value_name("FORM")
@@ -89,7 +89,7 @@ fn number<'a>(
 }
 
 /// What a document may cost.
-fn limits<'a>(alloc: Global, command: Line<'a>) -> Line<'a> {
+fn limits<'a>(alloc: Global, command: CommandBuilder<'a>) -> CommandBuilder<'a> {
     let bytes = "A length over N bytes is unsound; 16793600 if it isn't given";
     let depth = "A document of more than N levels is too deep; 500 if it isn't given";
     command
@@ -98,7 +98,7 @@ fn limits<'a>(alloc: Global, command: Line<'a>) -> Line<'a> {
 }
 
 /// Which documents of an input are asked for.
-fn portion<'a>(alloc: Global, command: Line<'a>) -> Line<'a> {
+fn portion<'a>(alloc: Global, command: CommandBuilder<'a>) -> CommandBuilder<'a> {
     let at = "Reads each FILE from this offset on";
     let skip = "Passes over the first N documents of each FILE, by their lengths";
     let take = "Reads at most N documents of each FILE";
@@ -109,7 +109,7 @@ fn portion<'a>(alloc: Global, command: Line<'a>) -> Line<'a> {
 }
 
 /// A command that reads FILEs.
-fn reading<'a>(alloc: Global, command: Line<'a>) -> Line<'a> {
+fn reading<'a>(alloc: Global, command: CommandBuilder<'a>) -> CommandBuilder<'a> {
     let help =
         "Goes on behind an unsound length, at the next place where two sound documents begin";
     limits(alloc, portion(alloc, command))
@@ -118,12 +118,12 @@ fn reading<'a>(alloc: Global, command: Line<'a>) -> Line<'a> {
 }
 
 /// A command that writes documents.
-fn writing<'a>(alloc: Global, command: Line<'a>) -> Line<'a> {
+fn writing<'a>(alloc: Global, command: CommandBuilder<'a>) -> CommandBuilder<'a> {
     reading(alloc, findings(alloc, command).arg(output(alloc)))
 }
 
 /// A command that prints documents as Extended JSON.
-fn printing<'a>(alloc: Global, command: Line<'a>) -> Line<'a> {
+fn printing<'a>(alloc: Global, command: CommandBuilder<'a>) -> CommandBuilder<'a> {
     let canonical = "Prints each number and time with its kind";
     let indent = "Prints a line for each member, indented by two spaces a level";
     command
@@ -132,41 +132,44 @@ fn printing<'a>(alloc: Global, command: Line<'a>) -> Line<'a> {
 }
 
 /// The command that writes each canonical form once.
-fn uniques<'a>(alloc: Global) -> Line<'a> {
+fn uniques<'a>(alloc: Global) -> CommandBuilder<'a> {
     let repeats =
         "Names each document whose form came before, with the first of that form; takes 170 bytes a form at most";
     let as_is = "Writes the first document of each form unchanged, in place of the form";
     let about = "Writes each canonical form once; takes 100 bytes of memory a form at most";
-    let command = Line::new(alloc, "unique", about)
+    let command = CommandBuilder::new(alloc, "unique", about)
         .arg(switch(alloc, "repeats", repeats))
         .arg(switch(alloc, "as-is", as_is));
     writing(alloc, command)
 }
 
 /// The command that writes documents as JSON.
-fn documents_as_json<'a>(alloc: Global) -> Line<'a> {
+fn documents_as_json<'a>(alloc: Global) -> CommandBuilder<'a> {
     let about = "Writes each document without damage as MongoDB Extended JSON v2, a line each";
-    writing(alloc, printing(alloc, Line::new(alloc, "json", about)))
+    writing(
+        alloc,
+        printing(alloc, CommandBuilder::new(alloc, "json", about)),
+    )
 }
 
 /// The command that writes the elements of some paths.
-fn picks<'a>(alloc: Global) -> Line<'a> {
+fn picks<'a>(alloc: Global) -> CommandBuilder<'a> {
     let paths = Arg::new(alloc, "PATHS")
         .help("Keys with dots between them, as items.0.name, and commas between the paths")
         .required(true)
         .action(ArgAction::Set);
     let about = "Writes these elements of each document without damage, as json does";
-    let command = Line::new(alloc, "pick", about)
+    let command = CommandBuilder::new(alloc, "pick", about)
         .arg(switch(alloc, "bson", "Writes them as a dump"))
         .arg(paths);
     writing(alloc, printing(alloc, command))
 }
 
 /// The command that reads texts.
-fn texts<'a>(alloc: Global) -> Line<'a> {
+fn texts<'a>(alloc: Global) -> CommandBuilder<'a> {
     let about = "Writes the documents of texts of MongoDB Extended JSON v2, one behind the other";
     let keep_going = "Goes on behind a fault, and leaves out its document";
-    findings(alloc, Line::new(alloc, "bson", about))
+    findings(alloc, CommandBuilder::new(alloc, "bson", about))
         .arg(output(alloc))
         .arg(switch(alloc, "keep-going", keep_going))
         .arg(files(alloc, "Texts; nothing or -: standard input"))
@@ -176,11 +179,11 @@ fn texts<'a>(alloc: Global) -> Line<'a> {
 const PATHS: usize = 10_000;
 
 /// The command that counts elements.
-fn fields<'a>(alloc: Global) -> Line<'a> {
+fn fields<'a>(alloc: Global) -> CommandBuilder<'a> {
     let about =
         "Counts the elements of documents without damage by their paths, with kinds and lengths";
     let paths = "Counts elements of at most N paths; 10000 if it isn't given";
-    let command = Line::new(alloc, "fields", about);
+    let command = CommandBuilder::new(alloc, "fields", about);
     reading(
         alloc,
         command.arg(number(alloc, "paths", "N", 0, LARGEST, paths)),
@@ -188,37 +191,43 @@ fn fields<'a>(alloc: Global) -> Line<'a> {
 }
 
 /// The command that judges documents.
-fn checks<'a>(alloc: Global) -> Line<'a> {
+fn checks<'a>(alloc: Global) -> CommandBuilder<'a> {
     let about = "Names each document that isn't canonical, and counts";
-    reading(alloc, findings(alloc, Line::new(alloc, "check", about)))
+    reading(
+        alloc,
+        findings(alloc, CommandBuilder::new(alloc, "check", about)),
+    )
 }
 
 /// The command that lists elements.
-fn lists<'a>(alloc: Global) -> Line<'a> {
+fn lists<'a>(alloc: Global) -> CommandBuilder<'a> {
     let about = "Lists the elements of each document, at every level";
-    reading(alloc, Line::new(alloc, "list", about))
+    reading(alloc, CommandBuilder::new(alloc, "list", about))
 }
 
 /// The command that counts documents.
-fn counts<'a>(alloc: Global) -> Line<'a> {
+fn counts<'a>(alloc: Global) -> CommandBuilder<'a> {
     let about = "Counts documents and bytes by lengths alone, and judges none";
-    reading(alloc, findings(alloc, Line::new(alloc, "count", about)))
+    reading(
+        alloc,
+        findings(alloc, CommandBuilder::new(alloc, "count", about)),
+    )
 }
 
 /// The command that writes canonical forms.
-fn forms<'a>(alloc: Global) -> Line<'a> {
+fn forms<'a>(alloc: Global) -> CommandBuilder<'a> {
     let about = "Writes the canonical form of each document without damage";
-    writing(alloc, Line::new(alloc, "canon", about))
+    writing(alloc, CommandBuilder::new(alloc, "canon", about))
 }
 
 /// The command that leaves out damaged documents.
-fn sounds<'a>(alloc: Global) -> Line<'a> {
+fn sounds<'a>(alloc: Global) -> CommandBuilder<'a> {
     let about = "Writes each document without damage, unchanged";
-    writing(alloc, Line::new(alloc, "sound", about))
+    writing(alloc, CommandBuilder::new(alloc, "sound", about))
 }
 
 /// A command line with the commands that print what they find.
-fn with_reports<'a>(alloc: Global, line: Line<'a>) -> Line<'a> {
+fn with_reports<'a>(alloc: Global, line: CommandBuilder<'a>) -> CommandBuilder<'a> {
     line.subcommand(checks(alloc))
         .subcommand(lists(alloc))
         .subcommand(counts(alloc))
@@ -226,14 +235,14 @@ fn with_reports<'a>(alloc: Global, line: Line<'a>) -> Line<'a> {
 }
 
 /// A command line with the commands that write documents anew, as BSON.
-fn with_copies<'a>(alloc: Global, line: Line<'a>) -> Line<'a> {
+fn with_copies<'a>(alloc: Global, line: CommandBuilder<'a>) -> CommandBuilder<'a> {
     line.subcommand(forms(alloc))
         .subcommand(sounds(alloc))
         .subcommand(uniques(alloc))
 }
 
 /// A command line with the commands that write or read JSON.
-fn with_json<'a>(alloc: Global, line: Line<'a>) -> Line<'a> {
+fn with_json<'a>(alloc: Global, line: CommandBuilder<'a>) -> CommandBuilder<'a> {
     line.subcommand(documents_as_json(alloc))
         .subcommand(picks(alloc))
         .subcommand(texts(alloc))
@@ -242,7 +251,7 @@ fn with_json<'a>(alloc: Global, line: Line<'a>) -> Line<'a> {
 /// The command line as a whole.
 pub fn command_line<'a>(alloc: Global) -> Result<clap::Command<'a>, AllocError> {
     let about = "Checks dumps: BSON documents one behind the other";
-    let line = Line::of_program(alloc, "bsonraw-dump", VERSION, about);
+    let line = CommandBuilder::of_program(alloc, "bsonraw-dump", VERSION, about);
     with_json(alloc, with_copies(alloc, with_reports(alloc, line))).finish()
 }
 

@@ -2,9 +2,9 @@
 #![tactic(auto)]
 
 mod args;
+mod builder;
 mod files;
 mod guess;
-mod line;
 mod names;
 mod output;
 mod prompt;

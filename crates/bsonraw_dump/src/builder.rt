@@ -6,13 +6,13 @@ use std::alloc::{AllocError, Global};
 
 /// A command that is put together, part by part: where memory runs out for one, `finish` says so.
 #[derive(Drop)]
-pub(crate) struct Line<'a> {
+pub(crate) struct CommandBuilder<'a> {
     command: Result<clap::Command<'a>, AllocError>,
 }
 
-impl<'a> Line<'a> {
-    pub(crate) fn new(alloc: Global, name: &'a str, about: &'a str) -> Line<'a> {
-        Line {
+impl<'a> CommandBuilder<'a> {
+    pub(crate) fn new(alloc: Global, name: &'a str, about: &'a str) -> CommandBuilder<'a> {
+        CommandBuilder {
             command: Ok(clap::Command::new(alloc, name).about(about)),
         }
     }
@@ -23,18 +23,18 @@ impl<'a> Line<'a> {
         name: &'a str,
         version: &'a str,
         about: &'a str,
-    ) -> Line<'a> {
+    ) -> CommandBuilder<'a> {
         let command = clap::Command::new(alloc, name)
             .version(version)
             .about(about)
             .subcommand_required(true);
-        Line {
+        CommandBuilder {
             command: command.bin_name(name),
         }
     }
 
-    pub(crate) fn arg(self, arg: Arg<'a>) -> Line<'a> {
-        Line {
+    pub(crate) fn arg(self, arg: Arg<'a>) -> CommandBuilder<'a> {
+        CommandBuilder {
             command: match self.command {
                 Ok(command) => command.arg(arg),
                 Err(error) => Err(error),
@@ -42,8 +42,8 @@ impl<'a> Line<'a> {
         }
     }
 
-    pub(crate) fn subcommand(self, inner: Line<'a>) -> Line<'a> {
-        Line {
+    pub(crate) fn subcommand(self, inner: CommandBuilder<'a>) -> CommandBuilder<'a> {
+        CommandBuilder {
             command: with_inner(self.command, inner.command),
         }
     }
