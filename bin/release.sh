@@ -6,6 +6,7 @@ soname=libbsonraw.so.${version%%.*}
 archive=$root/crates/bsonraw_c/out/libbsonraw_c.a
 baseline=$root/crates/bsonraw_c/out/baseline/libbsonraw_c.a
 arm=$root/crates/bsonraw_c/out/aarch64/libbsonraw_c.a
+kept=$root/crates/bsonraw_c/out/incremental # the proofs of its build
 heap=$root/release/heap.c # which the library for ARM has
 machine=x86_64 # the processors that are built for
 programs=bsonraw # the crates of the programs; what is installed has a - for each _
@@ -83,7 +84,6 @@ build_again() (
     room=$(mktemp -d) || exit 1
     trap 'rm -rf "$room"' EXIT
     trap 'exit 1' HUP INT TERM
-    kept=$root/crates/bsonraw_c/out/incremental
     [ ! -d "$kept" ] || cp -a "$kept" "$room/kept" || exit 1
     mkdir -p "${made%/*}" && build_over bsonraw_c "$root/crates/bsonraw_c" src/lib.rt --crate-type staticlib "$@" \
         --incremental "$room/kept" -o "$made" >"$room/said" 2>&1 && cat "$archive" "$made" | sha256sum >"$from" || { cat "$room/said" >&2; exit 1; }
