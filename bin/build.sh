@@ -57,8 +57,8 @@ crates() {
 # minutes_of CRATE: how many processor minutes its first proof takes, as far as it was measured
 minutes_of() {
     case $1 in
-    raw_tree | bson_from_json | dump_runs | bsonraw_dump) echo 10 ;;
-    raw_view | raw_bson) echo 6 ;;
+    raw_tree | bson_from_json | dump_runs) echo 10 ;;
+    raw_view | raw_bson | bsonraw_dump) echo 6 ;;
     bson_model | bsonraw | bsonraw_c) echo 3 ;;
     *) echo 4 ;;
     esac

@@ -180,6 +180,8 @@ GIVES = {
     "bsonraw": "the program for one document in hex",
     "dump_lines": "what is found in a document, in lines",
     "dump_input": "inputs as they are read",
+    "dump_files": "files, and what is told of them",
+    "dump_cli": "the command line",
     "dump_runs": "runs over dumps",
     "text_runs": "runs over texts",
     "bsonraw_dump": "the program for dumps",

@@ -1,4 +1,1 @@
-pub mod Guess
-pub mod Watching
-pub mod Errors
-pub mod Binary
+pub mod Asked

@@ -2,104 +2,22 @@
 #![tactic(auto)]
 
 use crate::args::{Task, parsed};
-use crate::names::{Words, copied, expanded, given_words};
-use crate::output::into_file;
-use crate::prompt::Prompt;
 use crate::reading::Reading;
-use crate::tell::{tell, tell_words};
-use crate::watch::{About, Watched};
+use dump_cli::{Prompt, Words, copied, expanded, given_words};
+use dump_files::files::{Files, node_of};
+use dump_files::output::{BLOCK, Fill, into_file};
+use dump_files::tell::{tell, tell_words};
 use dump_input::done::{Done, Lack};
 use dump_input::failure::Failure;
-use dump_input::inputs::Inputs;
 use dump_input::status::Status;
 use dump_lines::find::most_allowed;
 use dump_lines::style::Style;
 use dump_runs::{Command, run_all};
 use std::alloc::AllocError;
 use std::fs::File;
-use std::io::{BufWriter, ErrorKind, IsTerminal, Read, Stdin, Write};
-use std::os::unix::fs::MetadataExt;
-use std::{fs, io};
+use std::io;
+use std::io::{BufWriter, ErrorKind, IsTerminal, Write};
 use text_runs::run_texts;
-
-/// How many bytes are written at a time.
-pub const BLOCK: usize = 1 << 18;
-
-/// A file, or standard input.
-#[derive(Drop)]
-pub enum Source<'a> {
-    /// a file
-    File(Watched<'a, File>),
-    /// standard input
-    Input(Watched<'a, Stdin>),
-}
-
-impl Read for Source<'_> {
-    fn read(&mut self, buf: &mut [u8]) -> io::Result<usize> {
-        match self {
-            Source::File(file) => file.read(buf),
-            Source::Input(input) => input.read(buf),
-        }
-    }
-}
-
-/// The files of a run.
-#[derive(Drop)]
-pub struct Files<'a> {
-    rt: &'a HostRuntime,
-    style: Style,
-    /// whether it is shown how far the reading has come
-    shows: bool,
-    /// how many bytes a document has at most, if they are dumps
-    most: Option<usize>,
-    /// the file that is written by redirection, if it is one, which isn't read
-    written: Option<Node>,
-}
-
-/// What makes two names those of one file: its device and its number there.
-type Node = (u64, u64);
-
-fn node_of(rt: &HostRuntime, name: &str) -> Option<Node> {
-    let about = fs::metadata(rt, name).ok()?;
-    about.is_file().then_some((about.dev(), about.ino()))
-}
-
-impl<'a> Files<'a> {
-    fn about(&self, name: &str, place: &str) -> About {
-        let size = match fs::metadata(self.rt, place) {
-            Ok(about) if about.is_file() => Some(about.len()),
-            _ => None,
-        };
-        About {
-            name: String::from_str(self.rt.alloc(), name).ok(),
-            size,
-            style: self.style,
-            shows: self.shows,
-            most: self.most,
-        }
-    }
-}
-
-impl<'a> Inputs for Files<'a> {
-    type Input = Source<'a>;
-
-    fn open(&self, name: &str) -> io::Result<Source<'a>> {
-        let place = if name == "-" { "/dev/stdin" } else { name };
-        if self.written.is_some() && node_of(self.rt, place) == self.written {
-            return Err(io::Error::other("this file is the output as well"));
-        }
-        let about = self.about(name, place);
-        if name == "-" {
-            return Ok(Source::Input(Watched::new(self.rt, self.rt.stdin(), about)));
-        }
-        let file = File::open(self.rt, name)?;
-        Ok(Source::File(Watched::new(self.rt, file, about)))
-    }
-
-    fn tell(&self, name: &str, at: Option<u64>, error: &io::Error) {
-        tell(self.rt, self.style, name, at, error);
-    }
-}
 
 /// Does what the arguments ask for.
 pub fn all(rt: &HostRuntime) -> Status {
@@ -199,8 +117,22 @@ fn start(rt: &HostRuntime, task: &Task<'_>) -> Status {
     }
 }
 
+impl<'a> Fill<'a> for Task<'a> {
+    fn style(&self) -> Style {
+        self.reading.style()
+    }
+
+    fn way_on(&self) -> &'static str {
+        self.reading.way_on()
+    }
+
+    fn fill(&self, rt: &HostRuntime, data: &mut BufWriter<File>) -> Done<'a> {
+        each(rt, self, data, &mut rt.stderr())
+    }
+}
+
 /// Runs the command over each input, and tells a failure.
-pub fn each<'a, D: Write, W: Write>(
+fn each<'a, D: Write, W: Write>(
     rt: &HostRuntime,
     task: &Task<'a>,
     data: &mut D,

@@ -2,16 +2,9 @@
 #![tactic(auto)]
 
 mod args;
-mod builder;
 mod files;
-mod guess;
-mod names;
-mod output;
-mod prompt;
 mod reading;
-mod tell;
 mod version;
-mod watch;
 
 use std::process::ExitCode;
 

@@ -2,8 +2,8 @@
 #![tactic(auto)]
 
 ghost use Rattle.std.specs.Prelude.{◌≡◌, MatchBool, MatchOption};
-ghost use Rattle.bsonraw_dump.specs.Binary.{WritesBson, WritesNoBson};
-ghost use Rattle.bsonraw_dump.specs.Errors as says;
+ghost use Rattle.bsonraw_dump.specs.Asked as says;
+ghost use Rattle.bsonraw_dump.specs.Asked.{WritesBson, WritesNoBson};
 ghost use Rattle.dump_runs.specs.declared.batch.Job.{Job};
 ghost use Rattle.bsonraw_dump.specs.declared.reading.Reading.TheVariants.{Dumps, Texts};
 ghost use Rattle.text_runs.specs.declared.texts_batch.TextJob.{TextJob};

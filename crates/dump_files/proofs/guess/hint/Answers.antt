@@ -1,5 +1,5 @@
-use Rattle.bsonraw_dump.proofs.Guessing.{looks_hint, opens_none}
-use Rattle.bsonraw_dump.proofs.guess.hint.Goals as goal
+use Rattle.dump_files.proofs.Guessing.{looks_hint, opens_none}
+use Rattle.dump_files.proofs.guess.hint.Goals as goal
 
 pub returns-else-may_be_document-clause-hints : goal.returns-else-may_be_document-clause-hints
 returns-else-may_be_document-clause-hints c =

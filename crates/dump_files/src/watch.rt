@@ -4,8 +4,8 @@
 
 ghost use Rattle.std.specs.Prelude.{◌≡◌, ◌++◌, ◌*◌, ◌/◌, ◌^◌, ◌-◌, ℕ, List, None, Some, max, min};
 ghost use Rattle.std.specs.Option.{option_copied};
-ghost use Rattle.bsonraw_dump.specs.Guess.{HintsAt, OpensWell};
-ghost use Rattle.bsonraw_dump.specs.Watching.{IsUnread};
+ghost use Rattle.dump_files.specs.Guess.{HintsAt, OpensWell};
+ghost use Rattle.dump_files.specs.Watching.{IsUnread};
 
 use crate::guess::{hint, text_hint};
 use crate::tell::tell;

@@ -2,10 +2,9 @@
 #![tactic(auto)]
 
 ghost use Rattle.std.specs.Prelude.{◌≡◌, ◌++◌, ℕ, List, IfOk, OnOk};
-ghost use Rattle.bsonraw_dump.specs.Errors.{error_line, input_name, input_words, lack_line, lack_words, place_text, style_of};
+ghost use Rattle.dump_files.specs.Errors.{error_line, input_name, input_words, lack_line, lack_words, place_text};
 ghost use Rattle.dump_lines.specs.declared.style.Style.TheVariants.{Json, Words};
 
-use crate::reading::Reading;
 use dump_input::done::Lack;
 use dump_input::failure::Failure;
 use dump_lines::object::error_object;
@@ -80,41 +79,42 @@ fn put(rt: &HostRuntime, line: &[u8]) {
     let _told = rt.stderr().write_all(line);
 }
 
-/// Tells that a file isn't written, and why not.
-pub fn tell_lack(rt: &HostRuntime, reading: Reading<'_>, name: &str, lack: &Lack<'_>) {
-    match lack_of(rt.alloc(), reading, name, lack) {
+/// Tells that a file isn't written, and why not; of an input that could be read on, in these words.
+pub fn tell_lack(rt: &HostRuntime, style: Style, way_on: &str, name: &str, lack: &Lack<'_>) {
+    match lack_of(rt.alloc(), style, way_on, name, lack) {
         Ok(line) => put(rt, &line),
-        Err(_) => tell_words(rt, reading.style(), "not enough memory"),
+        Err(_) => tell_words(rt, style, "not enough memory"),
     }
 }
 
 /// The line of a file that isn't written.
 fn lack_of(
     alloc: Global,
-    reading: Reading<'_>,
+    style: Style,
+    way_on: &str,
     name: &str,
     lack: &Lack<'_>,
 ) -> Result<Vec<u8>, AllocError>
-    ensures { IfOk result (λ line. line.items ≡ lack_line reading.entry (style_of reading.entry) name.now lack.now) }
+    ensures { IfOk result (λ line. line.items ≡ lack_line way_on.now style name.now lack.now) }
 {
-    match reading.style() {
-        Style::Words | Style::Quiet => lack_words_of(alloc, reading, name, lack),
-        Style::Json => lack_object_of(alloc, reading, name, lack),
+    match style {
+        Style::Words | Style::Quiet => lack_words_of(alloc, way_on, name, lack),
+        Style::Json => lack_object_of(alloc, way_on, name, lack),
     }
 }
 
 fn lack_words_of(
     alloc: Global,
-    reading: Reading<'_>,
+    way_on: &str,
     name: &str,
     lack: &Lack<'_>,
 ) -> Result<Vec<u8>, AllocError>
-    ensures { IfOk result (λ line. line.items ≡ lack_line reading.entry Words name.now lack.now) }
+    ensures { IfOk result (λ line. line.items ≡ lack_line way_on.now Words name.now lack.now) }
 {
     let mut line = quotation(alloc, name)?;
     push_words(&mut line, ": not written: ")?;
     push_input(alloc, &mut line, lack)?;
-    push_words(&mut line, why(reading, lack))?;
+    push_words(&mut line, why(way_on, lack))?;
     push_words(&mut line, "\n")?;
     Ok(line)
 }
@@ -131,15 +131,15 @@ fn push_input(alloc: Global, line: &mut Vec<u8>, lack: &Lack<'_>) -> Result<(), 
 
 fn lack_object_of(
     alloc: Global,
-    reading: Reading<'_>,
+    way_on: &str,
     name: &str,
     lack: &Lack<'_>,
 ) -> Result<Vec<u8>, AllocError>
-    ensures { IfOk result (λ line. line.items ≡ lack_line reading.entry Json name.now lack.now) }
+    ensures { IfOk result (λ line. line.items ≡ lack_line way_on.now Json name.now lack.now) }
 {
     let mut text = String::from_str(alloc, "not written: ")?;
     text.push_str(input_of(lack))?;
-    text.push_str(why(reading, lack))?;
+    text.push_str(why(way_on, lack))?;
     error_object(alloc, name, None, text.as_str())
 }
 
@@ -154,13 +154,13 @@ fn input_of<'a>(lack: &Lack<'a>) -> &'a str
 }
 
 /// Why a file isn't written, behind the name of the input, if it is for one.
-fn why(reading: Reading<'_>, lack: &Lack<'_>) -> &'static str
-    ensures { result.now ≡ lack_words reading.entry lack.now }
+fn why<'a>(way_on: &'a str, lack: &Lack<'_>) -> &'a str
+    ensures { result.now ≡ lack_words way_on.now lack.now }
 {
     match lack {
         Lack::Cut(cut) => {
             if cut.goes_on {
-                reading.way_on()
+                way_on
             } else {
                 " wasn't read to its end"
             }

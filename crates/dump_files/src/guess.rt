@@ -4,7 +4,7 @@
 ghost use Rattle.std.specs.Prelude.{◌≡◌, ◌++◌, List, MatchBool, MatchOption, None, ℕ};
 ghost use Rattle.std.specs.List.{All};
 ghost use Rattle.std.specs.Option.{option_copied};
-ghost use Rattle.bsonraw_dump.specs.Guess.{Begins, Hints, HintsAtText, IsArchive, IsGzip, IsMarked, IsPlain, IsTag, IsUtf16, IsZstd, LooksLike, LooksLikeNothing, MayBegin, MayFollow, OpensJson, OpensWell, front_of};
+ghost use Rattle.dump_files.specs.Guess.{Begins, Hints, HintsAtText, IsArchive, IsGzip, IsMarked, IsPlain, IsTag, IsUtf16, IsZstd, LooksLike, LooksLikeNothing, MayBegin, MayFollow, OpensJson, OpensWell, front_of};
 
 use raw_view::ElementType;
 

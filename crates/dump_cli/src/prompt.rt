@@ -2,7 +2,7 @@
 #![tactic(auto)]
 
 ghost use Rattle.std.specs.Prelude.{◌≡◌};
-ghost use Rattle.bsonraw_dump.specs.Watching.{IsUnwritten};
+ghost use Rattle.dump_cli.specs.Writers.{IsUnwritten};
 
 use std::io;
 use std::io::Write;

@@ -1,11 +1,10 @@
 //! Writes into a file in place of standard output: by way of a file beside it, which takes its place at the end.
 #![tactic(auto)]
 
-use crate::args::Task;
-use crate::files::{BLOCK, each};
 use crate::tell::{tell, tell_lack};
 use dump_input::done::Done;
 use dump_input::status::Status;
+use dump_lines::style::Style;
 use std::alloc::AllocError;
 use std::fs::{File, Metadata, OpenOptions};
 use std::io::BufWriter;
@@ -13,29 +12,44 @@ use std::os::fd::AsRawFd;
 use std::os::unix::fs::{MetadataExt, fchown};
 use std::{fs, io, process};
 
+/// How many bytes are written at a time.
+pub const BLOCK: usize = 1 << 18;
+
 /// The most bytes of a file's name.
 const LONGEST: usize = 255;
 
-/// Does a task whose output goes into this file. What is there and isn't a file, as a device or a pipe, is written as it is.
-pub fn into_file(rt: &HostRuntime, task: &Task<'_>, name: &str) -> Status {
+/// A run that fills a file.
+pub trait Fill<'a> {
+    /// How it is told what goes wrong.
+    fn style(&self) -> Style;
+
+    /// What is told of an input that could be read on, and how.
+    fn way_on(&self) -> &'static str;
+
+    /// Runs, and writes all into the file.
+    fn fill(&self, rt: &HostRuntime, data: &mut BufWriter<File>) -> Done<'a>;
+}
+
+/// Does a run whose output goes into this file. What is there and isn't a file, as a device or a pipe, is written as it is.
+pub fn into_file<'a, F: Fill<'a>>(rt: &HostRuntime, run: &F, name: &str) -> Status {
     let guards = match guards(rt) {
         Ok(guards) => guards,
-        Err(error) => return without(rt, task, "/dev/null", &error),
+        Err(error) => return without(rt, run.style(), "/dev/null", &error),
     };
     let result = match fs::metadata(rt, name) {
-        Ok(old) if old.is_file() => replaced(rt, task, name, Some(old)),
-        Ok(_) => written(rt, task, name),
-        Err(_) => replaced(rt, task, name, None),
+        Ok(old) if old.is_file() => replaced(rt, run, name, Some(old)),
+        Ok(_) => written(rt, run, name),
+        Err(_) => replaced(rt, run, name, None),
     };
     drop(guards);
     match result {
         Ok(status) => status,
-        Err(error) => without(rt, task, name, &error),
+        Err(error) => without(rt, run.style(), name, &error),
     }
 }
 
-fn without(rt: &HostRuntime, task: &Task<'_>, name: &str, error: &io::Error) -> Status {
-    tell(rt, task.reading.style(), name, None, error);
+fn without(rt: &HostRuntime, style: Style, name: &str, error: &io::Error) -> Status {
+    tell(rt, style, name, None, error);
     Status::Output
 }
 
@@ -57,16 +71,16 @@ fn guards(rt: &HostRuntime) -> io::Result<(Option<File>, File, File)> {
 }
 
 /// Writes into what is there.
-fn written(rt: &HostRuntime, task: &Task<'_>, name: &str) -> io::Result<Status> {
+fn written<'a, F: Fill<'a>>(rt: &HostRuntime, run: &F, name: &str) -> io::Result<Status> {
     let file = OpenOptions::new().write(true).open(rt, name)?;
     let mut data = BufWriter::with_capacity(rt.alloc(), BLOCK, file)?;
-    Ok(each(rt, task, &mut data, &mut rt.stderr()).status)
+    Ok(run.fill(rt, &mut data).status)
 }
 
 /// Writes into a file beside it, with the same mode, owner and group, which takes its place where all went well but for damage.
-fn replaced(
+fn replaced<'a, F: Fill<'a>>(
     rt: &HostRuntime,
-    task: &Task<'_>,
+    run: &F,
     name: &str,
     old: Option<Metadata>,
 ) -> io::Result<Status> {
@@ -79,7 +93,7 @@ fn replaced(
     };
     let beside = beside(rt, place.as_str())?;
     let file = File::create_new(rt, beside.as_str())?;
-    let result = match filled(rt, task, name, file, old) {
+    let result = match filled(rt, run, name, file, old) {
         Ok(done) if done.lack.is_none() => {
             fs::rename(rt, beside.as_str(), place.as_str())?;
             return Ok(done.status);
@@ -89,7 +103,7 @@ fn replaced(
     let _removed = fs::remove_file(rt, beside.as_str());
     let done = result?;
     if let Some(lack) = &done.lack {
-        tell_lack(rt, task.reading, name, lack);
+        tell_lack(rt, run.style(), run.way_on(), name, lack);
     }
     Ok(done.status)
 }
@@ -106,19 +120,19 @@ fn beside(rt: &HostRuntime, place: &str) -> Result<String, AllocError> {
 }
 
 /// Writes all into the file, which is on the disk at the end.
-fn filled<'a>(
+fn filled<'a, F: Fill<'a>>(
     rt: &HostRuntime,
-    task: &Task<'a>,
+    run: &F,
     name: &str,
     file: File,
     old: Option<Metadata>,
 ) -> io::Result<Done<'a>> {
     if let Some(old) = old {
-        keep_owner(rt, task, name, &file, &old);
+        keep_owner(rt, run.style(), name, &file, &old);
         file.set_permissions(old.permissions())?;
     }
     let mut data = BufWriter::with_capacity(rt.alloc(), BLOCK, file)?;
-    let done = each(rt, task, &mut data, &mut rt.stderr());
+    let done = run.fill(rt, &mut data);
     if done.lack.is_none() {
         data.get_ref().sync_all()?;
     }
@@ -126,7 +140,7 @@ fn filled<'a>(
 }
 
 /// Gives a file the owner and the group of the one whose place it takes, and tells where it can't.
-fn keep_owner(rt: &HostRuntime, task: &Task<'_>, name: &str, file: &File, old: &Metadata) {
+fn keep_owner(rt: &HostRuntime, style: Style, name: &str, file: &File, old: &Metadata) {
     let kept = fchown(file, None, Some(old.gid())).and_then(|()| fchown(
         file,
         Some(old.uid()),
@@ -137,12 +151,6 @@ fn keep_owner(rt: &HostRuntime, task: &Task<'_>, name: &str, file: &File, old: &
         let words = text
             .as_ref()
             .map_or("its owner or group isn't kept", |text| text.as_str());
-        tell(
-            rt,
-            task.reading.style(),
-            name,
-            None,
-            &io::Error::other(words),
-        );
+        tell(rt, style, name, None, &io::Error::other(words));
     }
 }

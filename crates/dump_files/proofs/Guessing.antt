@@ -8,7 +8,7 @@ use Rattle.std.specs.List.{starts_with}
 use Rattle.std.specs.Option.{option_copied}
 use Rattle.raw_view.specs.Frame.{Frame, IsFrame}
 use Rattle.dump_input.specs.Cut.{IsSoundLength, said_len}
-use Rattle.bsonraw_dump.specs.Guess.{Begins, Hints, LooksLike, LooksLikeNothing, MayBegin, MayFollow, OpensWell, front_of}
+use Rattle.dump_files.specs.Guess.{Begins, Hints, LooksLike, LooksLikeNothing, MayBegin, MayFollow, OpensWell, front_of}
 use Rattle.dump_input.proofs.Face.{said_front}
 
 -- the byte behind the length of a document that opens well

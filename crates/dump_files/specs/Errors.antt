@@ -5,8 +5,6 @@ use Rattle.dump_lines.specs.Told.{object_line, error_members}
 use Rattle.dump_input.specs.declared.done.Lack.{Lack}
 use Rattle.dump_input.specs.declared.done.Lack.TheVariants as lack
 use Rattle.dump_input.specs.declared.failure.Failure.TheVariants as failure
-use Rattle.bsonraw_dump.specs.declared.reading.Reading.{Reading}
-use Rattle.bsonraw_dump.specs.declared.reading.Reading.TheVariants as reading
 use Rattle.dump_lines.specs.declared.style.Style.{Style}
 use Rattle.dump_lines.specs.declared.style.Style.TheVariants as style
 
@@ -20,16 +18,6 @@ abbrev pub error_line : Style → List ℕ → Option ℕ → List ℕ → List 
 error_line style.Json name at text = object_line (error_members name at text)
 error_line _ name at text = codes "bsonraw-dump: " ++ quoted name ++ (place_text at ++ codes ": " ++ text ++ codes "\n")
 
--- how what is found in the inputs is printed
-abbrev pub style_of : Reading → Style
-style_of (reading.Dumps job) = job.style
-style_of (reading.Texts job) = job.style
-
--- an input wasn't read to its end, and could be read on by an option
-abbrev pub way_on : Reading → List ℕ
-way_on (reading.Dumps job) = codes " wasn't read to its end; --resync goes on"
-way_on (reading.Texts job) = codes " wasn't read to its end; --keep-going goes on"
-
 -- the input for which a file isn't written, if it is one; in words it is in quotes
 abbrev pub input_words : Lack → List ℕ
 input_words (lack.Cut cut) = quoted cut.name.now
@@ -39,13 +27,13 @@ abbrev pub input_name : Lack → List ℕ
 input_name (lack.Cut cut) = cut.name.now
 input_name (lack.Failed _) = []
 
--- and why not
-abbrev pub lack_words : Reading → Lack → List ℕ
-lack_words asked (lack.Cut cut) = cond cut.goes_on (way_on asked) (codes " wasn't read to its end")
-lack_words asked (lack.Failed failure.Memory) = codes "not enough memory"
-lack_words asked (lack.Failed _) = codes "writing failed"
+-- and why not, where an input that could be read on is told so
+abbrev pub lack_words : List ℕ → Lack → List ℕ
+lack_words way_on (lack.Cut cut) = cond cut.goes_on way_on (codes " wasn't read to its end")
+lack_words way_on (lack.Failed failure.Memory) = codes "not enough memory"
+lack_words way_on (lack.Failed _) = codes "writing failed"
 
 -- the line of a file that isn't written, in quiet as in words
-abbrev pub lack_line : Reading → Style → List ℕ → Lack → List ℕ
-lack_line asked style.Json name why = object_line (error_members name None (codes "not written: " ++ input_name why ++ lack_words asked why))
-lack_line asked _ name why = quoted name ++ codes ": not written: " ++ input_words why ++ lack_words asked why ++ codes "\n"
+abbrev pub lack_line : List ℕ → Style → List ℕ → Lack → List ℕ
+lack_line way_on style.Json name why = object_line (error_members name None (codes "not written: " ++ input_name why ++ lack_words way_on why))
+lack_line way_on _ name why = quoted name ++ codes ": not written: " ++ input_words why ++ lack_words way_on why ++ codes "\n"

@@ -1,0 +1,3 @@
+pub mod Guess
+pub mod Watching
+pub mod Errors

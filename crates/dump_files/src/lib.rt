@@ -1,0 +1,9 @@
+//! The files of a run of `bsonraw-dump`: its inputs, how far their reading has come, what they look like that aren't dumps; the output, which
+//! takes the place of another; and what is told of them on standard error.
+#![tactic(auto)]
+
+pub mod files;
+mod guess;
+pub mod output;
+pub mod tell;
+mod watch;
