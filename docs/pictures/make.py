@@ -175,6 +175,7 @@ GIVES = {
     "raw_bson": "buffers, owned values, canonical forms",
     "raw_shelf": "canonical documents, each once",
     "bson_json": "documents as Extended JSON",
+    "bytes_from_json": "the bytes of documents from Extended JSON",
     "bson_from_json": "documents from Extended JSON",
     "json_round_trip": "that what is printed is read back",
     "bsonraw": "the program for one document in hex",

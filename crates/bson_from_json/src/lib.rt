@@ -1,22 +1,7 @@
 //! BSON from MongoDB Extended JSON v2: a text is read once, by its tokens, into the bytes of a document.
 #![tactic(auto)]
 
-mod codes;
-mod date;
-mod decimal;
-mod error;
-mod fault;
-mod leaves;
-mod levels;
-mod number;
-mod place;
 mod reading;
-mod source;
-mod wrapped;
-mod wrapper;
 
-pub use date::millis_of;
-pub use decimal::decimal128_of;
-pub use error::{JsonError, JsonReason};
+pub use bytes_from_json::{JsonError, JsonReason, Wrapper, decimal128_of, millis_of};
 pub use reading::from_json;
-pub use wrapper::Wrapper;

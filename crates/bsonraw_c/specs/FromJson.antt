@@ -4,11 +4,11 @@ use Rattle.std.specs.Prelude.{◌≡◌, ◌⊎◌, ◌+◌, ℕ, ℤ, List, len
 use Rattle.std.specs.Str.{IsUtf8, IsValidUpTo}
 use Rattle.bson_from_json.specs.Place.{IsLastLine, IsPlaceIn, characters, line_feeds}
 use Rattle.bson_from_json.specs.Texts.{IsWritten, LeavesOpen, SaysNone}
-use Rattle.bson_from_json.specs.declared.error.JsonError.{JsonError}
-use Rattle.bson_from_json.specs.declared.error.JsonReason.{JsonReason}
-use Rattle.bson_from_json.specs.declared.error.JsonReason.TheVariants as reason
-use Rattle.bson_from_json.specs.declared.wrapper.Wrapper.{Wrapper}
-use Rattle.bson_from_json.specs.declared.wrapper.Wrapper.TheVariants as wrapper
+use Rattle.bson_from_json.specs.JsonError.{JsonError}
+use Rattle.bson_from_json.specs.JsonReason.{JsonReason}
+use Rattle.bson_from_json.specs.JsonReason.TheVariants as reason
+use Rattle.bson_from_json.specs.Wrapper.{Wrapper}
+use Rattle.bson_from_json.specs.Wrapper.TheVariants as wrapper
 use Rattle.raw_bson.specs.Limits.{Limits}
 use Rattle.raw_bson.specs.Tree.{Tree}
 use Rattle.raw_bson.specs.WithinLimits.{ReadsWithin}

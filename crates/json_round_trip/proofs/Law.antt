@@ -4,7 +4,7 @@ use Rattle.raw_view.specs.Frame.Envelope.{IsEnvelope}
 use Rattle.bson_json.specs.Json.{IsJson}
 use Rattle.bson_json.specs.declared.style.Layout.{Layout}
 use Rattle.bson_from_json.specs.Texts.{LeavesOpen, SaysNone}
-use Rattle.bson_from_json.specs.declared.error.JsonReason.{JsonReason}
+use Rattle.bson_from_json.specs.JsonReason.{JsonReason}
 use Rattle.json_round_trip.specs.Closing.{ClosesCircle, IsReadAgain, IsReturning, canonical_in}
 use Rattle.json_round_trip.proofs.Closed.{circle_closed}
 use Rattle.json_round_trip.proofs.leaves.Whole.{leaf_is_printed}

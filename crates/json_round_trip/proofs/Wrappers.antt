@@ -11,8 +11,8 @@ use Rattle.bson_from_json.specs.Levels.{wrapper_key}
 use Rattle.bson_from_json.specs.Meaning.{Means, WrapsOne, WrapsScope, has_wrapper_key, is_wrapper_key}
 use Rattle.bson_from_json.specs.Numbers.{IsQuotedDouble, IsQuotedInt32, IsQuotedInt64}
 use Rattle.bson_from_json.specs.Wrapped.{InString, IsBinary, IsDate, IsDbPointer, IsOid, IsRegex, IsTimestamp, IsUuid, IsWrapped, one_member}
-use Rattle.bson_from_json.specs.declared.wrapper.Wrapper.{Wrapper}
-use Rattle.bson_from_json.specs.declared.wrapper.Wrapper.TheVariants as wrapper
+use Rattle.bson_from_json.specs.Wrapper.{Wrapper}
+use Rattle.bson_from_json.specs.Wrapper.TheVariants as wrapper
 
 -- the key of what is wrapped is a wrapper's
 pub wrapped_key : (k : List ℕ) (j : Json) (l : Leaf) → IsWrapped k j l → is_wrapper_key k ≡ true

@@ -2,7 +2,7 @@
 use Rattle.std.specs.Prelude.{◌≡◌, ◌⊎◌, ◌+◌, ◌^◌, ◌≤◌, ◌<◌, ℕ, List, [], ◌∷◌, ◌++◌, Bool, true, false, Option, None, Some, IfSome, drop, length, take}
 use Rattle.std.specs.Io.KnownBytes.{Consumes, IsAtEnd}
 use Rattle.dump_input.specs.Reading.{IsWindow, ReadsAhead, ahead_of}
-use Rattle.bson_from_json.specs.declared.error.JsonReason.TheVariants as json
+use Rattle.bson_from_json.specs.JsonReason.TheVariants as json
 use Rattle.dump_input.specs.Texts.{CantBe, HasBrace, HasNoLine, IsOpen, begins_line, may_begin, may_end, position_over, turn_behind, turn_over, ScansAhead}
 use Rattle.text_runs.specs.declared.cursor.Cursor.{Cursor}
 use Rattle.text_runs.specs.declared.cursor.NextText.{NextText}
@@ -12,7 +12,7 @@ use Rattle.text_runs.specs.declared.text_fault.TextReason.{TextReason}
 use Rattle.text_runs.specs.declared.text_fault.TextReason.TheVariants as reason
 use Rattle.dump_input.specs.declared.turn.Turn.{Turn}
 use Rattle.dump_input.specs.declared.turn.Turn.TheVariants as turn
-use Rattle.bson_from_json.specs.declared.error.JsonReason.{JsonReason}
+use Rattle.bson_from_json.specs.JsonReason.{JsonReason}
 use Rattle.dump_input.specs.declared.scan.Scan.TheVariants as scan
 
 -- why not

@@ -5,7 +5,7 @@ use Rattle.std.specs.Str.{IsUtf8, IsValidUpTo}
 use Rattle.bson_model.specs.Tree.{Tree}
 use Rattle.raw_tree.specs.WithinLimits.{ReadsWithin}
 use Rattle.bson_from_json.specs.Texts.{IsWritten, LeavesOpen, SaysNone}
-use Rattle.bson_from_json.specs.declared.error.JsonReason.TheVariants as json
+use Rattle.bson_from_json.specs.JsonReason.TheVariants as json
 use Rattle.dump_lines.specs.Find.{usual}
 use Rattle.dump_input.specs.Fronts.{AppendsFront, HasFront}
 use Rattle.dump_input.specs.Reading.{IsWindow, ahead_of}

@@ -15,7 +15,7 @@ use Rattle.bson_model.specs.Subtype.{subtype_byte}
 use Rattle.bson_model.specs.declared.binaries.BinarySubtype.{BinarySubtype}
 use Rattle.bson_json.specs.Decimals.{decimal128_text}
 use Rattle.bson_from_json.specs.Wrapped.{one_member}
-use Rattle.bson_from_json.specs.declared.wrapper.Wrapper.TheVariants as wrapper
+use Rattle.bson_from_json.specs.Wrapper.TheVariants as wrapper
 use Rattle.json_round_trip.specs.Printed.{LeafIsPrinted}
 use Rattle.json_round_trip.proofs.Wrappers.{only_wrapped}
 use Rattle.json_round_trip.proofs.leaves.Binaries.{base64_plain, byte_alone, hex_plain, is_binary, one_binary, payload}

@@ -1,0 +1,423 @@
+-- Which tokens are left of a level, a value or a wrapper once its first ones are taken.
+use Rattle.std.proofs.Common.{◌≡◌, ◌⊎◌, ◌||◌, ◌+◌, ℕ, Bool, true, false, List, [], ◌∷◌, ◌++◌, Option, Some, None, codes, cond, refl, sym, ap, subst, ◌∙◌, inl, inr, append_assoc, arith}
+use Rattle.std.specs.Str.{bytes_eq}
+use Rattle.std.proofs.lemmas.Bool.{false≢true}
+use Rattle.json.specs.Json.{Json, Items, Members, no_items, item, no_members, member, value}
+use Rattle.json.specs.Json as json
+use Rattle.json.specs.Token.{Token}
+use Rattle.json.specs.Tree.{json_tokens, items_tokens, members_tokens, depth}
+use Rattle.json.proofs.Printed.Trees.{value-json_tokens}
+use Rattle.bson_model.specs.Leaf.{Leaf, javascript_code, max_key, min_key, symbol, undefined}
+use Rattle.bson_model.specs.Tree.{Tree, Entries}
+use Rattle.bytes_from_json.specs.DecimalTexts.{IsQuotedDecimal}
+use Rattle.bytes_from_json.specs.Numbers.{IsPlain, IsQuotedDouble, IsQuotedInt32, IsQuotedInt64}
+use Rattle.bytes_from_json.specs.Meaning.{IsWhole, Means, has_wrapper_key, is_wrapper_key}
+use Rattle.bytes_from_json.specs.Taken.{LacksToken, TakesNone}
+use Rattle.bytes_from_json.specs.Wrapped.{InString, IsBinary, IsDate, IsDbPointer, IsOid, IsRegex, IsTimestamp, IsUuid, IsWrapped}
+use Rattle.bytes_from_json.specs.Levels.{HasMembers, MayBeIn, wrapper_key}
+use Rattle.bytes_from_json.specs.Ends.{InsideThen, ItemsThen, LacksLeaf, MembersThen, OrdinaryThen, ValueThen}
+use Rattle.bytes_from_json.specs.declared.levels.Holder.{Holder}
+use Rattle.bytes_from_json.specs.declared.levels.Holder.TheVariants as holder
+use Rattle.bytes_from_json.specs.declared.wrapper.Wrapper.{Wrapper}
+use Rattle.bytes_from_json.specs.declared.wrapper.Wrapper.TheVariants as wrapper
+
+-- no value's tokens are in front of another's
+
+abbrev first_or : Option (Json × List Token) → Json → Json
+first_or None j = j
+first_or (Some p) j = p.0
+
+abbrev second_or : Option (Json × List Token) → List Token → List Token
+second_or None ts = ts
+second_or (Some p) ts = p.1
+
+pub same_value : (j k : Json) (a b : List Token) → json_tokens j ++ a ≡ json_tokens k ++ b → (j ≡ k) × (a ≡ b)
+same_value j k a b e =
+    let d = depth j + depth k in
+    let x = value-json_tokens j d a (omega arith) in
+    let y = value-json_tokens k d b (omega arith) in
+    let is = sym x ∙ ap (value d) e ∙ y in
+    (ap (λ (o : Option (Json × List Token)). first_or o j) is, ap (λ (o : Option (Json × List Token)). second_or o a) is)
+
+-- the first token of a value
+
+abbrev pub ObjectThen : List Token → List Token → Type 0
+ObjectThen ts behind = (ms : Members) × (t : Tree) × Means (json.object ms) t × (ts ≡ members_tokens ms ++ behind)
+
+abbrev pub Starts : List Token → List Token → Type 0
+Starts [] behind = ⊥
+Starts (Token.begin_object ∷ ts) behind = ObjectThen ts behind
+Starts (Token.end_object ∷ ts) behind = ⊥
+Starts (Token.begin_array ∷ ts) behind = ItemsThen ts behind
+Starts (Token.end_array ∷ ts) behind = ⊥
+Starts (Token.key s ∷ ts) behind = ⊥
+Starts (Token.string s ∷ ts) behind = ts ≡ behind
+Starts (Token.number s ∷ ts) behind = (l : Leaf) × IsPlain s l × (ts ≡ behind)
+Starts (Token.boolean b ∷ ts) behind = ts ≡ behind
+Starts (Token.null ∷ ts) behind = ts ≡ behind
+Starts (Token.bad ∷ ts) behind = ⊥
+
+of_json : (j : Json) (t : Tree) (behind : List Token) → Means j t → Starts (json_tokens j ++ behind) behind
+of_json json.null t behind m = refl
+of_json (json.boolean b) t behind m = refl
+of_json (json.number s) t behind (l, is, e) = (l, is, refl)
+of_json (json.string s) t behind m = refl
+of_json (json.array js) t behind (ts, are, e) = (js, ts, are, refl)
+of_json (json.object ms) t behind m = (ms, t, m, refl)
+
+pub starts : (ts behind : List Token) → ValueThen ts behind → Starts ts behind
+starts ts behind (j, t, means, e) = subst (λ (x : List Token). Starts x behind) (sym e) (of_json j t behind means)
+
+-- the first token of a level
+
+left_false : (a b : Bool) → (a || b) ≡ false → a ≡ false
+left_false false b e = refl
+left_false true b e = e
+
+right_false : (a b : Bool) → (a || b) ≡ false → b ≡ false
+right_false false b e = e
+right_false true b e = absurd (false≢true (sym e))
+
+-- a key, its value and others
+abbrev pub MemberThen : Holder → List Token → List Token → Type 0
+MemberThen h ts behind = (k : List ℕ) × (after : List Token) × (rest : List Token) × (ts ≡ Token.key k ∷ after) × MayBeIn h k × ValueThen after rest × InsideThen h rest behind
+
+of_members : (h : Holder) → ((k : List ℕ) → MayBeIn h k) → ((ts behind : List Token) → MembersThen ts behind → InsideThen h ts behind) → (ts behind : List Token) → MembersThen ts behind
+    → (ts ≡ Token.end_object ∷ behind) ⊎ MemberThen h ts behind
+of_members h may is ts behind (no_members, es, are, e) = inl e
+of_members h may is ts behind (member k j ms, es, (t, others, means, are, f), e) =
+    let rest = members_tokens ms ++ behind in
+    inr (
+      k,
+      json_tokens j ++ rest,
+      rest,
+      e ∙ ap (λ (x : List Token). Token.key k ∷ x) (append_assoc (json_tokens j) (members_tokens ms) behind),
+      may k,
+      (j, t, means, refl),
+      is rest behind (ms, others, are, refl),
+    )
+
+of_ordinary : (ts behind : List Token) → OrdinaryThen ts behind → (ts ≡ Token.end_object ∷ behind) ⊎ MemberThen holder.Document ts behind
+of_ordinary ts behind (no_members, es, none, are, e) = inl e
+of_ordinary ts behind (member k j ms, es, none, (t, others, means, are, f), e) =
+    let rest = members_tokens ms ++ behind in
+    inr (
+      k,
+      json_tokens j ++ rest,
+      rest,
+      e ∙ ap (λ (x : List Token). Token.key k ∷ x) (append_assoc (json_tokens j) (members_tokens ms) behind),
+      left_false (is_wrapper_key k) (has_wrapper_key ms) none,
+      (j, t, means, refl),
+      (ms, others, right_false (is_wrapper_key k) (has_wrapper_key ms) none, are, refl),
+    )
+
+level_starts : (h : Holder) → HasMembers h → (ts behind : List Token) → InsideThen h ts behind → (ts ≡ Token.end_object ∷ behind) ⊎ MemberThen h ts behind
+level_starts holder.Text has ts behind inside = of_members holder.Text (λ k. tt) (λ x y i. i) ts behind inside
+level_starts holder.Document has ts behind inside = of_ordinary ts behind inside
+level_starts (holder.Begun first) has ts behind inside = absurd has
+level_starts (holder.Array items) has ts behind inside = absurd has
+level_starts (holder.Scope start) has ts behind inside = of_members (holder.Scope start) (λ k. tt) (λ x y i. i) ts behind inside
+level_starts (holder.ScopeBeforeCode start code) has ts behind inside = of_members (holder.ScopeBeforeCode start code) (λ k. tt) (λ x y i. i) ts behind inside
+
+unlike_key : {ts a b : List Token} {k : List ℕ} → ts ≡ Token.end_object ∷ a → ts ≡ Token.key k ∷ b → ⊥
+unlike_key e f = cc
+
+same_key : {ts a b : List Token} {k k' : List ℕ} → ts ≡ Token.key k ∷ a → ts ≡ Token.key k' ∷ b → k ≡ k'
+same_key e f = cc
+
+behind_key : {ts a b : List Token} {k k' : List ℕ} → ts ≡ Token.key k ∷ a → ts ≡ Token.key k' ∷ b → a ≡ b
+behind_key e f = cc
+
+behind_token : {ts a b : List Token} {t : Token} → ts ≡ t ∷ a → ts ≡ t ∷ b → a ≡ b
+behind_token e f = cc
+
+abbrev pub KeyThen : Holder → List ℕ → List Token → List Token → Type 0
+KeyThen h k new behind = MayBeIn h k × ((rest : List Token) × ValueThen new rest × InsideThen h rest behind)
+
+module _ (h : Holder) (ts behind : List Token) where
+  key_first : (ts ≡ Token.end_object ∷ behind) ⊎ MemberThen h ts behind → (k : List ℕ) (new : List Token) → ts ≡ Token.key k ∷ new → KeyThen h k new behind
+  key_first (inl f) k new e = absurd (unlike_key f e)
+  key_first (inr (k', after, rest, f, may, value, others)) k new e =
+      (subst (MayBeIn h) (same_key f e) may, (rest, subst (λ (x : List Token). ValueThen x rest) (behind_key f e) value, others))
+
+  end_first : (ts ≡ Token.end_object ∷ behind) ⊎ MemberThen h ts behind → (new : List Token) → ts ≡ Token.end_object ∷ new → new ≡ behind
+  end_first (inl f) new e = behind_token e f
+  end_first (inr (k', after, rest, f, may, value, others)) new e = absurd (unlike_key e f)
+
+  none_first : (ts ≡ Token.end_object ∷ behind) ⊎ MemberThen h ts behind → LacksToken ts Token.end_object → ((k : List ℕ) → LacksToken ts (Token.key k)) → ⊥
+  none_first (inl f) end key = end behind f
+  none_first (inr (k, after, rest, f, may, value, others)) end key = key k after f
+
+  pub key_taken : HasMembers h → InsideThen h ts behind → (k : List ℕ) (new : List Token) → ts ≡ Token.key k ∷ new → KeyThen h k new behind
+  key_taken has inside k new e = key_first (level_starts h has ts behind inside) k new e
+
+  pub end_taken : HasMembers h → InsideThen h ts behind → (new : List Token) → ts ≡ Token.end_object ∷ new → new ≡ behind
+  end_taken has inside new e = end_first (level_starts h has ts behind inside) new e
+
+  pub none_taken : HasMembers h → InsideThen h ts behind → LacksToken ts Token.end_object → ((k : List ℕ) → LacksToken ts (Token.key k)) → ⊥
+  none_taken has inside end key = none_first (level_starts h has ts behind inside) end key
+
+-- the first token of an array's rest
+
+abbrev pub ItemThen : List Token → List Token → Type 0
+ItemThen ts behind = (rest : List Token) × ValueThen ts rest × ItemsThen rest behind
+
+items_start : (ts behind : List Token) → ItemsThen ts behind → (ts ≡ Token.end_array ∷ behind) ⊎ ItemThen ts behind
+items_start ts behind (no_items, trees, are, e) = inl e
+items_start ts behind (item j js, trees, (t, others, means, are, f), e) =
+    let rest = items_tokens js ++ behind in
+    inr (rest, (j, t, means, e ∙ append_assoc (json_tokens j) (items_tokens js) behind), (js, others, are, refl))
+
+array_end_first : (ts behind : List Token) → (ts ≡ Token.end_array ∷ behind) ⊎ ItemThen ts behind → (new : List Token) → ts ≡ Token.end_array ∷ new → new ≡ behind
+array_end_first ts behind (inl f) new e = behind_token e f
+array_end_first ts behind (inr (rest, value, others)) new e = absurd (subst (λ (x : List Token). Starts x rest) e (starts ts rest value))
+
+item_first : (ts behind : List Token) → (ts ≡ Token.end_array ∷ behind) ⊎ ItemThen ts behind → LacksToken ts Token.end_array → ItemThen ts behind
+item_first ts behind (inl f) end = absurd (end behind f)
+item_first ts behind (inr is) end = is
+
+pub array_end_taken : (ts behind : List Token) → ItemsThen ts behind → (new : List Token) → ts ≡ Token.end_array ∷ new → new ≡ behind
+array_end_taken ts behind is new e = array_end_first ts behind (items_start ts behind is) new e
+
+pub item_next : (ts behind : List Token) → ItemsThen ts behind → LacksToken ts Token.end_array → ItemThen ts behind
+item_next ts behind is end = item_first ts behind (items_start ts behind is) end
+
+-- objects
+
+pub empty_object : (ts behind new : List Token) → ObjectThen ts behind → ts ≡ Token.end_object ∷ new → new ≡ behind
+empty_object ts behind new (no_members, t, means, e) f = behind_token f e
+empty_object ts behind new (member k j ms, t, means, e) f = absurd (unlike_key f e)
+
+pub no_object : (ts behind : List Token) → LacksToken ts Token.end_object → ((k : List ℕ) → LacksToken ts (Token.key k)) → ObjectThen ts behind → ⊥
+no_object ts behind end key (no_members, t, means, e) = end behind e
+no_object ts behind end key (member k j ms, t, means, e) = key k ((json_tokens j ++ members_tokens ms) ++ behind) e
+
+pub wrapped_key : (k : List ℕ) (j : Json) (l : Leaf) → IsWrapped k j l → is_wrapper_key k ≡ true
+wrapped_key k j l (inl (e, is)) = ap is_wrapper_key e
+wrapped_key k j l (inr (inl (e, is))) = ap is_wrapper_key e
+wrapped_key k j l (inr (inr (inl (e, is)))) = ap is_wrapper_key e
+wrapped_key k j l (inr (inr (inr (inl (e, is))))) = ap is_wrapper_key e
+wrapped_key k j l (inr (inr (inr (inr (inl (e, is)))))) = ap is_wrapper_key e
+wrapped_key k j l (inr (inr (inr (inr (inr (inl (e, is))))))) = ap is_wrapper_key e
+wrapped_key k j l (inr (inr (inr (inr (inr (inr (inl (e, is)))))))) = ap is_wrapper_key e
+wrapped_key k j l (inr (inr (inr (inr (inr (inr (inr (inl (e, is))))))))) = ap is_wrapper_key e
+wrapped_key k j l (inr (inr (inr (inr (inr (inr (inr (inr (inl (e, is)))))))))) = ap is_wrapper_key e
+wrapped_key k j l (inr (inr (inr (inr (inr (inr (inr (inr (inr (inl (e, is))))))))))) = ap is_wrapper_key e
+wrapped_key k j l (inr (inr (inr (inr (inr (inr (inr (inr (inr (inr (inl (e, is)))))))))))) = ap is_wrapper_key e
+wrapped_key k j l (inr (inr (inr (inr (inr (inr (inr (inr (inr (inr (inr (inl (e, is))))))))))))) = ap is_wrapper_key e
+wrapped_key k j l (inr (inr (inr (inr (inr (inr (inr (inr (inr (inr (inr (inr (inl (e, is)))))))))))))) = ap is_wrapper_key e
+wrapped_key k j l (inr (inr (inr (inr (inr (inr (inr (inr (inr (inr (inr (inr (inr (inl (e, is))))))))))))))) = ap is_wrapper_key e.0
+wrapped_key k j l (inr (inr (inr (inr (inr (inr (inr (inr (inr (inr (inr (inr (inr (inr (inl (e, is)))))))))))))))) = ap is_wrapper_key e.0
+wrapped_key k j l (inr (inr (inr (inr (inr (inr (inr (inr (inr (inr (inr (inr (inr (inr (inr (e, is)))))))))))))))) = ap is_wrapper_key e.0
+
+pub is_of_wrapper : (w : Wrapper) → is_wrapper_key (wrapper_key w) ≡ true
+is_of_wrapper wrapper.Oid = refl
+is_of_wrapper wrapper.NumberInt = refl
+is_of_wrapper wrapper.NumberLong = refl
+is_of_wrapper wrapper.NumberDouble = refl
+is_of_wrapper wrapper.NumberDecimal = refl
+is_of_wrapper wrapper.Binary = refl
+is_of_wrapper wrapper.Uuid = refl
+is_of_wrapper wrapper.Date = refl
+is_of_wrapper wrapper.RegularExpression = refl
+is_of_wrapper wrapper.Timestamp = refl
+is_of_wrapper wrapper.Code = refl
+is_of_wrapper wrapper.Scope = refl
+is_of_wrapper wrapper.DbPointer = refl
+is_of_wrapper wrapper.Symbol = refl
+is_of_wrapper wrapper.Undefined = refl
+is_of_wrapper wrapper.MinKey = refl
+is_of_wrapper wrapper.MaxKey = refl
+
+-- what an object is whose first key is this
+module _ (k : List ℕ) (new ts behind : List Token) (e : ts ≡ Token.key k ∷ new) where
+  first_key : (k' : List ℕ) (j : Json) (ms : Members) → ts ≡ members_tokens (member k' j ms) ++ behind → k' ≡ k
+  first_key k' j ms f = same_key f e
+
+  value_behind : (k' : List ℕ) (j : Json) (ms : Members) → ts ≡ members_tokens (member k' j ms) ++ behind → new ≡ json_tokens j ++ (members_tokens ms ++ behind)
+  value_behind k' j ms f = behind_key e f ∙ append_assoc (json_tokens j) (members_tokens ms) behind
+
+  -- no wrapper's key
+  module _ (plain : is_wrapper_key k ≡ false) where
+    no_wrapper : (k' : List ℕ) (j : Json) (ms : Members) → ts ≡ members_tokens (member k' j ms) ++ behind → is_wrapper_key k' ≡ true → ⊥
+    no_wrapper k' j ms f is = false≢true (sym plain ∙ ap is_wrapper_key (sym (first_key k' j ms f)) ∙ is)
+
+    pub ordinary : ObjectThen ts behind → (rest : List Token) × ValueThen new rest × OrdinaryThen rest behind
+    ordinary (no_members, t, means, f) = absurd (unlike_key f e)
+    ordinary (member k' j ms, t, inl (es, none, (first, others, means, are, is), says), f) = (
+      members_tokens ms ++ behind,
+      (j, first, means, value_behind k' j ms f),
+      (ms, others, right_false (is_wrapper_key k') (has_wrapper_key ms) none, are, refl),
+    )
+    ordinary (member k' j no_members, t, inr (inl (l, is, says)), f) = absurd (no_wrapper k' j no_members f (wrapped_key k' j l is))
+    ordinary (member k' j (member m i ms), t, inr (inl is), f) = absurd is
+    ordinary (member k' j no_members, t, inr (inr is), f) = absurd is
+    ordinary (member k' j (member m i no_members), t, inr (inr (inl (code, es, is, second, other, whole, says))), f) =
+        absurd (no_wrapper k' j (member m i no_members) f (ap is_wrapper_key is))
+    ordinary (member k' j (member m i no_members), t, inr (inr (inr (code, es, is, second, whole, other, says))), f) =
+        absurd (no_wrapper k' j (member m i no_members) f (ap is_wrapper_key is))
+    ordinary (member k' j (member m i (member n h ms)), t, inr (inr is), f) = absurd is
+
+-- the wrapper of a key
+abbrev of_key : List ℕ → Wrapper
+of_key k =
+    cond (bytes_eq k (codes "$oid")) wrapper.Oid (cond (bytes_eq k (codes "$numberInt")) wrapper.NumberInt (cond (bytes_eq k (codes "$numberLong")) wrapper.NumberLong
+    (cond (bytes_eq k (codes "$numberDouble")) wrapper.NumberDouble (cond (bytes_eq k (codes "$numberDecimal")) wrapper.NumberDecimal (cond (bytes_eq k (codes "$binary")) wrapper.Binary
+    (cond (bytes_eq k (codes "$uuid")) wrapper.Uuid (cond (bytes_eq k (codes "$date")) wrapper.Date (cond (bytes_eq k (codes "$regularExpression")) wrapper.RegularExpression
+    (cond (bytes_eq k (codes "$timestamp")) wrapper.Timestamp (cond (bytes_eq k (codes "$code")) wrapper.Code (cond (bytes_eq k (codes "$scope")) wrapper.Scope
+    (cond (bytes_eq k (codes "$dbPointer")) wrapper.DbPointer (cond (bytes_eq k (codes "$symbol")) wrapper.Symbol (cond (bytes_eq k (codes "$undefined")) wrapper.Undefined
+    (cond (bytes_eq k (codes "$minKey")) wrapper.MinKey wrapper.MaxKey)))))))))))))))
+
+of_wrapper_key : (w : Wrapper) → of_key (wrapper_key w) ≡ w
+of_wrapper_key wrapper.Oid = refl
+of_wrapper_key wrapper.NumberInt = refl
+of_wrapper_key wrapper.NumberLong = refl
+of_wrapper_key wrapper.NumberDouble = refl
+of_wrapper_key wrapper.NumberDecimal = refl
+of_wrapper_key wrapper.Binary = refl
+of_wrapper_key wrapper.Uuid = refl
+of_wrapper_key wrapper.Date = refl
+of_wrapper_key wrapper.RegularExpression = refl
+of_wrapper_key wrapper.Timestamp = refl
+of_wrapper_key wrapper.Code = refl
+of_wrapper_key wrapper.Scope = refl
+of_wrapper_key wrapper.DbPointer = refl
+of_wrapper_key wrapper.Symbol = refl
+of_wrapper_key wrapper.Undefined = refl
+of_wrapper_key wrapper.MinKey = refl
+of_wrapper_key wrapper.MaxKey = refl
+
+named : (w v : Wrapper) → wrapper_key w ≡ wrapper_key v → v ≡ w
+named w v e = sym (of_wrapper_key v) ∙ ap of_key (sym e) ∙ of_wrapper_key w
+
+-- what is behind the key of a wrapper
+
+abbrev pub LeafThen : Wrapper → List Token → List Token → Type 0
+LeafThen w ts behind = (j : Json) × (l : Leaf) × IsWrapped (wrapper_key w) j l × (ts ≡ json_tokens j ++ (Token.end_object ∷ behind))
+
+abbrev pub CodeThen : List Token → List Token → Type 0
+CodeThen ts behind = (code : List ℕ) × (rest : List Token) × (ts ≡ Token.string code ∷ Token.key (codes "$scope") ∷ Token.begin_object ∷ rest) × MembersThen rest (Token.end_object ∷ behind)
+
+abbrev pub ScopeThen : List Token → List Token → Type 0
+ScopeThen ts behind = (code : List ℕ) × (rest : List Token) × (ts ≡ Token.begin_object ∷ rest)
+    × MembersThen rest (Token.key (codes "$code") ∷ Token.string code ∷ Token.end_object ∷ behind)
+
+abbrev pub WrapperValueThen : Wrapper → List Token → List Token → Type 0
+WrapperValueThen w ts behind = LeafThen w ts behind ⊎ ((wrapper.Code ≡ w) × CodeThen ts behind) ⊎ ((wrapper.Scope ≡ w) × ScopeThen ts behind)
+
+code_then : (ts behind : List Token) (k : List ℕ) (j i : Json) (code : List ℕ) (es : Entries) → j ≡ json.string code → IsWhole i es → k ≡ codes "$scope"
+    → ts ≡ json_tokens j ++ (members_tokens (member k i no_members) ++ behind) → CodeThen ts behind
+code_then ts behind k j json.null code es is whole named e = absurd whole
+code_then ts behind k j (json.boolean b) code es is whole named e = absurd whole
+code_then ts behind k j (json.number s) code es is whole named e = absurd whole
+code_then ts behind k j (json.string s) code es is whole named e = absurd whole
+code_then ts behind k j (json.array js) code es is whole named e = absurd whole
+code_then ts behind k j (json.object ms) code es is whole named e = (
+  code,
+  members_tokens ms ++ (Token.end_object ∷ behind),
+  e ∙ ap (λ (x : Json). json_tokens x ++ (members_tokens (member k (json.object ms) no_members) ++ behind)) is
+      ∙ ap (λ (x : List ℕ). Token.string code ∷ Token.key x ∷ Token.begin_object ∷ ((members_tokens ms ++ (Token.end_object ∷ [])) ++ behind)) named
+      ∙ ap (λ (x : List Token). Token.string code ∷ Token.key (codes "$scope") ∷ Token.begin_object ∷ x) (append_assoc (members_tokens ms) (Token.end_object ∷ []) behind),
+  (ms, es, whole, refl),
+)
+
+scope_then : (ts behind : List Token) (k : List ℕ) (j i : Json) (code : List ℕ) (es : Entries) → IsWhole j es → i ≡ json.string code → k ≡ codes "$code"
+    → ts ≡ json_tokens j ++ (members_tokens (member k i no_members) ++ behind) → ScopeThen ts behind
+scope_then ts behind k json.null i code es whole is named e = absurd whole
+scope_then ts behind k (json.boolean b) i code es whole is named e = absurd whole
+scope_then ts behind k (json.number s) i code es whole is named e = absurd whole
+scope_then ts behind k (json.string s) i code es whole is named e = absurd whole
+scope_then ts behind k (json.array js) i code es whole is named e = absurd whole
+scope_then ts behind k (json.object ms) i code es whole is named e = (
+  code,
+  members_tokens ms ++ (Token.key (codes "$code") ∷ Token.string code ∷ Token.end_object ∷ behind),
+  e ∙ ap (λ (x : Json). Token.begin_object ∷ (members_tokens ms ++ (members_tokens (member k x no_members) ++ behind))) is
+      ∙ ap (λ (x : List ℕ). Token.begin_object ∷ (members_tokens ms ++ (Token.key x ∷ Token.string code ∷ Token.end_object ∷ behind))) named,
+  (ms, es, whole, refl),
+)
+
+module _ (w : Wrapper) (new ts behind : List Token) (e : ts ≡ Token.key (wrapper_key w) ∷ new) where
+  value_of : (k : List ℕ) (j : Json) (ms : Members) → ts ≡ members_tokens (member k j ms) ++ behind → new ≡ json_tokens j ++ (members_tokens ms ++ behind)
+  value_of k j ms f = value_behind (wrapper_key w) new ts behind e k j ms f
+
+  key_of : (k : List ℕ) (j : Json) (ms : Members) → ts ≡ members_tokens (member k j ms) ++ behind → k ≡ wrapper_key w
+  key_of k j ms f = first_key (wrapper_key w) new ts behind e k j ms f
+
+  pub wrapper_value : ObjectThen ts behind → WrapperValueThen w new behind
+  wrapper_value (no_members, t, means, f) = absurd (unlike_key f e)
+  wrapper_value (member k j ms, t, inl (es, none, are, says), f) =
+      absurd (false≢true (sym (left_false (is_wrapper_key k) (has_wrapper_key ms) none) ∙ ap is_wrapper_key (key_of k j ms f) ∙ is_of_wrapper w))
+  wrapper_value (member k j no_members, t, inr (inl (l, is, says)), f) =
+      inl (j, l, subst (λ (x : List ℕ). IsWrapped x j l) (key_of k j no_members f) is, value_of k j no_members f)
+  wrapper_value (member k j (member m i ms), t, inr (inl is), f) = absurd is
+  wrapper_value (member k j no_members, t, inr (inr is), f) = absurd is
+  wrapper_value (member k j (member m i no_members), t, inr (inr (inl (code, es, first, second, is, whole, says))), f) =
+      inr (inl (named w wrapper.Code (sym (key_of k j (member m i no_members) f) ∙ first), code_then new behind m j i code es is whole second (value_of k j (member m i no_members) f)))
+  wrapper_value (member k j (member m i no_members), t, inr (inr (inr (code, es, first, second, whole, is, says))), f) =
+      inr (inr (named w wrapper.Scope (sym (key_of k j (member m i no_members) f) ∙ first), scope_then new behind m j i code es whole is second (value_of k j (member m i no_members) f)))
+  wrapper_value (member k j (member m i (member n h ms)), t, inr (inr is), f) = absurd is
+
+-- what a wrapper that holds no others writes
+abbrev pub Writes : Wrapper → Json → Leaf → Type 0
+Writes wrapper.Oid j l = IsOid j l
+Writes wrapper.NumberInt j l = InString IsQuotedInt32 j l
+Writes wrapper.NumberLong j l = InString IsQuotedInt64 j l
+Writes wrapper.NumberDouble j l = InString IsQuotedDouble j l
+Writes wrapper.NumberDecimal j l = InString IsQuotedDecimal j l
+Writes wrapper.Binary j l = IsBinary j l
+Writes wrapper.Uuid j l = IsUuid j l
+Writes wrapper.Date j l = IsDate j l
+Writes wrapper.RegularExpression j l = IsRegex j l
+Writes wrapper.Timestamp j l = IsTimestamp j l
+Writes wrapper.Code j l = InString (λ s l. l ≡ javascript_code s) j l
+Writes wrapper.Scope j l = ⊥
+Writes wrapper.DbPointer j l = IsDbPointer j l
+Writes wrapper.Symbol j l = InString (λ s l. l ≡ symbol s) j l
+Writes wrapper.Undefined j l = (j ≡ json.boolean true) × (l ≡ undefined)
+Writes wrapper.MinKey j l = (j ≡ json.number (codes "1")) × (l ≡ min_key)
+Writes wrapper.MaxKey j l = (j ≡ json.number (codes "1")) × (l ≡ max_key)
+
+module _ (w : Wrapper) (j : Json) (l : Leaf) where
+  as_named : (v : Wrapper) → wrapper_key w ≡ wrapper_key v → Writes v j l → Writes w j l
+  as_named v e is = subst (λ (x : Wrapper). Writes x j l) (named w v e) is
+
+  pub writes : IsWrapped (wrapper_key w) j l → Writes w j l
+  writes (inl (e, is)) = as_named wrapper.Oid e is
+  writes (inr (inl (e, is))) = as_named wrapper.NumberInt e is
+  writes (inr (inr (inl (e, is)))) = as_named wrapper.NumberLong e is
+  writes (inr (inr (inr (inl (e, is))))) = as_named wrapper.NumberDouble e is
+  writes (inr (inr (inr (inr (inl (e, is)))))) = as_named wrapper.NumberDecimal e is
+  writes (inr (inr (inr (inr (inr (inl (e, is))))))) = as_named wrapper.Binary e is
+  writes (inr (inr (inr (inr (inr (inr (inl (e, is)))))))) = as_named wrapper.Uuid e is
+  writes (inr (inr (inr (inr (inr (inr (inr (inl (e, is))))))))) = as_named wrapper.Date e is
+  writes (inr (inr (inr (inr (inr (inr (inr (inr (inl (e, is)))))))))) = as_named wrapper.RegularExpression e is
+  writes (inr (inr (inr (inr (inr (inr (inr (inr (inr (inl (e, is))))))))))) = as_named wrapper.Timestamp e is
+  writes (inr (inr (inr (inr (inr (inr (inr (inr (inr (inr (inl (e, is)))))))))))) = as_named wrapper.DbPointer e is
+  writes (inr (inr (inr (inr (inr (inr (inr (inr (inr (inr (inr (inl (e, is))))))))))))) = as_named wrapper.Code e is
+  writes (inr (inr (inr (inr (inr (inr (inr (inr (inr (inr (inr (inr (inl (e, is)))))))))))))) = as_named wrapper.Symbol e is
+  writes (inr (inr (inr (inr (inr (inr (inr (inr (inr (inr (inr (inr (inr (inl (e, is))))))))))))))) = as_named wrapper.Undefined e.0 (e.1, is)
+  writes (inr (inr (inr (inr (inr (inr (inr (inr (inr (inr (inr (inr (inr (inr (inl (e, is)))))))))))))))) = as_named wrapper.MinKey e.0 (e.1, is)
+  writes (inr (inr (inr (inr (inr (inr (inr (inr (inr (inr (inr (inr (inr (inr (inr (e, is)))))))))))))))) = as_named wrapper.MaxKey e.0 (e.1, is)
+
+-- .. and back
+pub wrapped : (w : Wrapper) (j : Json) (l : Leaf) → Writes w j l → IsWrapped (wrapper_key w) j l
+wrapped wrapper.Oid j l h = inl (refl, h)
+wrapped wrapper.NumberInt j l h = inr (inl (refl, h))
+wrapped wrapper.NumberLong j l h = inr (inr (inl (refl, h)))
+wrapped wrapper.NumberDouble j l h = inr (inr (inr (inl (refl, h))))
+wrapped wrapper.NumberDecimal j l h = inr (inr (inr (inr (inl (refl, h)))))
+wrapped wrapper.Binary j l h = inr (inr (inr (inr (inr (inl (refl, h))))))
+wrapped wrapper.Uuid j l h = inr (inr (inr (inr (inr (inr (inl (refl, h)))))))
+wrapped wrapper.Date j l h = inr (inr (inr (inr (inr (inr (inr (inl (refl, h))))))))
+wrapped wrapper.RegularExpression j l h = inr (inr (inr (inr (inr (inr (inr (inr (inl (refl, h)))))))))
+wrapped wrapper.Timestamp j l h = inr (inr (inr (inr (inr (inr (inr (inr (inr (inl (refl, h))))))))))
+wrapped wrapper.DbPointer j l h = inr (inr (inr (inr (inr (inr (inr (inr (inr (inr (inl (refl, h)))))))))))
+wrapped wrapper.Code j l h = inr (inr (inr (inr (inr (inr (inr (inr (inr (inr (inr (inl (refl, h))))))))))))
+wrapped wrapper.Scope j l h = absurd h
+wrapped wrapper.Symbol j l h = inr (inr (inr (inr (inr (inr (inr (inr (inr (inr (inr (inr (inl (refl, h)))))))))))))
+wrapped wrapper.Undefined j l h = inr (inr (inr (inr (inr (inr (inr (inr (inr (inr (inr (inr (inr (inl ((refl, h.0), h.1))))))))))))))
+wrapped wrapper.MinKey j l h = inr (inr (inr (inr (inr (inr (inr (inr (inr (inr (inr (inr (inr (inr (inl ((refl, h.0), h.1)))))))))))))))
+wrapped wrapper.MaxKey j l h = inr (inr (inr (inr (inr (inr (inr (inr (inr (inr (inr (inr (inr (inr (inr ((refl, h.0), h.1)))))))))))))))
+
+pub none_wrapped : (w : Wrapper) (ts : List Token) → TakesNone (Writes w) ts → LacksLeaf (wrapper_key w) ts
+none_wrapped w ts none = record { none = λ j l is. none j l (writes w j l is) }

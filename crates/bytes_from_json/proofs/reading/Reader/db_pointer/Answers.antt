@@ -1,0 +1,12 @@
+use Rattle.std.proofs.Common.{refl, rules}
+use Rattle.bytes_from_json.proofs.Moments.{leaf_taken, on_ok, puts_as}
+use Rattle.bytes_from_json.specs.declared.wrapper.Wrapper.TheVariants as wrapper
+use Rattle.bytes_from_json.proofs.Ends.{none_wrapped}
+use Rattle.bytes_from_json.proofs.Keeps.{lacks}
+use Rattle.bytes_from_json.proofs.reading.Reader.db_pointer.Goals as goal
+
+pub returns-clause-some : goal.returns-clause-some
+returns-clause-some c = on_ok c.put.result (λ puts. leaf_taken wrapper.DbPointer c.in_ok-namespace.ensures.some refl c.put.ensures.source (puts_as puts (search rules))) c.put.ensures.puts
+
+pub returns-in_err-namespace-clause-none : goal.returns-in_err-namespace-clause-none
+returns-in_err-namespace-clause-none c = lacks c.from_residual.result (none_wrapped wrapper.DbPointer _ c.in_err-namespace.ensures.none)

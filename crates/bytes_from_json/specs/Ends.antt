@@ -1,0 +1,86 @@
+-- With which tokens a text whose levels are open may go on and end, so that it says a document. No public contract cites this file.
+use Rattle.std.specs.Prelude.{◌≡◌, ℕ, false, List, [], ◌∷◌, ◌++◌, codes}
+use Rattle.json.specs.Json.{Json, Items, Members, object}
+use Rattle.json.specs.Token.{Token, end_object, key, string}
+use Rattle.json.specs.Tree.{json_tokens, items_tokens, members_tokens}
+use Rattle.bson_model.specs.Tree.{Tree, Trees, Entries}
+use Rattle.bytes_from_json.specs.Meaning.{AreItems, AreMembers, Means, has_wrapper_key}
+use Rattle.bytes_from_json.specs.declared.levels.Holder.{Holder}
+use Rattle.bytes_from_json.specs.declared.levels.Holder.TheVariants as holder
+use Rattle.bytes_from_json.specs.declared.levels.Level.{Level}
+use Rattle.bytes_from_json.specs.declared.reading.Reader.{Reader}
+use Rattle.bytes_from_json.specs.Levels.{levels_of}
+use Rattle.bytes_from_json.specs.Taken.{TakesNone}
+use Rattle.bytes_from_json.specs.Wrapped.{IsWrapped}
+
+-- a value that says a tree is next, and these tokens are behind it
+abbrev pub ValueThen : List Token → List Token → Type 0
+ValueThen ts behind = (j : Json) × (t : Tree) × Means j t × (ts ≡ json_tokens j ++ behind)
+
+-- the members of the text or of a scope are next, with its bracket
+abbrev pub MembersThen : List Token → List Token → Type 0
+MembersThen ts behind = (ms : Members) × (es : Entries) × AreMembers ms es × (ts ≡ members_tokens ms ++ behind)
+
+-- those of a document
+abbrev pub OrdinaryThen : List Token → List Token → Type 0
+OrdinaryThen ts behind = (ms : Members) × (es : Entries) × (has_wrapper_key ms ≡ false) × AreMembers ms es × (ts ≡ members_tokens ms ++ behind)
+
+-- the items of an array
+abbrev pub ItemsThen : List Token → List Token → Type 0
+ItemsThen ts behind = (js : Items) × (trees : Trees) × AreItems js trees × (ts ≡ items_tokens js ++ behind)
+
+-- the rest of a level is next, with its bracket
+abbrev pub InsideThen : Holder → List Token → List Token → Type 0
+InsideThen holder.Text ts behind = MembersThen ts behind
+InsideThen holder.Document ts behind = OrdinaryThen ts behind
+InsideThen (holder.Begun first) ts behind = (rest : List Token) × ValueThen ts rest × OrdinaryThen rest behind
+InsideThen (holder.Array items) ts behind = ItemsThen ts behind
+InsideThen (holder.Scope start) ts behind = MembersThen ts behind
+InsideThen (holder.ScopeBeforeCode start code) ts behind = MembersThen ts behind
+
+-- what is behind the bracket of a level in its wrapper is next
+abbrev pub WrapperThen : Holder → List Token → List Token → Type 0
+WrapperThen holder.Text ts behind = ts ≡ behind
+WrapperThen holder.Document ts behind = ts ≡ behind
+WrapperThen (holder.Begun first) ts behind = ts ≡ behind
+WrapperThen (holder.Array items) ts behind = ts ≡ behind
+WrapperThen (holder.Scope start) ts behind = ts ≡ end_object ∷ behind
+WrapperThen (holder.ScopeBeforeCode start code) ts behind = (text : List ℕ) × (ts ≡ key (codes "$code") ∷ string text ∷ end_object ∷ behind)
+
+abbrev pub LevelThen : Holder → List Token → List Token → Type 0
+LevelThen h ts behind = (rest : List Token) × InsideThen h ts rest × WrapperThen h rest behind
+
+-- these levels, the innermost first, are ended by just these tokens
+abbrev pub CanEnd : List Level → List Token → Type 0
+CanEnd [] ts = ts ≡ []
+CanEnd (l ∷ ls) ts = (behind : List Token) × LevelThen l.holder ts behind × CanEnd ls behind
+
+-- none of these is next
+abbrev pub LacksValue : List Token → Type 0
+LacksValue ts = (behind : List Token) → ¬ ValueThen ts behind
+
+abbrev pub LacksLevel : Holder → List Token → Type 0
+LacksLevel h ts = (behind : List Token) → ¬ LevelThen h ts behind
+
+abbrev pub LacksWrapper : Holder → List Token → Type 0
+LacksWrapper h ts = (behind : List Token) → ¬ WrapperThen h ts behind
+
+-- no value of a wrapper with this key is next
+pub record LacksLeaf (wrapper : List ℕ) (ts : List Token) : Type 0 where
+  pub none : TakesNone (IsWrapped wrapper) ts
+
+-- these aren't the tokens of an object whose members say a document
+abbrev pub LacksWhole : List Token → Type 0
+LacksWhole ts = (ms : Members) (es : Entries) → AreMembers ms es → ¬ (ts ≡ json_tokens (object ms))
+
+-- if what was left could be ended so, what is left can: a value was next, of which these tokens were taken before
+pub record KeepsValue (old new : Reader) (taken : List Token) : Type 0 where
+  pub kept : (behind : List Token) → ValueThen (taken ++ old.source.tokens) behind → CanEnd (levels_of old) behind → CanEnd (levels_of new) new.source.tokens
+
+-- .. the rest of a level was next, within the others
+pub record KeepsLevel (old new : Reader) (l : Level) : Type 0 where
+  pub kept : CanEnd (l ∷ levels_of old) old.source.tokens → CanEnd (levels_of new) new.source.tokens
+
+-- .. what is behind its bracket
+pub record KeepsClosed (old new : Reader) (l : Level) : Type 0 where
+  pub kept : (behind : List Token) → WrapperThen l.holder old.source.tokens behind → CanEnd (levels_of old) behind → CanEnd (levels_of new) new.source.tokens

@@ -1,0 +1,301 @@
+//! Documents from text: one loop over the members of the innermost level.
+#![tactic(auto, using(crate::proofs::Left::one_taken, crate::proofs::Left::some_taken, crate::proofs::Keeps::only_open))]
+
+ghost use Rattle.std.specs.Prelude.{◌≡◌, ◌<◌, ◌≤◌, ◌∷◌, ◌⊎◌, [], decimal, IfErr, IfOk, IfSome, OnErr, OnOk};
+ghost use Rattle.json.specs.Reads.{token_of};
+ghost use Rattle.json.specs.Token.{begin_object};
+ghost use Rattle.bson_model.specs.Bytes.{NulFree};
+ghost use Rattle.bson_model.specs.Tree.{Tree};
+ghost use Rattle.raw_view.specs.Frame.Envelope.{IsEnvelope};
+ghost use Rattle.raw_view.specs.Meaning.Value.{value_of};
+ghost use Rattle.raw_tree.specs.WithinLimits.{ReadsWithin};
+ghost use Rattle.bytes_from_json.specs.Left.{left_of};
+ghost use Rattle.bytes_from_json.specs.Levels.{ClosesBracket, HasMembers, MayBeIn, Puts, SaysBytes, TakesLevel, TakesValue, array_level};
+ghost use Rattle.bytes_from_json.specs.Place.{IsPlaceIn};
+ghost use Rattle.bytes_from_json.specs.declared.levels.Holder.TheVariants.{Array};
+ghost use Rattle.bytes_from_json.specs.Ends.{KeepsClosed, KeepsLevel, KeepsValue, LacksLevel, LacksValue, LacksWhole, LacksWrapper};
+ghost use Rattle.bytes_from_json.specs.Texts.{IsWritten, LeavesOpen, SaysNone};
+
+use crate::codes::{Codes, codes_of};
+use crate::error::{JsonError, JsonReason};
+use crate::fault::Wanted;
+use crate::levels::{Holder, Level, Unfinished};
+use crate::source::Source;
+use crate::wrapper::Wrapper;
+use itoa::Buffer;
+use json::{Reader as Tokens, Scratch, Token};
+use raw_tree::Limits;
+use raw_view::{ElementType, RawBsonRef};
+use std::alloc::Global;
+
+/// A text and the document that is made of it.
+#[derive(Drop)]
+pub(crate) struct Reader<'a> {
+    pub(crate) alloc: Global,
+    pub(crate) source: Source<'a>,
+    pub(crate) document: Unfinished<'a>,
+    /// the codes that come behind their scopes, once they are looked for
+    pub(crate) codes: Option<Codes<'a>>,
+    /// whether they have to be
+    pub(crate) misses_codes: bool,
+}
+
+/// The bytes of the document that a text of MongoDB Extended JSON v2 writes, as `from_json` of `bson_from_json` says it.
+pub fn document_bytes(alloc: Global, text: &str, limits: Limits) -> Result<Vec<u8>, JsonError>
+    ensures written { IfOk result (λ bytes. IsWritten text.now bytes.items) }
+    ensures envelope { IfOk result (λ bytes. IsEnvelope bytes.items) }
+    ensures sound { IfOk result (λ bytes. (t : Tree) × ReadsWithin limits bytes.items t) }
+    ensures place { IfErr result (IsPlaceIn text.now) }
+    ensures none { IfErr result (λ error. LeavesOpen error.reason ⊎ SaysNone text.now) }
+{
+    if let Some(bytes) = document_of(alloc, text, limits, None)? {
+        return Ok(bytes);
+    }
+    let Ok(codes) = codes_of(alloc, text) else {
+        return Err(JsonError::at(JsonReason::OutOfMemory, text.as_bytes(), 0));
+    };
+    let codes = Some(Codes::new(&codes));
+    match document_of(alloc, text, limits, codes)? {
+        Some(bytes) => Ok(bytes),
+        None => Err(JsonError::at(JsonReason::Unsound, text.as_bytes(), 0)),
+    }
+}
+
+/// The bytes of the document that a text writes, by its tokens; none if a code comes behind its scope, and codes weren't looked for.
+fn document_of<'a>(
+    alloc: Global,
+    text: &'a str,
+    limits: Limits,
+    codes: Option<Codes<'a>>,
+) -> Result<Option<Vec<u8>>, JsonError>
+    ensures written { IfOk result (λ found. IfSome found (λ bytes. IsWritten text.now bytes.items)) }
+    ensures envelope { IfOk result (λ found. IfSome found (λ bytes. IsEnvelope bytes.items)) }
+    ensures sound { IfOk result (λ found. IfSome found (λ bytes. (t : Tree) × ReadsWithin limits bytes.items t)) }
+    ensures place { IfErr result (IsPlaceIn text.now) }
+    ensures none { IfErr result (λ error. LeavesOpen error.reason ⊎ SaysNone text.now) }
+{
+    let mut scratch = Scratch::new(alloc);
+    let tokens = match Tokens::new(text, &mut scratch) {
+        Ok(tokens) => tokens,
+        Err(_) => return Err(JsonError::at(JsonReason::OutOfMemory, text.as_bytes(), 0)),
+    };
+    let mut reader = Reader {
+        alloc,
+        source: Source::new(text, tokens),
+        document: Unfinished::new(alloc, limits),
+        codes,
+        misses_codes: false,
+    };
+    let outcome = reader.read();
+    if reader.misses_codes {
+        return Ok(None);
+    }
+    let offset = reader.source.place.min(text.len());
+    let reason = match outcome {
+        Err(reason) => reason,
+        Ok(()) => match reader.document.finish(alloc, limits) {
+            Ok(bytes) => return Ok(Some(bytes)),
+            Err(reason) => reason,
+        },
+    };
+    Err(JsonError::at(reason, text.as_bytes(), offset))
+}
+
+impl<'a> Reader<'a> {
+    /// Reads the whole text.
+    fn read(&mut self) -> Result<(), JsonReason>
+        requires bytes { self.old.document.bytes.items ≡ [] }
+        requires levels { self.old.document.levels.items ≡ [] }
+        ensures some { OnOk result (SaysBytes self.old.source.tokens self.new.document.bytes.items) }
+        ensures none { IfErr result (λ reason. LeavesOpen reason ⊎ LacksWhole self.old.source.tokens) }
+    {
+        let Token::BeginObject = self.source.token(Wanted::Document)? else {
+            return Err(self.source.fault(Wanted::Document));
+        };
+        self.document.open(Holder::Text)?;
+        'members: while let Some(level) = self.document.pop() {
+            self.on_with(level)?;
+        }
+        self.source.end_of_text()
+    }
+
+    /// Takes an item or a member of a level that was taken off, or its end.
+    fn on_with(&mut self, level: Level<'a>) -> Result<(), JsonReason>
+        ensures less { OnOk result (left_of self.new < left_of self.old) }
+        ensures rest { OnOk result (TakesLevel self.old self.new level.entry) }
+        ensures keeps { OnOk result (KeepsLevel self.old self.new level.entry) }
+        ensures none { IfErr result (λ reason. LeavesOpen reason ⊎ LacksLevel level.entry.holder self.old.source.tokens) }
+    {
+        match level.holder {
+            Holder::Array(items) => self.item(level.start, items),
+            Holder::Begun(key) => {
+                self.document.push(Level {
+                    holder: Holder::Document,
+                    start: level.start,
+                })?;
+                self.value_of(key)
+            }
+            _ => self.member(level),
+        }
+    }
+
+    /// Takes an item of an array that starts there and has so many, or its end.
+    fn item(&mut self, start: usize, items: usize) -> Result<(), JsonReason>
+        ensures less { OnOk result (left_of self.new < left_of self.old) }
+        ensures rest { OnOk result (TakesLevel self.old self.new (array_level items start)) }
+        ensures keeps { OnOk result (KeepsLevel self.old self.new (array_level items start)) }
+        ensures none { IfErr result (λ reason. LeavesOpen reason ⊎ LacksLevel (Array items) self.old.source.tokens) }
+    {
+        let token = self.source.token(Wanted::Item)?;
+        if let Token::EndArray = token {
+            return self.close(Level {
+                holder: Holder::Array(items),
+                start,
+            });
+        }
+        let more = items.checked_add(1).ok_or(JsonReason::TooManyBytes)?;
+        self.document.push(Level {
+            holder: Holder::Array(more),
+            start,
+        })?;
+        let mut buffer = Buffer::new();
+        let key = buffer.format(items);
+        self.value(token, key, Wanted::Item)
+    }
+
+    /// Takes a member of a level that was taken off, or its end.
+    fn member(&mut self, level: Level<'a>) -> Result<(), JsonReason>
+        requires { HasMembers level.holder }
+        ensures less { OnOk result (left_of self.new < left_of self.old) }
+        ensures rest { OnOk result (TakesLevel self.old self.new level.entry) }
+        ensures keeps { OnOk result (KeepsLevel self.old self.new level.entry) }
+        ensures none { IfErr result (λ reason. LeavesOpen reason ⊎ LacksLevel level.entry.holder self.old.source.tokens) }
+    {
+        match self.source.token(Wanted::Member)? {
+            Token::EndObject => self.close(level),
+            Token::Key(key) => {
+                check_key(key, level.holder)?;
+                self.document.push(level)?;
+                self.value_of(key)
+            }
+            _ => Err(self.source.fault(Wanted::Member)),
+        }
+    }
+
+    /// Takes the value of a member.
+    fn value_of(&mut self, key: &str) -> Result<(), JsonReason>
+        ensures less { OnOk result (left_of self.new < left_of self.old) }
+        ensures rest { OnOk result (TakesValue self.old self.new key.now []) }
+        ensures keeps { OnOk result (KeepsValue self.old self.new []) }
+        ensures none { IfErr result (λ reason. LeavesOpen reason ⊎ LacksValue self.old.source.tokens) }
+    {
+        let token = self.source.token(Wanted::Value)?;
+        self.value(token, key, Wanted::Value)
+    }
+
+    /// Ends a level that was taken off, whose bracket is passed, and the wrapper that it is in.
+    fn close(&mut self, level: Level<'a>) -> Result<(), JsonReason>
+        ensures less { OnOk result (left_of self.new ≤ left_of self.old) }
+        ensures rest { OnOk result (ClosesBracket self.old self.new level.entry) }
+        ensures keeps { OnOk result (KeepsClosed self.old self.new level.entry) }
+        ensures none { IfErr result (λ reason. LeavesOpen reason ⊎ LacksWrapper level.entry.holder self.old.source.tokens) }
+    {
+        self.document.close(level)?;
+        match level.holder {
+            Holder::Scope(start) => {
+                self.document.set_len(start)?;
+                self.source.end(Wrapper::Code)
+            }
+            Holder::ScopeBeforeCode(start, code) => {
+                self.document.set_len(start)?;
+                self.source.code(code)
+            }
+            _ => Ok(()),
+        }
+    }
+
+    /// Puts the value that begins with this token, or the beginning of one that is a level, under a key.
+    fn value(&mut self, token: Token<'a>, key: &str, wanted: Wanted) -> Result<(), JsonReason>
+        ensures less { OnOk result (left_of self.new ≤ left_of self.old) }
+        ensures rest { OnOk result (TakesValue self.old self.new key.now (token_of token.entry ∷ [])) }
+        ensures keeps { OnOk result (KeepsValue self.old self.new (token_of token.entry ∷ [])) }
+        ensures none { IfErr result (λ reason. LeavesOpen reason ⊎ LacksValue (token_of token.entry ∷ self.old.source.tokens)) }
+    {
+        match token {
+            Token::String(text) => self.put(key, RawBsonRef::String(text)),
+            Token::Number(text) => self.number(key, text),
+            Token::Bool(value) => self.put(key, RawBsonRef::Boolean(value)),
+            Token::Null => self.put(key, RawBsonRef::Null),
+            Token::BeginObject => self.object(key),
+            Token::BeginArray => self
+                .document
+                .open_under(ElementType::Array, key, Holder::Array(0)),
+            Token::Key(_) => Err(self.source.fault(Wanted::Comma)),
+            Token::EndObject | Token::EndArray | Token::Bad => Err(self.source.fault(wanted)),
+        }
+    }
+
+    /// Takes the first key of an object, which says whether it is a wrapper, or its end.
+    fn object(&mut self, key: &str) -> Result<(), JsonReason>
+        ensures less { OnOk result (left_of self.new ≤ left_of self.old) }
+        ensures rest { OnOk result (TakesValue self.old self.new key.now (begin_object ∷ [])) }
+        ensures keeps { OnOk result (KeepsValue self.old self.new (begin_object ∷ [])) }
+        ensures none { IfErr result (λ reason. LeavesOpen reason ⊎ LacksValue (begin_object ∷ self.old.source.tokens)) }
+    {
+        let brace = self.source.place;
+        match self.source.token(Wanted::Member)? {
+            Token::EndObject => {
+                self.source.place = brace;
+                self.document.put_empty(key)
+            }
+            Token::Key(first) => match Wrapper::of_key(first) {
+                Some(wrapper) => self.wrapped(wrapper, key),
+                None => {
+                    check_free(first)?;
+                    self.source.place = brace;
+                    self.document
+                        .open_under(ElementType::EmbeddedDocument, key, Holder::Begun(first))
+                }
+            },
+            _ => Err(self.source.fault(Wanted::Member)),
+        }
+    }
+
+    /// Puts a value under a key.
+    #[inline(always)]
+    pub(crate) fn put(&mut self, key: &str, value: RawBsonRef<'_>) -> Result<(), JsonReason>
+        ensures source { self.new.source ≡ self.old.source }
+        ensures puts { OnOk result (Puts self.old self.new key.now (value_of value.entry)) }
+        ensures reason { IfErr result LeavesOpen }
+    {
+        self.document.put_element(key, value)
+    }
+}
+
+/// A key has no U+0000, which would end it; nor is it a wrapper's, in a document.
+fn check_key(key: &str, holder: Holder<'_>) -> Result<(), JsonReason>
+    ensures some { OnOk result (MayBeIn holder.entry key.now) }
+    ensures none { OnErr result (MayBeIn holder.entry key.now → ¬ NulFree key.now) }
+    ensures others { IfErr result (λ reason. LeavesOpen reason ⊎ ¬ MayBeIn holder.entry key.now) }
+{
+    match holder {
+        Holder::Document => match Wrapper::of_key(key) {
+            Some(wrapper) => Err(JsonReason::Malformed(wrapper)),
+            None => check_free(key),
+        },
+        _ => check_free(key),
+    }
+}
+
+/// A key has no U+0000, which would end it.
+fn check_free(key: &str) -> Result<(), JsonReason>
+    ensures some { OnOk result (NulFree key.now) }
+    ensures none { OnErr result (¬ NulFree key.now) }
+    ensures reason { IfErr result LeavesOpen }
+{
+    if key.as_bytes().contains(&0) {
+        Err(JsonReason::InteriorNul)
+    } else {
+        Ok(())
+    }
+}
