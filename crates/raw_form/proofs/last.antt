@@ -1,4 +1,1 @@
-pub mod KeptPairs
-pub mod Listed
-pub mod Listing
 pub mod Places

@@ -1,3 +1,1 @@
-pub mod KnownFrames
 pub mod Members
-pub mod OwnForms

@@ -1,6 +1,6 @@
 -- What is kept of a level that is rewritten, and what its helpers tell. No public contract cites this file.
-use Rattle.std.specs.Prelude.{◌≡◌, ◌⊎◌, ◌<◌, ◌≤◌, ◌+◌, ◌^◌, ◌++◌, ℕ, List, [], ◌∷◌, Option, None, Some, IsTrue, length, map}
-use Rattle.bson_model.specs.Tree.{Tree, leaf, array, document, code_with_scope, trees, entries}
+use Rattle.std.specs.Prelude.{◌≡◌, ◌⊎◌, ◌<◌, ◌≤◌, ◌+◌, ◌^◌, ◌++◌, ℕ, List, [], ◌∷◌, Option, None, Some, IsTrue, length, map, decimal}
+use Rattle.bson_model.specs.Tree.{Tree, Entries, leaf, array, document, code_with_scope, no_entry, entry_then, trees, entries}
 use Rattle.raw_view.specs.Frame.ElementSteps.{frame_of}
 use Rattle.raw_view.specs.Errors.{IsOutOfMemory, key_of}
 use Rattle.raw_view.specs.Frame.Format.{string_payload}
@@ -14,7 +14,7 @@ use Rattle.raw_view.specs.declared.error.Reason.TheVariants.{TooLong}
 use Rattle.raw_view.specs.declared.level.Holder.{Holder}
 use Rattle.raw_view.specs.declared.level.Holder.TheVariants as holder
 use Rattle.raw_tree.specs.Payload.{unset}
-use Rattle.raw_tree.specs.Members.{MemberKey, text, number, numbered, keyed, with_len}
+use Rattle.raw_tree.specs.Members.{numbered, with_len}
 use Rattle.raw_tree.specs.Reading.{ReadsAs, ReadsRest, FrameStandsFor}
 use Rattle.raw_tree.specs.Validating.{left_of}
 use Rattle.raw_form.specs.Staying.{AreNextOwn, IsLeftAt, IsOwnForm}
@@ -77,24 +77,24 @@ TakesPair old pairs (Some e) new =
     (t : Tree) × (rest : List (List ℕ × Tree)) × (pairs ≡ ((frame_of e).key, t) ∷ rest) × FrameStandsFor (frame_of e) t × IsRest new rest × (left_of new + 2 ≤ left_of old)
 
 -- these members are left to be written
-abbrev pub IsLeft : Keys → Option (List ℕ) → List (MemberKey × Tree) → Type 0
+abbrev pub IsLeft : Keys → Option (List ℕ) → Entries → Type 0
 IsLeft (keys.Numbers n) left ms = (n + left_of left < 2 ^ 64) × (pairs : List (List ℕ × Tree)) × IsRest left pairs × (ms ≡ numbered n (trees (map (λ p. p.1) pairs)))
-IsLeft (keys.Distinct n) left ms = (pairs : List (List ℕ × Tree)) × IsRest left pairs × (ms ≡ keyed (entries pairs)) × AreLeftOwn n left
+IsLeft (keys.Distinct n) left ms = (pairs : List (List ℕ × Tree)) × IsRest left pairs × (ms ≡ entries pairs) × AreLeftOwn n left
 IsLeft (keys.Repeated last) left ms = IsLeftAt last.value ms
 
 -- the key under which a member is written
-abbrev pub numbered_key : Option ℕ → List ℕ → MemberKey
-numbered_key None key = text key
-numbered_key (Some n) key = number n
+abbrev pub numbered_key : Option ℕ → List ℕ → List ℕ
+numbered_key None key = key
+numbered_key (Some n) key = decimal n
 
-abbrev pub member_key : Member → MemberKey
+abbrev pub member_key : Member → List ℕ
 member_key m = numbered_key m.number (frame_of m.element).key
 
 -- no member is left; or this is the first, and the others are left; where it's told so, it is written as it is
-abbrev pub TakesNext : List (MemberKey × Tree) → Option Member → Keys → Option (List ℕ) → Type 0
-TakesNext ms None k left = ms ≡ []
+abbrev pub TakesNext : Entries → Option Member → Keys → Option (List ℕ) → Type 0
+TakesNext ms None k left = ms ≡ no_entry
 TakesNext ms (Some m) k left =
-    (t : Tree) × (rest : List (MemberKey × Tree)) × (ms ≡ (member_key m, t) ∷ rest) × FrameStandsFor (frame_of m.element) t × IsLeft k left rest
+    (t : Tree) × (rest : Entries) × (ms ≡ entry_then (member_key m) t rest) × FrameStandsFor (frame_of m.element) t × IsLeft k left rest
     × (IsTrue m.is_known → IsOwnForm (frame_of m.element))
 
 -- the same level, behind its next member

@@ -1,17 +1,16 @@
 //! Where the last element of each key begins in a document with repeated keys.
 #![tactic(auto)]
 
-ghost use Rattle.std.specs.Prelude.{◌≡◌, ◌<◌, List, drop, length, IsTrue, IfOk, IfErr, IfSome, OnOk};
+ghost use Rattle.std.specs.Prelude.{◌≡◌, ◌<◌, ℕ, List, drop, length, IsTrue, IfOk, IfErr, IfSome, OnOk};
 ghost use Rattle.std.specs.List.{IsDistinct};
 ghost use Rattle.std.specs.Option.{option_map};
 ghost use Rattle.std.specs.Str.{bytes_eq};
-ghost use Rattle.bson_model.specs.Tree.{Tree};
-ghost use Rattle.raw_form.specs.Staying.{HasLastPlaces, IsLeftAt, TakesMember, last_places, put_at};
-ghost use Rattle.raw_tree.specs.Breaches.{keys_of_frames};
-ghost use Rattle.raw_tree.specs.Members.{MemberKey};
+ghost use Rattle.bson_model.specs.Pairs.{keep, keys_of};
+ghost use Rattle.bson_model.specs.Tree.{Entries, Tree};
+ghost use Rattle.raw_form.specs.Staying.{AreFramesAt, HasLastPlaces, IsLeftAt, TakesMember, put_at};
+ghost use Rattle.raw_tree.specs.Reading.{ReadsAs, ReadsRest};
 ghost use Rattle.raw_view.specs.Document.{bytes_of};
 ghost use Rattle.raw_view.specs.Errors.{IsOutOfMemory};
-ghost use Rattle.raw_view.specs.Frame.{Done, Frame, IsWalk};
 
 use raw_tree::{KeySet, behind, element_at, next_element};
 use raw_view::{Elements, RawDocument, RawElement, Result};
@@ -43,14 +42,15 @@ fn put_place(places: &mut Vec<u32>, known: Option<usize>, place: u32) -> Result<
 
 /// Whether no key is repeated in a document all of whose elements can be read. What is in the list goes out of it. The only error
 /// is out of memory.
+#[tactic(auto, using(crate::proofs::last::Places::left_more))]
 fn are_keys_distinct<'a>(
     alloc: Global,
     document: RawDocument<'a>,
     listed: &mut Vec<&'a str>,
 ) -> Result<bool>
-    ensures distinct { (frames : List Frame)
-        → IsWalk (drop 4 (bytes_of document.entry)) frames Done
-        → IfOk result (λ distinct. IsTrue distinct → IsDistinct bytes_eq (keys_of_frames frames)) }
+    ensures distinct { (pairs : List (List ℕ × Tree))
+        → ReadsRest ReadsAs (drop 4 (bytes_of document.entry)) pairs
+        → IfOk result (λ distinct. IsTrue distinct → IsDistinct bytes_eq (keys_of pairs)) }
     ensures err { IfErr result IsOutOfMemory }
 {
     listed.truncate(0);
@@ -68,14 +68,15 @@ fn are_keys_distinct<'a>(
 
 /// The last place of each key of a document all of whose elements can be read. What is in the list goes out of it. The only error
 /// is out of memory.
+#[tactic(auto, using(crate::proofs::last::Places::left_more))]
 fn list_places<'a>(
     alloc: Global,
     document: RawDocument<'a>,
     listed: &mut Vec<&'a str>,
 ) -> Result<Vec<u32>>
-    ensures places { (frames : List Frame)
-        → IsWalk (drop 4 (bytes_of document.entry)) frames Done
-        → IfOk result (λ places. places.items ≡ last_places frames) }
+    ensures places { (pairs : List (List ℕ × Tree))
+        → ReadsRest ReadsAs (drop 4 (bytes_of document.entry)) pairs
+        → IfOk result (λ places. AreFramesAt (bytes_of document.entry) places.items (keep pairs)) }
     ensures err { IfErr result IsOutOfMemory }
 {
     listed.truncate(0);
@@ -101,9 +102,10 @@ pub(crate) fn places_of<'a>(
     listed: &mut Vec<&'a str>,
     repeats: bool,
 ) -> Result<Option<Vec<u32>>>
-    ensures places { (frames : List Frame)
-        → IsWalk (drop 4 (bytes_of document.entry)) frames Done
-        → IfOk result (λ places. HasLastPlaces (option_map (λ v. v.items) places) frames) }
+    ensures places { (pairs : List (List ℕ × Tree))
+        → ReadsRest ReadsAs (drop 4 (bytes_of document.entry)) pairs
+        → IfOk result
+        (λ places. HasLastPlaces (option_map (λ v. v.items) places) (bytes_of document.entry) pairs) }
     ensures err { IfErr result IsOutOfMemory }
 {
     if !repeats && are_keys_distinct(alloc, document, listed)? {
@@ -116,8 +118,8 @@ pub(crate) fn places_of<'a>(
 impl<'a> LastPlaces<'a> {
     /// The last element of the next key, and whether it is known to be canonical.
     pub(crate) fn next(&mut self) -> Option<(RawElement<'a>, bool)>
-        requires { (ms : List (MemberKey × Tree)) × IsLeftAt self.old ms }
-        ensures { (ms : List (MemberKey × Tree))
+        requires { (ms : Entries) × IsLeftAt self.old ms }
+        ensures { (ms : Entries)
             → IsLeftAt self.old ms
             → TakesMember ms result self.new }
     {

@@ -4,11 +4,11 @@
 ghost use Rattle.std.specs.Prelude.{◌≡◌, ◌⊎◌, ◌≤◌, ℕ, List, Some, drop, length, IfErr, IfOk, IsTrue};
 ghost use Rattle.std.specs.List.{IsDistinct};
 ghost use Rattle.std.specs.Str.{bytes_eq};
-ghost use Rattle.bson_model.specs.Tree.{Tree};
+ghost use Rattle.bson_model.specs.Tree.{Entries, Tree};
 ghost use Rattle.raw_form.specs.Rewriting.{HasCode, IsLater, IsLeft, IsPlain, TakesNext, held_opening, member_key};
 ghost use Rattle.raw_form.specs.Staying.{IsOwnUpTo};
 ghost use Rattle.raw_tree.specs.Breaches.{keys_of_frames};
-ghost use Rattle.raw_tree.specs.Members.{MemberKey, key_bytes, members};
+ghost use Rattle.raw_tree.specs.Members.{members};
 ghost use Rattle.raw_tree.specs.Reading.{ReadsAs, StandsFor, as_document};
 ghost use Rattle.raw_view.specs.Document.{bytes_of};
 ghost use Rattle.raw_view.specs.Errors.{IsOutOfMemory};
@@ -60,7 +60,7 @@ pub(crate) struct Member<'a> {
 impl<'a> Member<'a> {
     /// The key under which it is written.
     pub(crate) fn key(self, buffer: &'a mut Buffer) -> &'a str
-        ensures { result.now ≡ key_bytes (member_key self.entry) }
+        ensures { result.now ≡ member_key self.entry }
     {
         match self.number {
             None => self.element.key(),
@@ -159,9 +159,10 @@ impl<'a> Rewritten<'a> {
     }
 
     /// The next member that stays.
+    #[tactic(auto, using(crate::proofs::rewritten::Members::pair_over))]
     pub(crate) fn next(&mut self) -> Option<Member<'a>>
-        requires { (ms : List (MemberKey × Tree)) × IsLeft self.old.keys self.old.elements ms }
-        ensures next { (ms : List (MemberKey × Tree))
+        requires { (ms : Entries) × IsLeft self.old.keys self.old.elements ms }
+        ensures next { (ms : Entries)
             → IsLeft self.old.keys self.old.elements ms
             → TakesNext ms result self.new.keys self.new.elements }
         ensures later { IsLater self.old self.new }

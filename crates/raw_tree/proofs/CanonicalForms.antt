@@ -1,28 +1,20 @@
 -- The canonical form theorem, from what is proved of every document.
-use Rattle.std.proofs.Common.{◌≡◌, ◌≤◌, List, ℕ, ap, sym, subst, ◌∙◌}
-use Rattle.raw_tree.proofs.Common.{Tree, IsEnvelope, max_length, IsCanonical, ComesBack, IsCanonicalForm, IsSpelling, encoding, encoded_len, Reads, as_document}
-use Rattle.raw_tree.proofs.Forms.{bytes_spelled_one_way}
-use Rattle.raw_tree.proofs.reader.Loops.{document_read}
+use Rattle.std.proofs.Common.{◌≡◌, List, ℕ, ap, sym, subst, ◌∙◌}
+use Rattle.raw_tree.proofs.Common.{Tree, IsEnvelope, IsCanonical, IsCanonicalForm, IsSpelling, encoding, Reads, as_document}
+use Rattle.raw_tree.proofs.Forms.{bytes_spelled_one_way, read_returns}
 use Rattle.raw_tree.proofs.reader.OneWay.{bytes_one_way}
-use Rattle.raw_tree.proofs.Returns.{document_returns}
-
--- the encoding of a tree that was read comes back
-read_comes_back : (b : List ℕ) (t : Tree) → IsEnvelope b → Reads b t → encoded_len t ≤ max_length → IsEnvelope (encoding t) × Reads (encoding t) t × IsCanonical (encoding t)
-read_comes_back b t env read size =
-    let made = document_read b t read in
-    subst (ComesBack as_document) (sym made.1) (document_returns made.0) ((bytes_spelled_one_way as_document b env).proper t read) size
 
 -- the spelling of the tree of a document is its canonical form
 pub canonical_form : (b a : List ℕ) (t : Tree) → IsEnvelope b → Reads b t → IsSpelling t a → IsCanonicalForm b a
 canonical_form b a t env read s =
-    let back : IsEnvelope a × Reads a t × IsCanonical a = subst (λ (x : List ℕ). IsEnvelope x × Reads x t × IsCanonical x) s.1 (read_comes_back b t env read s.0) in
+    let back : IsEnvelope a × Reads a t × IsCanonical a = subst (λ (x : List ℕ). IsEnvelope x × Reads x t × IsCanonical x) s.1 (read_returns as_document b t env read s.0) in
     record {
       envelope = env;
       tree = t;
       read = read;
       spelled = s;
       same_tree = λ c u envelope reads size. (
-        (λ e. (bytes_one_way as_document a back.0).one_tree t u back.1 (subst (λ (x : List ℕ). Reads x u) e (read_comes_back c u envelope reads size).1)),
+        (λ e. (bytes_one_way as_document a back.0).one_tree t u back.1 (subst (λ (x : List ℕ). Reads x u) e (read_returns as_document c u envelope reads size).1)),
         (λ e. ap encoding e ∙ s.1),
       );
       unchanged = (

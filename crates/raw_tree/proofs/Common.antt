@@ -67,5 +67,5 @@ pub use Rattle.raw_tree.specs.validator.References.{texts}
 pub use Rattle.raw_tree.specs.validator.Validating.{HasPassed, HoldsAs, left_of}
 pub use Rattle.raw_tree.specs.writer.Encoding.{IsEncoded, IsRefused, encoded_len, encoding, entries_bytes, entries_len, items_bytes, items_len, kind_of_tree, tree_payload}
 pub use Rattle.raw_tree.specs.writer.Measuring.{HasRoomFor, Measures}
-pub use Rattle.raw_tree.specs.writer.Members.{AreMembersFree, Begun, HoldsTrees, IsKeyFree, IsLeafOf, MemberKey, begun_of, ended, key_bytes, key_of, keyed, members, members_bytes, members_left}
-pub use Rattle.raw_tree.specs.writer.Members.{members_len, members_start, number, numbered, opening, opening_len, text, tree_of_container, with_len}
+pub use Rattle.raw_tree.specs.writer.Members.{Begun, HoldsTrees, IsLeafOf, begun_at, begun_of, ended, key_bytes, members, members_left, members_start, numbered, opening, opening_len}
+pub use Rattle.raw_tree.specs.writer.Members.{tree_of_container, with_len}

@@ -1,7 +1,7 @@
 -- The encoding of a tree that is read.
-use Rattle.std.proofs.Common.{◌≡◌, ◌≤◌, ◌∷◌, [], List, ℕ, zero, suc, Result, Ok, Err, IfOk, Vec, Global, map, length, arith, ap, refl, subst, ◌∙◌}
-use Rattle.raw_tree.proofs.Common.{keep, IsProper, Tree, Trees, Entries, leaf, array, document, code_with_scope, trees, entries, IsEnvelope, Frame, max_length, Error, RawValue, AreBytes}
-use Rattle.raw_tree.proofs.Common.{IsValueCanonical, AreFramesCanonical, IsCanonicalUpTo, IsCanonicalAs, IsSpelling, IsSpelledOneWay, IsEncoded, framed, encoding, encoded_len, entries_bytes, items_bytes}
+use Rattle.std.proofs.Common.{◌≡◌, ◌≤◌, ◌∷◌, [], List, ℕ, zero, suc, map, length, arith, ap, refl, subst, ◌∙◌}
+use Rattle.raw_tree.proofs.Common.{keep, Tree, Trees, Entries, leaf, array, document, code_with_scope, trees, entries, IsEnvelope, Frame, max_length, RawValue, AreBytes}
+use Rattle.raw_tree.proofs.Common.{IsValueCanonical, AreFramesCanonical, IsCanonicalUpTo, IsCanonicalAs, IsSpelledOneWay, IsEncoded, framed, encoding, encoded_len, entries_bytes, items_bytes}
 use Rattle.raw_tree.proofs.Common.{Sort, as_document, as_array, tree_of_pairs, leaf_in_order, StandsFor, StandForEach, ReadsUpTo, ReadsAs}
 use Rattle.raw_view.proofs.Face.{framed_is_envelope, length-framed}
 use Rattle.raw_view.specs.Meaning as raw
@@ -10,13 +10,11 @@ use Rattle.raw_tree.proofs.reader.ReadTrees.{read_is_proper}
 use Rattle.raw_tree.proofs.Returns.{Returns, document_returns, array_returns}
 use Rattle.raw_tree.proofs.Spelled.{canonical_is_spelled}
 
--- the encoding of a proper tree that some bytes are read as comes back
-read_returns : (sort : Sort) (b : List ℕ) (t : Tree) → ReadsAs sort b t → IsProper t → encoded_len t ≤ max_length → Returns sort (encoding t) t
-read_returns sort b t (zero, r) p l = absurd r
-read_returns as_document b t (suc n, r) p l =
-    rw r.2 (document_returns (entries (keep r.0)) (rw r.2 at p) (rw r.2 at l))
-read_returns as_array b t (suc n, r) p l =
-    rw r.2 (array_returns (trees (map (λ q. q.1) r.0)) (rw r.2 at p) (rw r.2 at l))
+-- the encoding of a tree that bytes are read as comes back
+pub read_returns : (sort : Sort) (b : List ℕ) (t : Tree) → IsEnvelope b → ReadsAs sort b t → encoded_len t ≤ max_length → Returns sort (encoding t) t
+read_returns sort b t env (zero, r) l = absurd r
+read_returns as_document b t env (suc n, r) l = rw r.2 (document_returns (entries (keep r.0)) (rw r.2 at (read_is_proper as_document b t env (suc n, r))) (rw r.2 at l))
+read_returns as_array b t env (suc n, r) l = rw r.2 (array_returns (trees (map (λ q. q.1) r.0)) (rw r.2 at (read_is_proper as_array b t env (suc n, r))) (rw r.2 at l))
 
 -- what is canonical is read, where nested bytes that are canonical are
 module _ (N : Sort → List ℕ → Type 0) (M : Sort → List ℕ → Tree → Type 0) (nested : (sort : Sort) (d : List ℕ) → N sort d → (pairs : List (List ℕ × Tree)) × M sort d (tree_of_pairs sort pairs)) where
@@ -47,36 +45,24 @@ document_reads n b c = let read = canonical_pairs n as_document b c in (entries 
 pub canonical_frames_read : (n : ℕ) (fs : List Frame) → AreFramesCanonical (IsCanonicalUpTo n) fs → (pairs : List (List ℕ × Tree)) × StandForEach (ReadsUpTo n) fs pairs
 canonical_frames_read n fs h = frames_read (IsCanonicalUpTo n) (ReadsUpTo n) (canonical_pairs n) fs h
 
--- a canonical document is the encoding of its tree, which is of a size in range
-canonical_spelling : (sort : Sort) (b : List ℕ) (t : Tree) → IsEnvelope b → ReadsAs sort b t → IsCanonicalAs sort b → IsSpelling t b
-canonical_spelling sort b t env r c =
-    let same : encoding t ≡ b = canonical_is_spelled sort b t env r c in
-    (omega (arith, length-tree_payload t, ap length same, env.header.fits), same)
-
--- and what is the encoding of its tree is canonical
-spelling_canonical : (sort : Sort) (b : List ℕ) (t : Tree) → IsEnvelope b → ReadsAs sort b t → IsSpelling t b → IsCanonicalAs sort b
-spelling_canonical sort b t env r s =
-    subst (IsCanonicalAs sort) s.1 (read_returns sort b t r (read_is_proper sort b t env r) s.0).2
-
 pub bytes_spelled_one_way : (sort : Sort) (b : List ℕ) → IsEnvelope b → IsSpelledOneWay sort b
 bytes_spelled_one_way sort b env = record {
   proper = λ t r. read_is_proper sort b t env r;
-  unchanged = λ t r. (spelling_canonical sort b t env r, canonical_spelling sort b t env r);
+  unchanged = λ t r. (
+    (λ s. subst (IsCanonicalAs sort) s.1 (read_returns sort b t env r s.0).2),
+    (λ c. let same : encoding t ≡ b = canonical_is_spelled sort b t env r c in (omega (arith, length-tree_payload t, ap length same, env.header.fits), same)),
+  );
   canonical_reads = λ c. let read = canonical_pairs c.0 sort b c.1 in (tree_of_pairs sort read.0, (c.0, read.1));
 }
 
 -- what is written has an envelope
-enveloped : (t : Tree) (inside : List ℕ) → encoding t ≡ framed inside → (result : Result (Vec ℕ Global) Error) → IfOk result (λ out. IsEncoded t out.items)
-    → IfOk result (λ out. AreBytes out.items) → IfOk result (λ out. IsEnvelope out.items)
-enveloped t inside e (Err error) encoded bytes = tt
-enveloped t inside e (Ok out) encoded bytes =
-    let same : out.items ≡ framed inside = encoded.2 ∙ e in
-    rw same (framed_is_envelope inside (rw same at bytes) (omega (arith, ap length e, length-framed inside, length-tree_payload t, encoded.1)))
+enveloped : (t : Tree) (inside out : List ℕ) → encoding t ≡ framed inside → IsEncoded t out → AreBytes out → IsEnvelope out
+enveloped t inside out e is bytes =
+    let same : out ≡ framed inside = is.2 ∙ e in
+    rw same (framed_is_envelope inside (rw same at bytes) (omega (arith, ap length e, length-framed inside, length-tree_payload t, is.1)))
 
-pub document_enveloped : (es : Entries) (result : Result (Vec ℕ Global) Error) → IfOk result (λ out. IsEncoded (document es) out.items)
-    → IfOk result (λ out. AreBytes out.items) → IfOk result (λ out. IsEnvelope out.items)
-document_enveloped es = enveloped (document es) (entries_bytes es) refl
+pub document_enveloped : (es : Entries) (out : List ℕ) → IsEncoded (document es) out → AreBytes out → IsEnvelope out
+document_enveloped es out = enveloped (document es) (entries_bytes es) out refl
 
-pub list_enveloped : (ts : Trees) (result : Result (Vec ℕ Global) Error) → IfOk result (λ out. IsEncoded (array ts) out.items)
-    → IfOk result (λ out. AreBytes out.items) → IfOk result (λ out. IsEnvelope out.items)
-list_enveloped ts = enveloped (array ts) (items_bytes 0 ts) refl
+pub list_enveloped : (ts : Trees) (out : List ℕ) → IsEncoded (array ts) out → AreBytes out → IsEnvelope out
+list_enveloped ts out = enveloped (array ts) (items_bytes 0 ts) out refl

@@ -1,6 +1,5 @@
 -- What contracts say of all documents and of all arrays.
-use Rattle.raw_tree.proofs.Common.{AllAreValidatedOneWay, AllAreSpelledOneWay, AllAreReadOneWay, as_document, as_array}
-use Rattle.raw_tree.proofs.Forms.{bytes_spelled_one_way}
+use Rattle.raw_tree.proofs.Common.{AllAreValidatedOneWay, AllAreReadOneWay, as_document, as_array}
 use Rattle.raw_tree.proofs.validator.OneBreach.{validated_one_way}
 use Rattle.raw_tree.proofs.reader.OneWay.{bytes_one_way}
 
@@ -9,12 +8,6 @@ documents_read = bytes_one_way as_document
 
 pub arrays_read : AllAreReadOneWay as_array
 arrays_read = bytes_one_way as_array
-
-pub documents_spelled : AllAreSpelledOneWay as_document
-documents_spelled = bytes_spelled_one_way as_document
-
-pub arrays_spelled : AllAreSpelledOneWay as_array
-arrays_spelled = bytes_spelled_one_way as_array
 
 pub documents_validated : AllAreValidatedOneWay as_document
 documents_validated = validated_one_way as_document

@@ -1,16 +1,18 @@
 -- A proper tree of a size in range is read from its encoding as that very tree, and the encoding is canonical.
-use Rattle.std.proofs.Common.{◌≡◌, ◌≢◌, ◌≤◌, ◌<◌, ◌+◌, ◌%◌, ◌^◌, ◌++◌, ◌∷◌, [], ℕ, zero, suc, List, length, map, drop, decimal, arith, ap, sym, refl, ◌∙◌, append_assoc, length-append, IsUtf8, bytes_eq}
-use Rattle.raw_tree.proofs.Common.{decimal_by_steps, IsAscii-decimal, All-push, IsUtf8-from_ascii, IsDistinct, AreBytes, NulFree, Leaf, regular_expression, keys_of, keys_in, InTrees, InEntries}
-use Rattle.raw_tree.proofs.Common.{well_formed_parts, nul_free_parts, ascending_parts, proper_subtype_parts, IsWellFormed, IsNulFree, DoOptionsAscend, AreSubtypesProper, IsLeafInRange, IsLeafNulFree, DoLeafOptionsAscend, IsLeafSubtypeProper, Tree, Trees}
-use Rattle.raw_tree.proofs.Common.{Entries, leaf, array, document, code_with_scope, no_tree, tree_then, no_entry, entry_then, trees, entries, pairs_in, IsEnvelope, string_payload, leaf_payload}
-use Rattle.raw_tree.proofs.Common.{framed, element_of, HasShape, Frame, IsWalk, Done, tag_of, RawValue, MeansValue, max_length, AreDecimalsFrom, AreKeysCanonical, IsValueCanonical, AreFramesCanonical}
-use Rattle.raw_tree.proofs.Common.{IsCanonicalUpTo, IsCanonicalAs, kind_of_tree, tree_payload, items_bytes, entries_bytes, encoded_len, items_len, entries_len, Sort, as_document, as_array, ComesBack}
-use Rattle.raw_tree.proofs.Common.{tree_of_pairs, leaf_in_order, StandsFor, StandForEach, ReadsAs}
-use Rattle.bson_model.proofs.Face.{AreBytes-nil, AreBytes-append, NulFree-nil, NulFree-cons, keep-distinct, sorted_options-same}
-use Rattle.raw_view.specs.Meaning as raw
+use Rattle.std.proofs.Common.{◌≡◌, ◌≤◌, ◌+◌, ◌++◌, ◌∷◌, [], ℕ, zero, suc, List, length, map, drop, decimal, arith, ap, sym, refl, ◌∙◌, append_assoc, length-append, IsUtf8, bytes_eq}
+use Rattle.raw_tree.proofs.Common.{IsAscii-decimal, IsUtf8-from_ascii, IsDistinct, AreBytes, NulFree, Leaf, keys_of, keys_in, InTrees, InEntries, well_formed_parts, nul_free_parts, ascending_parts}
+use Rattle.raw_tree.proofs.Common.{proper_subtype_parts, OfParts, Everywhere, IsLeafInRange, IsLeafNulFree, DoLeafOptionsAscend, IsLeafSubtypeProper, Tree, Trees, Entries, leaf, array, document}
+use Rattle.raw_tree.proofs.Common.{code_with_scope, no_tree, tree_then, no_entry, entry_then, trees, entries, pairs_in, IsEnvelope, string_payload, leaf_payload, framed, element_of, HasShape, Frame}
+use Rattle.raw_tree.proofs.Common.{IsWalk, Done, RawValue, MeansValue, max_length, AreDecimalsFrom, AreKeysCanonical, IsValueCanonical, AreFramesCanonical, IsCanonicalUpTo, IsCanonicalAs}
+use Rattle.raw_tree.proofs.Common.{kind_of_tree, tree_payload, items_bytes, entries_bytes, encoded_len, items_len, entries_len, Sort, as_document, as_array, ComesBack, tree_of_pairs, leaf_in_order}
+use Rattle.raw_tree.proofs.Common.{StandsFor, StandForEach, ReadsAs, numbered}
+use Rattle.bson_model.proofs.Face.{AreBytes-nil, AreBytes-append, keep-distinct, sorted_options-same}
 use Rattle.raw_view.proofs.Face.{length-framed, AreBytes-leaf, AreBytes-scoped, AreBytes-framed, AreBytes-element, leaf_shape, declared_shape, framed_is_envelope, leaf_means, scoped_means}
 use Rattle.raw_tree.proofs.reader.Loops.{reads_of}
 use Rattle.raw_tree.proofs.writer.Encodings.{length-entries_bytes, length-items_bytes}
+use Rattle.raw_tree.proofs.writer.Decimals.{decimal_nul_free}
+use Rattle.raw_tree.proofs.writer.MemberSteps.{items_bytes-numbered}
+use Rattle.raw_view.specs.Meaning as raw
 
 -- levels
 
@@ -40,9 +42,7 @@ frames_canonical_level (f ∷ fs) h =
     let first = value_canonical_level h.0 h.2 in
     let others = frames_canonical_level fs h.3 in
     let n : ℕ = first.0 + others.0 in
-    let here : IsValueCanonical (IsCanonicalUpTo n) h.0 = value_canonical_on (IsCanonicalUpTo first.0) (IsCanonicalUpTo n) (canonical_up_to first.0 n (omega arith)) h.0 first.1 in
-    let behind : AreFramesCanonical (IsCanonicalUpTo n) fs = frames_canonical_on (IsCanonicalUpTo others.0) (IsCanonicalUpTo n) (canonical_up_to others.0 n (omega arith)) fs others.1 in
-    (n, (h.0, h.1, here, behind))
+    (n, (h.0, h.1, value_canonical_on _ _ (canonical_up_to first.0 n (omega arith)) h.0 first.1, frames_canonical_on _ _ (canonical_up_to others.0 n (omega arith)) fs others.1))
 
 -- bytes whose walk is done, and whose keys and frames are canonical, are canonical
 pub canonical_of : (sort : Sort) (b : List ℕ) (frames : List Frame) → IsWalk (drop 4 b) frames Done → AreKeysCanonical sort (map (λ f. f.key) frames)
@@ -53,8 +53,7 @@ canonical_of sort b frames w k h =
 
 -- a leaf whose options ascend is in order
 leaf_in_order-same : (l : Leaf) → IsLeafInRange l → DoLeafOptionsAscend l → leaf_in_order l ≡ l
-leaf_in_order-same (regular_expression pattern options) h o = ap (λ x. regular_expression pattern x) (sorted_options-same options h.1 o)
-leaf_in_order-same _ h o = refl
+leaf_in_order-same l h o = grind (arith, sorted_options-same)
 
 -- trees
 
@@ -79,36 +78,20 @@ leaf_returned l h n o s b = record {
   canonical = o;
 }
 
--- each key is a text without a 0, and each tree returns
-abbrev AreReturned : Entries → Type 0
-AreReturned no_entry = Unit {0}
-AreReturned (entry_then key t es) = IsUtf8 key × NulFree key × IsReturned t × AreReturned es
-
 -- the frames of written elements
 abbrev frames_in : Entries → List Frame
 frames_in no_entry = []
 frames_in (entry_then key t es) = record { kind = kind_of_tree t; key = key; payload = tree_payload t } ∷ frames_in es
 
--- the members of a list under the decimals from this number
-abbrev numbered : ℕ → Trees → Entries
-numbered n no_tree = no_entry
-numbered n (tree_then t ts) = entry_then (decimal n) t (numbered (n + 1) ts)
-
--- they are written as the members are, their keys are those decimals, and their trees the members
-numbered_are : (n : ℕ) (ts : Trees) → (items_bytes n ts ≡ entries_bytes (numbered n ts)) × AreDecimalsFrom n (keys_in (numbered n ts)) × (trees (map (λ p. p.1) (pairs_in (numbered n ts))) ≡ ts)
-numbered_are n no_tree = (refl, tt, refl)
-numbered_are n (tree_then t ts) =
-    let rest = numbered_are (n + 1) ts in
-    (ap (λ (x : List ℕ). element_of (kind_of_tree t) (decimal n) (tree_payload t) ++ x) rest.0, (refl, rest.1), ap (λ (x : Trees). tree_then t x) rest.2)
+-- the keys of a list's members are the decimals, and their trees the list
+numbered_are : (n : ℕ) (ts : Trees) → AreDecimalsFrom n (keys_in (numbered n ts)) × (trees (map (λ p. p.1) (pairs_in (numbered n ts))) ≡ ts)
+numbered_are n no_tree = (tt, refl)
+numbered_are n (tree_then t ts) = let rest = numbered_are (n + 1) ts in ((refl, rest.0), ap (λ (x : Trees). tree_then t x) rest.1)
 
 -- pairs are those of their entries, and their keys those of the entries
 pairs_are : (es : Entries) → (entries (pairs_in es) ≡ es) × (keys_of (pairs_in es) ≡ keys_in es)
 pairs_are no_entry = (refl, refl)
 pairs_are (entry_then key t es) = let rest = pairs_are es in (ap (λ (x : Entries). entry_then key t x) rest.0, ap (λ (x : List (List ℕ)). key ∷ x) rest.1)
-
--- an element, others and more bytes behind them
-element-append : (tag : ℕ) (key p r e : List ℕ) → ((tag ∷ (key ++ 0 ∷ p)) ++ r) ++ e ≡ tag ∷ (key ++ 0 ∷ (p ++ (r ++ e)))
-element-append tag key p r e = simp append_assoc
 
 -- written elements are bytes, and with a 0 behind them have a walk, whose frames have these keys, stand for the pairs and
 -- are canonical
@@ -119,26 +102,18 @@ record AreWritten (es : Entries) : Type 0 where
   stand : StandForEach ReadsAs (frames_in es) (pairs_in es)
   canonical : AreFramesCanonical IsCanonicalAs (frames_in es)
 
-written : (es : Entries) → AreReturned es → AreWritten es
-written no_entry h = record { bytes = AreBytes-nil; walk = refl; keys = refl; stand = refl; canonical = tt }
-written (entry_then key t es) h =
-    let rest = written es h.3 in
+none_written : AreWritten no_entry
+none_written = record { bytes = AreBytes-nil; walk = refl; keys = refl; stand = refl; canonical = tt }
+
+one_written : (key : List ℕ) (t : Tree) (es : Entries) → IsUtf8 key → NulFree key → IsReturned t → AreWritten es → AreWritten (entry_then key t es)
+one_written key t es utf8 nul_free h rest =
     let behind : List ℕ = entries_bytes es ++ 0 ∷ [] in
     record {
-      bytes = AreBytes-append (element_of (kind_of_tree t) key (tree_payload t)) (entries_bytes es) (AreBytes-element (kind_of_tree t) key (tree_payload t) h.0 h.2.bytes) rest.bytes;
-      walk = (
-        behind,
-        record {
-          spelled = element-append (tag_of (kind_of_tree t)) key (tree_payload t) (entries_bytes es) (0 ∷ []);
-          key_nul_free = h.1;
-          key_utf8 = h.0;
-          payload_is = h.2.shape behind;
-        },
-        rest.walk,
-      );
+      bytes = AreBytes-append (element_of (kind_of_tree t) key (tree_payload t)) (entries_bytes es) (AreBytes-element (kind_of_tree t) key (tree_payload t) utf8 h.bytes) rest.bytes;
+      walk = (behind, record { spelled = simp append_assoc; key_nul_free = nul_free; key_utf8 = utf8; payload_is = h.shape behind }, rest.walk);
       keys = ap (λ (x : List (List ℕ)). key ∷ x) rest.keys;
-      stand = (h.2.value, t, pairs_in es, h.2.means, h.2.stands, refl, rest.stand);
-      canonical = (h.2.value, h.2.means, h.2.canonical, rest.canonical);
+      stand = (h.value, t, pairs_in es, h.means, h.stands, refl, rest.stand);
+      canonical = (h.value, h.means, h.canonical, rest.canonical);
     }
 
 -- documents and lists
@@ -148,26 +123,26 @@ abbrev pub Returns : Sort → List ℕ → Tree → Type 0
 Returns sort b t = IsEnvelope b × ReadsAs sort b t × IsCanonicalAs sort b
 
 -- written elements in a frame
-framed_returns : (sort : Sort) (es : Entries) (t : Tree) → tree_of_pairs sort (pairs_in es) ≡ t → AreKeysCanonical sort (keys_in es) → AreReturned es
+framed_returns : (sort : Sort) (es : Entries) (t : Tree) → tree_of_pairs sort (pairs_in es) ≡ t → AreKeysCanonical sort (keys_in es) → AreWritten es
     → 5 + length (entries_bytes es) ≤ max_length → Returns sort (framed (entries_bytes es)) t
-framed_returns sort es t same keys h l =
-    let w = written es h in
+framed_returns sort es t same keys w l =
     let b : List ℕ = framed (entries_bytes es) in (
       framed_is_envelope (entries_bytes es) (AreBytes-framed (entries_bytes es) w.bytes) l,
       rw (← same) (reads_of sort b (frames_in es) (pairs_in es) w.walk w.stand),
       canonical_of sort b (frames_in es) w.walk (rw w.keys keys) w.canonical,
     )
 
-framed_document : (es : Entries) → IsDistinct bytes_eq (keys_in es) → AreReturned es → 5 + entries_len es ≤ max_length → Returns as_document (framed (entries_bytes es)) (document es)
+framed_document : (es : Entries) → IsDistinct bytes_eq (keys_in es) → AreWritten es → 5 + entries_len es ≤ max_length → Returns as_document (framed (entries_bytes es)) (document es)
 framed_document es distinct h l =
     let are = pairs_are es in
     let same : tree_of_pairs as_document (pairs_in es) ≡ document es = ap (λ ps. document (entries ps)) (keep-distinct (pairs_in es) (rw are.1 distinct)) ∙ ap document are.0 in
     framed_returns as_document es (document es) same distinct h (omega (arith, length-entries_bytes es))
 
-framed_array : (ts : Trees) → AreReturned (numbered 0 ts) → 5 + items_len 0 ts ≤ max_length → Returns as_array (framed (items_bytes 0 ts)) (array ts)
+framed_array : (ts : Trees) → AreWritten (numbered 0 ts) → 5 + items_len 0 ts ≤ max_length → Returns as_array (framed (items_bytes 0 ts)) (array ts)
 framed_array ts h l =
     let are = numbered_are 0 ts in
-    rw are.0 (framed_returns as_array (numbered 0 ts) (array ts) (ap array are.2) are.1 h (omega (arith, ap length are.0, length-items_bytes 0 ts)))
+    let same = items_bytes-numbered 0 ts in
+    rw same (framed_returns as_array (numbered 0 ts) (array ts) (ap array are.1) are.0 h (omega (arith, ap length same, length-items_bytes 0 ts)))
 
 -- a code returns whose scope does
 code_returned : (code : List ℕ) (es : Entries) → IsUtf8 code → Returns as_document (framed (entries_bytes es)) (document es)
@@ -187,57 +162,40 @@ code_returned code es u h l =
 
 -- every tree
 
--- a decimal holds no 0
-decimal_nul_free : (n : ℕ) → n < 2 ^ 64 → NulFree (decimal n)
-decimal_nul_free = decimal_by_steps (λ m ds. NulFree ds) (λ m l. NulFree-cons _ [] (λ e. omega arith) NulFree-nil) (λ m ds l h. All-push (λ b. b ≢ 0) ds (48 + m % 10) h (λ e. omega arith))
-
--- what a proper tree is made of
-abbrev IsTreeProper : Tree → Type 0
-IsTreeProper t = IsWellFormed t × IsNulFree t × DoOptionsAscend t × AreSubtypesProper t
-
--- each member is proper
-abbrev AreItemsProper : Trees → Type 0
-AreItemsProper ts = InTrees well_formed_parts ts × InTrees nul_free_parts ts
-    × InTrees ascending_parts ts × InTrees proper_subtype_parts ts
-
--- each key and tree is proper
-abbrev AreEntriesProper : Entries → Type 0
-AreEntriesProper es = InEntries well_formed_parts es × InEntries nul_free_parts es
-    × InEntries ascending_parts es × InEntries proper_subtype_parts es
+-- what holds of proper trees, as of each part
+abbrev Properly : (OfParts → Type 0) → Type 0
+Properly P = P well_formed_parts × P nul_free_parts × P ascending_parts × P proper_subtype_parts
 
 mutual
   -- a proper tree of a size in range returns
-  tree_returned : (t : Tree) → IsTreeProper t → encoded_len t ≤ max_length → IsReturned t
+  tree_returned : (t : Tree) → Properly (λ holds. Everywhere holds t) → encoded_len t ≤ max_length → IsReturned t
   tree_returned (leaf l) p b = leaf_returned l p.0 p.1 p.2 p.3 b
   tree_returned (array ts) p b =
-      let h = framed_array ts (items_returned 0 ts p (omega arith)) b in
+      let h = framed_array ts (items_written 0 ts p (omega arith)) b in
       record { bytes = h.0.bytes; shape = λ r. h.0; value = raw.array (framed (items_bytes 0 ts)); means = refl; stands = h.1; canonical = h.2 }
   tree_returned (document es) p b =
-      let h = framed_document es p.0.0 (entries_returned es (p.0.1, p.1.1, p.2.1, p.3.1) (omega arith)) b in
+      let h = framed_document es p.0.0 (entries_written es (p.0.1, p.1.1, p.2.1, p.3.1) (omega arith)) b in
       record { bytes = h.0.bytes; shape = λ r. h.0; value = raw.document (framed (entries_bytes es)); means = refl; stands = h.1; canonical = h.2 }
-  tree_returned (code_with_scope code es) p b = code_returned code es p.0.0 (framed_document es p.0.1 (entries_returned es (p.0.2, p.1.2, p.2.2, p.3.2) (omega arith)) (omega arith)) b
+  tree_returned (code_with_scope code es) p b = code_returned code es p.0.0 (framed_document es p.0.1 (entries_written es (p.0.2, p.1.2, p.2.2, p.3.2) (omega arith)) (omega arith)) b
 
   -- so do the members of a list
-  items_returned : (n : ℕ) (ts : Trees) → AreItemsProper ts → n + items_len n ts ≤ max_length → AreReturned (numbered n ts)
-  items_returned n no_tree p b = tt
-  items_returned n (tree_then t ts) p b =
-      let small : n < 2 ^ 64 = omega arith in (
-        IsUtf8-from_ascii (decimal n) (IsAscii-decimal n small),
-        decimal_nul_free n small,
-        tree_returned t (p.0.0, p.1.0, p.2.0, p.3.0) (omega arith),
-        items_returned (n + 1) ts (p.0.1, p.1.1, p.2.1, p.3.1) (omega arith),
-      )
+  items_written : (n : ℕ) (ts : Trees) → Properly (λ holds. InTrees holds ts) → n + items_len n ts ≤ max_length → AreWritten (numbered n ts)
+  items_written n no_tree p b = none_written
+  items_written n (tree_then t ts) p b =
+      let utf8 = IsUtf8-from_ascii (decimal n) (IsAscii-decimal n (omega arith)) in
+      one_written (decimal n) t (numbered (n + 1) ts) utf8 (decimal_nul_free n) (tree_returned t (p.0.0, p.1.0, p.2.0, p.3.0) (omega arith))
+      (items_written (n + 1) ts (p.0.1, p.1.1, p.2.1, p.3.1) (omega arith))
 
   -- and the entries of a document
-  entries_returned : (es : Entries) → AreEntriesProper es → entries_len es ≤ max_length → AreReturned es
-  entries_returned no_entry p b = tt
-  entries_returned (entry_then key t es) p b =
-      (p.0.0, p.1.0, tree_returned t (p.0.1, p.1.1, p.2.1, p.3.1) (omega arith), entries_returned es (p.0.2, p.1.2, p.2.2, p.3.2) (omega arith))
+  entries_written : (es : Entries) → Properly (λ holds. InEntries holds es) → entries_len es ≤ max_length → AreWritten es
+  entries_written no_entry p b = none_written
+  entries_written (entry_then key t es) p b =
+      one_written key t es p.0.0 p.1.0 (tree_returned t (p.0.1, p.1.1, p.2.1, p.3.1) (omega arith)) (entries_written es (p.0.2, p.1.2, p.2.2, p.3.2) (omega arith))
 
 -- the encoding of a proper document of a size in range returns
 pub document_returns : (es : Entries) → ComesBack as_document (document es)
-document_returns es p b = framed_document es p.well_formed.0 (entries_returned es (p.well_formed.1, p.nul_free.1, p.options_ascend.1, p.subtypes_proper.1) (omega arith)) b
+document_returns es p b = framed_document es p.well_formed.0 (entries_written es (p.well_formed.1, p.nul_free.1, p.options_ascend.1, p.subtypes_proper.1) (omega arith)) b
 
 -- so does that of such a list
 pub array_returns : (ts : Trees) → ComesBack as_array (array ts)
-array_returns ts p b = framed_array ts (items_returned 0 ts (p.well_formed, p.nul_free, p.options_ascend, p.subtypes_proper) (omega arith)) b
+array_returns ts p b = framed_array ts (items_written 0 ts (p.well_formed, p.nul_free, p.options_ascend, p.subtypes_proper) (omega arith)) b

@@ -1,10 +1,9 @@
 -- A canonical document that is read is the encoding of its tree, and so is a canonical array.
 use Rattle.std.proofs.Common.{◌≡◌, ◌≢◌, ◌+◌, ◌++◌, ◌∷◌, [], ℕ, zero, suc, List, map, ap, refl, sym, ◌∙◌, append_assoc, arith}
-use Rattle.raw_tree.proofs.Common.{nil_from_length, Leaf, keys_of, DoLeafOptionsAscend, subtype_of, subtype_byte, Tree, trees, entries, BinarySubtype, BinaryOld}
-use Rattle.raw_tree.proofs.Common.{IsEnvelope, plain_binary_payload, binary_payload, framed, element_of, Frame, IsFrame, HasShape, IsWalk, Done}
-use Rattle.raw_tree.proofs.Common.{RawValue, kind_of_raw, Means, MeansValue, value, ElementType, AreDecimalsFrom, AreKeysCanonical, IsValueCanonical, AreFramesCanonical}
-use Rattle.raw_tree.proofs.Common.{IsCanonicalUpTo, IsCanonicalAs, kind_of_tree, tree_payload, items_bytes, entries_bytes, encoding, payload_of, Sort, as_document, as_array, tree_of_pairs}
-use Rattle.raw_tree.proofs.Common.{leaf_in_order, StandsFor, StandForEach, ReadsUpTo, ReadsAs, Holds}
+use Rattle.raw_tree.proofs.Common.{nil_from_length, Leaf, keys_of, DoLeafOptionsAscend, subtype_of, subtype_byte, Tree, trees, entries, BinarySubtype, BinaryOld, IsEnvelope, plain_binary_payload}
+use Rattle.raw_tree.proofs.Common.{binary_payload, framed, element_of, Frame, IsFrame, HasShape, IsWalk, Done, RawValue, kind_of_raw, Means, MeansValue, value, ElementType, AreDecimalsFrom}
+use Rattle.raw_tree.proofs.Common.{AreKeysCanonical, IsValueCanonical, AreFramesCanonical, IsCanonicalUpTo, IsCanonicalAs, kind_of_tree, tree_payload, items_bytes, entries_bytes, encoding, payload_of}
+use Rattle.raw_tree.proofs.Common.{Sort, as_document, as_array, tree_of_pairs, leaf_in_order, StandsFor, StandForEach, ReadsUpTo, ReadsAs, FrameStandsFor, Holds}
 use Rattle.bson_model.proofs.Face.{keep-distinct, sorted_options-same, subtype_byte-subtype_of}
 use Rattle.raw_view.specs.Meaning as raw
 use Rattle.raw_view.specs.declared.element_type.ElementType.TheVariants as kind
@@ -42,7 +41,7 @@ abbrev AreSpelled : (Sort → List ℕ → Tree → Type 0) → (Sort → List �
 AreSpelled N C = (sort : Sort) (b : List ℕ) (t : Tree) → IsEnvelope b → N sort b t → C sort b → (encoding t ≡ b) × (kind_of_tree t ≡ kind_of_sort sort)
 
 -- the payload and the kind of a frame are those of the tree
-abbrev IsTreeSpelled : Frame → Tree → Type 0
+abbrev pub IsTreeSpelled : Frame → Tree → Type 0
 IsTreeSpelled f t = (tree_payload t ≡ f.payload) × (kind_of_tree t ≡ f.kind)
 
 -- the tree of a value that is canonical has its payload and its kind, where nested bytes are encoded
@@ -90,6 +89,12 @@ spelled_within : (n m : ℕ) → AreSpelled (ReadsUpTo n) (IsCanonicalUpTo m)
 spelled_within zero m sort b t env h c = absurd h
 spelled_within (suc n) zero sort b t env h c = absurd c
 spelled_within (suc n) (suc m) sort b t env h c = grind (arith, one_walk, pairs_spelled, walk_spelled, spelled_within n m)
+
+-- what a canonical frame stands for has its payload and its kind
+pub frame_spelled : (n : ℕ) (s : List ℕ) (f : Frame) (r : List ℕ) (v : RawValue) → IsFrame s f r → Means f (value v) → IsValueCanonical (IsCanonicalUpTo n) v
+    → (t : Tree) → FrameStandsFor f t → IsTreeSpelled f t
+frame_spelled n s f r v at m c t (w, means, h) =
+    tree_spelled ReadsAs (IsCanonicalUpTo n) (λ sort b u env read. spelled_within read.0 n sort b u env read.1) s f r v t at m (rw (one_value_of f w v means m) at h) c
 
 -- canonical bytes that are read are the encoding of their tree
 pub canonical_is_spelled : (sort : Sort) (b : List ℕ) (t : Tree) → IsEnvelope b → ReadsAs sort b t → IsCanonicalAs sort b → encoding t ≡ b

@@ -8,4 +8,3 @@ pub mod OneTree
 pub mod OneWay
 pub mod ReadTrees
 pub mod Stacks
-pub mod Within

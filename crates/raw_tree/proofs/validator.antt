@@ -1,5 +1,4 @@
 pub mod EitherWay
-pub mod Filtering
 pub mod Fingerprinting
 pub mod ValidatedAt
 pub mod ValidatedLevels
@@ -10,6 +9,5 @@ pub mod LevelKeys
 pub mod NotCanonical
 pub mod OneBreach
 pub mod OneViolation
-pub mod Passed
 pub mod References
 pub mod Unlimited

@@ -7,10 +7,6 @@ pub mod Levels
 pub mod Offsets
 pub mod OneBarrier
 pub mod OneEnd
-pub mod OnePlace
-pub mod Linked
-pub mod Passed
 pub mod Rooms
 pub mod Starts
 pub mod Visits
-pub mod Within

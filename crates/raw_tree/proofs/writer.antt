@@ -1,3 +1,4 @@
+pub mod Decimals
 pub mod Encodings
 pub mod MeasuredMembers
 pub mod MemberSteps

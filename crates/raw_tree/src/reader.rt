@@ -114,7 +114,7 @@ pub fn document_from_raw(alloc: Global, document: RawDocument<'_>) -> Result<Doc
 /// let (tree, steps) = document_from_raw_counted(alloc, document);
 /// assert!(rt; tree.is_ok() && steps.count() == 1);
 /// ```
-#[tactic(auto, using(std::proofs::lemmas::Grind::common_steps, bson_model::proofs::Face::tree_laws, crate::proofs::Laws::documents_read, crate::proofs::Laws::documents_spelled, crate::proofs::reader::OneWay::counted_one_way, crate::proofs::reader::FrameCounts::one_frame_count, crate::proofs::reader::LevelSteps::tells_half))]
+#[tactic(auto, using(std::proofs::lemmas::Grind::common_steps, bson_model::proofs::Face::tree_laws, crate::proofs::Laws::documents_read, crate::proofs::Forms::bytes_spelled_one_way, crate::proofs::reader::OneWay::counted_one_way, crate::proofs::reader::FrameCounts::one_frame_count, crate::proofs::reader::LevelSteps::tells_half))]
 pub fn document_from_raw_counted(
     alloc: Global,
     document: RawDocument<'_>,
@@ -148,7 +148,7 @@ pub fn document_from_raw_counted(
 /// let list = list_from_raw(alloc, array)?;
 /// assert_eq!(rt; list.as_slice(), [Bson::Int32(1), Bson::Int32(2)].as_slice());
 /// ```
-#[tactic(auto, using(std::proofs::lemmas::Grind::common_steps, bson_model::proofs::Face::tree_laws, crate::proofs::Laws::arrays_read, crate::proofs::Laws::arrays_spelled))]
+#[tactic(auto, using(std::proofs::lemmas::Grind::common_steps, bson_model::proofs::Face::tree_laws, crate::proofs::Laws::arrays_read, crate::proofs::Forms::bytes_spelled_one_way))]
 pub fn list_from_raw(alloc: Global, array: RawArray<'_>) -> Result<Vec<Bson>>
     ensures tree { IfOk result
         (λ list. ReadsAs as_array (array_bytes_of array.entry) (tree_of_list list.items)) }
@@ -172,6 +172,7 @@ pub fn list_from_raw(alloc: Global, array: RawArray<'_>) -> Result<Vec<Bson>>
 /// ```
 /// assert_eq!(rt; bson_from_raw(alloc, RawBsonRef::Int32(7))?, Bson::Int32(7));
 /// ```
+#[tactic(auto, using(std::proofs::lemmas::Grind::common_steps, bson_model::proofs::Face::tree_laws, crate::proofs::reader::Loops::value_read))]
 pub fn bson_from_raw(alloc: Global, value: RawBsonRef<'_>) -> Result<Bson>
     ensures tree { IfOk result (λ t. StandsFor ReadsAs (value_of value.entry) (tree_of t)) }
     ensures fault { IfErr result (TellsFirstFaultOfValue (value_of value.entry)) }

@@ -48,7 +48,7 @@ fn numbers_of(alloc: Global, steps: &[PathStep<'_>]) -> Result<Vec<usize>>
 /// let Some(breach) = validate(alloc, document)? else { unreachable!() };
 /// assert_eq!(rt; (breach.cause, breach.path.as_slice()), (Cause::RepeatedKey, [1].as_slice()));
 /// ```
-#[tactic(auto, using(crate::proofs::Laws::documents_validated, crate::proofs::Laws::documents_spelled))]
+#[tactic(auto, using(crate::proofs::Laws::documents_validated, crate::proofs::Forms::bytes_spelled_one_way))]
 pub fn validate(alloc: Global, document: RawDocument<'_>) -> Result<Option<Breach>>
     ensures breach { IfOk result (TellsBreach (bytes_of document.entry)) }
     ensures err { IfErr result IsOutOfMemory }

@@ -2,12 +2,13 @@
 #![tactic(auto)]
 
 ghost use Rattle.std.specs.Option.{option_copied};
-ghost use Rattle.std.specs.Prelude.{◌≡◌, ◌+◌, [], ℕ, suc, List, Option, IfErr, IfOk, OnOk};
+ghost use Rattle.std.specs.Prelude.{◌≡◌, ◌+◌, ◌≤◌, ◌++◌, ◌∷◌, [], ℕ, suc, length, List, IfErr, IfOk, OnOk};
 ghost use Rattle.raw_tree.specs.walk.Looking.{HasNoneBefore, size_of};
+ghost use Rattle.raw_tree.specs.walk.Places.{Step};
 ghost use Rattle.raw_tree.specs.walk.Visits.{Visit};
-ghost use Rattle.raw_tree.specs.walk.Waits.{StoreEach, Wait};
-ghost use Rattle.raw_tree.specs.walk.Walks.{BeginsWithin, Comes, Enters, HasCome, IsAlong, IsBarrierAt, IsBegun, IsLooked, IsTooDeep, LeavesOrEnds, Passes, TellsErrorWithin, outermost_of, wait_behind, with_left};
-ghost use Rattle.raw_tree.specs.walk.Aheads as next;
+ghost use Rattle.raw_tree.specs.walk.Waits.{GoesOn, StoreSteps, level_behind, outermost_of};
+ghost use Rattle.raw_tree.specs.walk.Walks.{BeginsWithin, Comes, Enters, HasCome, IsBarrierAt, IsBegun, IsTooDeep, IsWithin, LeavesOrEnds, TellsErrorWithin};
+ghost use Rattle.raw_tree.specs.declared.walk.level.Waiting.{Waiting};
 ghost use Rattle.raw_view.specs.declared.document.RawDocument.{RawDocument};
 ghost use Rattle.raw_view.specs.Document.{bytes_of};
 ghost use Rattle.raw_view.specs.Frame.ElementSteps.{frame_of};
@@ -72,7 +73,6 @@ impl<'a> Walk<'a> {
         most_waiting: MostWaiting,
     ) -> (Walk<'a>, Level<'a>)
         requires { HasNoneBefore (suc most_waiting) (bytes_of document) start.number start.offset }
-        ensures along { IsAlong result.0 result.1 [] }
         ensures level { IsBegun document.entry start.offset result.0 result.1 }
         ensures number { result.1.number ≡ start.number }
         ensures most { result.0.most_waiting ≡ most_waiting }
@@ -153,14 +153,8 @@ impl<'a> Walk<'a> {
     /// Passes over an element that was just looked at.
     #[inline(always)]
     pub(crate) fn pass(&self, level: &mut Level<'a>, element: RawElement<'a>)
-        requires { (ws : List Wait) × (left : Option (List ℕ)) × IsLooked self.now level.old left ws
-            (next.Whole element) }
-        ensures passed { (ws : List Wait)
-            → (left : Option (List ℕ))
-            → IsLooked self.now level.old left ws (next.Whole element.entry)
-            → Passes self.now (with_left left level.old) ws level.new element.entry }
-        ensures elements { level.new.elements ≡ level.old.elements }
-        ensures number { level.new.number ≡ level.old.number + 1 }
+        requires { IsWithin self.now level.old element }
+        ensures { level.new ≡ level_behind level.old element.entry }
     {
         level.offset = behind(level.offset, element);
         level.number += 1;
@@ -175,19 +169,14 @@ impl<'a> Walk<'a> {
         element: RawElement<'a>,
         inner: RawDocument<'a>,
     ) -> Result<(), WalkError<'a>>
-        requires { (ws : List Wait) × (left : Option (List ℕ)) × IsLooked self.old level.old left ws
-            (next.Inside element inner) }
-        ensures entered { (ws : List Wait)
-            → (left : Option (List ℕ))
-            → (is : IsLooked self.old level.old left ws (next.Inside element.entry inner.entry))
-            → let w : Wait = wait_behind level.old.start is.along.at.d level.old.elements level.old.number
-            level.old.offset (level.old.offset + size_of (frame_of element.entry)) (frame_of element.entry).key in
-            OnOk result (Enters (with_left left level.old) ws w self.new level.new element.entry inner.entry) }
-        ensures ends { (ws : List Wait)
-            → StoreEach (bytes_of self.old.document) self.old.waiting.items ws
-            → IfErr result (IsTooDeep self.old level.old ws element.entry) }
-        ensures document { self.new.document ≡ self.old.document }
-        ensures most { self.new.most_waiting ≡ self.old.most_waiting }
+        requires within { IsWithin self.old level.old element }
+        requires inner { length (bytes_of inner) ≤ size_of (frame_of element) }
+        requires path { (path : List Step) × StoreSteps (bytes_of self.old.document) self.old.waiting.items path }
+        ensures entered { OnOk result
+            (Enters self.old level.old self.new level.new element.entry inner.entry) }
+        ensures ends { (path : List Step)
+            → StoreSteps (bytes_of self.old.document) self.old.waiting.items path
+            → IfErr result (IsTooDeep self.old level.old path element.entry) }
     {
         let offset = level.offset;
         if self.most_waiting.is_reached(self.waiting.len()) {
@@ -209,14 +198,10 @@ impl<'a> Walk<'a> {
     /// Goes back to the level around the one that was just seen to be at its end, if there is one.
     #[inline(always)]
     pub(crate) fn leave(&mut self, level: &mut Level<'a>) -> bool
-        requires { (ws : List Wait) × (left : Option (List ℕ)) × IsLooked self.old level.old left ws
-            next.End }
-        ensures left { (ws : List Wait)
-            → (left : Option (List ℕ))
-            → IsLooked self.old level.old left ws next.End
-            → LeavesOrEnds self.old (with_left left level.old) ws self.new level.new result }
-        ensures document { self.new.document ≡ self.old.document }
-        ensures most { self.new.most_waiting ≡ self.old.most_waiting }
+        requires { (outer : List Waiting) (w : Waiting)
+            → self.old.waiting.items ≡ outer ++ w ∷ []
+            → GoesOn (bytes_of self.old.document) w (level.old.offset + 1) }
+        ensures { LeavesOrEnds self.old level.old.offset self.new level.new result }
     {
         let Some(outer) = self.waiting.pop() else {
             return false;
@@ -228,9 +213,7 @@ impl<'a> Walk<'a> {
     /// Where the element of the outermost level begins that holds the innermost level; in the outermost level itself what
     /// begins at this offset.
     pub(crate) fn outermost(&self, offset: usize) -> usize
-        ensures { (ws : List Wait)
-            → StoreEach (bytes_of self.now.document) self.now.waiting.items ws
-            → result ≡ outermost_of ws offset }
+        ensures { result ≡ outermost_of self.now.waiting.items offset }
     {
         match self.waiting.first() {
             None => offset,
@@ -247,10 +230,10 @@ impl<'a> Walk<'a> {
         key: Option<&'a str>,
         kind: BarrierKind<'a>,
     ) -> WalkError<'a>
-        requires { (ws : List Wait) × StoreEach (bytes_of self.now.document) self.now.waiting.items ws }
-        ensures { (ws : List Wait)
-            → StoreEach (bytes_of self.now.document) self.now.waiting.items ws
-            → IsBarrierAt ws (record { number = number; key = option_copied key.entry }) offset kind.entry result }
+        requires { (path : List Step) × StoreSteps (bytes_of self.now.document) self.now.waiting.items path }
+        ensures { (path : List Step)
+            → StoreSteps (bytes_of self.now.document) self.now.waiting.items path
+            → IsBarrierAt path (record { number = number; key = option_copied key.entry }) offset kind.entry result }
     {
         match place_in(alloc, self.document, &self.waiting, number, key, offset) {
             Ok(place) => WalkError::Barrier(Barrier { kind, place }),

@@ -7,7 +7,7 @@ ghost use Rattle.bson_model.specs.Tree.{Tree, tree_of, tree_of_document, tree_of
 ghost use Rattle.raw_tree.specs.CanonicalForm.{DocumentsComeBack, ListsComeBack};
 ghost use Rattle.raw_tree.specs.writer.Encoding.{encoded_len, tree_payload, kind_of_tree, IsEncoded, IsRefused};
 ghost use Rattle.raw_tree.specs.writer.Measuring.{HasRoomFor, Measures};
-ghost use Rattle.raw_tree.specs.writer.Members.{end_of_opening, ended, key_bytes, key_of, members_left, members, opening, opening_len, tree_of_container};
+ghost use Rattle.raw_tree.specs.writer.Members.{begun_at, begun_of, ended, key_bytes, members_start, opening, opening_len, tree_of_container};
 ghost use Rattle.raw_view.specs.Frame.Envelope.{IsEnvelope};
 ghost use Rattle.raw_view.specs.Errors.{IsOutOfMemory};
 ghost use Rattle.raw_view.specs.Frame.Kind.{tag_of};
@@ -67,6 +67,7 @@ fn put_opening(out: &mut Vec<u8>, container: Container<'_>)
 
 impl<'a> Payload<'a> {
     /// Starts the payload of a container at the end, where there is room for it.
+    #[tactic(auto, using(std::proofs::lemmas::Grind::common_steps, crate::proofs::writer::WrittenMembers::begins))]
     #[inline(always)]
     fn start(out: &mut Vec<u8>, container: Container<'a>) -> Payload<'a>
         requires room { vec_len out.old + encoded_len (tree_of_container container) ≤ vec_capacity out.old }
@@ -74,9 +75,7 @@ impl<'a> Payload<'a> {
         ensures items { out.new.items ≡ out.old.items ++ opening (tree_of_container container.entry) }
         ensures len { vec_len out.new ≡ vec_len out.old + opening_len (tree_of_container container.entry) }
         ensures capacity { vec_capacity out.old ≤ vec_capacity out.new }
-        ensures container { result.members.container ≡ container.entry }
-        ensures members { members_left result.members ≡ members (tree_of_container container.entry) }
-        ensures start { result.start ≡ vec_len out.old }
+        ensures begun { begun_of result ≡ begun_at (tree_of_container container.entry) (vec_len out.old) }
     {
         let start = out.len();
         put_opening(out, container);
@@ -89,7 +88,7 @@ impl<'a> Payload<'a> {
     /// Ends the payload, all of whose members are put, and sets its lengths.
     #[inline(always)]
     fn end(self, out: &mut Vec<u8>)
-        requires begun { end_of_opening self ≤ vec_len out.old }
+        requires begun { members_start (begun_of self) ≤ vec_len out.old }
         requires room { vec_len out.old + 1 ≤ vec_capacity out.old }
         requires fits { vec_len out.old + 1 ≤ max_length }
         ensures items { out.new.items ≡ ended (tree_of_container self.entry.members.container) self.entry.start (out.old.items ++ 0 ∷ []) }
@@ -108,7 +107,7 @@ impl<'a> Payload<'a> {
 /// The text of a key, that of a number in the buffer.
 #[inline(always)]
 fn text<'a>(key: Key<'a>, buffer: &'a mut Buffer) -> &'a str
-    ensures { result.now ≡ key_bytes (key_of key.entry) }
+    ensures { result.now ≡ key_bytes key.entry }
 {
     match key {
         Key::Text(text) => text,
@@ -118,6 +117,7 @@ fn text<'a>(key: Key<'a>, buffer: &'a mut Buffer) -> &'a str
 
 /// Puts the payload of a container into these empty bytes, which have room for it. The containers round the one
 /// whose members are put wait in memory; the only error is out of memory.
+#[tactic(auto, using(std::proofs::lemmas::Grind::common_steps, crate::proofs::writer::WrittenMembers::room_left))]
 fn write(alloc: Global, out: &mut Vec<u8>, container: Container<'_>) -> Result<()>
     requires empty { out.old.items ≡ [] }
     requires room { encoded_len (tree_of_container container) ≤ vec_capacity out.old }
@@ -185,6 +185,7 @@ fn encoded(alloc: Global, container: Container<'_>) -> Result<Vec<u8>>
 /// tree.put(String::from_str(alloc, "a")?, Bson::Int32(1))?;
 /// assert_eq!(rt; encode(alloc, &tree)?.as_slice(), b"\x0C\0\0\0\x10a\0\x01\0\0\0\0".as_slice());
 /// ```
+#[tactic(auto, using(std::proofs::lemmas::Grind::common_steps, crate::proofs::Forms::document_enveloped, crate::proofs::Returns::document_returns))]
 pub fn encode(alloc: Global, document: &Document) -> Result<Vec<u8>>
     ensures ok { IfOk result (λ bytes. IsEncoded (tree_of_document document.now) bytes.items) }
     ensures envelope { IfOk result (λ bytes. IsEnvelope bytes.items) }
@@ -196,6 +197,7 @@ pub fn encode(alloc: Global, document: &Document) -> Result<Vec<u8>>
 
 /// The bytes of a list, its keys the decimals from 0. BSON 1.1, `array`. It fails as `encode` does, in
 /// the same order. What is written of every list comes back likewise.
+#[tactic(auto, using(std::proofs::lemmas::Grind::common_steps, crate::proofs::Forms::list_enveloped, crate::proofs::Returns::array_returns))]
 pub fn encode_list(alloc: Global, values: &[Bson]) -> Result<Vec<u8>>
     ensures ok { IfOk result (λ bytes. IsEncoded (tree_of_list values.now) bytes.items) }
     ensures envelope { IfOk result (λ bytes. IsEnvelope bytes.items) }

@@ -1,48 +1,42 @@
 -- The names of definitions and of lemmas of crates below, and of specs, that proofs of canonical forms and of tokens cite. It declares nothing.
-pub use Rattle.bson_model.proofs.Face.{keep-distinct, keep-last, sorted_options-same}
-pub use Rattle.bson_model.specs.Leaf.{Leaf, regular_expression}
-pub use Rattle.bson_model.specs.Pairs.{keep, keys_of, last_value_at, value_at, with_pair}
+pub use Rattle.bson_model.proofs.Face.{keep-distinct, keep-last}
+pub use Rattle.bson_model.specs.Leaf.{Leaf}
+pub use Rattle.bson_model.specs.Pairs.{keep, keys_of, with_pair}
 pub use Rattle.bson_model.specs.Tree.{Tree, document, entries, leaf, trees}
 pub use Rattle.raw_tree.specs.Barriers.{step_of, steps_of}
 pub use Rattle.raw_form.specs.Forms.{IsFormOf, RefusesFormOf}
-pub use Rattle.raw_tree.specs.Looking.{HasNoneBefore, TakesFrame, size_of}
+pub use Rattle.raw_tree.specs.Looking.{TakesFrame, size_of}
 pub use Rattle.raw_tree.specs.Places.{BeginsAt, Step}
 pub use Rattle.raw_form.specs.Rewriting.{AreLeftOwn, FailsFor, HasCode, IsLater, IsLeft, IsPlain, IsRest, TakesNext, TakesPair, ended_by, header_len, held_opening, member_key}
-pub use Rattle.raw_form.specs.Staying.{AreNextOwn, AreOwnBefore, IsLeftAt, IsOwnForm, IsOwnUpTo, IsWrittenAs, last_places, put_at}
-pub use Rattle.raw_form.specs.Staying.{placed}
+pub use Rattle.raw_form.specs.Staying.{IsOwnForm, IsOwnUpTo, IsWrittenAs, put_at}
 pub use Rattle.raw_form.specs.Tokens.{AreInside, AreTokens, AreTokensOf, HasTokens, IsTokenOf, NestedUpTo, filled_from}
-pub use Rattle.raw_tree.specs.Visits.{end_of}
-pub use Rattle.raw_tree.specs.Violations.{FirstViolationTo, ValidatesFrontAt, ValidatesMeaningAt, Violation}
-pub use Rattle.raw_tree.specs.Walks.{IsBehind}
+pub use Rattle.raw_tree.specs.Violations.{FirstViolationTo, ValidatesFrontAt, Violation}
 pub use Rattle.raw_tree.specs.declared.walk.faults.Start.{Start}
 pub use Rattle.raw_form.specs.declared.last.LastPlaces.{LastPlaces}
 pub use Rattle.raw_tree.specs.declared.walk.place.PathStep.{PathStep}
-pub use Rattle.raw_tree.proofs.Face.{IsWriting, answered_one_way, begun_at, bytes_one_way, canonical_form, canonical_frames_read, canonical_is_own_form, document_reads, each_read, left_in, left_with}
-pub use Rattle.raw_tree.proofs.Face.{length-tree_payload, one_form, one_value_of, read_within, room_left, value_spelled, writing_begins, writing_done, writing_ends, writing_inside, writing_leaf}
-pub use Rattle.raw_tree.specs.Breaches.{keys_of_frames}
-pub use Rattle.raw_tree.specs.Canonical.{AreDecimalsFrom, AreFramesCanonical, IsCanonical, IsCanonicalUpTo, IsValueCanonical}
-pub use Rattle.raw_tree.specs.Encoding.{encoded_len, encoding, entries_bytes, items_bytes, kind_of_tree, tree_payload}
-pub use Rattle.raw_tree.specs.Members.{Begun, HoldsTrees, MemberKey, ended, key_bytes, keyed, members, members_len, numbered, opening, opening_len}
+pub use Rattle.raw_tree.proofs.Face.{IsWriting, answered_one_way, bytes_one_way, canonical_form, canonical_frames_read, canonical_is_own_form, document_reads, each_read, left_in, left_with, length-tree_payload, one_form, one_value_of, read_within, room_left, value_spelled, writing_begins, writing_ends, writing_inside, writing_leaf}
+pub use Rattle.raw_tree.specs.Canonical.{AreFramesCanonical, IsCanonicalUpTo}
+pub use Rattle.raw_tree.specs.Encoding.{encoded_len, entries_len, kind_of_tree, tree_payload}
+pub use Rattle.raw_tree.specs.Members.{Begun, HoldsTrees, begun_at, ended, members, numbered, opening, opening_len}
 pub use Rattle.raw_tree.specs.Payload.{payload_of}
-pub use Rattle.raw_tree.specs.Reading.{Reads, ReadsAs, ReadsUpTo, Sort, StandForEach, StandsFor, as_array, as_document, leaf_in_order}
+pub use Rattle.raw_tree.specs.Reading.{Reads, ReadsAs, ReadsUpTo, Sort, StandForEach, StandsFor, as_document, leaf_in_order}
 pub use Rattle.raw_tree.specs.Validating.{left_of}
 pub use Rattle.raw_tree.specs.WithinLimits.{ReadsWithin}
 pub use Rattle.raw_tree.specs.declared.reader.limits.Limits.{Limits}
-pub use Rattle.raw_view.proofs.Face.{IsFrame-shorter, LeadsTo-more, no_frame_at_final, one_frame, one_meaning, one_walk}
+pub use Rattle.raw_view.proofs.Face.{IsFrame-shorter, LeadsTo-more, one_frame, one_meaning}
 pub use Rattle.raw_view.specs.Document.{bytes_of}
-pub use Rattle.raw_view.specs.Frame.{Done, Frame, HasNoFrame, HasPayload, HasShape, IsFrame, IsWalk, LeadsTo}
-pub use Rattle.raw_view.specs.Frame.ElementSteps.{HasRead, frame_of}
+pub use Rattle.raw_view.specs.Frame.{Frame, HasPayload, IsFrame, LeadsTo}
+pub use Rattle.raw_view.specs.Frame.ElementSteps.{frame_of}
 pub use Rattle.raw_view.specs.Frame.Envelope.{IsEnvelope}
-pub use Rattle.raw_view.specs.Frame.Format.{element_of, framed, leaf_payload, scoped_payload, tagged}
+pub use Rattle.raw_view.specs.Frame.Format.{element_of, leaf_payload, tagged}
 pub use Rattle.raw_view.specs.Frame.Kind.{kind_of_leaf, tag_of}
 pub use Rattle.raw_view.specs.Frame.Number.{max_length}
-pub use Rattle.raw_view.specs.Meaning.{Meaning, Means, MeansValue, RawValue, faulty, kind_of_raw, value}
+pub use Rattle.raw_view.specs.Meaning.{Means, RawValue, faulty, kind_of_raw, value}
 pub use Rattle.raw_view.specs.Meaning.Value.{IsSingle, held_value, holding}
 pub use Rattle.raw_view.specs.declared.element.RawElement.{RawElement}
 pub use Rattle.raw_view.specs.declared.error.Error.{Error}
 pub use Rattle.raw_view.specs.declared.level.Holder.{Holder}
 pub use Rattle.raw_view.specs.declared.level.RawLevel.{RawLevel}
-pub use Rattle.std.proofs.lemmas.List.{length-map, map-append, reverse-append, same_from_push}
-pub use Rattle.std.proofs.lemmas.Slice.Eq.{bytes_eq-Decides}
+pub use Rattle.std.proofs.lemmas.List.{length-map, map-append, same_from_push}
 pub use Rattle.std.specs.Str.{bytes_eq}
 pub use denote.Ref.{Bor}

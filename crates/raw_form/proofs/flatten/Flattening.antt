@@ -1,8 +1,7 @@
 -- The tokens of visits, and what a flattening keeps of them.
 use Rattle.std.proofs.Common.{◌-◌, ◌≡◌, ◌∙◌, ◌≤◌, ◌<◌, ◌+◌, ◌++◌, ◌∷◌, [], ℕ, suc, List, Ok, fold, length, arith, ap, refl, length-append, append_assoc, append-nil, zero, sym}
 use Rattle.std.proofs.lemmas.Grind.{fold-append}
-use Rattle.raw_form.proofs.canonical.Common.{AreInside, AreTokens, AreTokensOf, Frame, HasTokens, IsTokenOf, Means, NestedUpTo, RawValue, same_from_push, size_of, tag_of, value}
-use Rattle.raw_form.proofs.canonical.Common.{Limits, ReadsUpTo, Tree, as_document, filled_from, read_within}
+use Rattle.raw_form.proofs.canonical.Common.{AreInside, AreTokens, AreTokensOf, Frame, HasTokens, IsTokenOf, Means, NestedUpTo, RawValue, same_from_push, size_of, tag_of, value, Limits, ReadsUpTo, Tree, as_document, filled_from, read_within}
 use Rattle.raw_form.specs.Tokens.{Flattens}
 use Rattle.raw_form.specs.Flattening.{with_inside}
 use Rattle.raw_form.specs.declared.token.Token.{Token}
@@ -76,8 +75,7 @@ module _ (n : ℕ) (inner_flat : (start : ℕ) (d : List ℕ) (vs : List Visit) 
       let (us, more, last) = each_flat (offset + size_of f) fs rest (record { tokens = m.tokens ++ ts; around = m.around }) each in (
         ts ++ us,
         (ts, us, are, more, refl),
-        ap (fold flat_with m) is ∙ fold-append flat_with m first rest ∙ ap (λ (x : Flat). fold flat_with x rest) same ∙ last
-            ∙ (λ i. record { tokens = append_assoc m.tokens ts us i; around = m.around }),
+        rw (is, fold-append flat_with m first rest, same, last, append_assoc m.tokens ts us) refl,
       )
 
 visits_flat : (n start : ℕ) (d : List ℕ) (vs : List Visit) (m : Flat) → HasVisits n start d vs → Puts (HasTokens n (length m.around) start d) m vs

@@ -1,161 +1,140 @@
--- A document with repeated keys: where the last frame of each key is, and what is left to be written.
-use Rattle.std.proofs.Common.{◌≡◌, ◌∙◌, ◌<◌, ◌≤◌, ◌+◌, ◌-◌, ◌∷◌, [], ℕ, zero, suc, Bool, true, cond, List, Option, None, Some, IsTrue, drop, length, map, option_map, ltb, slice_get, arith, ap, refl, sym, subst, length-drop}
+-- The loops over the elements of a document that look for a repeated key, and that list the last places of its keys.
+use Rattle.std.proofs.Common.{◌≡◌, ◌∙◌, ◌<◌, ◌≤◌, ◌+◌, ◌++◌, ◌∷◌, [], ℕ, Bool, List, Option, None, Some, drop, length, ltb, slice_get, arith, ap, refl, sym, add-one, append_assoc, append-nil, drop-cons, length-append, length-drop, length-set}
 use Rattle.std.proofs.lemmas.Bool.Decides.{nat_tests}
 use Rattle.std.proofs.lemmas.List.{drop-drop}
-use Rattle.std.specs.List.{filter_map}
-use Rattle.std.specs.Str.{bytes_eq}
-use Rattle.bson_model.specs.Pairs.{first_keys, keep, keys_of, last_value_at}
-use Rattle.bson_model.specs.Tree.{Tree, entries}
-use Rattle.raw_view.specs.Document.{bytes_of}
-use Rattle.raw_view.specs.Frame.ElementSteps.{frame_of}
-use Rattle.raw_view.specs.Frame.{Frame, IsFrame, IsWalk, Done}
-use Rattle.raw_view.specs.declared.element.RawElement.{RawElement}
-use Rattle.raw_tree.specs.Members.{MemberKey, keyed, text}
-use Rattle.raw_tree.specs.Reading.{StandForEach, ReadsAs, FrameStandsFor}
-use Rattle.raw_tree.specs.Looking.{size_of}
-use Rattle.raw_tree.proofs.Face.{drop_frame, frame_size}
-use Rattle.raw_form.specs.Staying.{AreFramesAt, AreOwnBefore, IsLeftAt, IsOwnForm, TakesMember, last_places, placed}
-use Rattle.raw_form.specs.declared.last.LastPlaces.{LastPlaces}
-use Rattle.raw_form.proofs.last.KeptPairs.{first_or, here, last_front, same_key}
+use Rattle.std.proofs.lemmas.Option.{get_or_from_slice_get, slice_get_within}
+use Rattle.std.proofs.lemmas.Slice.Eq.{bytes_eq-Decides}
+use Rattle.raw_form.proofs.canonical.Common.{Bor, Frame, IsFrame, IsRest, LeadsTo, LeadsTo-more, LastPlaces, RawElement, ReadsAs, TakesFrame, Tree, bytes_eq, bytes_of, entries, frame_of, keep, keep-last, keys_of, left_of, put_at, size_of, with_pair}
+use Rattle.raw_tree.specs.IndexedKeys.{with_key}
+use Rattle.raw_tree.specs.KeySets.{HasKeys, TellsPlace}
+use Rattle.bson_model.specs.Tree.{Entries, entry_then}
+use Rattle.raw_tree.specs.Reading.{FrameStandsFor, ReadsRest}
+use Rattle.raw_tree.specs.declared.validator.key_set.KeySet.{KeySet}
+use Rattle.raw_tree.proofs.Face.{drop_frame, first_at, frame_size, position_is}
+use Rattle.raw_form.specs.Staying.{AreFramesAt, IsFrameAt, IsLeftAt, TakesMember}
+use Rattle.raw_form.proofs.rewritten.Members.{pair_over, pair_taken}
 
--- the last frame of a key
+-- Of pairs these have been passed, of which this holds; those of what is left are behind them.
+pub record HasPassed (P : List (List ℕ × Tree) → Type 0) (left : Option (List ℕ)) (pairs : List (List ℕ × Tree)) : Type 0 where
+  pub passed : List (List ℕ × Tree)
+  pub rest : List (List ℕ × Tree)
+  pub whole : pairs ≡ passed ++ rest
+  pub left_is : IsRest left rest
+  pub holds : P passed
 
--- the last frame of this key begins here, and stands for the tree that the key has last; that is written as it is, where it
--- is before this offset
-record IsLast (known at : ℕ) (s : List ℕ) (pairs : List (List ℕ × Tree)) (key : List ℕ) (o : ℕ) : Type 0 where
-  pub f : Frame
-  pub r : List ℕ
-  pub t : Tree
-  pub first : at ≤ o
-  pub within : o ≤ at + length s
-  pub frame : IsFrame (drop (o - at) s) f r
-  pub key_is : f.key ≡ key
-  pub stands : FrameStandsFor f t
-  pub own : o < known → IsOwnForm f
-  pub last : last_value_at key pairs ≡ Some t
+pub passed_all : {P : List (List ℕ × Tree) → Type 0} {left : Option (List ℕ)} {pairs : List (List ℕ × Tree)} → HasPassed P left pairs → (new : Option (List ℕ)) → TakesFrame left None new → P pairs
+passed_all {left = left} is new none = rw (is.whole, pair_over left new is.rest is.left_is none, append-nil is.passed) is.holds
 
-some_of : {T : Type 0} (b : Bool) (x y : T) → cond b (Some x) None ≡ Some y → (b ≡ true) × (x ≡ y)
-some_of b x y e = grind arith
+pub passed_more : {P : List (List ℕ × Tree) → Type 0} {left : Option (List ℕ)} {pairs : List (List ℕ × Tree)} → HasPassed P left pairs
+    → (Q : List (List ℕ × Tree) → Type 0) (new : Option (List ℕ)) (e : RawElement) → TakesFrame left (Some e) new
+    → ((passed : List (List ℕ × Tree)) (t : Tree) → FrameStandsFor (frame_of e) t → P passed → Q (passed ++ ((frame_of e).key, t) ∷ [])) → HasPassed Q new pairs
+passed_more {left = left} is Q new e takes more =
+    let (t, rest, same, stands, left_is, shorter) = pair_taken left new is.rest e is.left_is takes in
+    let pair : List ℕ × Tree = ((frame_of e).key, t) in
+    record {
+      passed = is.passed ++ pair ∷ [];
+      rest = rest;
+      whole = is.whole ∙ ap (λ (ps : List (List ℕ × Tree)). is.passed ++ ps) same ∙ sym (append_assoc is.passed (pair ∷ []) rest);
+      left_is = left_is;
+      holds = more is.passed t stands is.holds;
+    }
 
-drop_both : (b : List ℕ) (o : ℕ) → 4 ≤ o → drop (o - 4) (drop 4 b) ≡ drop o b
-drop_both b o least =
-    let far : 4 + (o - 4) ≡ o = omega (arith, least) in
-    drop-drop (o - 4) 4 b ∙ ap (λ (n : ℕ). drop n b) far
+pub left_more : (old new : Option (List ℕ)) (e : RawElement) → TakesFrame old (Some e) new → left_of new + size_of (frame_of e) ≡ left_of old
+left_more None new e h = cc
+left_more (Some s) new e (r, at, is) = rw is (omega (arith, frame_size s (frame_of e) r at))
 
-no_value : (key : List ℕ) (at : ℕ) (fs : List Frame) (pairs : List (List ℕ × Tree)) → StandForEach ReadsAs fs pairs → last_value_at key (placed at fs) ≡ None → last_value_at key pairs ≡ None
-no_value key at [] pairs h e = ap (λ (ps : List (List ℕ × Tree)). last_value_at key ps) h
-no_value key at (f ∷ fs) pairs h e =
-    grind (arith, last_front key (f.key, at) (placed (at + size_of f) fs), last_front key (f.key, h.1) h.2, h.5, no_value key (at + size_of f) fs h.2 h.6)
+-- a pair that is kept, and its place
 
-last_frame : (known : ℕ) (key : List ℕ) (at : ℕ) (s : List ℕ) (frames : List Frame) (pairs : List (List ℕ × Tree)) (o : ℕ) → IsWalk s frames Done
-    → AreOwnBefore known at frames → StandForEach ReadsAs frames pairs → last_value_at key (placed at frames) ≡ Some o → IsLast known at s pairs key o
-last_frame known key at s [] pairs o w own h e = cc
-last_frame known key at s (f ∷ fs) pairs o w own h e =
-    let size : size_of f + length w.0 ≡ length s = frame_size s f w.0 w.1 in
-    let front : last_value_at key pairs ≡ first_or (last_value_at key h.2) (here key (f.key, h.1)) = ap (λ (ps : List (List ℕ × Tree)). last_value_at key ps) h.5 ∙ last_front key (f.key, h.1) h.2 in
-    elim (last_value_at key (placed (at + size_of f) fs)) as (λ x. last_value_at key (placed (at + size_of f) fs) ≡ x → first_or x (here key (f.key, at)) ≡ Some o → IsLast known at s pairs key o) [
-      | Some p ↦ λ n k.
-          let there = last_frame known key (at + size_of f) w.0 fs h.2 o w.2 own.1 h.6 (n ∙ k) in
-          let far : o - at ≡ size_of f + (o - (at + size_of f)) = omega (arith, there.first) in
-          let behind : drop (o - at) s ≡ drop (o - (at + size_of f)) w.0 = ap (λ (m : ℕ). drop m s) far ∙ drop_frame s f w.0 (o - (at + size_of f)) w.1 in
-          record {
-            f = there.f;
-            r = there.r;
-            t = there.t;
-            first = omega (arith, there.first);
-            within = omega (arith, there.within, size);
-            frame = subst (λ (x : List ℕ). IsFrame x there.f there.r) (sym behind) there.frame;
-            key_is = there.key_is;
-            stands = there.stands;
-            own = there.own;
-            last = front ∙ ap (λ (v : Option Tree). first_or v (here key (f.key, h.1))) there.last;
-          }
-      | None ↦ λ n k.
-          let found = some_of (bytes_eq key f.key) at o k in
-          let none : o - at ≡ 0 = omega (arith, found.1) in
-          record {
-            f = f;
-            r = w.0;
-            t = h.1;
-            first = omega (arith, found.1);
-            within = omega (arith, found.1);
-            frame = subst (λ (m : ℕ). IsFrame (drop m s) f w.0) (sym none) w.1;
-            key_is = sym (same_key key f.key found.0);
-            stands = (h.0, h.3, h.4);
-            own = λ less. own.0 (omega (arith, less, found.1));
-            last = front ∙ ap (λ (v : Option Tree). first_or v (here key (f.key, h.1))) (no_value key (at + size_of f) fs h.2 h.6 n) ∙ ap (λ (b : Bool). cond b (Some h.1) None) found.0;
-          }
-    ] refl (sym (last_front key (f.key, at) (placed (at + size_of f) fs)) ∙ e)
+kept_keys : (k : List ℕ) (t : Tree) (kept : List (List ℕ × Tree)) → keys_of (with_pair k t kept) ≡ with_key (keys_of kept) k (first_at (bytes_eq k) (keys_of kept))
+kept_keys k t [] = refl
+kept_keys k t (p ∷ kept) = grind (arith, kept_keys k t kept)
 
--- the last frames of all keys
+kept_places : (d : List ℕ) (place : ℕ) (k : List ℕ) (t : Tree) (places : List ℕ) (kept : List (List ℕ × Tree)) → AreFramesAt d places kept → IsFrameAt d place k t
+    → AreFramesAt d (put_at (first_at (bytes_eq k) (keys_of kept)) place places) (with_pair k t kept)
+kept_places d place k t [] [] h is = (is, tt)
+kept_places d place k t (q ∷ places) (p ∷ kept) h is = grind (arith, kept_places d place k t places kept h.1 is, bytes_eq-Decides k p.0)
+kept_places d place k t places kept h is = absurd h
 
-keys_placed : (at : ℕ) (frames : List Frame) (pairs : List (List ℕ × Tree)) → StandForEach ReadsAs frames pairs → keys_of (placed at frames) ≡ keys_of pairs
-keys_placed at [] pairs h = ap (λ ps. keys_of {T = Tree} ps) (sym h)
-keys_placed at (f ∷ frames) pairs h = ap (λ ks. f.key ∷ ks) (keys_placed (at + size_of f) frames h.2 h.6) ∙ ap (λ ps. keys_of {T = Tree} ps) (sym h.5)
+-- these keys are kept, and their last frames are at the places
+abbrev pub AreKept : List ℕ → List (List ℕ) → List ℕ → List (List ℕ × Tree) → Type 0
+AreKept d own places pairs = (keys_of (keep pairs) ≡ own) × AreFramesAt d places (keep pairs)
 
--- what each key has
-abbrev looked_up : {T : Type 0} → List (List ℕ × T) → List (List ℕ) → List (List ℕ × T)
-looked_up pairs keys = filter_map (λ key. option_map (λ value. (key, value)) (last_value_at key pairs)) keys
+kept_more : (d : List ℕ) (own : List (List ℕ)) (places : List ℕ) (place : ℕ) (key : List ℕ) (known : Option ℕ) (passed : List (List ℕ × Tree)) (t : Tree)
+    → known ≡ first_at (bytes_eq key) own → AreKept d own places passed → IsFrameAt d place key t → AreKept d (with_key own key known) (put_at known place places) (passed ++ (key, t) ∷ [])
+kept_more d own places place key known passed t known_is (keys, frames) is =
+    rw (keep-last passed key t, known_is, ← keys) (kept_keys key t (keep passed), kept_places d place key t places (keep passed) frames is)
 
-frames_of : (known : ℕ) (d : List ℕ) (frames : List Frame) (pairs : List (List ℕ × Tree)) → IsWalk (drop 4 d) frames Done → AreOwnBefore known 4 frames
-    → StandForEach ReadsAs frames pairs → 5 ≤ length d → (keys : List (List ℕ))
-    → AreFramesAt known d (map (λ p. p.1) (looked_up (placed 4 frames) keys)) (looked_up pairs keys)
-frames_of known d frames pairs w own h long [] = refl
-frames_of known d frames pairs w own h long (k ∷ keys) =
-    elim (last_value_at k (placed 4 frames)) as (λ x. last_value_at k (placed 4 frames) ≡ x
-    → AreFramesAt known d (map (λ p. p.1) (looked_up (placed 4 frames) (k ∷ keys))) (looked_up pairs (k ∷ keys))) [
-      | Some o ↦ λ e.
-          let last = last_frame known k 4 (drop 4 d) frames pairs o w own h e in
-          let there : drop (o - 4) (drop 4 d) ≡ drop o d = drop_both d o last.first in
-          rw (e, last.last) (
-            last.f,
-            last.r,
-            last.t,
-            looked_up pairs keys,
-            last.first,
-            omega (arith, last.within, length-drop 4 d, long),
-            subst (λ (x : List ℕ). IsFrame x last.f last.r) there last.frame,
-            last.stands,
-            last.own,
-            ap (λ (q : List ℕ). (q, last.t) ∷ looked_up pairs keys) (sym last.key_is),
-            frames_of known d frames pairs w own h long keys,
-          )
-      | None ↦ λ e.
-          let none : last_value_at k pairs ≡ None = no_value k 4 frames pairs h e in
-          rw (e, none) (frames_of known d frames pairs w own h long keys)
-    ] refl
+-- the last places of the keys of the pairs passed are listed, and what is left begins here
+pub record AreListed (d : List ℕ) (set : KeySet) (listed : List (Bor (List ℕ))) (places : List ℕ) (left : Option (List ℕ)) (offset : ℕ) : Type 0 where
+  pub below : List (List ℕ)
+  pub own : List (List ℕ)
+  pub keys : HasKeys set listed below own
+  pub as_many : length places ≡ length own
+  pub frames : List Frame
+  pub reaches : LeadsTo (drop 4 d) frames (drop offset d)
+  pub left_is : left ≡ Some (drop offset d)
+  pub least : 4 ≤ offset
+  pub begins : offset + left_of left ≡ length d
+  pub each : (pairs : List (List ℕ × Tree)) → ReadsRest ReadsAs (drop 4 d) pairs → HasPassed (AreKept d own places) left pairs
 
-pub frames_at : (known : ℕ) (d : List ℕ) (frames : List Frame) (pairs : List (List ℕ × Tree)) → IsWalk (drop 4 d) frames Done → AreOwnBefore known 4 frames
-    → StandForEach ReadsAs frames pairs → 5 ≤ length d → AreFramesAt known d (last_places frames) (keep pairs)
-frames_at known d frames pairs w own h long =
-    subst (λ (keys : List (List ℕ)). AreFramesAt known d (map (λ p. p.1) (looked_up (placed 4 frames) keys)) (keep pairs))
-    (ap first_keys (sym (keys_placed 4 frames pairs h))) (frames_of known d frames pairs w own h long (first_keys (keys_of pairs)))
+as_many_more : (key : List ℕ) (place : ℕ) (own : List (List ℕ)) (places : List ℕ) (known : Option ℕ) → length places ≡ length own
+    → length (put_at known place places) ≡ length (with_key own key known)
+as_many_more key place own places known same = grind (arith, length-append, length-set)
 
--- the next of them
+behind_frame : (d : List ℕ) (place : ℕ) (f : Frame) (r : List ℕ) → IsFrame (drop place d) f r → r ≡ drop (place + size_of f) d
+behind_frame d place f r at =
+    let same : place + (size_of f + 0) ≡ place + size_of f = omega arith in
+    sym (drop_frame (drop place d) f r 0 at) ∙ drop-drop (size_of f + 0) place d ∙ ap (λ (n : ℕ). drop n d) same
+
+-- one more of the elements
+pub listed_more : {d : List ℕ} {set : KeySet} {listed : List (Bor (List ℕ))} {places : List ℕ} {left : Option (List ℕ)} {offset : ℕ} (is : AreListed d set listed places left offset)
+    → (new : Option (List ℕ)) (e : RawElement) → TakesFrame left (Some e) new → (after : KeySet) (refs : List (Bor (List ℕ))) (known : Option ℕ) (at : List ℕ) (end : ℕ)
+    → TellsPlace is.below is.own (frame_of e).key after refs known → at ≡ put_at known offset places → end ≡ offset + size_of (frame_of e)
+    → AreListed d after refs at new end
+listed_more {d} {places = places} {left} {offset} is new e takes after refs known at end told put far =
+    let f = frame_of e in
+    let (r, there, new_is) = rw is.left_is at takes in
+    let behind : r ≡ drop end d = rw far (behind_frame d offset f r there) in
+    let here : (t : Tree) → FrameStandsFor f t → IsFrameAt d offset f.key t =
+    λ t stands. record { passed = is.frames; f = f; r = r; reaches = is.reaches; frame = there; stands = stands; key_is = refl; least = is.least; within = omega (arith, is.begins) } in
+    record {
+      below = is.below;
+      own = with_key is.own f.key known;
+      keys = told.keys;
+      as_many = rw put (as_many_more f.key offset is.own places known is.as_many);
+      frames = is.frames ++ f ∷ [];
+      reaches = rw behind at (LeadsTo-more (drop 4 d) is.frames (drop offset d) f r is.reaches there);
+      left_is = rw behind at new_is;
+      least = omega (arith, is.least, far);
+      begins = omega (arith, is.begins, far, left_more left new e takes);
+      each = λ pairs read. passed_more (is.each pairs read) (AreKept d (with_key is.own f.key known) at) new e takes
+          (λ passed t stands kept. rw put (kept_more d is.own places offset f.key known passed t (told.place_is ∙ position_is (bytes_eq f.key) is.own) kept (here t stands)));
+    }
+
+-- what is left of the places
 
 more_behind : (i : ℕ) (xs : List ℕ) (x : ℕ) → slice_get xs i ≡ Some x → drop i xs ≡ x ∷ drop (i + 1) xs
-more_behind i [] x e = cc
-more_behind zero (y ∷ xs) x e = grind arith
-more_behind (suc i) (y ∷ xs) x e = grind (arith, more_behind i xs x e)
+more_behind i xs x e = rw (add-one, drop-cons xs i x (slice_get_within xs i x e), get_or_from_slice_get xs i x x e) refl
 
-next_left : (last : LastPlaces) (o : ℕ) (ms : List (MemberKey × Tree)) (is : IsLeftAt last ms) → slice_get last.places.items last.passed ≡ Some o
-    → AreFramesAt last.known (bytes_of last.document) (o ∷ drop (last.passed + 1) last.places.items) is.0
-next_left last o ms is some = subst (λ (places : List ℕ). AreFramesAt last.known (bytes_of last.document) places is.0) (more_behind last.passed last.places.items o some) is.1
+-- the frame at the next place is that of the first of these pairs
+first_placed : (d : List ℕ) (places : List ℕ) (i place : ℕ) (pairs : List (List ℕ × Tree)) → AreFramesAt d (drop i places) pairs → slice_get places i ≡ Some place
+    → (p : List ℕ × Tree) × (rest : List (List ℕ × Tree)) × (pairs ≡ p ∷ rest) × IsFrameAt d place p.0 p.1 × AreFramesAt d (drop (i + 1) places) rest
+first_placed d places i place [] h some = absurd (rw (more_behind i places place some) at h)
+first_placed d places i place (p ∷ rest) h some = let next = rw (more_behind i places place some) at h in (p, rest, refl, next.0, next.1)
 
-is_before : (o known : ℕ) (told : Bool) → told ≡ ltb o known → IsTrue told → o < known
-is_before o known told is h = grind (arith, nat_tests)
-
-pub member_taken : (last : LastPlaces) (o : ℕ) (e : RawElement) (is_known : Bool) (ms : List (MemberKey × Tree)) → IsLeftAt last ms
+pub member_taken : (last : LastPlaces) (o : ℕ) (e : RawElement) (is_known : Bool) (ms : Entries) → IsLeftAt last ms
     → slice_get last.places.items last.passed ≡ Some o → ((f : Frame) (r : List ℕ) → IsFrame (drop o (bytes_of last.document)) f r → frame_of e ≡ f)
     → is_known ≡ ltb o last.known
     → TakesMember ms (Some (e, is_known)) (record { document = last.document; places = last.places; passed = last.passed + 1; known = last.known })
-member_taken last o e is_known ms is some there before =
-    let next = next_left last o ms is some in
-    let element : frame_of e ≡ next.0 = there next.0 next.1 next.6 in (
-      next.2,
-      keyed (entries next.3),
-      is.2 ∙ ap (λ (pairs : List (List ℕ × Tree)). keyed (entries pairs)) next.9 ∙ ap (λ (g : Frame). (text g.key, next.2) ∷ keyed (entries next.3)) (sym element),
-      subst (λ (g : Frame). FrameStandsFor g next.2) (sym element) next.7,
-      (next.3, next.10, refl),
-      (λ told. subst IsOwnForm (sym element) (next.8 (is_before o last.known is_known before told))),
+member_taken last o e is_known ms (pairs, frames, same, before) some there test =
+    let d = bytes_of last.document in
+    let (p, rest, pairs_are, is, others) = first_placed d last.places.items last.passed o pairs frames some in
+    let element : frame_of e ≡ is.f = there is.f is.r is.frame in (
+      p.1,
+      entries rest,
+      same ∙ ap entries pairs_are ∙ ap (λ (k : List ℕ). entry_then k p.1 (entries rest)) (sym is.key_is ∙ ap (λ (g : Frame). g.key) (sym element)),
+      rw (← element) at is.stands,
+      (rest, others, refl, before),
+      (λ told. let less : o < last.known = grind (arith, nat_tests, test, told) in
+          rw (← element) at (before is.passed (drop o d) is.f is.r is.reaches is.frame (omega (arith, less, is.within, length-drop o d)))),
     )

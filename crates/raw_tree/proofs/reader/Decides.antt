@@ -1,149 +1,263 @@
--- Bytes with an envelope are read as a tree and have a frame count, or have a first fault and frames until it.
-use Rattle.std.proofs.Common.{◌≡◌, ◌⊎◌, inl, inr, ◌≤◌, ◌+◌, ◌∷◌, [], ℕ, zero, suc, List, length, drop, arith, refl, subst, length-drop}
-use Rattle.raw_tree.proofs.Common.{AreBytes, Tree, leaf, code_with_scope, IsEnvelope, Frame, IsFrame, IsWalk, End, Done, Stopped, LeadsTo, RawValue, KeyedFault, Means, Meaning, value, faulty}
-use Rattle.raw_tree.proofs.Common.{CountsIn, HasFrameCount, HasFramesUntilFault, Sort, as_document, as_array, tree_of_pairs, leaf_in_order, StandsFor, ReadsAs, Holds, FirstFault, FirstFaultOfValue}
+-- What bytes with an envelope come to, to a depth: a tree, or a first barrier; and how many frames are in them, or until the fault.
+use Rattle.std.proofs.Common.{◌≡◌, ◌⊎◌, inl, inr, ◌≤◌, ◌<◌, ◌+◌, ◌*◌, ◌++◌, ◌∷◌, [], ℕ, zero, suc, List, Option, None, Some, length, drop, arith, refl, length-drop}
+use Rattle.raw_tree.proofs.Common.{AreBytes, Tree, IsEnvelope, Frame, IsFrame, IsStop, IsWalk, End, Done, Stopped, LeadsTo, RawValue, KeyedFault, Means, Meaning, value, faulty, Barrier, FirstFaultWithin}
+use Rattle.raw_tree.proofs.Common.{fault_of, too_deep, too_many_bytes, CountsIn, CountsFrames, CountsToFaultAt, HasFrameCountUpTo, HasFramesToFault, HasFramesToFaultUpTo, HasFramesUntilFault, HoldsAs, IsSingle}
+use Rattle.raw_tree.proofs.Common.{Sort, as_document, as_array, code_with_scope, leaf, leaf_in_order, tree_of_pairs, StandsFor, StandForEach, ReadsUpTo, ReadsAs, Holds, FirstFault, FirstFaultOfValue}
+use Rattle.raw_tree.specs.reader.FrameCount.{stop, own_fault, nested_fault}
 use Rattle.bson_model.proofs.Face.{AreBytes-drop}
 use Rattle.raw_view.specs.Meaning as raw
-use Rattle.raw_view.proofs.Face.{LeadsTo-walk, IsFrame-shorter, has_meaning, AreBytes-rest, document_has_walk, one_frame, no_frame_at_stop, no_frame_at_final}
-use Rattle.raw_tree.proofs.reader.FrameCounts.{Passed, Fails, count_of_walk, passed_more, fails_at_stop, fails_at_frame, fails_inside}
-use Rattle.raw_tree.proofs.reader.Loops.{document_read, nested_envelope, nested_shorter, reads_of}
-use Rattle.raw_tree.proofs.reader.OneTree.{tree_or_fault}
+use Rattle.raw_view.proofs.Face.{LeadsTo-walk, LeadsTo-more, IsFrame-shorter, has_meaning, AreBytes-rest, document_has_walk, one_frame, no_frame_at_stop, no_frame_at_final}
+use Rattle.raw_tree.proofs.reader.FrameCounts.{counts_more, each_counted, one_until}
+use Rattle.raw_tree.proofs.reader.Loops.{document_read, each_read, holds_bytes, value_read, nested_envelope, nested_beside, stand_more}
+use Rattle.raw_tree.proofs.reader.OneTree.{deep_long, first_fault, never_too_many, tree_or_fault}
 
--- bytes are read as a tree and have so many frames, or have a first fault and so many frames until it
-abbrev pub IsCounted : Sort → List ℕ → ℕ → Type 0
-IsCounted sort b n = ((t : Tree) × ReadsAs sort b t × HasFrameCount b n) ⊎ ((fault : KeyedFault) × Fails b fault n)
+-- frames that are passed
 
--- so many are the frames until the first fault
-pub counted_until : (sort : Sort) (b : List ℕ) (n : ℕ) → IsCounted sort b n → HasFramesUntilFault b n
-counted_until sort b n (inl all) = inl (λ fault bad. tree_or_fault sort b all.0 fault all.1 bad, all.2)
-counted_until sort b n (inr to) = inr to.1.1
+-- a walk goes through s
+abbrev HasWalk : List ℕ → Type 0
+HasWalk s = (frames : List Frame) × (end : End) × IsWalk s frames end
 
--- a value stands for a tree, and so many frames are in it; or nested bytes that it holds have a first fault,
--- and so many frames until it
-abbrev IsValueCounted : RawValue → ℕ → Type 0
-IsValueCounted v n = ((t : Tree) × StandsFor ReadsAs v t × CountsIn HasFrameCount (value v) n) ⊎ ((d : List ℕ) × (fault : KeyedFault) × Holds v d × Fails d fault n)
+-- Up to s frames of the bytes b are passed: they stand for the pairs, with at most so many levels inside, and are so many with those
+-- that are in them. The walk goes on.
+pub record Passed (inside : ℕ) (b s : List ℕ) (pairs : List (List ℕ × Tree)) (n : ℕ) : Type 0 where
+  pub frames : List Frame
+  pub leads : LeadsTo (drop 4 b) frames s
+  pub each : StandForEach (ReadsUpTo inside) frames pairs
+  pub counts : CountsFrames (HasFrameCountUpTo inside) frames n
+  pub small : 2 * n + length s + 4 ≤ length b
+  pub bytes : AreBytes s
+  pub walk : HasWalk s
 
--- the value of a code is counted where its scope is
-scoped_counted : (code d : List ℕ) (n : ℕ) → IsCounted as_document d n → IsValueCounted (raw.scoped code d) n
-scoped_counted code d n (inl all) =
-    let scope = document_read d all.0 all.1 in
-    inl (code_with_scope code scope.0, (scope.0, subst (ReadsAs as_document d) scope.1 all.1, refl), all.2)
-scoped_counted code d n (inr to) = inr (d, to.0, refl, to.1)
+pub none_passed : (inside : ℕ) (b : List ℕ) → IsEnvelope b → Passed inside b (drop 4 b) [] 0
+none_passed inside b env = record {
+  frames = [];
+  leads = refl;
+  each = refl;
+  counts = refl;
+  small = omega (arith, length-drop 4 b, env.enough);
+  bytes = AreBytes-drop 4 b env.bytes;
+  walk = document_has_walk b env;
+}
 
--- so is that of a document, or of an array, where its bytes are
-whole_counted : (sort : Sort) (d : List ℕ) (n : ℕ) → IsCounted sort d n
-    → ((t : Tree) × ReadsAs sort d t × HasFrameCount d n) ⊎ ((e : List ℕ) × (fault : KeyedFault) × (e ≡ d) × Fails e fault n)
-whole_counted sort d n h = grind arith
+-- the walk goes on behind a frame
+walk_behind : (s : List ℕ) (f : Frame) (r : List ℕ) → HasWalk s → IsFrame s f r → HasWalk r
+walk_behind s f r ([], Done, w) at = absurd (no_frame_at_final s w f r at)
+walk_behind s f r ([], Stopped fault key, w) at = absurd (no_frame_at_stop s fault key w f r at)
+walk_behind s f r (g ∷ gs, end, w) at = (gs, end, rw (one_frame s g f w.0 r w.1 at).1 at w.2)
 
--- a value is counted where its nested bytes are
-pub value_counted : (v : RawValue) → ((sort : Sort) (d : List ℕ) → Holds v d → (n : ℕ) × IsCounted sort d n) → (n : ℕ) × IsValueCounted v n
-value_counted (raw.single l) nested = (0, inl (leaf (leaf_in_order l), refl, refl))
-value_counted (raw.document d) nested =
-    let n = nested as_document d refl in
-    (n.0, whole_counted as_document d n.0 n.1)
-value_counted (raw.array d) nested =
-    let n = nested as_array d refl in
-    (n.0, whole_counted as_array d n.0 n.1)
-value_counted (raw.scoped code d) nested =
-    let n = nested as_document d refl in
-    (n.0, scoped_counted code d n.0 n.1)
+-- what bytes come to
 
--- a value stands for a tree, or has a first fault, where its nested bytes are counted
-pub value_decided : (v : RawValue) → ((sort : Sort) (d : List ℕ) → Holds v d → (n : ℕ) × IsCounted sort d n) → ((t : Tree) × StandsFor ReadsAs v t) ⊎ ((fault : KeyedFault) × FirstFaultOfValue v fault)
-value_decided v nested =
-    grind (arith, (value_counted v nested).1)
+-- to this depth bytes are read as a tree, and so many frames are in them; or they have this first barrier, and so many until it, if it is a fault
+abbrev pub IsOutcome : ℕ → Sort → List ℕ → Option Barrier → ℕ → Type 0
+IsOutcome depth sort b None n = (t : Tree) × ReadsUpTo depth sort b t × HasFrameCountUpTo depth b n
+IsOutcome depth sort b (Some x) n = FirstFaultWithin depth b x × ((fault : KeyedFault) → x ≡ fault_of fault → HasFramesToFault b n)
 
--- bytes with an envelope and at most this length are counted
-abbrev AreCountedWithin : ℕ → Type 0
-AreCountedWithin n = (sort : Sort) (d : List ℕ) → length d ≤ n → IsEnvelope d → (k : ℕ) × IsCounted sort d k
+-- they come to something behind at least so many frames
+pub record HasOutcome (depth : ℕ) (sort : Sort) (b : List ℕ) (least : ℕ) : Type 0 where
+  pub x : Option Barrier
+  pub n : ℕ
+  pub more : least ≤ n
+  pub small : 2 * n + 4 ≤ length b
+  pub is : IsOutcome depth sort b x n
 
--- the value of a frame is counted where shorter bytes are
-value_within : (n : ℕ) → AreCountedWithin n → (s : List ℕ) (f : Frame) (r : List ℕ) (v : RawValue) → length s ≤ n + 1 → IsFrame s f r → Means f (value v) → (k : ℕ) × IsValueCounted v k
-value_within n shorter s f r v l at m = grind (arith, nested_envelope, nested_shorter, value_counted)
+-- and behind fewer
+at_least : {depth : ℕ} {sort : Sort} {b : List ℕ} {m : ℕ} (k : ℕ) → k ≤ m → HasOutcome depth sort b m → HasOutcome depth sort b k
+at_least k l h = record { x = h.x; n = h.n; more = omega (arith, l, h.more); small = h.small; is = h.is }
 
--- bytes are counted, and have at least so many frames
-abbrev pub IsCountedFrom : Sort → List ℕ → ℕ → Type 0
-IsCountedFrom sort b least = (n : ℕ) × (least ≤ n) × IsCounted sort b n
+-- the value that holds bytes which are read stands for a tree
+pub held_stands : (depth : ℕ) (v : RawValue) (sort : Sort) (d : List ℕ) (t : Tree) → HoldsAs v sort d → ReadsUpTo depth sort d t → (u : Tree) × StandsFor (ReadsUpTo depth) v u
+held_stands depth (raw.single l) sort d t h read = absurd h
+held_stands depth (raw.document e) sort d t (s, same) read = (t, rw (s, same) at read)
+held_stands depth (raw.array e) sort d t (s, same) read = (t, rw (s, same) at read)
+held_stands depth (raw.scoped code e) sort d t (s, same) read =
+    let whole : ReadsUpTo depth as_document e t = rw (s, same) at read in
+    let scope = document_read e t (depth, whole) in
+    (code_with_scope code scope.0, (scope.0, rw scope.1 at whole, refl))
 
--- of frames the first is counted at least
-abbrev pub least_of : List Frame → ℕ
-least_of [] = 0
-least_of (_ ∷ _) = 1
+pub held_counts : (depth : ℕ) (v : RawValue) (sort : Sort) (d : List ℕ) (n : ℕ) → HoldsAs v sort d → HasFrameCountUpTo depth d n → CountsIn (HasFrameCountUpTo depth) (value v) n
+held_counts depth v sort d n holds count = grind arith
 
--- a meaning is a value or a fault
-value_or_fault : (f : Frame) (m : Meaning) → Means f m → ((v : RawValue) × Means f (value v)) ⊎ ((fault : KeyedFault) × Means f (faulty fault))
-value_or_fault f m h = grind arith
+-- a value that holds no nested bytes stands for the same tree to any depth, and no frame is in it
+none_inside : (inside : ℕ) (v : RawValue) (t : Tree) → IsSingle v → StandsFor ReadsAs v t → StandsFor (ReadsUpTo inside) v t × CountsIn (HasFrameCountUpTo inside) (value v) 0
+none_inside inside v t none h = grind arith
 
--- Along a walk, behind frames that are passed: at the end the bytes are read, and a stop, a fault of a frame or one of
--- its value is the first fault.
-along : (n : ℕ) → AreCountedWithin n → (sort : Sort) (frames : List Frame) (end : End) {b s : List ℕ} {pairs : List (List ℕ × Tree)} {before : ℕ} → Passed ReadsAs b s pairs before
-    → AreBytes s → length s ≤ n + 1 → IsWalk s frames end → IsCountedFrom sort b (before + least_of frames)
-along n shorter sort [] Done {b = b} {s = s} {pairs = pairs} {before = before} is bytes l w =
-    let whole = LeadsTo-walk (drop 4 b) is.frames s Done is.leads w in
-    (before, omega arith, inl (tree_of_pairs sort pairs, reads_of sort b is.frames pairs whole is.each, count_of_walk b is.frames Done before whole is.counts))
-along n shorter sort [] (Stopped fault key) {before = before} is bytes l w =
-    let bad : KeyedFault = record { fault = fault; key = key } in
-    (before, omega arith, inr (bad, fails_at_stop is bad w))
-along n shorter sort (f ∷ frames) end {s = s} {before = before} is bytes l w =
-    let m = has_meaning f w.0 s bytes w.1 in
-    elim (value_or_fault f m.0 m.1) [
-      | inr bad ↦ (before + 1, omega arith, inr (bad.0, fails_at_frame is f w.0 bad.0 w.1 bad.1))
-      | inl v ↦ (
-          let k = value_within n shorter s f w.0 v.0 l w.1 v.1 in
-          elim k.1 [
-            | inr to ↦ (before + 1 + k.0, omega arith, inr (to.1, fails_inside is f w.0 v.0 to.0 to.1 k.0 w.1 v.1 to.2 to.3))
-            | inl t ↦ (
-                let rest = along n shorter sort frames end (passed_more v.0 t.0 k.0 is w.1 v.1 t.1 t.2)
-                (AreBytes-rest s f w.0 w.1 bytes) (omega (arith, IsFrame-shorter s f w.0 w.1)) w.2 in
-                (rest.0, omega (arith, rest.1), rest.2))
-          ])
-    ]
+-- a value stands for a tree and holds no frames; or it holds nested bytes
+single_or_nested : (v : RawValue) → (IsSingle v × ((t : Tree) × StandsFor ReadsAs v t)) ⊎ ((sort : Sort) × (d : List ℕ) × HoldsAs v sort d)
+single_or_nested (raw.single l) = inl (tt, (leaf (leaf_in_order l), refl))
+single_or_nested (raw.document d) = inr (as_document, d, (refl, refl))
+single_or_nested (raw.array d) = inr (as_array, d, (refl, refl))
+single_or_nested (raw.scoped code d) = inr (as_document, d, (refl, refl))
 
--- bytes with an envelope are counted, by recursion on a bound of their length
-counted_within : (n : ℕ) → AreCountedWithin n
-counted_within zero sort b l env = absurd (omega (arith, env.enough))
-counted_within (suc n) sort b l env =
-    let w = document_has_walk b env in
-    let size : length (drop 4 b) ≤ n + 1 = omega (arith, length-drop 4 b) in
-    let none : Passed ReadsAs b (drop 4 b) [] 0 = record { frames = []; leads = refl; each = refl; counts = refl } in
-    let from = along n (counted_within n) sort w.0 w.1 none (AreBytes-drop 4 b env.bytes) size w.2 in
-    (from.0, from.2)
+-- the value of the frame in front of s, behind which r is left
+pub record IsAhead (s : List ℕ) (f : Frame) (v : RawValue) (r : List ℕ) : Type 0 where
+  pub frame : IsFrame s f r
+  pub means : Means f (value v)
 
--- bytes with an envelope are counted
-pub counted : (sort : Sort) (b : List ℕ) → IsEnvelope b → (n : ℕ) × IsCounted sort b n
-counted sort b env = counted_within (length b) sort b (omega arith) env
+-- the value stands for the tree, and so many frames are in it; the frame leaves two bytes for each, and for itself
+pub record Stands (inside : ℕ) (s : List ℕ) (v : RawValue) (r : List ℕ) (t : Tree) (m : ℕ) : Type 0 where
+  pub tree : StandsFor (ReadsUpTo inside) v t
+  pub counts : CountsIn (HasFrameCountUpTo inside) (value v) m
+  pub small : 2 * m + length r + 2 ≤ length s
 
--- bytes with an envelope are read as a tree, or have a first fault
+-- so it is of a value that holds nested bytes
+pub nested_stands : {inside : ℕ} {s : List ℕ} {f : Frame} {v : RawValue} {r : List ℕ} (at : IsAhead s f v r) (sort : Sort) (d : List ℕ) (t : Tree) (m : ℕ) → HoldsAs v sort d
+    → StandsFor (ReadsUpTo inside) v t → HasFrameCountUpTo inside d m → 2 * m + 4 ≤ length d → Stands inside s v r t m
+nested_stands {inside} {s} {f} {v} {r} at sort d t m holds stands count small = record {
+  tree = stands;
+  counts = held_counts inside v sort d m holds count;
+  small = omega (arith, small, nested_beside s f r v d at.frame at.means (holds_bytes v sort d holds));
+}
+
+-- and of one that holds none
+pub single_stands : {inside : ℕ} {s : List ℕ} {f : Frame} {v : RawValue} {r : List ℕ} (at : IsAhead s f v r) (t : Tree) → IsSingle v → StandsFor ReadsAs v t → Stands inside s v r t 0
+single_stands {inside} {s} {f} {v} {r} at t single stands =
+    let none = none_inside inside v t single stands in
+    record { tree = none.0; counts = none.1; small = omega (arith, IsFrame-shorter s f r at.frame) }
+
+module _ {inside n : ℕ} {b s : List ℕ} {pairs : List (List ℕ × Tree)} (is : Passed inside b s pairs n) where
+  counts_to : (levels m : ℕ) → CountsToFaultAt (HasFramesToFaultUpTo levels) s n m → HasFramesToFault b m
+  counts_to levels m at = (suc levels, (is.frames, pairs, s, n, is.leads, each_read inside is.frames pairs is.each, each_counted inside is.frames n is.counts, at))
+
+  -- the walk ends, and the bytes are read
+  pub ends : (sort : Sort) → s ≡ 0 ∷ [] → ReadsUpTo (suc inside) sort b (tree_of_pairs sort pairs) × HasFrameCountUpTo (suc inside) b n
+  ends sort final =
+      let walk = LeadsTo-walk (drop 4 b) is.frames s Done is.leads final in
+      ((pairs, (is.frames, walk, is.each), refl), (is.frames, Done, walk, is.counts))
+
+  -- or it stops
+  pub stops : (sort : Sort) (fault : KeyedFault) → IsStop s fault.fault fault.key → IsOutcome (suc inside) sort b (Some (fault_of fault)) n
+  stops sort fault at = ((is.frames, pairs, s, is.leads, is.each, inl at), λ g e. counts_to 0 n (stop fault at refl))
+
+  -- or a frame means a fault
+  pub means_fault : (sort : Sort) (fault : KeyedFault) (f : Frame) (r : List ℕ) → IsFrame s f r → Means f (faulty fault) → IsOutcome (suc inside) sort b (Some (fault_of fault)) (n + 1)
+  means_fault sort fault f r at m = ((is.frames, pairs, s, is.leads, is.each, inr (f, r, at, inl m)), λ g e. counts_to 0 (n + 1) (own_fault f r fault at m refl))
+
+  module _ {f : Frame} {v : RawValue} {r : List ℕ} (at : IsAhead s f v r) where
+    -- or nested bytes of a frame have a barrier
+    pub barred_inside : (sort of : Sort) (d : List ℕ) (x : Barrier) (m : ℕ) → Holds v d → IsOutcome inside of d (Some x) m → IsOutcome (suc inside) sort b (Some x) (n + 1 + m)
+    barred_inside sort of d x m holds (bars, until) =
+        let to = λ (fault : KeyedFault) (e : x ≡ fault_of fault).
+        counts_to (until fault e).0 (n + 1 + m) (nested_fault f r v d fault m at.frame at.means holds (first_fault inside d fault (rw e at bars)) (until fault e).1 refl) in
+        ((is.frames, pairs, s, is.leads, is.each, inr (f, r, at.frame, inr (v, d, at.means, holds, bars))), to)
+
+    -- or the frame is passed
+    pub passed_more : (t : Tree) (m : ℕ) → Stands inside s v r t m → Passed inside b r (pairs ++ (f.key, t) ∷ []) (n + 1 + m)
+    passed_more t m stands =
+        record {
+          frames = is.frames ++ f ∷ [];
+          leads = LeadsTo-more (drop 4 b) is.frames s f r is.leads at.frame;
+          each = stand_more (ReadsUpTo inside) is.frames pairs f v t is.each at.means stands.tree;
+          counts = counts_more (HasFrameCountUpTo inside) is.frames n f (value v) m is.counts at.means stands.counts;
+          small = omega (arith, is.small, stands.small);
+          bytes = AreBytes-rest s f r at.frame is.bytes;
+          walk = walk_behind s f r is.walk at.frame;
+        }
+
+    -- Where the nested bytes come to something, so do these: what is behind the frame is looked at where it is passed.
+    pub comes_inside : (sort of : Sort) (d : List ℕ) (m : ℕ) → HoldsAs v of d → HasOutcome inside of d m
+        → ((more : List (List ℕ × Tree)) (k : ℕ) → Passed inside b r more k → HasOutcome (suc inside) sort b k) → HasOutcome (suc inside) sort b (n + 1 + m)
+    comes_inside sort of d m holds h on = from h.x h.is
+      where
+        shorter : length d + length r + 2 ≤ length s
+        shorter = nested_beside s f r v d at.frame at.means (holds_bytes v of d holds)
+
+        from : (x : Option Barrier) → IsOutcome inside of d x h.n → HasOutcome (suc inside) sort b (n + 1 + m)
+        from None (t, read, count) =
+            let (u, stands) = held_stands inside v of d t holds read in
+            at_least (n + 1 + m) (omega (arith, h.more)) (on _ _ (passed_more u h.n (nested_stands at of d u h.n holds stands count h.small)))
+        from (Some x) bars =
+            let out = barred_inside sort of d x h.n (holds_bytes v of d holds) bars in
+            record { x = Some x; n = n + 1 + h.n; more = omega (arith, h.more); small = omega (arith, is.small, h.small, shorter); is = out }
+
+-- all bytes with an envelope come to something
+abbrev AllComeTo : ℕ → Type 0
+AllComeTo depth = (sort : Sort) (d : List ℕ) → IsEnvelope d → HasOutcome depth sort d 0
+
+module _ (inside : ℕ) (nested : AllComeTo inside) (sort : Sort) where
+  -- a frame is in front
+  behind_frame : {b s : List ℕ} {pairs : List (List ℕ × Tree)} {n : ℕ} (is : Passed inside b s pairs n) (f : Frame) (r : List ℕ) → IsFrame s f r
+      → ((more : List (List ℕ × Tree)) (k : ℕ) → Passed inside b r more k → HasOutcome (suc inside) sort b k) → HasOutcome (suc inside) sort b (n + 1)
+  behind_frame {b = b} {s = s} {n = n} is f r at on = from (has_meaning f r s is.bytes at)
+    where
+      from : (m : Meaning) × Means f m → HasOutcome (suc inside) sort b (n + 1)
+      from (faulty fault, means) =
+          record { x = Some (fault_of fault); n = n + 1; more = omega arith; small = omega (arith, is.small, IsFrame-shorter s f r at); is = means_fault is sort fault f r at means }
+      from (value v, means) =
+          let ahead : IsAhead s f v r = record { frame = at; means = means } in
+          elim (single_or_nested v) [
+            | inl one ↦ at_least (n + 1) (omega arith) (on _ _ (passed_more is ahead one.1.0 0 (single_stands ahead one.1.0 one.0 one.1.1)))
+            | inr more ↦ (
+                let env = nested_envelope s f r v more.1 at means (holds_bytes v more.0 more.1 more.2) in
+                at_least (n + 1) (omega arith) (comes_inside is ahead sort more.0 more.1 0 more.2 (nested more.0 more.1 env) on))
+          ]
+
+  -- along a walk
+  along : (others : List Frame) (end : End) {b s : List ℕ} {pairs : List (List ℕ × Tree)} {n : ℕ} (is : Passed inside b s pairs n) → IsWalk s others end → HasOutcome (suc inside) sort b n
+  along [] Done {pairs = pairs} {n = n} is w = record { x = None; n = n; more = omega arith; small = omega (arith, is.small); is = (tree_of_pairs sort pairs, (ends is sort w).0, (ends is sort w).1) }
+  along [] (Stopped fault key) {n = n} is w =
+      let bad : KeyedFault = record { fault = fault; key = key } in
+      record { x = Some (fault_of bad); n = n; more = omega arith; small = omega (arith, is.small); is = stops is sort bad w }
+  along (f ∷ others) end {n = n} is w = at_least n (omega arith) (behind_frame is f w.0 w.1 (λ more k on. along others end on w.2))
+
+come_to : (depth : ℕ) → AllComeTo depth
+come_to zero sort b env = record { x = Some too_deep; n = 0; more = omega arith; small = omega (arith, env.enough); is = (refl, λ fault e. cc) }
+come_to (suc depth) sort b env =
+    let none = none_passed depth b env in
+    along depth (come_to depth) sort none.walk.0 none.walk.1 none none.walk.2
+
+-- so they do behind frames that are passed, and behind a frame more
+module _ (sort : Sort) {inside n : ℕ} {b s : List ℕ} {pairs : List (List ℕ × Tree)} (is : Passed inside b s pairs n) where
+  pub outcome_from : HasOutcome (suc inside) sort b n
+  outcome_from = along inside (come_to inside) sort is.walk.0 is.walk.1 is is.walk.2
+
+  pub outcome_behind : (f : Frame) (r : List ℕ) → IsFrame s f r → HasOutcome (suc inside) sort b (n + 1)
+  outcome_behind f r at = behind_frame inside (come_to inside) sort is f r at (λ more k on. along inside (come_to inside) sort on.walk.0 on.walk.1 on on.walk.2)
+
+-- what is told of that
+
+-- a level is too deep, or so many are the frames until the first fault
+pub outcome_until : (depth : ℕ) (sort : Sort) (b : List ℕ) (x : Option Barrier) (n : ℕ) → IsOutcome depth sort b x n → FirstFaultWithin depth b too_deep ⊎ HasFramesUntilFault b n
+outcome_until depth sort b None n (t, read, count) = inr (inl ((λ fault bad. tree_or_fault sort b t fault (depth, read) bad), (depth, count)))
+outcome_until depth sort b (Some (fault_of fault)) n h = inr (inr (h.1 fault refl))
+outcome_until depth sort b (Some too_deep) n h = inl h.0
+outcome_until depth sort b (Some too_many_bytes) n h = absurd (never_too_many depth b h.0)
+
+pub decided_within : (depth : ℕ) (sort : Sort) (b : List ℕ) → IsEnvelope b → ((t : Tree) × ReadsUpTo depth sort b t) ⊎ ((x : Barrier) × FirstFaultWithin depth b x)
+decided_within depth sort b env = let h = come_to depth sort b env in grind (arith, h.is)
+
+-- no level is deeper than there are bytes
+fault_found : (n : ℕ) (b : List ℕ) (x : Barrier) → length b < n → FirstFaultWithin n b x → (fault : KeyedFault) × FirstFault b fault
+fault_found n b (fault_of fault) more h = (fault, first_fault n b fault h)
+fault_found n b too_deep more h = absurd (omega (arith, more, deep_long n b h))
+fault_found n b too_many_bytes more h = absurd (never_too_many n b h)
+
 pub decided : (sort : Sort) (b : List ℕ) → IsEnvelope b → ((t : Tree) × ReadsAs sort b t) ⊎ ((fault : KeyedFault) × FirstFault b fault)
 decided sort b env =
-    grind (arith, (counted sort b env).1)
+    elim (decided_within (suc (length b)) sort b env) [
+      | inl t ↦ inl (t.0, (suc (length b), t.1))
+      | inr bad ↦ inr (fault_found (suc (length b)) b bad.0 (omega arith) bad.1)
+    ]
 
--- what a loop knows
+pub counted : (b : List ℕ) → IsEnvelope b → (n : ℕ) × (2 * n + 4 ≤ length b) × HasFramesUntilFault b n
+counted b env =
+    let h = come_to (suc (length b)) as_document b env in
+    elim (outcome_until (suc (length b)) as_document b h.x h.n h.is) [
+      | inl deep ↦ absurd (omega (arith, deep_long (suc (length b)) b deep))
+      | inr until ↦ (h.n, h.small, until)
+    ]
 
--- frames that lead on are the first of the walk, and bytes lead on to bytes
-rest_of_walk : (s : List ℕ) (passed : List Frame) (r : List ℕ) (frames : List Frame) (end : End) → LeadsTo s passed r → IsWalk s frames end → AreBytes s
-    → (others : List Frame) × IsWalk r others end × AreBytes r
-rest_of_walk s [] r frames end l w bytes = (frames, rw l at w, rw l at bytes)
-rest_of_walk s (f ∷ fs) r [] Done l w bytes = absurd (no_frame_at_final s w f l.0 l.1)
-rest_of_walk s (f ∷ fs) r [] (Stopped fault key) l w bytes = absurd (no_frame_at_stop s fault key w f l.0 l.1)
-rest_of_walk s (f ∷ fs) r (g ∷ gs) end l w bytes =
-    let same : l.0 ≡ w.0 = (one_frame s f g l.0 w.0 l.1 w.1).1 in
-    rest_of_walk w.0 fs r gs end (rw same at l.2) w.2 (AreBytes-rest s g w.0 w.1 bytes)
+pub until_small : (b : List ℕ) (n : ℕ) → IsEnvelope b → HasFramesUntilFault b n → 2 * n + 4 ≤ length b
+until_small b n env h = let c = counted b env in omega (arith, one_until b n c.0 h c.2, c.1)
 
-module _ (sort : Sort) {b s : List ℕ} {pairs : List (List ℕ × Tree)} {n : ℕ} (env : IsEnvelope b) (is : Passed ReadsAs b s pairs n) where
-  counted_on : (frames : List Frame) × (end : End) × IsWalk s frames end × IsCountedFrom sort b (n + least_of frames)
-  counted_on =
-      let whole = document_has_walk b env in
-      let rest = rest_of_walk (drop 4 b) is.frames s whole.0 whole.1 is.leads whole.2 (AreBytes-drop 4 b env.bytes) in
-      (rest.0, whole.1, rest.1, along (length s) (λ of_sort d l e. counted of_sort d e) sort rest.0 whole.1 is rest.2 (omega arith) rest.1)
-
-  -- frames that have been passed are counted
-  pub counted_from : IsCountedFrom sort b n
-  counted_from = let on = counted_on in (on.3.0, omega (arith, on.3.1), on.3.2)
-
-  with_frame : (f : Frame) (r : List ℕ) → IsFrame s f r → (frames : List Frame) (end : End) → IsWalk s frames end → IsCountedFrom sort b (n + least_of frames) → IsCountedFrom sort b (n + 1)
-  with_frame f r at frames end w from = grind (arith, no_frame_at_final, no_frame_at_stop)
-
-  -- and so is the frame behind them
-  pub counted_from_frame : (f : Frame) (r : List ℕ) → IsFrame s f r → IsCountedFrom sort b (n + 1)
-  counted_from_frame f r at = let on = counted_on in with_frame f r at on.0 on.1 on.2 on.3
+-- a value stands for a tree, or has a first fault, where its nested bytes have an envelope
+pub value_decided : (v : RawValue) → ((d : List ℕ) → Holds v d → IsEnvelope d) → ((t : Tree) × StandsFor ReadsAs v t) ⊎ ((fault : KeyedFault) × FirstFaultOfValue v fault)
+value_decided v env =
+    elim (single_or_nested v) [
+      | inl one ↦ inl one.1
+      | inr more ↦ (
+          let holds = holds_bytes v more.0 more.1 more.2 in
+          elim (decided more.0 more.1 (env more.1 holds)) [
+            | inl t ↦ (let u = held_stands t.1.0 v more.0 more.1 t.0 more.2 t.1.1 in inl (u.0, value_read t.1.0 v u.0 u.1))
+            | inr bad ↦ inr (bad.0, (more.1, holds, bad.1))
+          ])
+    ]

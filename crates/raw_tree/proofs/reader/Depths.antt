@@ -4,13 +4,13 @@ use Rattle.std.proofs.Common.{◌≡◌, ◌≤◌, ◌∷◌, [], ℕ, max, zer
 use Rattle.raw_tree.proofs.Common.{le-max_left, le-max_right, max-le, Tree, Frame, Done, RawValue, Meaning, value, AllHaveOneDepth, IsSoDeep}
 use Rattle.raw_tree.proofs.Common.{IsGreatestDepth, HasDepthUpTo, HasDepth, Sort, StandsFor, StandForEach, ReadsUpTo, ReadsAs}
 use Rattle.raw_view.proofs.Face.{one_walk, one_meaning}
-use Rattle.raw_tree.proofs.reader.FrameCounts.{AgreeOn, has_measures_within}
+use Rattle.raw_tree.proofs.reader.FrameCounts.{AgreeOn, has_measures}
 use Rattle.raw_tree.proofs.reader.Loops.{reads_up_to, stand_each_on, stands_on}
 
 -- what is read within some levels is at most so deep
 
 -- each tree that nested bytes are read as shows a depth of at most n, within which it is read
-abbrev AreShallow : ℕ → (Sort → List ℕ → Tree → Type 0) → Type 0
+abbrev pub AreShallow : ℕ → (Sort → List ℕ → Tree → Type 0) → Type 0
 AreShallow n N = (sort : Sort) (d : List ℕ) (t : Tree) → N sort d t → (k : ℕ) × HasDepthUpTo n d k × (k ≤ n) × ReadsUpTo k sort d t
 
 value_shallow : (n : ℕ) → AreShallow n (ReadsUpTo n) → (v : RawValue) (t : Tree) → StandsFor (ReadsUpTo n) v t
@@ -28,14 +28,11 @@ each_shallow n nested (f ∷ fs) pairs h =
     let behind : StandForEach (ReadsUpTo k) fs h.2 = stand_each_on (ReadsUpTo others.0) (ReadsUpTo k) (reads_up_to others.0 k (le-max_right first.0 others.0)) fs h.2 others.3 in
     (k, (value h.0, first.0, others.0, h.3, first.1, others.1, refl), max-le first.2 others.2, (h.0, h.1, h.2, h.3, here, h.5, behind))
 
-shallow_within : (n : ℕ) → AreShallow n (ReadsUpTo n)
+pub shallow_within : (n : ℕ) → AreShallow n (ReadsUpTo n)
 shallow_within zero sort b t h = absurd h
 shallow_within (suc n) sort b t h =
     let each = each_shallow n (shallow_within n) h.1.0 h.0 h.1.2 in
     (suc each.0, (h.1.0, Done, each.0, h.1.1, each.1, omega arith), omega (arith, each.2), (h.0, (h.1.0, h.1.1, each.3), h.2))
-
-pub shallow : (n : ℕ) (sort : Sort) (b : List ℕ) (t : Tree) → ReadsUpTo n sort b t → (k : ℕ) × HasDepth b k × (k ≤ n)
-shallow n sort b t h = let k = shallow_within n sort b t h in (k.0, (n, k.1), k.2)
 
 -- one depth at most
 
@@ -60,5 +57,5 @@ read_to_depth n sort b t k h deep few =
 -- and there is one
 pub one_depth : AllHaveOneDepth
 one_depth b env =
-    let k = (has_measures_within (length b)).1 b (omega arith) env in
+    let k = (has_measures (length b) b (omega arith) env).1 in
     (k.0, (length b, k.1), λ other h. one_depth_within h.0 (length b) b other k.0 h.1 k.1)

@@ -1,72 +1,75 @@
 -- The steps of a loop over levels: an element is put, or its level waits for it; a level is read and goes to the
 -- one that waits; a fault, out of memory or the end is returned; and what is left shrinks.
-use Rattle.std.proofs.Common.{◌≡◌, inl, inr, ◌<◌, ◌≤◌, ◌+◌, ◌-◌, ◌/◌, take, length-take, ◌++◌, ◌∷◌, [], ℕ, suc, List, Option, None, Some, Result, Ok, Err, IfOk, IfErr, length, drop, arith, ap, refl, sym, ◌∙◌, subst, length-drop, length-append, sum_by, Bor}
-use Rattle.raw_tree.proofs.Common.{sum_by_push, Tree, tree_of, Bson, Says, bytes_of, frame_of, IsOutOfMemory, Frame, Done, RawValue, KeyedFault, value, BorrowedError}
-use Rattle.raw_tree.proofs.Common.{max_length, value_of, RawBsonRef, RawElement, Error, CountsIn, HasFrameCount, HasFramesToFault, TellsFrames, sort_of, held_value, holding, tree_of_contents, IsOneMore}
-use Rattle.raw_tree.proofs.Common.{IsUnread, IsSingle, Finishes, DraftsTree, TellsReading, fault_of, too_deep, BarsFront, FirstFaultWithin, SaysBarrier, tree_of_pairs, StandsFor, ReadsUpTo, ReadsAs}
-use Rattle.raw_tree.proofs.Common.{FirstFault, Contents, Holder, Level, Nested, Waiting, left_of}
+use Rattle.std.proofs.Common.{◌≡◌, inl, inr, ◌<◌, ◌≤◌, ◌+◌, ◌-◌, ◌/◌, take, length-take, ◌++◌, ◌∷◌, [], ℕ, suc, List, Option, None, Some, Result, Ok, Err, IfOk, IfErr, length, drop, arith, ap, refl, ◌∙◌, subst, length-drop, length-append, sum_by, reverse, Bor}
+use Rattle.std.proofs.lemmas.List.{length-reverse, reverse-append}
+use Rattle.raw_tree.proofs.Common.{sum_by_push, Tree, tree_of, Bson, IsEnvelope, bytes_of, frame_of, IsOutOfMemory, Frame, RawValue, KeyedFault, BorrowedError, Barrier, max_length, value_of}
+use Rattle.raw_tree.proofs.Common.{RawBsonRef, RawElement, Error, HasFrameCount, TellsFrames, sort_of, held_value, holding, tree_of_contents, IsOneMore, IsUnread, IsSingle, Finishes, DraftsTree}
+use Rattle.raw_tree.proofs.Common.{TellsReading, fault_of, too_deep, SaysBarrier, Sort, tree_of_pairs, StandsFor, ReadsUpTo, ReadsAs, FirstFault, Contents, Holder, Level, Nested, Waiting, left_of}
 use Rattle.raw_tree.proofs.walk.Common.{HasValue, Sees, option_copied}
 use Rattle.raw_view.specs.Errors.{HasKeyCopy}
-use Rattle.raw_view.proofs.Face.{LeadsTo-walk, IsFrame-shorter, told_fault}
+use Rattle.raw_view.proofs.Face.{IsFrame-shorter, told_fault}
 use Rattle.raw_tree.specs.declared.walk.level.Next.TheVariants as seen
-use Rattle.raw_tree.proofs.reader.Decides.{IsCountedFrom, counted_until, counted_from, counted_from_frame}
-use Rattle.raw_tree.proofs.reader.FrameCounts.{Fails, count_of_walk, passed_more, passed_read, fails_at_stop, fails_at_frame, until_small}
-use Rattle.raw_tree.proofs.reader.Stacks.{Front, drafted_none, none_stands, held_within, held_counts, held_holds, IsReading, IsWaiting, with_left, bars_at, AreWaiting, none_waits, one_more, inner_barrier, barrier_outward, fault_outward, counted_outward, levels_in, none_inside, waiting_less}
+use Rattle.raw_tree.proofs.reader.Decides.{Stands, ends, means_fault, nested_stands, none_passed, outcome_behind, outcome_from, outcome_until, passed_more, single_stands, stops, until_small}
+use Rattle.raw_tree.proofs.reader.Stacks.{AreWaiting, Front, IsTold, drafted_none, held_as, held_holds, IsReading, IsWaiting, told_inside, told_outward, with_left}
 use Rattle.raw_tree.proofs.reader.Loops.{nested_beside}
 use Rattle.raw_tree.proofs.reader.OneTree.{tree_or_fault}
 
 -- a level
 
-level_begins : (inside : ℕ) (u : Nested) (level : Level) → IsUnread u level → IsReading inside u level 0
-level_begins inside u level is = record {
+level_begins : (inside n : ℕ) (u : Nested) (level : Level) → IsUnread u level → IsReading inside (u, n) level n
+level_begins inside n u level is = record {
   pairs = [];
   rest = drop 4 (bytes_of u.document);
+  here = 0;
   left = is.0;
-  passed = record { frames = []; leads = refl; each = refl; counts = refl };
+  passed = none_passed inside (bytes_of u.document) u.document.envelope;
   drafted = drafted_none level.holder level.draft is.2 is.3;
   held = is.1;
+  total = omega arith;
 }
 
--- behind the final 0
-module _ {inside n : ℕ} {u : Nested} {level : Level} (is : IsReading inside u level n) (ends : is.rest ≡ 0 ∷ []) where
-  -- its bytes are read to their end
-  level_ends : ReadsUpTo (suc inside) (sort_of u.holder) (bytes_of u.document) (tree_of_pairs (sort_of u.holder) is.pairs) × HasFrameCount (bytes_of u.document) n
-  level_ends =
-      let walk = LeadsTo-walk (drop 4 (bytes_of u.document)) is.passed.frames is.rest Done is.passed.leads ends in
-      ((is.pairs, (is.passed.frames, walk, is.passed.each), refl), count_of_walk (bytes_of u.document) is.passed.frames _ n walk is.passed.counts)
+-- behind the final 0 the value that is made of a level is the one that holds its bytes, within as many levels
+level_stands : {inside n : ℕ} {i : Nested × ℕ} {level : Level} (is : IsReading inside i level n) → is.rest ≡ 0 ∷ [] → (t : Bson) → DraftsTree level.holder level.draft t
+    → StandsFor (ReadsUpTo (suc inside)) (held_value i.0) (tree_of t)
+level_stands {inside} {i = i} is end t drafts =
+    let b = bytes_of i.0.document in
+    let read = (ends is.passed (sort_of i.0.holder) end).0 in
+    subst (λ (h : Holder). StandsFor (ReadsUpTo (suc inside)) (holding h b) (tree_of t)) is.held (drafts is.pairs (suc inside) b is.drafted (rw is.held read))
 
-  -- so the value that is made of them is the one that holds them, within as many levels
-  level_stands : (t : Bson) → DraftsTree level.holder level.draft t → StandsFor (ReadsUpTo (suc inside)) (held_value u) (tree_of t)
-  level_stands t drafts =
-      let b = bytes_of u.document in
-      let read = level_ends.0 in
-      let whole : ReadsAs (sort_of level.holder) b (tree_of_pairs (sort_of level.holder) is.pairs) = rw is.held (suc inside, read) in
-      let stands : StandsFor ReadsAs (held_value u) (tree_of t) = subst (λ (h : Holder). StandsFor ReadsAs (holding h b) (tree_of t)) is.held (drafts is.pairs b is.drafted whole) in
-      held_within (suc inside) u.holder b (tree_of_pairs (sort_of u.holder) is.pairs) (tree_of t) read stands
+-- and the outermost level is what is read
+level_finished : {inside n : ℕ} {u : Nested} {level : Level} (is : IsReading inside (u, 0) level n) → is.rest ≡ 0 ∷ [] → (c : Contents) → Finishes level.holder level.draft c
+    → TellsReading (suc inside) u (Ok c) n
+level_finished {inside} {n} {u} is end c fin =
+    let b = bytes_of u.document in
+    let sort = sort_of u.holder in
+    let (read, counts) = ends is.passed sort end in
+    let tree : tree_of_contents c ≡ tree_of_pairs sort is.pairs = fin.1 is.pairs is.drafted ∙ ap (λ x. tree_of_pairs (sort_of x) is.pairs) is.held in
+    let all : n ≡ is.here = omega (arith, is.total) in
+    let count : HasFrameCount b n = rw all (suc inside, counts) in
+    let no_fault = λ (fault : KeyedFault) (bad : FirstFault b fault). tree_or_fault sort b (tree_of_pairs sort is.pairs) fault (suc inside, read) bad in
+    ((fin.0 ∙ is.held, rw tree read), tt, inr (inl (no_fault, count), count))
 
 -- a level that goes on with the value in front, which stands for a tree
-level_put : {inside n : ℕ} {u : Nested} {left : Option (List ℕ)} (level on : Level) {f : Frame} (is : IsReading inside u (with_left level left) n) (v : RawValue) (t : Tree) (m : ℕ)
-    → Front is.rest f v level.elements → StandsFor (ReadsUpTo inside) v t → CountsIn HasFrameCount (value v) m → IsOneMore level f.key t on → IsReading inside u on (n + 1 + m)
-level_put level on {f = f} is v t m front stands counts more = record {
+level_put : {inside n all : ℕ} {i : Nested × ℕ} {left : Option (List ℕ)} (level on : Level) {f : Frame} (is : IsReading inside i (with_left level left) n) (v : RawValue) (t : Tree) (m : ℕ)
+    (front : Front is.rest f v level.elements) → Stands inside is.rest v front.0 t m → IsOneMore level f.key t on → all ≡ n + 1 + m → IsReading inside i on all
+level_put level on {f = f} is v t m front stands more grown = record {
   pairs = is.pairs ++ (f.key, t) ∷ [];
   rest = front.0;
-  left = more.0 ∙ front.3;
-  passed = passed_more v t m is.passed front.1 front.2 stands counts;
+  here = is.here + 1 + m;
+  left = more.0 ∙ front.2;
+  passed = passed_more is.passed front.1 t m stands;
   drafted = rw more.1 (more.2 is.pairs is.drafted);
   held = more.1 ∙ is.held;
+  total = omega (arith, grown, is.total);
 }
-
--- no frame is in a value that holds no nested bytes
-none_counted : (v : RawValue) → IsSingle v → CountsIn HasFrameCount (value v) 0
-none_counted v h = grind arith
 
 -- what a look tells of a value in front of what is left of a level
 module _ {s : List ℕ} {old : Option (List ℕ)} (left : old ≡ Some s) (new : Option (List ℕ)) (e : RawElement) where
   pub front_whole : (v : RawBsonRef) → Sees old new (seen.Whole e v) → HasValue (seen.Whole e v) → Front s (frame_of e) (value_of v) new
-  front_whole v sees has = let at = rw left at sees in (at.0, at.2, has.0, at.5)
+  front_whole v sees has = let at = rw left at sees in (at.0, record { frame = at.2; means = has.0 }, at.5)
 
   pub front_inside : (v : Nested) → Sees old new (seen.Inside e v) → HasValue (seen.Inside e v) → Front s (frame_of e) (held_value v) new
-  front_inside v sees has = let at = rw left at sees in (at.0, at.2, has, at.5)
+  front_inside v sees has = let at = rw left at sees in (at.0, record { frame = at.2; means = has }, at.5)
 
 -- the levels
 
@@ -74,94 +77,94 @@ module _ {s : List ℕ} {old : Option (List ℕ)} (left : old ≡ Some s) (new :
 -- that they have passed are so many
 pub record AreReading (depth : ℕ) (u : Nested) (ws : List Waiting) (level : Level) (n : ℕ) : Type 0 where
   pub inside : ℕ
-  pub inner : Nested
-  pub others : ℕ
-  pub here : ℕ
-  pub waiting : AreWaiting depth u ws inside inner others
-  pub reading : IsReading inside inner level here
-  pub total : n ≡ others + here
+  pub inner : Nested × ℕ
+  pub waiting : AreWaiting inside (u, 0) (reverse ws) inner
+  pub reading : IsReading inside inner level n
+  pub levels : suc (length ws + inside) ≡ depth
 
-pub levels_begin : (depth less : ℕ) (u : Nested) (ws : List Waiting) (level : Level) → suc less ≡ depth → ws ≡ [] → IsUnread u level → AreReading depth u ws level 0
-levels_begin depth less u ws level d none unread =
-    record { inside = less; inner = u; others = 0; here = 0; waiting = rw none (none_waits (sym d)); reading = level_begins less u level unread; total = refl }
+pub levels_begin : {depth less : ℕ} {u : Nested} {ws : List Waiting} {level : Level} → suc less ≡ depth → ws ≡ [] → IsUnread u level → AreReading depth u ws level 0
+levels_begin {less = less} {u = u} {level = level} d none unread =
+    record { inside = less; inner = (u, 0); waiting = rw none refl; reading = level_begins less 0 u level unread; levels = omega (arith, ap length none, d) }
+
+module _ (depth : ℕ) (u : Nested) {n : ℕ} (e : Error) where
+  -- memory runs out, behind so many frames
+  memory_told : IsOutOfMemory e → IsTold None n depth (u, 0) → TellsReading depth u (Err e) n
+  memory_told memory (m, same, h) =
+      elim (outcome_until depth (sort_of u.holder) (bytes_of u.document) h.x h.n h.is) [
+        | inl deep ↦ (tt, inl memory, inl deep)
+        | inr until ↦ (tt, inl memory, inr (h.n, until, omega (arith, same, h.more), inl memory))
+      ]
+
+  -- or the first barrier is behind them
+  barrier_told : (x : Barrier) → SaysBarrier e x → IsTold (Some x) n depth (u, 0) → TellsReading depth u (Err e) n
+  barrier_told x says (m, same, h) =
+      elim (outcome_until depth (sort_of u.holder) (bytes_of u.document) (Some x) m h) [
+        | inl deep ↦ (tt, inr (x, h.0, says), inl deep)
+        | inr until ↦ (tt, inr (x, h.0, says), inr (m, until, omega (arith, same), inr (omega (arith, same))))
+      ]
 
 module _ {depth n : ℕ} {u : Nested} {ws : List Waiting} {level : Level} (are : AreReading depth u ws level n) where
-  -- where so many frames are counted in the innermost bytes, out of memory is told
-  memory_told : (e : Error) (here all : ℕ) → IsCountedFrom (sort_of are.inner.holder) (bytes_of are.inner.document) here → all ≡ are.others + here → IsOutOfMemory e → TellsReading depth u (Err e) all
-  memory_told e here all counted is memory =
-      let from = counted_outward are.waiting here counted in
-      (tt, inl memory, inr (from.0, counted_until (sort_of u.holder) (bytes_of u.document) from.0 from.2, omega (arith, from.1, is), inl memory))
+  -- what is told of the innermost level is told of the outermost
+  told : (x : Option Barrier) (all : ℕ) → IsTold x all (suc are.inside) are.inner → IsTold x all depth (u, 0)
+  told x all h = told_outward x all are.inside depth (u, 0) (reverse ws) are.inner (omega (arith, length-reverse ws, are.levels)) are.waiting h
 
-  -- and a fault of theirs is
-  fault_told : (fault : KeyedFault) (e : Error) (here all : ℕ) → Fails (bytes_of are.inner.document) fault here → all ≡ are.others + here
-      → BarsFront (FirstFaultWithin are.inside) are.reading.rest (fault_of fault) → Says e fault → TellsReading depth u (Err e) all
-  fault_told fault e here all bad is front says =
-      let bars = barrier_outward are.waiting (fault_of fault) (bars_at are.reading (fault_of fault) front) in
-      let until : HasFramesToFault (bytes_of u.document) all = rw is (fault_outward are.waiting fault here bad).1 in
-      (tt, inr (fault_of fault, bars, says), inr (all, inr until, omega arith, inr refl))
+  abbrev sort : Sort
+  sort = sort_of are.inner.0.holder
 
-  passed_counted : IsCountedFrom (sort_of are.inner.holder) (bytes_of are.inner.document) are.here
-  passed_counted = counted_from (sort_of are.inner.holder) are.inner.document.envelope (passed_read are.inside are.reading.passed)
+  passed_told : IsTold None n depth (u, 0)
+  passed_told = told None n (are.reading.here, are.reading.total, outcome_from sort are.reading.passed)
 
   -- what has been read is at most half of the bytes, so that one more can be counted
   pub few_frames : n < max_length
-  few_frames =
-      let from = counted_outward are.waiting are.here passed_counted in
-      omega (arith, from.1, are.total, until_small (bytes_of u.document) from.0 (counted_until (sort_of u.holder) (bytes_of u.document) from.0 from.2), u.document.envelope.header.fits)
+  few_frames = let h = passed_told in omega (arith, h.1, h.2.more, h.2.small, u.document.envelope.header.fits)
 
   -- memory runs out
   pub ran_out : (e : Error) → IsOutOfMemory e → TellsReading depth u (Err e) n
-  ran_out e memory = memory_told e are.here n passed_counted are.total memory
+  ran_out e memory = memory_told depth u e memory passed_told
 
   -- a look tells a stop, or the fault that an element means
   module _ (new : Option (List ℕ)) (e : BorrowedError) (answer : Error) (copy : HasKeyCopy e.kind (option_copied e.key) answer) where
     pub stopped : Sees level.elements new (seen.Fault None e) → TellsReading depth u (Err answer) n
     stopped sees =
-        let at = rw are.reading.left at sees in
-        fault_told at.0 answer are.here n (fails_at_stop (passed_read are.inside are.reading.passed) at.0 at.1) are.total (inl at.1) (told_fault e at.0 answer at.2 copy)
+        let (fault, at, says) = rw are.reading.left at sees in
+        barrier_told depth u answer (fault_of fault) (told_fault e fault answer says copy)
+        (told (Some (fault_of fault)) n (are.reading.here, are.reading.total, stops are.reading.passed sort fault at))
 
     pub failed : (key : Bor (List ℕ)) → Sees level.elements new (seen.Fault (Some key) e) → TellsReading depth u (Err answer) (n + 1)
     failed key sees =
-        let at = rw are.reading.left at sees in
-        let frame = at.1 in
-        fault_told at.0 answer (are.here + 1) (n + 1) (fails_at_frame (passed_read are.inside are.reading.passed) frame.0 frame.1 at.0 frame.2 frame.3) (omega (arith, are.total))
-        (inr (frame.0, frame.1, frame.2, inl frame.3)) (told_fault e at.0 answer at.2 copy)
+        let (fault, f, says) = rw are.reading.left at sees in
+        barrier_told depth u answer (fault_of fault) (told_fault e fault answer says copy)
+        (told (Some (fault_of fault)) (n + 1) (are.reading.here + 1, omega (arith, are.reading.total), means_fault are.reading.passed sort fault f.0 f.1 f.2 f.3))
 
   -- no element is left
-  module _ (new : Option (List ℕ)) (sees : Sees level.elements new seen.End) where
-    ends : are.reading.rest ≡ 0 ∷ []
-    ends = rw are.reading.left at sees
+  module _ (new : Option (List ℕ)) (sees : Sees level.elements new (seen.End)) where
+    at_end : are.reading.rest ≡ 0 ∷ []
+    at_end = rw are.reading.left at sees
 
     -- of the outermost level
     pub finished : (result : Result Contents Error) → ws ≡ [] → IfOk result (Finishes level.holder level.draft) → IfErr result IsOutOfMemory → TellsReading depth u result n
     finished (Err e) none fin memory = ran_out e memory
     finished (Ok c) none fin memory =
-        let b = bytes_of u.document in
-        let whole = none_inside are.waiting none in
-        let is = are.reading in
-        let end : ReadsUpTo (suc are.inside) (sort_of u.holder) b (tree_of_pairs (sort_of u.holder) is.pairs) × HasFrameCount b are.here = rw whole.1 at (level_ends is ends) in
-        let held : level.holder ≡ u.holder = is.held ∙ ap (λ (v : Nested). v.holder) whole.1 in
-        let tree : tree_of_contents c ≡ tree_of_pairs (sort_of u.holder) is.pairs = fin.1 is.pairs is.drafted ∙ ap (λ x. tree_of_pairs (sort_of x) is.pairs) held in
-        let read : ReadsUpTo depth (sort_of u.holder) b (tree_of_contents c) = rw (whole.0, tree) end.0 in
-        let count : HasFrameCount b n = subst (HasFrameCount b) (omega (arith, are.total, whole.2)) end.1 in
-        let no_fault = λ (fault : KeyedFault) (bad : FirstFault b fault). tree_or_fault (sort_of u.holder) b (tree_of_contents c) fault (depth, read) bad in
-        ((fin.0 ∙ held, read), tt, inr (inl (no_fault, count), count))
+        let same : (u, 0) ≡ are.inner = rw none at are.waiting in
+        let is : IsReading are.inside (u, 0) level n = rw same are.reading in
+        let levels : suc are.inside ≡ depth = omega (arith, are.levels, ap length none) in
+        rw (← levels) (level_finished is (rw is.left at sees) c fin)
 
     -- or of one inside, and the level that waits for it goes on
-    pub popped : (less : List Waiting) (w : Waiting) (t : Bson) (on : Level) → ws ≡ less ++ w ∷ [] → DraftsTree level.holder level.draft t → IsOneMore w.level w.key.now (tree_of t) on
+    pub popped : {less : List Waiting} {on : Level} (w : Waiting) (t : Bson) → ws ≡ less ++ w ∷ [] → DraftsTree level.holder level.draft t → IsOneMore w.level w.key.now (tree_of t) on
         → AreReading depth u less on n
-    popped less w t on e drafts more =
-        let out = waiting_less are.waiting less w e in
-        let waits = out.4 in
-        let counts = held_counts are.inner.holder (bytes_of are.inner.document) are.here (level_ends are.reading ends).1 in
+    popped {less} {on} w t e drafts more =
+        let (outer, waits, linked) = rw (e, reverse-append less (w ∷ [])) at are.waiting in
+        let holder = are.inner.0.holder in
+        let d = bytes_of are.inner.0.document in
+        let is = are.reading in
+        let stands = nested_stands waits.front.1 sort d (tree_of t) is.here (held_as holder d) (level_stands is at_end t drafts) (ends is.passed sort at_end).1 (omega (arith, is.passed.small)) in
         record {
           inside = suc are.inside;
-          inner = out.0;
-          others = out.1;
-          here = out.2 + 1 + are.here;
-          waiting = out.3;
-          reading = level_put w.level on waits.reading (held_value are.inner) (tree_of t) are.here waits.front (level_stands are.reading ends t drafts) counts (rw waits.key_is at more);
-          total = omega (arith, are.total, out.5);
+          inner = outer;
+          waiting = linked;
+          reading = level_put w.level on waits.reading (held_value are.inner.0) (tree_of t) is.here waits.front stands (rw waits.key_is at more) (omega (arith, is.total, waits.total));
+          levels = omega (arith, are.levels, ap length e, length-append less (w ∷ []));
         }
 
   -- a value is in front
@@ -169,53 +172,42 @@ module _ {depth n : ℕ} {u : Nested} {ws : List Waiting} {level : Level} (are :
     -- memory runs out
     pub ran_out_behind : (e : Error) → IsOutOfMemory e → TellsReading depth u (Err e) (n + 1)
     ran_out_behind e memory =
-        let here = counted_from_frame (sort_of are.inner.holder) are.inner.document.envelope (passed_read are.inside are.reading.passed) f front.0 front.1 in
-        memory_told e (are.here + 1) (n + 1) here (omega (arith, are.total)) memory
+        memory_told depth u e memory (told None (n + 1) (are.reading.here + 1, omega (arith, are.reading.total), outcome_behind sort are.reading.passed f front.0 front.1.frame))
 
     -- it holds no nested bytes, and is put
     pub put_whole : (t : Tree) (on : Level) → IsSingle v → StandsFor ReadsAs v t → IsOneMore (with_left level new) f.key t on → AreReading depth u ws on (n + 1)
-    put_whole t on single stands more = record {
-      inside = are.inside;
-      inner = are.inner;
-      others = are.others;
-      here = are.here + 1 + 0;
-      waiting = are.waiting;
-      reading = level_put {left = level.elements} (with_left level new) on are.reading v t 0 front (none_stands are.inside v t single stands) (none_counted v single) more;
-      total = omega (arith, are.total);
-    }
+    put_whole t on single stands more =
+        let put = level_put {left = level.elements} (with_left level new) on are.reading v t 0 front (single_stands front.1 t single stands) more (omega arith) in
+        record { inside = are.inside; inner = are.inner; waiting = are.waiting; reading = put; levels = are.levels }
 
   -- nested bytes are in front
   module _ {f : Frame} {new : Option (List ℕ)} (v : Nested) (front : Front are.reading.rest f (held_value v) new) where
     -- and as many levels wait as may
     pub too_deep_inside : (e : Error) → depth ≤ suc (length ws) → SaysBarrier e too_deep → TellsReading depth u (Err e) (n + 1)
     too_deep_inside e many says =
-        let none : are.inside ≡ 0 = omega (arith, many, levels_in are.waiting) in
-        let entered : FirstFaultWithin are.inside (bytes_of v.document) too_deep = rw none refl in
-        let deep = barrier_outward are.waiting too_deep (inner_barrier are.reading v front too_deep entered) in
-        (tt, inr (too_deep, deep, says), inl deep)
+        let none : are.inside ≡ 0 = omega (arith, many, are.levels) in
+        let entered : IsTold (Some too_deep) (n + 1) are.inside (v, n + 1) = rw none (0, omega arith, (refl, λ fault e. cc)) in
+        barrier_told depth u e too_deep says (told (Some too_deep) (n + 1) (told_inside are.reading (v, n + 1) front refl (Some too_deep) (n + 1) entered))
 
     -- or they are the next level, and this one waits for them
-    pub went_in : (key : Bor (List ℕ)) → key.now ≡ f.key → suc (length ws) < depth → (more : List Waiting) (inner : Level) → more ≡ ws ++ record { level = with_left level new; key = key } ∷ []
+    pub went_in : {more : List Waiting} {inner : Level} (key : Bor (List ℕ)) → key.now ≡ f.key → suc (length ws) < depth → more ≡ ws ++ record { level = with_left level new; key = key } ∷ []
         → IsUnread v inner → AreReading depth u more inner (n + 1)
-    went_in key k few more inner e unread =
+    went_in {inner = inner} key k few e unread =
         let less : ℕ = are.inside - 1 in
-        let one : are.inside ≡ suc less = omega (arith, few, levels_in are.waiting) in
-        let waiting : AreWaiting depth u ws (suc less) are.inner are.others = rw (sym one) are.waiting in
-        let reading : IsWaiting are.inside are.inner (record { level = with_left level new; key = key }) v are.here =
-        record { left = level.elements; reading = are.reading; frame = f; front = front; key_is = k } in
+        let one : are.inside ≡ suc less = omega (arith, few, are.levels) in
+        let w : Waiting = record { level = with_left level new; key = key } in
+        let waits : IsWaiting are.inside are.inner w (v, n + 1) = record { left = level.elements; n = n; reading = are.reading; frame = f; front = front; key_is = k; total = refl } in
         record {
           inside = less;
-          inner = v;
-          others = are.others + are.here + 1;
-          here = 0;
-          waiting = one_more waiting (rw one at reading) e refl;
-          reading = level_begins less v inner unread;
-          total = omega (arith, are.total);
+          inner = (v, n + 1);
+          waiting = rw (e, reverse-append ws (w ∷ [])) (are.inner, rw one at waits, rw one at are.waiting);
+          reading = level_begins less (n + 1) v inner unread;
+          levels = omega (arith, one, are.levels, ap length e, length-append ws (w ∷ []));
         }
 
-pub tells_half : {X : Type 0} (b : List ℕ) (result : Result X Error) (n : ℕ) → TellsFrames b result n → n ≤ (length b - 4) / 2
-tells_half b (Ok x) n h = omega (arith, until_small b n h.0)
-tells_half b (Err e) n h = omega (arith, until_small b h.0 h.1, h.2)
+pub tells_half : {X : Type 0} (b : List ℕ) (result : Result X Error) (n : ℕ) → IsEnvelope b → TellsFrames b result n → n ≤ (length b - 4) / 2
+tells_half b (Ok x) n env h = omega (arith, until_small b n env h.0)
+tells_half b (Err e) n env h = omega (arith, until_small b h.0 env h.1, h.2)
 
 -- where nothing is popped, nothing waits
 pub no_more : (n : ℕ) (old new : List Waiting) → length old ≡ n → old ≡ new ++ [] → new ≡ take (n - 1) old → old ≡ []
@@ -230,20 +222,16 @@ left_in ws = sum_by (λ w. left_of w.level.elements + 1) ws
 
 -- an element takes some
 pub step_smaller : {s : List ℕ} {f : Frame} (v : RawValue) (old new : Option (List ℕ)) (n : ℕ) → old ≡ Some s → Front s f v new → left_of new + n < left_of old + n
-step_smaller {s} {f} v old new n left front = rw (left, front.3) (omega (arith, IsFrame-shorter s f front.0 front.1))
+step_smaller {s} {f} v old new n left front = rw (left, front.2) (omega (arith, IsFrame-shorter s f front.0 front.1.frame))
 
 -- and more than its nested bytes, so that what is left shrinks as its level begins to wait
 pub inward_smaller : {s : List ℕ} {f : Frame} (old inner : Level) (ws more : List Waiting) (w : Waiting) (v : Nested) → old.elements ≡ Some s → Front s f (held_value v) w.level.elements
     → more ≡ ws ++ w ∷ [] → IsUnread v inner → left_of inner.elements + left_in more < left_of old.elements + left_in ws
 inward_smaller {s} {f} old inner ws more w v left front e unread =
     let d = bytes_of v.document in
-    rw (unread.0, e, left) (omega (
-      arith,
-      sum_by_push (λ (x : Waiting). left_of x.level.elements + 1) ws w,
-      ap left_of front.3,
-      length-drop 4 d,
-      nested_beside s f front.0 (held_value v) d front.1 front.2 (held_holds v.holder d),
-    ))
+    let push = sum_by_push (λ (x : Waiting). left_of x.level.elements + 1) ws w in
+    let beside = nested_beside s f front.0 (held_value v) d front.1.frame front.1.means (held_holds v.holder d) in
+    rw (unread.0, e, left) (omega (arith, push, ap left_of front.2, length-drop 4 d, beside))
 
 -- and as a level that waits reads on
 pub outward_smaller : (n : ℕ) (ws less : List Waiting) (w : Waiting) → ws ≡ less ++ w ∷ [] → left_of w.level.elements + left_in less < n + left_in ws

@@ -1,19 +1,17 @@
--- Within limits bytes are read as one tree or have one first barrier, and never both.
-use Rattle.std.proofs.Common.{◌≡◌, ◌⊎◌, inl, inr, ◌≤◌, ℕ, List, length, arith, refl}
-use Rattle.raw_tree.proofs.Common.{cases_lt, Tree, IsEnvelope, Barrier, too_many_bytes}
-use Rattle.raw_tree.proofs.Common.{ReadsWithin, FirstBarrier, AllAreAnsweredOneWay, as_document, ReadsUpTo, Limits}
-use Rattle.raw_tree.proofs.reader.Decides.{decided}
-use Rattle.raw_tree.proofs.reader.Depths.{shallow, read_to_depth}
-use Rattle.raw_tree.proofs.reader.OneTree.{apart_within, fault_or_deep, one_barrier_within, one_tree, read_or_deep}
+-- Within limits bytes are read as one tree or have one first barrier, and never both; to a depth that no document has all are read.
+use Rattle.std.proofs.Common.{◌⊎◌, inl, inr, ◌<◌, ◌≤◌, ℕ, List, Result, IfOk, IfErr, length, arith, refl}
+use Rattle.raw_tree.proofs.Common.{cases_lt, Tree, IsEnvelope, Barrier, too_many_bytes, ReadsWithin, FirstBarrier, AllAreAnsweredOneWay, as_document, ReadsUpTo, Limits, bytes_of, max_length, Error}
+use Rattle.raw_tree.proofs.Common.{TellsFrames, AreRead, TellsReading, too_deep, FirstFaultWithin, TellsFirstFault, Contents, Nested}
+use Rattle.raw_tree.proofs.reader.Decides.{decided_within}
+use Rattle.raw_tree.proofs.reader.Depths.{shallow_within, read_to_depth}
+use Rattle.raw_tree.proofs.reader.OneTree.{apart_within, deep_long, first_fault, never_too_many, one_barrier_within, one_tree}
 
 -- limits
 
 pub read_within : (limits : Limits) (b : List ℕ) (t : Tree) → length b ≤ limits.bytes → ReadsUpTo limits.depth as_document b t → ReadsWithin limits b t
-read_within limits b t few h = record {
-  few_bytes = few;
-  read = (limits.depth, h);
-  shallow = shallow limits.depth as_document b t h;
-}
+read_within limits b t few h =
+    let k = shallow_within limits.depth as_document b t h in
+    record { few_bytes = few; read = (limits.depth, h); shallow = (k.0, (limits.depth, k.1), k.2) }
 
 module _ (limits : Limits) (b : List ℕ) where
   pub to_depth : (t : Tree) → ReadsWithin limits b t → ReadsUpTo limits.depth as_document b t
@@ -23,9 +21,9 @@ module _ (limits : Limits) (b : List ℕ) where
   either_way env =
       elim (cases_lt limits.bytes (length b)) [
         | inl many ↦ inr (too_many_bytes, inl (many, refl))
-        | inr few ↦ elim (decided as_document b env) [
-          | inl t ↦ grind (arith, read_within, read_or_deep limits.depth t.1.0 as_document b t.0 t.1.1)
-          | inr bad ↦ grind (arith, fault_or_deep limits.depth bad.1.0 b bad.0 bad.1.1)
+        | inr few ↦ elim (decided_within limits.depth as_document b env) [
+          | inl t ↦ inl (t.0, read_within limits b t.0 few t.1)
+          | inr bad ↦ inr (bad.0, inr (few, bad.1))
         ]
       ]
 
@@ -33,13 +31,21 @@ module _ (limits : Limits) (b : List ℕ) where
   tree_or_barrier t x h (inl many) = omega (arith, h.few_bytes, many.0)
   tree_or_barrier t x h (inr bars) = apart_within limits.depth as_document b t x (to_depth t h) bars.1
 
-  one_barrier : (x other : Barrier) → FirstBarrier limits b x → FirstBarrier limits b other → other ≡ x
-  one_barrier x other h h' = grind (arith, one_barrier_within)
-
 pub answered_one_way : (limits : Limits) → AllAreAnsweredOneWay limits
 answered_one_way limits b env = record {
   either = either_way limits b env;
   not_both = tree_or_barrier limits b;
   one_tree = λ t other r s. one_tree as_document b other t s.read r.read;
-  one_barrier = one_barrier limits b;
+  one_barrier = λ x other h k. grind (arith, one_barrier_within);
 }
+
+-- all levels
+
+-- in no document a level is deeper than the greatest length
+never_too_deep : (n : ℕ) (b : List ℕ) → IsEnvelope b → max_length < n → FirstFaultWithin n b too_deep → ⊥
+never_too_deep n b env more h = omega (arith, env.header.fits, deep_long n b h)
+
+-- what is returned to such a depth is returned of all levels
+pub told_of_all : (depth : ℕ) (u : Nested) → max_length < depth → (result : Result Contents Error) (n : ℕ) → TellsReading depth u result n
+    → IfOk result (AreRead u.holder (bytes_of u.document)) × IfErr result (TellsFirstFault (bytes_of u.document)) × TellsFrames (bytes_of u.document) result n
+told_of_all depth u more result n told = grind (arith, first_fault, never_too_deep, never_too_many)

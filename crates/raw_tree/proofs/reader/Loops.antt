@@ -2,7 +2,7 @@
 -- trees.
 use Rattle.std.proofs.Common.{◌≡◌, ◌≤◌, ◌+◌, ◌++◌, ◌∷◌, [], ℕ, zero, suc, List, length, drop, arith, ap, refl, length-append}
 use Rattle.raw_tree.proofs.Common.{Tree, Entries, document, IsEnvelope, Frame, IsFrame, HasShape, IsWalk, Done, RawValue, Means, MeansValue, value, ElementType, Sort}
-use Rattle.raw_tree.proofs.Common.{as_document, tree_of_pairs, StandsFor, StandForEach, ReadsUpTo, ReadsAs, Holds}
+use Rattle.raw_tree.proofs.Common.{as_document, tree_of_pairs, StandsFor, StandForEach, ReadsUpTo, ReadsAs, Holds, HoldsAs}
 
 -- nested bytes
 
@@ -12,6 +12,10 @@ nested_in k p r v d x m h = grind (arith, length-append)
 
 pub nested_envelope : (s : List ℕ) (f : Frame) (r : List ℕ) (v : RawValue) (d : List ℕ) → IsFrame s f r → Means f (value v) → Holds v d → IsEnvelope d
 nested_envelope s f r v d b m h = (nested_in f.kind f.payload r v d b.payload_is m h).0
+
+-- what a value holds as a document or as an array, it holds
+pub holds_bytes : (v : RawValue) (sort : Sort) (d : List ℕ) → HoldsAs v sort d → Holds v d
+holds_bytes v sort d h = grind arith
 
 -- they are shorter by two than the bytes where the frame is, beside what is left behind it
 pub nested_beside : (s : List ℕ) (f : Frame) (r : List ℕ) (v : RawValue) (d : List ℕ) → IsFrame s f r → Means f (value v) → Holds v d → length d + length r + 2 ≤ length s
@@ -39,7 +43,10 @@ reads_up_to zero m l sort b t h = absurd h
 reads_up_to (suc n) zero l sort b t h = absurd (omega arith)
 reads_up_to (suc n) (suc m) l sort b t h = grind (arith, stand_each_on, reads_up_to n m)
 
--- frames that are read within some levels are read
+-- what is read within some levels is read
+pub value_read : (n : ℕ) (v : RawValue) (t : Tree) → StandsFor (ReadsUpTo n) v t → StandsFor ReadsAs v t
+value_read n v t h = stands_on (ReadsUpTo n) ReadsAs (λ sort b t read. (n, read)) v t h
+
 pub each_read : (n : ℕ) (fs : List Frame) (pairs : List (List ℕ × Tree)) → StandForEach (ReadsUpTo n) fs pairs → StandForEach ReadsAs fs pairs
 each_read n fs pairs h = stand_each_on (ReadsUpTo n) ReadsAs (λ sort b t read. (n, read)) fs pairs h
 

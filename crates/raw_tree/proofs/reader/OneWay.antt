@@ -1,10 +1,10 @@
 -- Bytes, values and frames are read in one way alone.
-use Rattle.std.proofs.Common.{inl, inr, List, ℕ, Result, Ok, Err, subst, arith}
-use Rattle.raw_tree.proofs.Common.{Tree, TellsMeaning, IsEnvelope, Frame, RawValue, KeyedFault, Means, Meaning, value, faulty, value_of, RawBsonRef, Error, AllAreCountedOneWay, Sort, as_document}
+use Rattle.std.proofs.Common.{List, ℕ, Result, Ok, Err, subst, arith}
+use Rattle.raw_tree.proofs.Common.{Tree, TellsMeaning, IsEnvelope, Frame, RawValue, KeyedFault, Means, Meaning, value, faulty, value_of, RawBsonRef, Error, AllAreCountedOneWay, Sort}
 use Rattle.raw_tree.proofs.Common.{ReadsAs, StandsFor, Holds, FirstFaultOfValue, FirstFaultOfFrame, FrameStandsFor, AreReadOneWay, IsValueReadOneWay, IsFrameReadOneWay}
-use Rattle.raw_tree.proofs.reader.Decides.{counted, counted_until, decided, value_decided}
+use Rattle.raw_tree.proofs.reader.Decides.{counted, decided, value_decided}
 use Rattle.raw_tree.proofs.reader.FrameCounts.{one_until}
-use Rattle.raw_tree.proofs.reader.OneTree.{one_fault_of, one_value_of, value_nor_fault, one_tree, one_tree_of_value, one_first_fault, one_first_fault_of_value, tree_or_fault, tree_or_fault_of_value}
+use Rattle.raw_tree.proofs.reader.OneTree.{one_fault_of, one_value_of, value_nor_fault, one_tree, stands_same, one_first_fault, one_first_fault_of_value, tree_or_fault, tree_or_fault_of_value}
 
 -- bytes with an envelope
 pub bytes_one_way : (sort : Sort) (b : List ℕ) → IsEnvelope b → AreReadOneWay sort b
@@ -18,9 +18,8 @@ bytes_one_way sort b env = record {
 -- and have one number of frames until the first fault
 pub counted_one_way : AllAreCountedOneWay
 counted_one_way b env =
-    let n = counted as_document b env in
-    let until = counted_until as_document b n.0 n.1 in
-    (n.0, until, λ other h. one_until b other n.0 h until)
+    let n = counted b env in
+    (n.0, n.2, λ other h. one_until b other n.0 h n.2)
 
 -- the nested bytes of a borrowed value have an envelope
 viewed_envelope : (v : RawBsonRef) (d : List ℕ) → Holds (value_of v) d → IsEnvelope d
@@ -29,9 +28,9 @@ viewed_envelope v d h = grind arith
 -- a value whose nested bytes have an envelope
 pub enveloped_one_way : (v : RawValue) → ((d : List ℕ) → Holds v d → IsEnvelope d) → IsValueReadOneWay v
 enveloped_one_way v env = record {
-  either = value_decided v (λ sort d h. counted sort d (env d h));
+  either = value_decided v env;
   not_both = λ t fault. tree_or_fault_of_value v t fault;
-  one_tree = λ t other r s. one_tree_of_value v other t s r;
+  one_tree = λ t other r s. stands_same ReadsAs ReadsAs one_tree v other t s r;
   one_fault = λ fault other r s. one_first_fault_of_value v other fault s r;
 }
 
@@ -43,10 +42,7 @@ value_one_way v = enveloped_one_way (value_of v) (viewed_envelope v)
 module _ (f : Frame) where
   of_value : (v : RawValue) → Means f (value v) → IsValueReadOneWay v → IsFrameReadOneWay f
   of_value v m read = record {
-    either = elim read.either [
-      | inl t ↦ inl (t.0, (v, m, t.1))
-      | inr bad ↦ inr (bad.0, inr (v, m, bad.1))
-    ];
+    either = grind (arith, read.either);
     not_both = λ t fault r s. read.not_both t fault (tree t r) (fault_in fault s);
     one_tree = λ t other r s. read.one_tree t other (tree t r) (tree other s);
     one_fault = λ fault other r s. read.one_fault fault other (fault_in fault r) (fault_in other s);

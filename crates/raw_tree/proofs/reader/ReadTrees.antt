@@ -2,7 +2,7 @@
 use Rattle.std.proofs.Common.{◌≡◌, ◌<◌, inl, inr, ◌++◌, ◌∷◌, [], ℕ, pos, zero, suc, fold, List, length, map, drop, arith, refl, ◌∙◌, append_assoc, IsUtf8, bytes_eq}
 use Rattle.raw_tree.proofs.Common.{IsDistinct, AreBytes, NulFree, Leaf, binary, db_pointer, keep, with_pair, OfParts, well_formed_parts, nul_free_parts, ascending_parts, proper_subtype_parts, Everywhere, InTrees, InEntries, IsLeafInRange, IsLeafNulFree}
 use Rattle.raw_tree.proofs.Common.{DoLeafOptionsAscend, IsLeafSubtypeProper, IsProper, subtype_of, subtype_byte, Tree, trees, entries, BinaryOld, IsEnvelope, string_payload, Frame, IsFrame}
-use Rattle.raw_tree.proofs.Common.{HasShape, IsBinary, IsWalk, Done, tag_of, RawValue, HasInnerLength, IsBinaryValue, MeansValue, le32, ElementType, Sort}
+use Rattle.raw_tree.proofs.Common.{HasShape, IsBinary, IsWalk, Done, tag_of, RawValue, HasInnerLength, MeansValue, le32, ElementType, Sort}
 use Rattle.raw_tree.proofs.Common.{as_document, as_array, tree_of_pairs, leaf_in_order, StandsFor, StandForEach, ReadsUpTo, ReadsAs, Holds}
 use Rattle.bson_model.proofs.Face.{fold-keep, HasDistinctKeys-keep, IsUtf8-sorted_options, OptionsAscend-sorted_options, NulFree-sorted_options, subtype_byte-subtype_of, IsProperSubtype-subtype_of, keys_in-entries, AreBytes-front, AreBytes-back, AreBytes-drop}
 use Rattle.raw_view.specs.Meaning as raw
@@ -39,20 +39,14 @@ old_binary_proper p outer inner subtype all b h =
     let bytes : AreBytes outer = λ i. behind (suc i) in
     ((omega arith, AreBytes-back (le32 (pos (length inner))) inner (rw h.spelled at bytes)), tt, tt, refl)
 
-binary_proper : (p bytes : List ℕ) (subtype : ℕ) (l : Leaf) → AreBytes p → IsBinary p subtype bytes → IsBinaryValue subtype bytes (raw.single l) → IsLeafProper l
-binary_proper p bytes subtype l all b (inl plain) =
-    let e : l ≡ binary (subtype_of subtype) bytes = cc in
-    rw e (plain_binary_proper p bytes subtype all b)
-binary_proper p bytes subtype l all b (inr old) =
-    let e : l ≡ binary BinaryOld old.1 = cc in
-    rw e (old_binary_proper p bytes old.1 subtype all b old.2)
-
-binary_kept : (subtype : ℕ) (bytes : List ℕ) (l : Leaf) → IsBinaryValue subtype bytes (raw.single l) → leaf_in_order l ≡ l
-binary_kept subtype bytes l h = grind arith
-
 -- the leaf that a payload means
 leaf_proper : (k : ElementType) (p r : List ℕ) (l : Leaf) → AreBytes p → HasShape k p r → MeansValue k p (raw.single l) → IsLeafProper (leaf_in_order l)
-leaf_proper kind.Binary p r l all x m = rw (binary_kept m.0 m.1 l m.3) (binary_proper p m.1 m.0 l all m.2 m.3)
+leaf_proper kind.Binary p r l all x (subtype, bytes, is, inl plain) =
+    let e : l ≡ binary (subtype_of subtype) bytes = cc in
+    rw e (plain_binary_proper p bytes subtype all is)
+leaf_proper kind.Binary p r l all x (subtype, bytes, is, inr old) =
+    let e : l ≡ binary BinaryOld old.1 = cc in
+    rw e (old_binary_proper p bytes old.1 subtype all is old.2)
 leaf_proper kind.DbPointer p r l all x m =
     let id : AreBytes m.1 = AreBytes-back (string_payload m.0) m.1 (rw m.2.spelled at all) in
     let e : l ≡ db_pointer m.0 m.1 = cc in
@@ -120,21 +114,17 @@ module _ (holds : OfParts)
       (λ l e. leaf_proper f.kind f.payload w.0 l (payload_bytes s f w.0 w.1 bytes) at (rw e at h.3)) (λ code d e. code_text f.kind f.payload code d (rw e at h.3)) h.4 in
       rw h.5 (keys f.key w.1.key_utf8 w.1.key_nul_free, here, of_walk read w.0 frames h.2 (AreBytes-rest s f w.0 w.1 bytes) w.2 h.6)
 
-  -- within any levels
-  read_within : (n : ℕ) → HoldRead (ReadsUpTo n)
-  read_within zero sort b t env h = absurd h
-  read_within (suc n) sort b t env h =
-      rw h.2 (of_pairs sort h.0 (of_walk (read_within n) (drop 4 b) h.1.0 h.0 (AreBytes-drop 4 b env.bytes) h.1.1 h.1.2))
-
-  -- in each tree that is read
-  read_everywhere : HoldRead ReadsAs
-  read_everywhere sort b t env h = read_within h.0 sort b t env h.1
+  -- in each tree that is read within some levels
+  read_everywhere : (n : ℕ) → HoldRead (ReadsUpTo n)
+  read_everywhere zero sort b t env h = absurd h
+  read_everywhere (suc n) sort b t env h =
+      rw h.2 (of_pairs sort h.0 (of_walk (read_everywhere n) (drop 4 b) h.1.0 h.0 (AreBytes-drop 4 b env.bytes) h.1.1 h.1.2))
 
 -- a tree that bytes with an envelope are read as is proper
 pub read_is_proper : (sort : Sort) (b : List ℕ) (t : Tree) → IsEnvelope b → ReadsAs sort b t → IsProper t
-read_is_proper sort b t env h = record {
-  well_formed = read_everywhere well_formed_parts (λ l p. p.0) (λ c u. u) (λ k u n. u) (λ ks d. d) sort b t env h;
-  nul_free = read_everywhere nul_free_parts (λ l p. p.1) (λ c u. tt) (λ k u n. n) (λ ks d. tt) sort b t env h;
-  options_ascend = read_everywhere ascending_parts (λ l p. p.2) (λ c u. tt) (λ k u n. tt) (λ ks d. tt) sort b t env h;
-  subtypes_proper = read_everywhere proper_subtype_parts (λ l p. p.3) (λ c u. tt) (λ k u n. tt) (λ ks d. tt) sort b t env h;
+read_is_proper sort b t env (n, h) = record {
+  well_formed = read_everywhere well_formed_parts (λ l p. p.0) (λ c u. u) (λ k u f. u) (λ ks d. d) n sort b t env h;
+  nul_free = read_everywhere nul_free_parts (λ l p. p.1) (λ c u. tt) (λ k u f. f) (λ ks d. tt) n sort b t env h;
+  options_ascend = read_everywhere ascending_parts (λ l p. p.2) (λ c u. tt) (λ k u f. tt) (λ ks d. tt) n sort b t env h;
+  subtypes_proper = read_everywhere proper_subtype_parts (λ l p. p.3) (λ c u. tt) (λ k u f. tt) (λ ks d. tt) n sort b t env h;
 }

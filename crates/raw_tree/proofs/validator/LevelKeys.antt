@@ -1,77 +1,51 @@
--- The keys of a level and one more behind them.
-use Rattle.std.proofs.Common.{◌≡◌, ◌≢◌, ◌∙◌, ◌+◌, ◌++◌, ◌∷◌, [], ℕ, List, Bool, true, false, true≢false, None, Some, length, decimal, arith, ap, refl, sym}
+-- The keys of a level, and canonical frames, with one more behind them.
+use Rattle.std.proofs.Common.{◌≡◌, ◌≢◌, ◌∙◌, ◌+◌, ◌++◌, ◌∷◌, [], ℕ, List, false, None, Some, length, decimal, arith, ap, refl, sym}
 use Rattle.std.proofs.lemmas.Cmp.{nat_list_eq_equiv}
-use Rattle.std.proofs.lemmas.Map.Keys.{IsDistinct-push}
-use Rattle.std.specs.List.{Contains, IsDistinct, AllByRecursion, list_any}
+use Rattle.std.proofs.lemmas.List.{get_or_append_left, get_or_at, length-append}
+use Rattle.std.proofs.lemmas.List.Folds.{list_any_none}
+use Rattle.std.proofs.lemmas.Map.Keys.{IsDistinct-push, IsDistinct-from_apart, apart_from_distinct}
 use Rattle.std.specs.Str.{bytes_eq}
 use denote.Ref.{Bor}
-use Rattle.raw_tree.specs.validator.Breaches.{BreachesKeys}
-use Rattle.raw_tree.specs.Canonical.{AreDecimalsFrom, AreKeysCanonical}
-use Rattle.raw_tree.specs.reader.Reading.{Sort, as_document, as_array}
+use Rattle.std.specs.List.{IsDistinct}
+use Rattle.raw_tree.proofs.Common.{list_any, AreFramesCanonical, Frame, IsValueCanonical, Means, RawValue, keys_of_frames, map-append, value, BreachesKeys, AreDecimalsFrom}
+use Rattle.raw_tree.proofs.Common.{AreKeysCanonical, Sort, as_document, as_array, texts, Cause}
 use Rattle.raw_tree.specs.validator.KeySets.{AddsKey}
 use Rattle.raw_tree.specs.validator.OpenKeys.{AddsOpenKey, HasKeysSoFar}
-use Rattle.raw_tree.specs.validator.References.{texts}
-use Rattle.raw_tree.specs.declared.validator.breach.Cause.{Cause}
-use Rattle.raw_tree.specs.declared.validator.breach.Cause.TheVariants as cause
 use Rattle.raw_tree.specs.declared.validator.key_set.KeySet.{KeySet}
 use Rattle.raw_tree.specs.declared.validator.keys_so_far.KeysSoFar.{KeysSoFar}
+use Rattle.raw_tree.proofs.validator.KeyPlaces.{place_where}
+use Rattle.raw_tree.specs.declared.validator.breach.Cause.TheVariants as cause
 use Rattle.raw_tree.specs.declared.validator.keys_so_far.KeysSoFar.TheVariants as keys
-use Rattle.raw_tree.proofs.validator.KeyPlaces.{absent_test, not_found, placed_nowhere, placed_within}
-
--- a test that fails
-pub differs : {P : Type 0} {test : Bool} → (P → test ≡ true) → test ≡ false → ¬ P
-differs e f holds = true≢false (sym (e holds) ∙ f)
 
 -- distinct keys in front of others, and behind others
-all_front : (x : List ℕ) (xs ys : List (List ℕ)) → AllByRecursion (λ y. bytes_eq x y ≡ false) (xs ++ ys) → AllByRecursion (λ y. bytes_eq x y ≡ false) xs
-all_front x [] ys h = tt
-all_front x (y ∷ xs) ys h = (h.0, all_front x xs ys h.1)
-
 pub distinct_front : (xs ys : List (List ℕ)) → IsDistinct bytes_eq (xs ++ ys) → IsDistinct bytes_eq xs
-unfolding IsDistinct
-distinct_front [] ys h = tt
-distinct_front (x ∷ xs) ys h = (all_front x xs ys h.0, distinct_front xs ys h.1)
-
-last_apart : (x : List ℕ) (xs : List (List ℕ)) (key : List ℕ) → AllByRecursion (λ y. bytes_eq x y ≡ false) (xs ++ key ∷ []) → bytes_eq x key ≡ false
-last_apart x [] key h = h.0
-last_apart x (y ∷ xs) key h = last_apart x xs key h.1
+distinct_front xs ys h =
+    IsDistinct-from_apart bytes_eq xs (λ i j d l m. grind (arith, apart_from_distinct bytes_eq (xs ++ ys) i j d h, get_or_append_left {A = List ℕ}, length-append {A = List ℕ}))
 
 pub distinct_apart : (xs : List (List ℕ)) (key : List ℕ) → IsDistinct bytes_eq (xs ++ key ∷ []) → list_any (bytes_eq key) xs ≡ false
-unfolding IsDistinct
-distinct_apart [] key h = refl
-distinct_apart (x ∷ xs) key h =
-    let apart : bytes_eq key x ≡ false = nat_list_eq_equiv.symm key x ∙ last_apart x xs key h.0 in
-    rw apart (distinct_apart xs key h.1)
+distinct_apart xs key h = list_any_none (bytes_eq key) xs (λ k d l.
+    let apart = apart_from_distinct bytes_eq (xs ++ key ∷ []) k (length xs) d h l in
+    grind (arith, apart, get_or_append_left xs (key ∷ []) d k l, get_or_at xs key [] d (length xs) refl, length-append xs (key ∷ []), nat_list_eq_equiv.symm))
 
 -- decimals in front of others, and behind others
-decimals_front : (n : ℕ) (xs ys : List (List ℕ)) → AreDecimalsFrom n (xs ++ ys) → AreDecimalsFrom n xs
-decimals_front n [] ys h = tt
-decimals_front n (x ∷ xs) ys h = (h.0, decimals_front (n + 1) xs ys h.1)
-
-decimals_last : (n : ℕ) (xs : List (List ℕ)) (key : List ℕ) → AreDecimalsFrom n (xs ++ key ∷ []) → key ≡ decimal (n + length xs)
-decimals_last n [] key h = h.0 ∙ ap decimal (omega arith)
-decimals_last n (x ∷ xs) key h = decimals_last (n + 1) xs key h.1 ∙ ap decimal (omega arith)
-
-decimals_more : (n : ℕ) (xs : List (List ℕ)) (key : List ℕ) → AreDecimalsFrom n xs → key ≡ decimal (n + length xs) → AreDecimalsFrom n (xs ++ key ∷ [])
-decimals_more n [] key h e = (e ∙ ap decimal (omega arith), tt)
-decimals_more n (x ∷ xs) key h e = (h.0, decimals_more (n + 1) xs key h.1 (e ∙ ap decimal (omega arith)))
+decimals_cut : (n : ℕ) (xs ys : List (List ℕ)) → (AreDecimalsFrom n (xs ++ ys) → AreDecimalsFrom n xs × AreDecimalsFrom (n + length xs) ys)
+    × (AreDecimalsFrom n xs × AreDecimalsFrom (n + length xs) ys → AreDecimalsFrom n (xs ++ ys))
+decimals_cut n [] ys = grind arith
+decimals_cut n (x ∷ xs) ys = grind (arith, decimals_cut (n + 1) xs ys)
 
 -- canonical keys have canonical keys in front
 pub keys_front : (sort : Sort) (xs ys : List (List ℕ)) → AreKeysCanonical sort (xs ++ ys) → AreKeysCanonical sort xs
 keys_front as_document xs ys h = distinct_front xs ys h
-keys_front as_array xs ys h = decimals_front 0 xs ys h
+keys_front as_array xs ys h = ((decimals_cut 0 xs ys).0 h).0
 
 -- a key that stays canonical behind these has no breach
 pub key_nor_breach : (sort : Sort) (keys : List (List ℕ)) (key : List ℕ) (why : Cause) → AreKeysCanonical sort (keys ++ key ∷ []) → BreachesKeys sort keys key why → ⊥
-key_nor_breach as_document keys key why h b = not_found keys key (distinct_apart keys key h) b.0
-key_nor_breach as_array keys key why h b = b.0 (decimals_last 0 keys key h ∙ ap decimal (omega arith))
+key_nor_breach as_document keys key why h b = grind (arith, place_where keys key, distinct_apart keys key h)
+key_nor_breach as_array keys key why h b = b.0 (((decimals_cut 0 keys (key ∷ [])).0 h).1.0 ∙ ap decimal (omega arith))
 
 -- one key more
-pub document_key : (keys : List (List ℕ)) (key : List ℕ) → IsDistinct bytes_eq keys → ¬ Contains keys key → IsDistinct bytes_eq (keys ++ key ∷ [])
-document_key keys key h new = IsDistinct-push nat_list_eq_equiv keys key h (absent_test keys key (list_any (bytes_eq key) keys) refl new)
-
 pub array_key : (keys : List (List ℕ)) (key : List ℕ) → AreDecimalsFrom 0 keys → key ≡ decimal (length keys) → AreDecimalsFrom 0 (keys ++ key ∷ [])
-array_key keys key h e = decimals_more 0 keys key h (e ∙ ap decimal (omega arith))
+array_key keys key h e = (decimals_cut 0 keys (key ∷ [])).1 (h, (e ∙ ap decimal (omega arith), tt))
 
 -- in an array, where the key is the decimal of its number, and where it isn't
 pub numbers_more : (refs : List (Bor (List ℕ))) (number : ℕ) (key : List ℕ) → key ≡ decimal number → AddsOpenKey keys.Numbers refs number key keys.Numbers refs None
@@ -85,12 +59,24 @@ module _ (old new : KeySet) (refs after : List (Bor (List ℕ))) (number : ℕ) 
   pub distinct_more : AddsKey old refs key new after None → AddsOpenKey (keys.Distinct old) refs number key (keys.Distinct new) after None
   distinct_more adds sort below own has canonical n =
       let told = adds below own has.1 in
-      ((has.0, told.keys), rw has.0 (document_key own key (rw has.0 at canonical) (placed_nowhere own key (sym told.place_is))))
+      ((has.0, told.keys), rw has.0 (IsDistinct-push nat_list_eq_equiv own key (rw has.0 at canonical) (grind (arith, place_where own key, told.place_is))))
 
   pub distinct_breach : (place : ℕ) → AddsKey old refs key new after (Some place) → AddsOpenKey (keys.Distinct old) refs number key (keys.Distinct new) after (Some cause.RepeatedKey)
-  distinct_breach place adds sort below own has canonical n = rw has.0 (placed_within own key place (sym (adds below own has.1).place_is), refl)
+  distinct_breach place adds sort below own has canonical n = rw has.0 (grind (arith, place_where own key, (adds below own has.1).place_is), refl)
 
 -- the keys of a level depend on the texts alone
 pub keys_on : (k : KeysSoFar) (refs others : List (Bor (List ℕ))) (sort : Sort) (below own : List (List ℕ)) → HasKeysSoFar k refs sort below own
     → texts others ≡ texts refs → HasKeysSoFar k others sort below own
 keys_on k refs others sort below own h e = grind arith
+
+-- before any frame the keys are canonical
+pub no_keys : (sort : Sort) → AreKeysCanonical sort []
+unfolding IsDistinct
+no_keys sort = grind arith
+
+pub keys_more : (fs : List Frame) (f : Frame) → keys_of_frames (fs ++ f ∷ []) ≡ keys_of_frames fs ++ f.key ∷ []
+keys_more fs f = map-append (λ (g : Frame). g.key) fs (f ∷ [])
+
+pub frames_more : (N : Sort → List ℕ → Type 0) (fs : List Frame) (f : Frame) (v : RawValue) → AreFramesCanonical N fs → Means f (value v) → IsValueCanonical N v → AreFramesCanonical N (fs ++ f ∷ [])
+frames_more N [] f v h m c = (v, m, c, tt)
+frames_more N (g ∷ fs) f v h m c = (h.0, h.1, h.2, frames_more N fs f v h.3 m c)

@@ -1,111 +1,90 @@
 -- A document has one violation at most within a depth, at one place, and none where it is canonical.
-use Rattle.std.proofs.Common.{◌≡◌, inl, inr, ◌++◌, ◌∷◌, [], ℕ, zero, suc, List, Option, None, Some, length, drop, ap, refl, sym, ◌∙◌, append_assoc, arith}
-use Rattle.raw_tree.proofs.Common.{AreFramesCanonical, AreKeysCanonical, BreachesKeys, Cause, Fault, Frame, IsCanonicalUpTo, IsStop, IsValueCanonical, Limits, Meaning, Means, RawValue, Sort}
-use Rattle.raw_tree.proofs.Common.{as_array, as_document, faulty, keys_of_frames, map-append, value}
-use Rattle.raw_tree.proofs.walk.Common.{AllAreValidatedOneWayWithin, FirstViolationTo, IsLastStep, ValidatesFrameAt, ValidatesMeaningAt, Step, Violation, breach_of}
-use Rattle.raw_view.specs.Meaning as raw
-use Rattle.raw_view.proofs.Face.{one_meaning}
-use Rattle.raw_tree.specs.declared.validator.breach.Cause.TheVariants as cause
+use Rattle.std.proofs.Common.{◌≡◌, inl, inr, ◌++◌, ◌∷◌, [], ℕ, zero, suc, List, length, drop, sym, ◌∙◌, append_assoc, arith}
+use Rattle.raw_tree.proofs.Common.{AreFramesCanonical, AreKeysCanonical, BreachesKeys, Cause, Frame, IsCanonicalUpTo, IsValueCanonical, Limits, Meaning, Means, RawValue, Sort}
+use Rattle.raw_tree.proofs.Common.{as_document, keys_of_frames, map-append, value}
+use Rattle.raw_tree.proofs.walk.Common.{AllAreValidatedOneWayWithin, FirstViolationTo, ValidatesFrameAt, ValidatesFrontAt, ValidatesMeaningAt, Step, Violation}
+use Rattle.raw_view.proofs.Face.{no_frame_at_final, no_frame_at_stop, no_stop_at_final, one_frame, one_meaning}
 use Rattle.raw_tree.proofs.validator.LevelKeys.{keys_front, key_nor_breach}
-use Rattle.raw_tree.proofs.walk.OneEnd.{IsEnd, nor_both, one_end, one_some, walk_leads}
-use Rattle.raw_tree.proofs.walk.OnePlace.{Placed, one_inside, one_last}
+use Rattle.raw_tree.proofs.walk.OneEnd.{IsBlocked, passed_once, passed_whole}
 
 -- frames whose keys and values are canonical
 abbrev pub AreCanonical : (Sort → List ℕ → Type 0) → Sort → List Frame → Type 0
 AreCanonical P sort fs = AreKeysCanonical sort (keys_of_frames fs) × AreFramesCanonical P fs
 
 -- one among them is canonical, and its key behind those before it
-pub record IsAmong (P : Sort → List ℕ → Type 0) (sort : Sort) (ps : List Frame) (f : Frame) : Type 0 where
-  pub v : RawValue
-  pub means : Means f (value v)
-  pub canonical : IsValueCanonical P v
-  pub key : AreKeysCanonical sort (keys_of_frames ps ++ f.key ∷ [])
-
 frame_among : (P : Sort → List ℕ → Type 0) (ps : List Frame) (f : Frame) (more : List Frame) → AreFramesCanonical P (ps ++ f ∷ more)
     → (v : RawValue) × Means f (value v) × IsValueCanonical P v
 frame_among P [] f more h = (h.0, h.1, h.2)
 frame_among P (g ∷ ps) f more h = frame_among P ps f more h.3
 
-pub among : (P : Sort → List ℕ → Type 0) (sort : Sort) (ps : List Frame) (f : Frame) (more : List Frame) → AreCanonical P sort (ps ++ f ∷ more) → IsAmong P sort ps f
+pub among : (P : Sort → List ℕ → Type 0) (sort : Sort) (ps : List Frame) (f : Frame) (more : List Frame) → AreCanonical P sort (ps ++ f ∷ more)
+    → AreKeysCanonical sort (keys_of_frames ps ++ f.key ∷ []) × (v : RawValue) × Means f (value v) × IsValueCanonical P v
 among P sort ps f more h =
-    let v = frame_among P ps f more h.1 in
     let keys = rw (map-append (λ (x : Frame). x.key) ps (f ∷ more), ← append_assoc (keys_of_frames ps) (f.key ∷ []) (keys_of_frames more)) at h.0 in
-    record { v = v.0; means = v.1; canonical = v.2; key = keys_front sort (keys_of_frames ps ++ f.key ∷ []) (keys_of_frames more) keys }
+    let v = frame_among P ps f more h.1 in
+    (keys_front sort (keys_of_frames ps ++ f.key ∷ []) (keys_of_frames more) keys, v.0, v.1, v.2)
 
 pub one_of_keys : (sort : Sort) (keys : List (List ℕ)) (key : List ℕ) (why other : Cause) → BreachesKeys sort keys key why → BreachesKeys sort keys key other → other ≡ why
 one_of_keys sort keys key why other h g = grind arith
 
--- bytes are canonical to a depth, or have this violation
-abbrev Tells : ℕ → Sort → List ℕ → Option (Placed Violation) → Type 0
-Tells n sort b None = IsCanonicalUpTo n sort b
-Tells n sort b (Some a) = FirstViolationTo n sort b a.what a.path a.offset
+-- no bytes that have a violation within so many levels are canonical
+abbrev AreApart : ℕ → Type 0
+AreApart n = (sort : Sort) (b : List ℕ) (x : Violation) (path : List Step) (offset : ℕ) → FirstViolationTo n sort b x path offset → IsCanonicalUpTo n sort b → ⊥
 
-module _ (n : ℕ) (one : (sort : Sort) (d : List ℕ) (x y : Option (Placed Violation)) → Tells n sort d x → Tells n sort d y → y ≡ x) (sort : Sort) (b : List ℕ) where
-  apart : (of : Sort) (d : List ℕ) (x : Violation) (path : List Step) (offset : ℕ) → FirstViolationTo n of d x path offset → ¬ IsCanonicalUpTo n of d
-  apart of d x path offset h c = nor_both (Tells n of d) (Tells n of d) (one of d) (record { what = x; path = path; offset = offset }) h c
+module _ (n : ℕ) (b : List ℕ) where
+  -- behind these frames
+  abbrev Front : Sort → List Frame → List ℕ → Violation → List Step → ℕ → Type 0
+  Front sort ps s x path offset = ValidatesFrontAt (IsCanonicalUpTo n) (FirstViolationTo n) sort (keys_of_frames ps) b s (length ps) x path offset
 
-  one_nested : (of : Sort) (d : List ℕ) (x y : Placed Violation) → FirstViolationTo n of d x.what x.path x.offset → FirstViolationTo n of d y.what y.path y.offset → y ≡ x
-  one_nested of d x y h g = one_some (Tells n of d) (Tells n of d) (one of d) x y h g
+  final : (sort : Sort) (ps : List Frame) (s : List ℕ) (x : Violation) (path : List Step) (offset : ℕ) → s ≡ 0 ∷ [] → Front sort ps s x path offset → ⊥
+  final sort ps s x path offset e h = grind (arith, no_frame_at_final, no_stop_at_final)
 
-  module _ (s : List ℕ) (step : Step) (q : List ℕ) where
-    value_nor : (v : RawValue) (a : Placed Violation) → IsValueCanonical (IsCanonicalUpTo n) v
-        → ValidatesMeaningAt (IsCanonicalUpTo n) (FirstViolationTo n) b s step q (value v) a.what a.path a.offset → ⊥
-    value_nor v a c h = grind (arith, apart)
+  module _ (apart : AreApart n) where
+    value_nor : (s : List ℕ) (step : Step) (q : List ℕ) (v : RawValue) (x : Violation) (path : List Step) (offset : ℕ)
+        → ValidatesMeaningAt (IsCanonicalUpTo n) (FirstViolationTo n) b s step q (value v) x path offset → IsValueCanonical (IsCanonicalUpTo n) v → ⊥
+    value_nor s step q v x path offset h c = grind (arith, apart)
 
-    one_meant : (m : Meaning) (a c : Placed Violation) → ValidatesMeaningAt (IsCanonicalUpTo n) (FirstViolationTo n) b s step q m a.what a.path a.offset
-        → ValidatesMeaningAt (IsCanonicalUpTo n) (FirstViolationTo n) b s step q m c.what c.path c.offset → c ≡ a
-    one_meant (faulty fault) a c h g = one_last b s step a c (g.0 ∙ sym h.0) h.1 g.1
-    one_meant (value (raw.single l)) a c h g = one_last b s step a c (g.1 ∙ sym h.1) h.2 g.2
-    one_meant (value (raw.document d)) a c h g = one_inside b s step (λ p. FirstViolationTo n as_document d p.what p.path p.offset) d q a c (one_nested as_document d) h g
-    one_meant (value (raw.array d)) a c h g = one_inside b s step (λ p. FirstViolationTo n as_array d p.what p.path p.offset) d q a c (one_nested as_array d) h g
-    one_meant (value (raw.scoped code d)) a c h g = one_inside b s step (λ p. FirstViolationTo n as_document d p.what p.path p.offset) d q a c (one_nested as_document d) h g
+    blocks : (sort : Sort) (ps : List Frame) (s : List ℕ) (x : Violation) (path : List Step) (offset : ℕ) → Front sort ps s x path offset → IsBlocked (AreCanonical (IsCanonicalUpTo n) sort) ps s
+    blocks sort ps s x path offset (inl stop) f r more at c = no_frame_at_stop s stop.0 stop.1 stop.2 f r at
+    blocks sort ps s x path offset (inr (g, q, here, h)) f r more at c =
+        let (key, v, means, canonical) = among (IsCanonicalUpTo n) sort ps f more c in
+        let same = (one_frame s g f q r here at).0 in
+        grind (arith, same, h, key, key_nor_breach, λ (m : Meaning) (also : Means f m). one_meaning f m (value v) also means, value_nor, canonical)
 
-  abbrev Stop : List Frame → List ℕ → Placed Violation → Type 0
-  Stop ps s a = (fault : Fault) × (key : Option (List ℕ)) × IsStop s fault key × (a.what ≡ breach_of cause.Stop) × IsLastStep b s (record { number = length ps; key = None }) a.path a.offset
+apart : (n : ℕ) → AreApart n
+apart zero sort b x path offset h c = absurd c
+apart (suc n) sort b x path offset (ps, s, leads, keys, values, front) (frames, walk, frame_keys, all) =
+    let blocked = blocks n b (apart n) sort ps s x path offset front in
+    let end = passed_whole (AreCanonical (IsCanonicalUpTo n) sort) (drop 4 b) frames ps s walk (frame_keys, all) leads (keys, values) blocked in
+    final n b sort ps s x path offset end front
 
-  abbrev InFrame : List Frame → List ℕ → Frame → List ℕ → Placed Violation → Type 0
-  InFrame ps s f q a = ValidatesFrameAt (IsCanonicalUpTo n) (FirstViolationTo n) sort (keys_of_frames ps) b s (record { number = length ps; key = Some f.key }) f q a.what a.path a.offset
+-- two violations are one, at one place
+abbrev AreOne : ℕ → Type 0
+AreOne n = (sort : Sort) (b : List ℕ) (x y : Violation) (path other : List Step) (offset at : ℕ) → FirstViolationTo n sort b x path offset → FirstViolationTo n sort b y other at
+    → (y ≡ x) × (other ≡ path) × (at ≡ offset)
 
-  one_of_frame : (ps : List Frame) (s : List ℕ) (f : Frame) (q : List ℕ) (a c : Placed Violation) → InFrame ps s f q a → InFrame ps s f q c → c ≡ a
-  one_of_frame ps s f q a c (inl x) (inl y) =
-      one_last b s (record { number = length ps; key = Some f.key }) a c (y.2 ∙ ap breach_of (one_of_keys sort (keys_of_frames ps) f.key x.0 y.0 x.1 y.1) ∙ sym x.2) x.3 y.3
-  one_of_frame ps s f q a c (inl x) (inr y) = absurd (key_nor_breach sort (keys_of_frames ps) f.key x.0 y.0 x.1)
-  one_of_frame ps s f q a c (inr x) (inl y) = absurd (key_nor_breach sort (keys_of_frames ps) f.key y.0 x.0 y.1)
-  one_of_frame ps s f q a c (inr x) (inr y) = one_meant s _ q x.1 a c x.3 (rw (one_meaning f y.1 x.1 y.2 x.2) at y.3)
+module _ (n : ℕ) (one : AreOne n) (b s : List ℕ) {x y : Violation} {path other : List Step} {offset at : ℕ} where
+  one_of_frame : (sort : Sort) (keys : List (List ℕ)) (step : Step) (f : Frame) (q : List ℕ) → ValidatesFrameAt (IsCanonicalUpTo n) (FirstViolationTo n) sort keys b s step f q x path offset
+      → ValidatesFrameAt (IsCanonicalUpTo n) (FirstViolationTo n) sort keys b s step f q y other at → (y ≡ x) × (other ≡ path) × (at ≡ offset)
+  one_of_frame sort keys step f q h g = grind (arith, key_nor_breach, one_meaning, one_of_keys, one)
 
-  none : (ps : List Frame) (s : List ℕ) (f : Frame) (q : List ℕ) (a : Placed Violation) (more : List Frame) → InFrame ps s f q a
-      → ¬ AreCanonical (IsCanonicalUpTo n) sort (ps ++ f ∷ more)
-  none ps s f q a more h c =
-      let is : IsAmong (IsCanonicalUpTo n) sort ps f = among (IsCanonicalUpTo n) sort ps f more c in
-      elim h [
-        | inl key ↦ key_nor_breach sort (keys_of_frames ps) f.key key.0 is.key key.1
-        | inr meant ↦ value_nor s (record { number = length ps; key = Some f.key }) q is.v a is.canonical (rw (one_meaning f meant.1 (value is.v) meant.2 is.means) at meant.3)
-      ]
+  one_of_front : (sort : Sort) (ps : List Frame) → Front n b sort ps s x path offset → Front n b sort ps s y other at → (y ≡ x) × (other ≡ path) × (at ≡ offset)
+  one_of_front sort ps (inl h) (inl g) = (g.3 ∙ sym h.3, g.4.0 ∙ sym h.4.0, omega (arith, h.4.1, g.4.1))
+  one_of_front sort ps (inl h) (inr g) = absurd (no_frame_at_stop s h.0 h.1 h.2 g.0 g.1 g.2)
+  one_of_front sort ps (inr h) (inl g) = absurd (no_frame_at_stop s g.0 g.1 g.2 h.0 h.1 h.2)
+  one_of_front sort ps (inr (f, q, at, h)) (inr (g, r, here, k)) =
+      let same = one_frame s g f r q here at in
+      one_of_frame sort (keys_of_frames ps) _ f q h (rw (same.0, same.1) at k)
 
-  ends_of : (x : Option (Placed Violation)) → Tells (suc n) sort b x → IsEnd (AreCanonical (IsCanonicalUpTo n) sort) Stop InFrame (drop 4 b) x
-  ends_of None h = record { passed = h.0; rest = 0 ∷ []; reaches = walk_leads (drop 4 b) h.0 h.1; are = (h.2, h.3); ends = refl }
-  ends_of (Some a) h = record { passed = h.0; rest = h.1; reaches = h.2; are = (h.3, h.4); ends = h.5 }
-
-  one_deeper : (x y : Option (Placed Violation)) → Tells (suc n) sort b x → Tells (suc n) sort b y → y ≡ x
-  one_deeper x y h g = one_end (record {
-    stops = λ ps s a stop. (stop.0, stop.1, stop.2);
-    one_stop = λ ps s a c h g. one_last b s (record { number = length ps; key = None }) a c (g.3 ∙ sym h.3) h.4 g.4;
-    none = none;
-    none_other = none;
-    one_there = one_of_frame;
-  }) (drop 4 b) x y (ends_of x h) (ends_of y g)
-
-one_violation : (n : ℕ) (sort : Sort) (b : List ℕ) (x y : Option (Placed Violation)) → Tells n sort b x → Tells n sort b y → y ≡ x
-one_violation zero sort b None y h g = absurd h
-one_violation zero sort b (Some a) None h g = absurd g
-one_violation zero sort b (Some a) (Some c) h g = λ i. Some (record { what = (g.0 ∙ sym h.0) i; path = (g.1 ∙ sym h.1) i; offset = (g.2 ∙ sym h.2) i })
-one_violation (suc n) sort b x y h g = one_deeper n (one_violation n) sort b x y h g
+one_violation : (n : ℕ) → AreOne n
+one_violation zero sort b x y path other offset at h g = (g.0 ∙ sym h.0, g.1 ∙ sym h.1, g.2 ∙ sym h.2)
+one_violation (suc n) sort b x y path other offset at (ps, s, leads, keys, values, front) (qs, t, to, others, canonical, ahead) =
+    let same = passed_once (AreCanonical (IsCanonicalUpTo n) sort) (drop 4 b) ps qs s t leads (keys, values) (blocks n b (apart n) sort ps s x path offset front)
+    to (others, canonical) (blocks n b (apart n) sort qs t y other at ahead) in
+    one_of_front n (one_violation n) b s sort ps front (rw (same.0, same.1) at ahead)
 
 pub validated_one_way : (limits : Limits) → AllAreValidatedOneWayWithin limits
 validated_one_way limits b = record {
-  not_both = λ x path offset h c. apart limits.depth (one_violation limits.depth) as_document b as_document b x path offset h.1 c.1;
-  one_violation = λ x other path other_path offset other_offset h g.
-      let same = one_nested limits.depth (one_violation limits.depth) as_document b as_document b (record { what = x; path = path; offset = offset })
-      (record { what = other; path = other_path; offset = other_offset }) h.1 g.1 in
-      (ap (λ (p : Placed Violation). p.what) same, ap (λ (p : Placed Violation). p.path) same, ap (λ (p : Placed Violation). p.offset) same);
+  not_both = λ x path offset h c. apart limits.depth as_document b x path offset h.1 c.1;
+  one_violation = λ x other path other_path offset at h g. one_violation limits.depth as_document b x other path other_path offset at h.1 g.1;
 }

@@ -1,7 +1,6 @@
 -- The texts of references, and what holds of each key.
-use Rattle.std.proofs.Common.{inl, inr, ◌<◌, ◌≤◌, ◌≡◌, ◌+◌, ◌++◌, ◌∷◌, [], ℕ, List, Bor, length, drop, take, get_or, ap, sym, subst, ◌∙◌}
-use Rattle.std.proofs.Math.Seq.{drop-append_seam, take-append_seam}
-use Rattle.std.proofs.lemmas.List.{drop-map, length-map, map-append, take-map, take_more, take_all}
+use Rattle.std.proofs.Common.{arith, ◌<◌, ◌≤◌, ◌≡◌, ◌+◌, ◌++◌, ◌∷◌, [], ℕ, List, Bor, length, drop, take, get_or, ap, sym, ◌∙◌}
+use Rattle.std.proofs.lemmas.List.{drop-map, drop_at, take_at, length-map, map-append, take-map, take_more, take_all}
 use Rattle.std.proofs.lemmas.List.Elements.{Contains-push_cases}
 use Rattle.std.specs.List.{Contains}
 use Rattle.raw_tree.specs.validator.References.{texts}
@@ -10,12 +9,10 @@ pub length_texts : (refs : List (Bor (List ℕ))) → length (texts refs) ≡ le
 length_texts refs = length-map refs (λ (k : Bor (List ℕ)). k.now)
 
 pub texts_behind : (refs : List (Bor (List ℕ))) (below own : List (List ℕ)) (first : ℕ) → first ≡ length below → texts refs ≡ below ++ own → texts (drop first refs) ≡ own
-texts_behind refs below own first f e =
-    sym (drop-map (λ (k : Bor (List ℕ)). k.now) first refs) ∙ ap (λ (xs : List (List ℕ)). drop first xs) e ∙ ap (λ (n : ℕ). drop n (below ++ own)) f ∙ drop-append_seam below own
+texts_behind refs below own first f e = rw (← drop-map (λ (k : Bor (List ℕ)). k.now) first refs, e) (drop_at below own first (sym f))
 
 pub texts_front : (refs : List (Bor (List ℕ))) (below own : List (List ℕ)) (first : ℕ) → first ≡ length below → texts refs ≡ below ++ own → texts (take first refs) ≡ below
-texts_front refs below own first f e =
-    sym (take-map (λ (k : Bor (List ℕ)). k.now) first refs) ∙ ap (λ (xs : List (List ℕ)). take first xs) e ∙ ap (λ (n : ℕ). take n (below ++ own)) f ∙ take-append_seam below own
+texts_front refs below own first f e = rw (← take-map (λ (k : Bor (List ℕ)). k.now) first refs, e) (take_at below own first (sym f))
 
 pub texts_push : (refs : List (Bor (List ℕ))) (key : Bor (List ℕ)) {after : List (Bor (List ℕ))} → after ≡ refs ++ key ∷ [] → texts after ≡ texts refs ++ key.now ∷ []
 texts_push refs key e = ap texts e ∙ map-append (λ (k : Bor (List ℕ)). k.now) refs (key ∷ [])
@@ -29,11 +26,7 @@ texts_all refs i l = ap texts (take_all i refs l)
 -- what holds of each key, with one more
 pub each_more : (P Q : List ℕ → Type 0) (keys : List (List ℕ)) (key : List ℕ) → ((k : List ℕ) → Contains keys k → P k) → ((k : List ℕ) → P k → Q k) → Q key
     → (k : List ℕ) → Contains (keys ++ key ∷ []) k → Q k
-each_more P Q keys key h kept here k c =
-    elim (Contains-push_cases keys key k c) [
-      | inl d ↦ kept k (h k d)
-      | inr e ↦ subst Q e here
-    ]
+each_more P Q keys key h kept here k c = grind (arith, Contains-push_cases keys key k c, h k, kept k, here)
 
 -- and with the next of references
 pub each_next : (P Q : List ℕ → Type 0) (refs : List (Bor (List ℕ))) (i : ℕ) (d : Bor (List ℕ)) → i < length refs → ((k : List ℕ) → Contains (texts (take i refs)) k → P k)

@@ -1,188 +1,159 @@
 -- What the loop of a validation keeps, and what it tells where it ends.
-use Rattle.std.proofs.Common.{◌≡◌, ◌∙◌, ◌≤◌, ◌<◌, ◌+◌, ◌-◌, ◌++◌, ◌∷◌, [], ℕ, suc, List, Bool, Bor, Option, Some, map, length, drop, arith, ap, refl, sym, subst, length-append, length-drop}
-use Rattle.std.proofs.lemmas.List.{same_from_push}
-use Rattle.raw_tree.proofs.Common.{Cause, IsCanonicalUpTo, RawElement, RawValue, as_document, bytes_of, frame_of, keys_of_frames, left_of, texts}
-use Rattle.raw_tree.proofs.walk.Common.{AreLinked, AreOpenKeys, FirstViolationTo, HasKeysSoFar, HoldsNone, IsAt, IsOpened, IsSingleWith, IsWalking, Validated, Validates, KeysSoFar, LeavesOpenKeys, Level, Looks}
-use Rattle.raw_tree.proofs.walk.Common.{RawDocument, Step, StoreEach, Violation, Wait, Walk, array_sort, breach_of, option_copied, size_of, step_at}
-use Rattle.raw_view.proofs.Face.{LeadsTo-bound}
+use Rattle.std.proofs.Common.{◌≡◌, ◌∙◌, ◌≤◌, ◌<◌, ◌+◌, ◌-◌, ◌++◌, ◌∷◌, [], inr, ℕ, suc, List, Bool, Bor, Option, Some, length, arith, ap, refl, sym, subst}
+use Rattle.raw_tree.proofs.Common.{AreKeysCanonical, Cause, Frame, Holds, HoldsAs, IsCanonicalUpTo, RawElement, RawValue, as_document, bytes_of, frame_of, keys_of_frames, length-map, texts, value}
+use Rattle.raw_tree.proofs.walk.Common.{AreOpenKeys, BeginsAt, Enters, FirstViolationTo, GoesOn, HasKeysSoFar, IsAt, IsWithin, KeysSoFar, Leaves, LeavesOpenKeys, Level, RawDocument, Step, TellsValidated, Validated, Validates, ValidatesFrontAt}
+use Rattle.raw_tree.proofs.walk.Common.{Violation, Waiting, Walk, array_sort, breach_of, level_behind, option_copied, size_of, whole_span, with_left}
 use Rattle.raw_tree.specs.validator.Violations.{too_deep}
 use Rattle.raw_tree.specs.declared.validator.step.Validated.TheVariants as validated
-use Rattle.raw_tree.specs.walk.Aheads.{Ahead}
-use Rattle.raw_tree.specs.walk.Aheads as next
-use Rattle.raw_tree.proofs.validator.ValidatedLevels.{IsHeld, IsInFront, IsTold, IsValidated, IsValidatedThere, Keyed, begun, held_validated, numbered, passed_breach, passed_deep, passed_end, passed_inside, passed_whole, resumed, whole_keyed}
-use Rattle.raw_tree.proofs.walk.Levels.{at_inside, at_inside_size, at_whole, at_whole_size, waiting_then}
-use Rattle.raw_tree.proofs.walk.Linked.{IsOutward, last_link, none_linked, outward}
-use Rattle.raw_tree.proofs.walk.Passed.{as_held}
+use Rattle.raw_tree.proofs.validator.LevelKeys.{keys_on}
+use Rattle.raw_tree.proofs.validator.ValidatedLevels.{IsKept, IsValidated, all_validated, breach_front, inside_at, left_validated, none_kept, none_validated, validated_more, violations_outward, whole_keyed}
+use Rattle.raw_tree.proofs.walk.Levels.{IsNext, at_goes_on, at_inside, at_outside, at_path, at_resumed, at_whole, front_outward, at_within, inside_fits, next_ends, next_within, none_inside, resumed_further}
 
--- the levels are those that first faults are looked for in; and the innermost validates some bytes, for which the others wait,
--- with their keys
-pub record IsValidatedAt (depth : ℕ) (b : List ℕ) (ws : List Wait) (ks : List KeysSoFar) (listed : List (Bor (List ℕ))) (left : Option (List ℕ)) (number offset start : ℕ)
-    (k : KeysSoFar) : Type 0 where
-  pub at : IsAt depth b ws left number offset start
-  pub inside : ℕ
-  pub many : ℕ
-  pub here : Keyed
-  pub outer_is : here.outer ≡ ks
-  pub as_many : length ws ≡ length ks
-  pub held : AreLinked IsHeld many inside (whole_keyed b) ws here
-  pub is : IsValidated inside here listed left number k
-  pub levels : suc (length ws + inside) ≡ depth
-  pub begins : offset + left_of left ≡ here.span.end
+as_held : (v : RawValue) (is_array : Bool) (inner : RawDocument) → HoldsAs v (array_sort is_array) (bytes_of inner) → Holds v (bytes_of inner)
+as_held v is_array inner h = grind arith
 
--- what is validated is ahead of a level
-abbrev pub IsAhead : (Ahead → Type 0) → Validated → Type 0
-IsAhead P (validated.Whole e) = P (next.Whole e)
-IsAhead P (validated.Inside e inner is_array) = P (next.Inside e inner)
-IsAhead P validated.End = P next.End
-IsAhead P (validated.Breach key why) = Unit {0}
+-- a walk over this document within this depth is in a level; its keys so far, and those of the levels that wait
+pub record IsValidatedAt (document : RawDocument) (depth : ℕ) (walk : Walk) (level : Level) (outer : List KeysSoFar) (listed : List (Bor (List ℕ))) (k : KeysSoFar) : Type 0 where
+  pub most : ℕ
+  pub at : IsAt IsKept (IsValidated outer listed k) whole_keyed document most walk level
+  pub depth_is : suc most ≡ depth
 
-holds_none : (v : RawValue) → IsSingleWith (λ A. A) v → HoldsNone v
-holds_none v h d k = grind arith
-
-pub validated_begin : {depth : ℕ} {b : List ℕ} {left : Option (List ℕ)} {number offset start : ℕ} (most : ℕ) (ks : List KeysSoFar) (listed : List (Bor (List ℕ)))
-    (k : KeysSoFar) → IsAt depth b [] left number offset start → suc most ≡ depth → ks ≡ [] → listed ≡ []
-    → left ≡ Some (drop 4 b) → number ≡ 0 → offset + length (drop 4 b) ≡ length b → HasKeysSoFar k listed as_document (texts listed) []
-    → IsValidatedAt depth b [] ks listed left number offset start k
-validated_begin {b = b} {left = left} {number = number} most ks listed k at whole no_keys empty e first begins has =
-    record {
-      at = at;
-      inside = most;
-      many = 0;
-      here = whole_keyed b;
-      outer_is = sym no_keys;
-      as_many = omega (arith, ap length no_keys);
-      held = (refl, refl);
-      is = begun most (whole_keyed b) listed left number k e first (subst (λ (below : List (List ℕ)). HasKeysSoFar k listed as_document below []) (ap texts empty) has);
-      levels = omega (arith, whole);
-      begins = rw e begins;
-    }
-
-module _ {depth : ℕ} {b : List ℕ} {ws : List Wait} {ks : List KeysSoFar} {listed : List (Bor (List ℕ))} {left : Option (List ℕ)} {number offset start : ℕ}
-    {k : KeysSoFar} (at : IsValidatedAt depth b ws ks listed left number offset start k) where
+module _ {document : RawDocument} {depth : ℕ} {walk : Walk} {level : Level} {outer : List KeysSoFar} {listed : List (Bor (List ℕ))} {k : KeysSoFar}
+    (is : IsValidatedAt document depth walk level outer listed k) where
   pub open_keys : AreOpenKeys k listed
-  open_keys = (at.here.span.sort, at.here.below, keys_of_frames at.is.frames, at.is.keys, at.is.keys_canonical)
+  open_keys = (is.at.levels.here.known.sort, is.at.levels.here.known.below, keys_of_frames is.at.frames, is.at.knows.keys, is.at.knows.keys_canonical)
 
-  -- what is told of this level
-  pub told : (new : Option (List ℕ)) (i : KeysSoFar) (after : List (Bor (List ℕ))) (answer : Validated) → Validates left k listed number new i after answer → IsTold at.is new i after answer
-  told new i after answer validates = record {
-    tells = subst (λ (x : Option (List ℕ)). Validates x k listed number new i after answer) at.is.left_is validates at.here.span.sort at.here.below
-        (keys_of_frames at.is.frames) at.is.keys at.is.keys_canonical (numbered at.is);
+  -- what is told of what is next in the level, which goes on with these keys
+  pub record IsTold (new : Option (List ℕ)) (ks : KeysSoFar) (after : List (Bor (List ℕ))) (x : Validated) : Type 0 where
+    pub tells : TellsValidated is.at.levels.here.known.sort is.at.levels.here.known.below (keys_of_frames is.at.frames) is.at.rest new ks after x
+
+  pub told : {new : Option (List ℕ)} {ks : KeysSoFar} {after : List (Bor (List ℕ))} {x : Validated} → Validates level.elements k listed level.number new ks after x → IsTold new ks after x
+  told {new} {ks} {after} {x} validates = record {
+    tells = subst (λ (left : Option (List ℕ)). Validates left k listed level.number new ks after x) is.at.left_is validates is.at.levels.here.known.sort is.at.levels.here.known.below
+        (keys_of_frames is.at.frames) is.at.knows.keys is.at.knows.keys_canonical (is.at.number_is ∙ sym (length-map is.at.frames (λ (f : Frame). f.key)));
   }
 
-  -- a violation in front of what is left of the innermost level is that on b, at the offset of what is left
-  front_outward : (x : Violation) (step : Step) → IsInFront at.inside at.here.span left x step → FirstViolationTo depth as_document b x (map step_at ws ++ step ∷ []) offset
-  front_outward x step validates =
-      let there : length at.here.span.bytes - left_of left + left_of left ≡ length at.here.span.bytes = omega (arith, ends) in
-      let told : IsOutward IsHeld (IsValidatedThere x offset) step_at = record { out = held_validated x offset } in
-      let (u, is, far) = outward told at.many at.inside depth (whole_keyed b) ws at.here step [] at.levels at.held
-      (length at.here.span.bytes - left_of left, validates (length at.here.span.bytes - left_of left) there, omega (arith, there, at.begins)) in
-      let same : offset ≡ u = omega (arith, far) in
-      rw same is
-    where
-      ends : left_of left ≤ length at.here.span.bytes
-      ends = rw (at.is.left_is) (omega (arith, LeadsTo-bound (drop 4 at.here.span.bytes) at.is.frames at.is.rest at.is.reaches, length-drop 4 at.here.span.bytes))
+  -- a violation in front of what is left of the level is the document's first
+  front_violates : (x : Violation) (step : Step)
+      → ((here : ℕ) → BeginsAt is.at.levels.here.bytes is.at.rest here → ValidatesFrontAt (IsCanonicalUpTo is.at.levels.inside) (FirstViolationTo is.at.levels.inside)
+      is.at.levels.here.known.sort (keys_of_frames is.at.frames) is.at.levels.here.bytes is.at.rest level.number x (step ∷ []) here)
+      → FirstViolationTo depth as_document (bytes_of document) x (at_path is.at ++ step ∷ []) level.offset
+  front_violates x step front =
+      let at = is.at in
+      rw (← is.depth_is) (front_outward at (violations_outward (bytes_of document) x) step (λ here begins.
+      (at.frames, at.rest, at.reaches, at.knows.keys_canonical, at.knows.canonical, rw (at.number_is) at (front here begins))))
 
-  module _ {new : Option (List ℕ)} {i : KeysSoFar} {after : List (Bor (List ℕ))} where
-    pub looks : (answer : Validated) → IsTold at.is new i after answer → IsAhead (Looks left new) answer
-    looks (validated.Whole e) h = let (r, v, frame, m, new_is, has, more, single) = h.tells in rw (at.is.left_is) (r, v, frame, m, holds_none v single, new_is)
-    looks (validated.Inside e inner is_array) h =
-        let (r, v, frame, m, new_is, has, more, holds) = h.tells in
-        rw (at.is.left_is) (r, v, frame, m, as_held v (array_sort is_array) (bytes_of inner) holds, new_is)
-    looks validated.End h = rw (at.is.left_is) (h.tells.0)
-    looks (validated.Breach key why) h = tt
+  -- it goes on so, further on
+  abbrev pub GoesFurther : Walk → Level → List KeysSoFar → List (Bor (List ℕ)) → KeysSoFar → Type 0
+  GoesFurther new to outer listed k = IsValidatedAt document depth new to outer listed k × (length (bytes_of document) - to.offset < length (bytes_of document) - level.offset)
 
-    pub validated_whole : (e : RawElement) (behind : ℕ) → IsTold at.is new i after (validated.Whole e) → behind ≡ offset + size_of (frame_of e)
-        → IsValidatedAt depth b ws ks after new (number + 1) behind start i
-    validated_whole e behind h far =
-        let saw = looks (validated.Whole e) h in
-        record {
-          at = at_whole at.at new behind e saw far;
-          inside = at.inside;
-          many = at.many;
-          here = at.here;
-          outer_is = at.outer_is;
-          as_many = at.as_many;
-          held = at.held;
-          is = passed_whole at.is e h;
-          levels = at.levels;
-          begins = omega (arith, far, at.begins, (at_whole_size at.at new e saw).0);
-        }
+  module _ {new : Option (List ℕ)} {ks : KeysSoFar} {after : List (Bor (List ℕ))} {x : Validated} (is_told : IsTold new ks after x) where
+    -- an element is passed
+    module _ (e : RawElement) (x_is : x ≡ validated.Whole e) where
+      whole_next : (v : RawValue) × IsNext is.at.rest e v new × IsValidated outer after ks is.at.levels.inside is.at.levels.here (is.at.frames ++ frame_of e ∷ [])
+      whole_next =
+          let (r, v, frame, means, new_is, has, more, single) = rw x_is at is_told.tells in
+          (v, record { r = r; frame = frame; means = means; new_is = new_is }, validated_more is.at.knows (frame_of e) v means single has more)
 
-    -- the next level, for which this one waits
-    pub validated_inside : {behind : ℕ} {inner : RawDocument} {level : Level} (e : RawElement) (is_array : Bool) (k2 : KeysSoFar) (h : IsTold at.is new i after (validated.Inside e inner is_array))
-        → suc (length ws) < depth → (far : behind ≡ offset + size_of (frame_of e)) → IsOpened behind inner level → HasKeysSoFar k2 after (array_sort is_array) (texts after) []
-        → IsValidatedAt depth b (ws ++ waiting_then at.at new behind e inner (looks (validated.Inside e inner is_array) h) far ∷ []) (ks ++ i ∷ []) after
-        level.elements level.number level.offset level.start k2
-    validated_inside {behind} {inner} {level} e is_array k2 h few far opens has =
-        let saw = looks (validated.Inside e inner is_array) h in
-        let w : Wait = waiting_then at.at new behind e inner saw far in
-        let less : ℕ = at.inside - 1 in
-        let more : at.inside ≡ suc less = omega (arith, at.levels, few) in
-        let here : Keyed = record { span = record { sort = array_sort is_array; bytes = bytes_of inner; end = behind }; below = texts after; outer = at.here.outer ++ i ∷ [] } in
-        let ends : behind + left_of new ≡ at.here.span.end = omega (arith, far, at.begins, (at_inside_size at.at new e inner saw).0) in
-        record {
-          at = at_inside at.at new behind e inner saw far level few opens;
-          inside = less;
-          many = suc at.many;
-          here = here;
-          outer_is = ap (λ (xs : List KeysSoFar). xs ++ i ∷ []) at.outer_is;
-          as_many = omega (arith, at.as_many, length-append ws (w ∷ []), length-append ks (i ∷ []));
-          held = (ws, w, at.here, refl, passed_inside at.is e inner is_array h (suc less) start offset behind at.at.d more ends, rw more at at.held);
-          is = begun less here after level.elements level.number k2 opens.left_is opens.first_is has;
-          levels = omega (arith, at.levels, more, length-append ws (w ∷ []));
-          begins = rw (opens.left_is) (opens.begins);
-        }
+      pub whole_within : IsWithin walk (with_left new level) e
+      whole_within = let (v, next, knows) = whole_next in next_within is.at next
 
-    pub validated_breach : (key : Option (Bor (List ℕ))) (why : Cause) → IsTold at.is new i after (validated.Breach key why)
-        → FirstViolationTo depth as_document b (breach_of why) (map step_at ws ++ record { number = number; key = option_copied key } ∷ []) offset
-    validated_breach key why h = front_outward (breach_of why) (record { number = number; key = option_copied key }) (passed_breach at.is (option_copied key) why h.tells)
+      pub validated_whole : {to : Level} → to ≡ level_behind (with_left new level) e → GoesFurther walk to outer after ks
+      validated_whole to_is =
+          let (v, next, knows) = whole_next in
+          (record { most = is.most; at = at_whole is.at next to_is knows; depth_is = is.depth_is }, omega (arith, next_ends is.at next, ap (λ (l : Level). l.offset) to_is))
 
-    pub validated_deep : (e : RawElement) (inner : RawDocument) (is_array : Bool) → IsTold at.is new i after (validated.Inside e inner is_array) → depth ≤ suc (length ws)
-        → FirstViolationTo depth as_document b too_deep (map step_at ws ++ record { number = number; key = Some (frame_of e).key } ∷ []) offset
-    validated_deep e inner is_array h many = front_outward too_deep (record { number = number; key = Some (frame_of e).key })
-        (passed_deep at.is e inner is_array h (omega (arith, at.levels, many)))
+    module _ (e : RawElement) (inner : RawDocument) (is_array : Bool) (x_is : x ≡ validated.Inside e inner is_array) where
+      inside_next : (v : RawValue) × IsNext is.at.rest e v new × HoldsAs v (array_sort is_array) (bytes_of inner)
+          × HasKeysSoFar ks after is.at.levels.here.known.sort is.at.levels.here.known.below (keys_of_frames is.at.frames ++ (frame_of e).key ∷ [])
+          × AreKeysCanonical is.at.levels.here.known.sort (keys_of_frames is.at.frames ++ (frame_of e).key ∷ [])
+      inside_next =
+          let (r, v, frame, means, new_is, has, more, holds) = rw x_is at is_told.tells in
+          (v, record { r = r; frame = frame; means = means; new_is = new_is }, holds, has, more)
 
-    pub validated_end : IsTold at.is new i after validated.End → length ws ≡ 0 → IsCanonicalUpTo depth as_document b
-    validated_end h none =
-        let same = none_linked IsHeld at.many at.inside (whole_keyed b) ws at.here none at.held in
-        let depth_is : depth ≡ suc at.inside = omega (arith, at.levels, none) in
-        rw depth_is (subst (λ (x : Keyed). IsCanonicalUpTo (suc at.inside) x.span.sort x.span.bytes) (sym same) (passed_end at.is h))
+      pub inside_within : IsWithin walk (with_left new level) e × (length (bytes_of inner) ≤ size_of (frame_of e))
+      inside_within = let (v, next, holds, has, more) = inside_next in (next_within is.at next, inside_fits is.at next inner (as_held v is_array inner holds))
 
-    -- the level that waits for the innermost goes on
-    pub validated_resumed : {left_list : List (Bor (List ℕ))} → IsTold at.is new i after validated.End → (outer : List Wait) (w : Wait) → ws ≡ outer ++ w ∷ []
-        → (less : List KeysSoFar) (j : KeysSoFar) → ks ≡ less ++ j ∷ [] → LeavesOpenKeys i after left_list → IsAt depth b outer w.elements (w.number + 1) w.offset w.start
-        → IsValidatedAt depth b outer less left_list w.elements (w.number + 1) w.offset w.start j
-    validated_resumed {left_list} h outer w ws_are less j ks_are leaves goes_on =
-        let (o, many, link, held) = last_link IsHeld at.many at.inside (whole_keyed b) outer w at.here (rw ws_are at at.held) in
-        let keys = same_from_push less o.outer j link.k (sym ks_are ∙ sym at.outer_is ∙ link.outer_is) in
-        let below : texts left_list ≡ at.here.below = leaves at.here.span.sort at.here.below (keys_of_frames at.is.frames) h.tells.1 in
-        record {
-          at = goes_on;
-          inside = suc at.inside;
-          many = many;
-          here = o;
-          outer_is = sym keys.0;
-          as_many = omega (arith, at.as_many, ap length ws_are, ap length ks_are, length-append outer (w ∷ []), length-append less (j ∷ []));
-          held = held;
-          is = rw keys.1 (resumed left_list link (passed_end at.is h) below);
-          levels = omega (arith, at.levels, ap length ws_are, length-append outer (w ∷ []));
-          begins = omega (arith, link.nested.ends, ap left_of link.nested.left_is);
-        }
+      -- the level that it holds is entered
+      pub validated_inside : {then : Walk} {to : Level} {j : KeysSoFar} → Enters walk (with_left new level) then to e inner → HasKeysSoFar j after (array_sort is_array) (texts after) []
+          → IsValidatedAt document depth then to (outer ++ ks ∷ []) after j
+      validated_inside enters begins =
+          let (v, next, holds, has, more) = inside_next in
+          let i = is.at.levels.here in
+          let own : List (List ℕ) = keys_of_frames is.at.frames ++ (frame_of e).key ∷ [] in
+          record {
+            most = is.most;
+            at = at_inside is.at next inner (as_held v is_array inner holds) (record { sort = array_sort is_array; below = texts after; outer = outer ++ ks ∷ [] }) enters (λ n fewer. (
+              record {
+                k = ks;
+                outer_is = ap (λ (others : List KeysSoFar). others ++ ks ∷ []) is.at.knows.outer_is;
+                holds = holds;
+                keys = λ refs same. keys_on ks after refs i.known.sort i.known.below own has same;
+                keys_canonical = more;
+                canonical = rw fewer at is.at.knows.canonical;
+              },
+              none_validated n _ refl begins,
+            ));
+            depth_is = is.depth_is;
+          }
 
--- so it is for a walk over this document within this depth
-pub record IsValidatedAlong (document : RawDocument) (depth : ℕ) (walk : Walk) (level : Level) (ks : List KeysSoFar) (listed : List (Bor (List ℕ))) (k : KeysSoFar) : Type 0 where
-  pub waits : List Wait
-  pub are_stored : StoreEach (bytes_of walk.document) walk.waiting.items waits
-  pub at : IsValidatedAt (suc walk.most_waiting) (bytes_of walk.document) waits ks listed level.elements level.number level.offset level.start k
-  pub document_is : walk.document ≡ document
-  pub depth_is : suc walk.most_waiting ≡ depth
+      pub inside_nearer : {then : Walk} {to : Level} → Enters walk (with_left new level) then to e inner → length (bytes_of document) - to.offset < length (bytes_of document) - level.offset
+      inside_nearer enters =
+          let (v, next, holds, has, more) = inside_next in
+          omega (arith, next_ends is.at next, inside_within.1, ap (λ (l : Level). l.offset) enters.level_is)
 
-module _ {document : RawDocument} {depth : ℕ} {walk : Walk} {level : Level} {ks : List KeysSoFar} {listed : List (Bor (List ℕ))} {k : KeysSoFar}
-    (is : IsValidatedAlong document depth walk level ks listed k) where
-  -- it is a walk over all levels
-  pub walks : IsWalking document walk.most_waiting walk level
-  walks = record { waits = is.waits; along = record { are_stored = is.are_stored; at = is.at.at }; document_is = is.document_is; most_is = refl }
+      -- or is too deep
+      pub validated_deep : walk.most_waiting ≤ length walk.waiting.items
+          → FirstViolationTo depth as_document (bytes_of document) too_deep (at_path is.at ++ record { number = level.number; key = Some (frame_of e).key } ∷ []) level.offset
+      validated_deep full =
+          let (v, next, holds, has, more) = inside_next in
+          let l = is.at.levels in
+          let deep : FirstViolationTo l.inside (array_sort is_array) (bytes_of inner) too_deep [] 0 = rw (none_inside is.at full) (refl, refl, refl) in
+          front_violates too_deep _ (λ here begins. inr (
+            frame_of e,
+            next.r,
+            next.frame,
+            inr (
+              more,
+              value v,
+              next.means,
+              inside_at (IsCanonicalUpTo l.inside) (FirstViolationTo l.inside) l.here.bytes is.at.rest next.r _ here v holds ([], 0, deep, refl, begins),
+            ),
+          ))
 
-  -- what is told of the walk's document is told of the document
-  pub told_of : (P : ℕ → List ℕ → Type 0) → P (suc walk.most_waiting) (bytes_of walk.document) → P depth (bytes_of document)
-  told_of P h = subst (λ (d : RawDocument). P depth (bytes_of d)) is.document_is (subst (λ (n : ℕ). P n (bytes_of walk.document)) is.depth_is h)
+    -- it breaches
+    pub validated_breach : (key : Option (Bor (List ℕ))) (why : Cause) → x ≡ validated.Breach key why
+        → FirstViolationTo depth as_document (bytes_of document) (breach_of why) (at_path is.at ++ record { number = level.number; key = option_copied key } ∷ []) level.offset
+    validated_breach key why x_is =
+        let l = is.at.levels in
+        front_violates (breach_of why) _ (λ here begins.
+        breach_front (IsCanonicalUpTo l.inside) (FirstViolationTo l.inside) l.here.known.sort (keys_of_frames is.at.frames) l.here.bytes is.at.rest level.number here (option_copied key) why
+        (rw x_is at is_told.tells) begins)
+
+    module _ (x_is : x ≡ validated.End) where
+      final : is.at.rest ≡ 0 ∷ []
+      final = let (over, has) = rw x_is at is_told.tells in over
+
+      pub validated_goes_on : (others : List Waiting) (w : Waiting) → walk.waiting.items ≡ others ++ w ∷ [] → GoesOn (bytes_of walk.document) w (level.offset + 1)
+      validated_goes_on = at_goes_on is.at final
+
+      -- the document is canonical
+      pub validated_end : walk.waiting.items ≡ [] → IsCanonicalUpTo depth as_document (bytes_of document)
+      validated_end none =
+          let (here_is, inside_is) = at_outside is.at none in
+          rw (← is.depth_is) (rw (here_is, inside_is) at (all_validated is.at.knows is.at.reaches final))
+
+      pub validated_over : outer ≡ [] → IsCanonicalUpTo depth as_document (bytes_of document)
+      validated_over none =
+          let l = is.at.levels in
+          validated_end (l.stored ∙ none_kept (whole_span whole_keyed document) l.inside l.waits l.here l.held (sym is.at.knows.outer_is ∙ none))
+
+      -- the level that waits goes on
+      pub validated_outside : {then : Walk} {to : Level} {left_list : List (Bor (List ℕ))} (less : List KeysSoFar) (j : KeysSoFar) → Leaves walk level.offset then to → outer ≡ less ++ j ∷ []
+          → LeavesOpenKeys ks after left_list → GoesFurther then to less left_list j
+      validated_outside {left_list = left_list} less j leaves outer_is leaves_keys =
+          let (over, has) = rw x_is at is_told.tells in
+          let i = is.at.levels.here in
+          let below = leaves_keys i.known.sort i.known.below (keys_of_frames is.at.frames) has in
+          let at = at_resumed is.at final leaves (λ w held. left_validated is.at.knows left_list held is.at.reaches final outer_is below) in
+          (record { most = is.most; at = at; depth_is = is.depth_is }, omega (arith, resumed_further is.at final leaves, (at_within at).0))

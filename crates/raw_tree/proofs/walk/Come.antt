@@ -1,97 +1,169 @@
--- A walk that has come to some visits comes to one more, or to its end.
-use Rattle.std.proofs.Common.{◌≡◌, ◌∙◌, ◌≤◌, ◌<◌, ◌+◌, ◌++◌, ◌∷◌, [], ℕ, suc, List, Some, true, false, length, arith, ap, subst, length-append, length-drop}
-use Rattle.raw_tree.proofs.Common.{IsSingle, Nested, RawBsonRef, RawElement, ReadsUpTo, Tree, as_document, bytes_of, frame_of, held_value, nil_from_length, value_of}
-use Rattle.raw_tree.proofs.walk.Common.{ComesTo, HasCome, HasSeen, HasVisits, BarrierKind, IsAlong, IsBarrierAt, IsFurther, IsTooDeep, Level, RawDocument, Step, TellsError, Visit, Wait, Walk, WalkError, enter, leave, whole}
-use Rattle.raw_tree.specs.walk.Looking.{IsHeldBy, IsValueOf}
+-- A walk that has come to some visits comes to one more, or to its end or a barrier.
+use Rattle.std.proofs.Common.{◌≡◌, ◌≤◌, ◌<◌, ◌+◌, ◌-◌, ◌++◌, ◌∷◌, [], inl, inr, ℕ, suc, List, Bor, Option, None, Some, length, drop, arith, ap, refl, sym, append-nil, length-append}
+use Rattle.raw_tree.proofs.Common.{BorrowedError, Frame, Holds, IsSingle, KeyedFault, LeadsTo, Nested, RawBsonRef, RawElement, ReadsUpTo, Tree, as_document, bytes_of, fault_of, frame_of, held_value, too_deep, value_of}
+use Rattle.raw_tree.proofs.walk.Common.{BarsFrontAt, BeginsAt, ComesTo, Enters, FailsAt, FirstFaultAt, GoesOn, HasCome, HasLooked, HasSeen, HasVisits, BarrierKind, IsBarrier, IsAt, IsBarrierAt, IsEntered, IsTooDeep, IsWithin, Leaves, Level, RawDocument, Span, Step}
+use Rattle.raw_tree.proofs.walk.Common.{StoreSteps, TellsError, Visit, Waiting, Walk, WalkError, enter, leave, level_behind, option_copied, size_of, stored_level, whole, whole_span, with_left}
+use Rattle.raw_tree.specs.reader.WithinLimits as within
+use Rattle.raw_tree.specs.declared.walk.level.Next.{Next}
+use Rattle.raw_tree.specs.declared.walk.level.Next.TheVariants as look
+use Rattle.raw_tree.specs.declared.walk.barrier.BarrierKind.TheVariants as kind
 use Rattle.raw_tree.specs.declared.walk.WalkError.TheVariants as error
-use Rattle.raw_tree.specs.walk.Walks.{EndsWithin, Enters, IsThere, LeavesOrEnds, Passes}
+use Rattle.raw_tree.specs.walk.Walks.{EndsWithin, IsThere}
 use Rattle.raw_tree.proofs.reader.Stacks.{held_holds}
-use Rattle.raw_tree.proofs.walk.Levels.{at_size, at_within}
-use Rattle.raw_tree.proofs.walk.Offsets.{stored_many}
-use Rattle.raw_tree.proofs.walk.Passed.{left_now, next_inside, next_whole}
-use Rattle.raw_tree.proofs.walk.Visits.{seen_all, seen_front, seen_inside, seen_outside, seen_whole}
+use Rattle.raw_tree.proofs.walk.Levels.{IsNext, IsOutward, at_goes_on, at_inside, at_outside, at_path, at_resumed, at_steps, at_whole, at_within, front_outward, inside_fits, next_ends, next_within, none_inside, resumed_further}
+use Rattle.raw_tree.proofs.walk.Visits.{frames_stand, seen_front, seen_outside, seen_single, seen_there, seen_whole, visits_read}
 
--- as many levels wait as are stored
-many_wait : {walk : Walk} {level : Level} {ws : List Wait} → IsAlong walk level ws → length ws ≡ length walk.waiting.items
-many_wait {walk} {ws = ws} is = stored_many (bytes_of walk.document) walk.waiting.items ws is.are_stored
+-- barriers in a level whose frames have visits
 
--- a barrier is where it was found
-pub barred_there : (ws : List Wait) (step : Step) (offset : ℕ) (k : BarrierKind) (e : WalkError) → IsBarrierAt ws step offset k e → IsThere offset e
-barred_there ws step offset k (error.Barrier answer) at = at.2
-barred_there ws step offset k error.OutOfMemory at = tt
+-- where the first barrier of a level is
+abbrev BarsLevel : within.Barrier → ℕ → Span (List Visit) → List Step → ℕ → Type 0
+BarsLevel x n i path offset = FirstFaultAt n i.bytes x path offset
 
-pub deep_there : (walk : Walk) (from : Level) (ws : List Wait) (x : RawElement) (e : WalkError) → IsTooDeep walk from ws x e → IsThere from.offset e
-deep_there walk from ws x (error.Barrier answer) at = at.1.2
-deep_there walk from ws x error.OutOfMemory at = tt
+front_bars : {seen : List Visit} {n number : ℕ} {i : Span (List Visit)} {frames : List Frame} {s : List ℕ} (x : within.Barrier) (path : List Step) (offset : ℕ) → HasSeen seen n i frames
+    → LeadsTo (drop 4 i.bytes) frames s → number ≡ length frames → BarsFrontAt (ReadsUpTo n) (FirstFaultAt n) i.bytes s number x path offset → FirstFaultAt (suc n) i.bytes x path offset
+front_bars {n = n} {i = i} {frames = frames} {s = s} x path offset is l number_is bars =
+    let (pairs, each) = frames_stand n (i.start + 4) frames is.visits is.each in
+    (frames, pairs, s, l, each, rw number_is at bars)
+
+bars_outward : (b : List ℕ) (x : within.Barrier) → IsOutward IsEntered b (BarsLevel x)
+bars_outward b x = record {
+  out = λ n w i is first steps at place bars there.
+      front_bars x (record { number = length w.frames; key = Some w.f.key } ∷ first ∷ steps) place is.knows.seen is.reaches refl
+      (inr (w.f, is.r, is.frame, inr (w.v, i.bytes, first ∷ steps, at, is.means, is.holds, bars, refl, there)));
+}
+
+fault_front : (n : ℕ) (b s : List ℕ) (number offset : ℕ) (key : Option (List ℕ)) (fault : KeyedFault) → FailsAt s key fault → BeginsAt b s offset
+    → BarsFrontAt (ReadsUpTo n) (FirstFaultAt n) b s number (fault_of fault) (record { number = number; key = key } ∷ []) offset
+fault_front n b s number offset None fault fails begins = inl (fails, (refl, begins))
+fault_front n b s number offset (Some key) fault (f, r, at, m, key_is) begins = inr (f, r, at, inl (m, (rw key_is refl, begins)))
+
+-- a barrier that is told at its place is the document's first
+told_at : (most : ℕ) (b : List ℕ) (path : List Step) (step : Step) (offset : ℕ) (k : BarrierKind) (x : within.Barrier) → IsBarrier k x → FirstFaultAt (suc most) b x (path ++ step ∷ []) offset
+    → (e : WalkError) → IsBarrierAt path step offset k e → TellsError most b e × IsThere offset e
+told_at most b path step offset k x is bars (error.Barrier answer) (kind_is, steps_is, offset_is) = ((x, rw kind_is is, rw (steps_is, offset_is) bars), offset_is)
+told_at most b path step offset k x is bars error.OutOfMemory at = (tt, tt)
+
+deep_told : (most : ℕ) (b : List ℕ) (walk : Walk) (from : Level) (path : List Step) (e : RawElement)
+    → (walk.most_waiting ≤ length walk.waiting.items → FirstFaultAt (suc most) b too_deep (path ++ record { number = from.number; key = Some (frame_of e).key } ∷ []) from.offset)
+    → (answer : WalkError) → IsTooDeep walk from path e answer → TellsError most b answer × IsThere from.offset answer
+deep_told most b walk from path e bars (error.Barrier answer) (full, at) = told_at most b path _ from.offset kind.TooDeep too_deep refl (bars full) (error.Barrier answer) at
+deep_told most b walk from path e bars error.OutOfMemory at = (tt, tt)
+
+-- it is within the document, and no more levels wait than may
+pub come_within : {document : RawDocument} {most : ℕ} {walk : Walk} {level : Level} {seen : List Visit} → HasCome document most walk level seen
+    → (level.offset ≤ length (bytes_of document)) × (length walk.waiting.items ≤ most)
+come_within is = (omega (arith, (at_within is.at).0), (at_within is.at).1)
 
 module _ {document : RawDocument} {most : ℕ} {walk : Walk} {level : Level} {seen : List Visit} (is : HasCome document most walk level seen) where
-  -- it is within the document, and no more levels wait than may
-  pub come_within : (level.offset ≤ length (bytes_of document)) × (length walk.waiting.items ≤ most)
-  come_within =
-      let along = is.walking.along in
-      let within : level.offset ≤ length (bytes_of document) = subst (λ (d : RawDocument). level.offset ≤ length (bytes_of d)) is.walking.document_is (omega (arith, (at_within along.at).1)) in
-      (within, omega (arith, along.at.levels, is.walking.most_is, many_wait along))
-
   -- what it has come to is the first that there is to come to
   pub come_front : (vs : List Visit) → HasVisits (suc most) 0 (bytes_of document) vs → (rest : List Visit) × (vs ≡ seen ++ rest)
-  come_front vs has = seen_front most 0 (bytes_of document) is.walking.waits level.elements level.offset seen vs is.seen_is has
+  come_front vs has =
+      let l = is.at.levels in
+      seen_front (whole_span [] document) seen l.inside (suc most) l.waits l.here (omega (arith, l.many)) l.held
+      (λ us own. let (rest, behind, same) = seen_there is.at.rest us is.at.knows is.at.reaches own in (rest, same)) vs has
 
-  module _ (new : Walk) (to : Level) (document_same : new.document ≡ walk.document) (most_same : new.most_waiting ≡ walk.most_waiting) where
-    -- one visit more
-    comes_to : (x : Visit) (ws : List Wait) → EndsWithin (bytes_of walk.document) x → IsFurther level new to ws
-        → HasSeen most 0 (bytes_of document) ws to.elements to.offset (seen ++ x ∷ []) → ComesTo document most level seen new to x
-    comes_to x ws ends further seen_is = record {
-      come = record {
-        walking = record { waits = ws; along = further.along; document_is = document_same ∙ is.walking.document_is; most_is = most_same ∙ is.walking.most_is };
-        seen_is = seen_is;
-      };
-      further = further.further;
-      within = subst (λ (d : RawDocument). to.offset ≤ length (bytes_of d)) (document_same ∙ is.walking.document_is) further.within;
-      ends = subst (λ (d : RawDocument). EndsWithin (bytes_of d) x) is.walking.document_is ends;
-    }
+  -- it is nearer to the document's end
+  pub comes_nearer : {new : Walk} {to : Level} (x : Visit) → ComesTo document most level seen new to x → length (bytes_of document) - to.offset < length (bytes_of document) - level.offset
+  comes_nearer x come = omega (arith, come.further, come.within)
 
-    pub comes_whole : (e : RawElement) (v : RawBsonRef) → Passes new level is.walking.waits to e → IsValueOf v e → IsSingle (value_of v)
-        → ComesTo document most level seen new to (whole level.offset (frame_of e) (value_of v))
-    comes_whole e v (further, looks, far, start_is, number_is) value single =
-        let (u, none, at) = next_whole is.walking.along.at.is to.elements e looks in
-        let waits = is.walking.waits in
-        comes_to (whole level.offset (frame_of e) (value_of v)) waits (at_size is.walking.along.at to.elements (frame_of e) u at).1 further (rw (at.new_is, far)
-        (seen_whole (value_of v) most 0 (bytes_of document) waits level.offset seen at.frame value single (rw at.old_is at is.seen_is)))
+  -- a visit more
+  comes_to : {new : Walk} {to : Level} (x : Visit) → HasCome document most new to (seen ++ x ∷ []) → level.offset < to.offset → EndsWithin (bytes_of document) x
+      → ComesTo document most level seen new to x
+  comes_to x come further ends = record { come = come; further = further; within = (come_within come).0; ends = ends }
 
-    pub comes_inside : (e : RawElement) (inner : Nested) (w : Wait) → Enters level is.walking.waits w new to e inner.document → IsHeldBy inner e
-        → ComesTo document most level seen new to (enter level.offset (frame_of e) (held_value inner)) × (length new.waiting.items ≡ suc (length walk.waiting.items))
-    comes_inside e inner w (further, looks, far, opened) held =
-        let waits = is.walking.waits in
-        let (u, holds, at) = next_inside is.walking.along.at.is w.elements e inner.document looks in
-        let first : to.offset ≡ to.start + 4 = omega (arith, opened.begins, opened.starts, length-drop 4 (bytes_of inner.document), inner.document.envelope.enough) in
-        let few : length waits < most = omega (arith, further.along.at.levels, length-append waits (w ∷ []), most_same, is.walking.most_is) in
-        let entered = seen_inside w most 0 (bytes_of document) waits level.offset seen
-        (record { frame = at.frame; means = held; holds = held_holds inner.holder (bytes_of inner.document); ends = opened.starts; left_is = at.new_is; far = far }) few
-        (rw at.old_is at is.seen_is) in (
-          comes_to (enter level.offset (frame_of e) (held_value inner)) (waits ++ w ∷ []) (at_size is.walking.along.at w.elements (frame_of e) u at).1 further (rw (opened.left_is, first) entered),
-          omega (arith, many_wait further.along, many_wait is.walking.along, length-append waits (w ∷ [])),
-        )
+  -- a barrier in front of what is left of the level is the document's first
+  front_told : (x : within.Barrier) (step : Step)
+      → ((here : ℕ) → BeginsAt is.at.levels.here.bytes is.at.rest here → BarsFrontAt (ReadsUpTo is.at.levels.inside) (FirstFaultAt is.at.levels.inside)
+      is.at.levels.here.bytes is.at.rest level.number x (step ∷ []) here)
+      → FirstFaultAt (suc most) (bytes_of document) x (at_path is.at ++ step ∷ []) level.offset
+  front_told x step front = front_outward is.at (bars_outward (bytes_of document) x) step (λ here begins. front_bars x _ here is.at.knows is.at.reaches is.at.number_is (front here begins))
 
-    pub comes_outside : LeavesOrEnds walk level is.walking.waits new to true
-        → ComesTo document most level seen new to leave × (0 < to.number) × (length walk.waiting.items ≡ suc (length new.waiting.items))
-    comes_outside (outer, w, same, further, over, goes) =
-        let (s, left) = left_now is.walking.along.at.is in
-        let seen_is = subst (λ (ws : List Wait). HasSeen most 0 (bytes_of document) ws (Some s) level.offset seen) same (rw left at is.seen_is) in (
-          comes_to leave outer tt further (rw (goes.elements_are, goes.offset_is) (seen_outside w most 0 (bytes_of document) outer s level.offset seen (over s left) seen_is)),
-          omega (arith, goes.number_is),
-          omega (arith, many_wait further.along, many_wait is.walking.along, ap length same, length-append outer (w ∷ [])),
-        )
+  -- what was looked at in the level
+  module _ {new : Option (List ℕ)} {x : Next} (looked : HasLooked level.elements new x) where
+    module _ (e : RawElement) (v : RawBsonRef) (x_is : x ≡ look.Whole e v) where
+      whole_next : IsNext is.at.rest e (value_of v) new × IsSingle (value_of v)
+      whole_next =
+          let (r, u, frame, m, none, new_is) = rw (x_is, is.at.left_is) at looked.sees in
+          let (means, single) = rw x_is at looked.value in
+          (record { r = r; frame = frame; means = means; new_is = new_is }, single)
 
-    pub comes_end : LeavesOrEnds walk level is.walking.waits new to false
-        → HasVisits (suc most) 0 (bytes_of document) seen × ((t : Tree) × ReadsUpTo (suc most) as_document (bytes_of document) t) × (walk.waiting.items ≡ [])
-    comes_end (t, read, none, over) =
-        let (s, left) = left_now is.walking.along.at.is in
-        let reads : ReadsUpTo (suc most) as_document (bytes_of document) t = rw (is.walking.document_is, is.walking.most_is) at read in (
-          seen_all most 0 (bytes_of document) is.walking.waits s level.offset seen none (over s left) (rw left at is.seen_is),
-          (t, reads),
-          nil_from_length walk.waiting.items (omega (arith, many_wait is.walking.along, ap length none)),
-        )
+      pub whole_within : IsWithin walk (with_left new level) e
+      whole_within = next_within is.at whole_next.0
 
-  -- what is told of the walk is told of the document
-  pub come_told : (e : WalkError) → TellsError walk.most_waiting (bytes_of walk.document) e → TellsError most (bytes_of document) e
-  come_told e told = rw (is.walking.document_is, is.walking.most_is) at told
+      -- an element is passed
+      pub comes_whole : {to : Level} → to ≡ level_behind (with_left new level) e
+          → ComesTo document most level seen walk to (whole level.offset (frame_of e) (value_of v)) × IsSingle (value_of v) × (to.number ≡ level.number + 1)
+      comes_whole to_is =
+          let (next, single) = whole_next in
+          let seen = seen_single is.at.knows (frame_of e) (value_of v) next.means single is.at.offset_is in
+          let come = comes_to _ (record { at = at_whole is.at next to_is seen }) (omega (arith, ap (λ (l : Level). l.offset) to_is)) (next_ends is.at next) in
+          (come, single, ap (λ (l : Level). l.number) to_is)
+
+    module _ (e : RawElement) (inner : Nested) (x_is : x ≡ look.Inside e inner) where
+      inside_next : IsNext is.at.rest e (held_value inner) new
+      inside_next =
+          let (r, u, frame, m, holds, new_is) = rw (x_is, is.at.left_is) at looked.sees in
+          record { r = r; frame = frame; means = rw x_is at looked.value; new_is = new_is }
+
+      inside_holds : Holds (held_value inner) (bytes_of inner.document)
+      inside_holds = held_holds inner.holder (bytes_of inner.document)
+
+      pub inside_within : IsWithin walk (with_left new level) e × (length (bytes_of inner.document) ≤ size_of (frame_of e))
+      inside_within = (next_within is.at inside_next, inside_fits is.at inside_next inner.document inside_holds)
+
+      -- a level is entered
+      pub comes_inside : {then : Walk} {to : Level} → Enters walk (with_left new level) then to e inner.document
+          → ComesTo document most level seen then to (enter level.offset (frame_of e) (held_value inner)) × (to.number ≡ 0) × (length then.waiting.items ≡ suc (length walk.waiting.items))
+      comes_inside {then} {to} enters =
+          let all : List Visit = seen ++ enter level.offset (frame_of e) (held_value inner) ∷ [] in
+          let at : IsAt IsEntered (HasSeen all) [] document most then to = at_inside is.at inside_next inner.document inside_holds all enters (λ n more. (
+            record { before = seen; seen = rw more at is.at.knows; known_is = ap (λ (o : ℕ). seen ++ enter o (frame_of e) (held_value inner) ∷ []) is.at.offset_is },
+            record { visits = []; each = refl; seen_is = sym (append-nil all) },
+          )) in (
+            comes_to _ (record { at = at }) (omega (arith, inside_within.1, ap (λ (l : Level). l.offset) enters.level_is)) (next_ends is.at inside_next),
+            ap (λ (l : Level). l.number) enters.level_is,
+            omega (arith, ap length enters.stored, length-append walk.waiting.items (stored_level level ∷ [])),
+          )
+
+      -- it is too deep
+      pub told_deep : (answer : WalkError) → ((path : List Step) → StoreSteps (bytes_of walk.document) walk.waiting.items path → IsTooDeep walk level path e answer)
+          → TellsError most (bytes_of document) answer × IsThere level.offset answer
+      told_deep answer ends = deep_told most (bytes_of document) walk level (at_path is.at) e (λ full.
+          let next = inside_next in
+          let deep : FirstFaultAt is.at.levels.inside (bytes_of inner.document) too_deep [] 0 = rw (none_inside is.at full) (refl, refl, refl) in
+          front_told too_deep _ (λ here begins. inr (frame_of e, next.r, next.frame, inr (held_value inner, bytes_of inner.document, [], 0, next.means, inside_holds, deep, refl, begins))))
+          answer (ends (at_path is.at) (at_steps is.at))
+
+    -- a fault is in front
+    pub told_fault : (key : Option (Bor (List ℕ))) (e : BorrowedError) → x ≡ look.Fault key e → (answer : WalkError) → ((path : List Step)
+        → StoreSteps (bytes_of walk.document) walk.waiting.items path → IsBarrierAt path (record { number = level.number; key = option_copied key }) level.offset (kind.Fault e) answer)
+        → TellsError most (bytes_of document) answer × IsThere level.offset answer
+    told_fault key e x_is answer ends =
+        let (fault, fails, tells) = rw (x_is, is.at.left_is) at looked.sees in
+        told_at most (bytes_of document) (at_path is.at) _ level.offset (kind.Fault e) (fault_of fault) (fault, refl, tells)
+        (front_told (fault_of fault) _ (λ here begins. fault_front is.at.levels.inside is.at.levels.here.bytes is.at.rest level.number here (option_copied key) fault fails begins))
+        answer (ends (at_path is.at) (at_steps is.at))
+
+    module _ (x_is : x ≡ look.End) where
+      final : is.at.rest ≡ 0 ∷ []
+      final = rw (x_is, is.at.left_is) at looked.sees
+
+      pub come_goes_on : (outer : List Waiting) (w : Waiting) → walk.waiting.items ≡ outer ++ w ∷ [] → GoesOn (bytes_of walk.document) w (level.offset + 1)
+      come_goes_on = at_goes_on is.at final
+
+      -- a level is left
+      pub comes_outside : {then : Walk} {to : Level} → Leaves walk level.offset then to
+          → ComesTo document most level seen then to leave × (0 < to.number) × (length walk.waiting.items ≡ suc (length then.waiting.items))
+      comes_outside {then} leaves =
+          let (far, more) = resumed_further is.at final leaves in
+          let come = at_resumed is.at final leaves (λ w held. seen_outside held is.at.knows is.at.reaches final) in
+          (comes_to leave (record { at = come }) (omega (arith, far)) tt, more, omega (arith, ap length leaves.stored, length-append then.waiting.items (leaves.w ∷ [])))
+
+      -- the document has been read
+      pub comes_end : walk.waiting.items ≡ []
+          → HasVisits (suc most) 0 (bytes_of document) seen × ((t : Tree) × ReadsUpTo (suc most) as_document (bytes_of document) t) × (walk.waiting.items ≡ [])
+      comes_end none =
+          let (here_is, inside_is) = at_outside is.at none in
+          let all : HasVisits (suc most) 0 (bytes_of document) is.at.knows.visits = rw (here_is, inside_is) at (seen_whole is.at.knows is.at.reaches final) in
+          let same : seen ≡ is.at.knows.visits = rw here_is at is.at.knows.seen_is in
+          (rw same all, visits_read (suc most) 0 as_document (bytes_of document) is.at.knows.visits all, none)

@@ -18,13 +18,13 @@ pub use Rattle.raw_tree.specs.validator.OpenKeys.{AreOpenKeys, HasKeysSoFar, Lea
 pub use Rattle.raw_tree.specs.validator.Violations.{AllAreValidatedOneWayWithin, FirstViolation, FirstViolationTo, IsCanonicalWithin, ValidatesFrameAt, ValidatesFrontAt, ValidatesMeaningAt, ValidatesNestedAt}
 pub use Rattle.raw_tree.specs.validator.Violations.{TellsViolation, Violation, breach_of}
 pub use Rattle.raw_tree.specs.walk.Barriers.{IsBarrier, TellsBarrier, TellsBarrierWithin, step_of, steps_of}
-pub use Rattle.raw_tree.specs.walk.Looking.{AreReadBefore, FailsAt, HasNoneBefore, HasValue, HoldsNone, Looks, Sees, TakesFrame, size_of, step_at}
+pub use Rattle.raw_tree.specs.walk.Looking.{AreReadBefore, FailsAt, HasLooked, HasNoneBefore, HasValue, HoldsNone, Looks, Sees, TakesFrame, size_of}
 pub use Rattle.raw_tree.specs.walk.Places.{AllAreBarredAtOnePlace, BarsFrameAt, BarsFrontAt, BeginsAt, FirstBarrierAt, FirstFaultAt, IsLastStep, IsOffsetOf, Step, last_key}
 pub use Rattle.raw_tree.specs.walk.Rooms.{filled_from}
 pub use Rattle.raw_tree.specs.walk.Visits.{HasVisits, Visit, VisitsEach, VisitsLevel, VisitsValue, end_of, enter, leave, whole}
-pub use Rattle.raw_tree.specs.walk.Waits.{LiesAt, ResumesBehind, StoreEach, Stores, Wait}
-pub use Rattle.raw_tree.specs.walk.Walks.{AreLinked, AreReadTo, ComesTo, HasCome, HasSeen, HoldsLevel, IsAlong, IsAt, IsAtFinal, IsBarrierAt, IsBehind, IsEntered, IsFurther, IsHeld, IsLooked, IsOpened, IsPassed, IsTooDeep, IsWalking, Span}
-pub use Rattle.raw_tree.specs.walk.Walks.{TellsError, outermost_of, wait_behind, whole_span, with_left}
+pub use Rattle.raw_tree.specs.walk.Waits.{GoesOn, LiesAt, StoreSteps, StoresStep, entered_level, level_behind, outermost_of, resumed_level, stored_level}
+pub use Rattle.raw_tree.specs.walk.Walks.{AreHeld, AreLevels, ComesTo, Enters, HasCome, HasSeen, IsAt, IsBarrierAt, IsBegun, IsBehind, IsEntered, IsHeld, IsTooDeep, IsWithin, Leaves, LeavesOrEnds, Span, TellsError, Wait}
+pub use Rattle.raw_tree.specs.walk.Walks.{all_stored, offset_in, path_of, step_at, stored_at, whole_span, with_left}
 pub use Rattle.raw_view.specs.Errors.{SaysFault}
 pub use Rattle.raw_view.specs.Frame.{HasNoFrame, Malformed, Utf8}
 pub use Rattle.raw_view.specs.Frame.ElementSteps.{HasRead}

@@ -2,7 +2,7 @@
 use Rattle.std.proofs.Common.{◌≡◌, ◌∙◌, ◌<◌, ◌+◌, ◌++◌, ◌∷◌, [], ℕ, true, List, Option, None, Some, Err, drop, length, ltb, slice_get, slice_index_or, arith, ap, refl, sym, subst, length-append}
 use Rattle.std.proofs.lemmas.Bool.Decides.{nat_tests}
 use Rattle.raw_tree.proofs.Common.{BorrowedError, Done, Frame, IsFrame, IsWalk, StepsFront, drop-append-add, element_of, slice_get-get_or}
-use Rattle.raw_tree.proofs.walk.Common.{HasNoFrame, TakesFrame, option_copied, size_of}
+use Rattle.raw_tree.proofs.walk.Common.{HasNoFrame, TakesFrame, end_of, option_copied, size_of}
 use Rattle.raw_tree.proofs.walk.Fronts.{stop_of}
 use Rattle.raw_view.proofs.Face.{front_and_rest, no_frame_at_final, no_frame_at_stop, one_frame}
 
@@ -34,6 +34,11 @@ drop_frame s f r m at =
 
 pub frame_size : (s : List ℕ) (f : Frame) (r : List ℕ) → IsFrame s f r → size_of f + length r ≡ length s
 frame_size s f r b = omega (arith, ap length b.spelled, length-append f.key (0 ∷ (f.payload ++ r)), length-append f.payload r)
+
+-- behind one more the rest begins where that ends
+pub end_behind : (at : ℕ) (fs : List Frame) (f : Frame) → end_of at (fs ++ f ∷ []) ≡ end_of at fs + size_of f
+end_behind at [] f = refl
+end_behind at (x ∷ fs) f = end_behind (at + size_of x) fs f
 
 -- an item that is lent is at its place
 pub item_at : (xs : List ℕ) (i x : ℕ) → true ≡ ltb i (length xs) → x ≡ slice_index_or xs i x → slice_get xs i ≡ Some x

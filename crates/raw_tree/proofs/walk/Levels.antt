@@ -1,308 +1,282 @@
--- What a walk over all levels keeps, and what it tells where it ends.
-use Rattle.std.proofs.Common.{◌≡◌, ◌∙◌, ◌≤◌, ◌<◌, ◌+◌, ◌-◌, ◌*◌, ◌++◌, ◌∷◌, [], inr, ℕ, zero, suc, List, Option, None, Some, map, length, drop, arith, ap, refl, sym, subst, length-append, length-drop, Bor}
-use Rattle.raw_tree.proofs.Common.{BorrowedError, Frame, Holds, KeyedFault, RawElement, RawValue, ReadsUpTo, Sort, Tree, as_document, bytes_of, fault_of, frame_of, left_of, too_deep, tree_of_pairs}
-use Rattle.raw_tree.proofs.walk.Common.{AreLinked, Barrier, BarrierKind, FirstFaultAt, IsAt, IsAtFinal, IsBarrier, IsBarrierAt, IsBehind, IsFurther, IsHeld, IsOpened, IsPassed, IsTooDeep, IsWalking}
-use Rattle.raw_tree.proofs.walk.Common.{Level, LiesAt, Looks, RawDocument, Span, Step, Stores, TellsBarrierWithin, TellsBorrowed, TellsError, Wait, Waiting, Walk, WalkError, first_number}
-use Rattle.raw_tree.proofs.walk.Common.{option_copied, outermost_of, size_of, step_at, wait_behind, whole_span}
-use Rattle.raw_view.proofs.Face.{LeadsTo-bound, LeadsTo-more}
-use Rattle.raw_tree.specs.reader.WithinLimits as within
+-- The levels of a walk, whatever is known of them: how they go on, and that what is in front of the innermost is in front of the document.
+use Rattle.std.proofs.Common.{◌≡◌, ◌∙◌, ◌≤◌, ◌<◌, ◌+◌, ◌-◌, ◌++◌, ◌∷◌, [], ℕ, suc, List, Option, Some, length, drop, append_assoc, arith, ap, refl, sym, subst, length-append, length-drop}
+use Rattle.std.proofs.lemmas.List.{same_from_push}
+use Rattle.raw_tree.proofs.Common.{Frame, Holds, IsFrame, LeadsTo, Means, RawElement, RawValue, bytes_of, frame_of, value}
+use Rattle.raw_tree.proofs.walk.Common.{AreHeld, BeginsAt, Enters, GoesOn, IsAt, IsBehind, IsHeld, IsOffsetOf, IsWithin, Leaves, Level, LiesAt, RawDocument, Span, Step, StoreSteps, Wait, Waiting, Walk}
+use Rattle.raw_tree.proofs.walk.Common.{all_stored, first_number, level_behind, offset_in, outermost_of, path_of, resumed_level, size_of, step_at, stored_at, whole_span, with_left}
+use Rattle.raw_view.proofs.Face.{LeadsTo-more}
 use Rattle.raw_tree.proofs.reader.Loops.{nested_beside}
-use Rattle.raw_tree.specs.declared.walk.barrier.BarrierKind.TheVariants as kind
-use Rattle.raw_tree.specs.declared.walk.WalkError.TheVariants as error
-use Rattle.raw_tree.specs.walk.Aheads as next
-use Rattle.raw_tree.proofs.walk.Passed.{IsInFront, IsNext, as_held, begun, front_at, held_as, held_next, left_now, next_inside, next_whole, passed_deep, passed_end, passed_fault, passed_whole, resumed}
-use Rattle.raw_tree.proofs.walk.Linked.{IsOutward, bounds, holds_place, holds_within, last_link, none_linked, outward}
-use Rattle.raw_tree.proofs.walk.Frames.{frame_size}
-use Rattle.raw_tree.proofs.walk.Offsets.{frame_more, led_behind, left_lies, nested_last, nested_lies, stored_whole}
+use Rattle.raw_tree.proofs.walk.Frames.{end_behind, frame_size}
+use Rattle.raw_tree.proofs.walk.Offsets.{IsPlaced, end_size, frame_more, left_there, nested_last, nested_lies, placed, stored_more}
 
-pub passed_left : (inside : ℕ) (d : List ℕ) (left : Option (List ℕ)) (number : ℕ) → IsPassed inside d left number → 2 * number + left_of left ≤ length d
-passed_left inside d None number is = absurd is.passed
-passed_left inside d (Some s) number is = omega (arith, LeadsTo-bound (drop 4 d) is.frames s is.passed, length-drop 4 d, is.number_is)
+-- levels that wait
 
-over : (inside : ℕ) (d : List ℕ) (old new : Option (List ℕ)) (number : ℕ) → IsPassed inside d old number → Looks old new next.End → left_of old ≡ 1
-over inside d None new number is looks = absurd is.passed
-over inside d (Some s) new number is looks = ap length looks
+module _ {K : Type 0} {Behind : ℕ → Wait K → Span K → Type 0} {b : List ℕ} {n : ℕ} {w : Wait K} {i : Span K} (is : IsHeld Behind b n w i) where
+  held_placed : IsPlaced b w.level w.frames is.s
+  held_placed = placed b w.level w.frames is.s is.lies is.reaches
 
--- a frame is next
-module _ {inside : ℕ} {d : List ℕ} {old new : Option (List ℕ)} {number : ℕ} {f : Frame} {v : RawValue} (is : IsNext inside d old new number f v) where
-  next_size : size_of f + left_of new ≡ left_of old
-  next_size = rw (is.old_is, is.new_is) (frame_size is.s f is.r is.frame)
+  -- what is at this offset of the inner bytes, and at that of the document, is at this one of the outer bytes
+  held_place : (first : Step) (steps : List Step) (at offset : ℕ) → i.start + at ≡ offset
+      → (place : ℕ) × IsOffsetOf w.level.bytes is.s i.bytes is.r (first ∷ steps) at place × (w.level.start + place ≡ offset)
+  held_place first steps at offset far =
+      let p = held_placed in
+      let start : ℕ = i.start - w.level.start in
+      let size = frame_size is.s w.f is.r is.frame in
+      let inside = nested_beside is.s w.f is.r w.v i.bytes is.frame is.means is.holds in
+      (start + at, (start, omega (arith, p.ends, p.counted, size, inside, is.ends, length-append i.bytes is.r), refl), omega (arith, p.counted, size, inside, is.ends, far))
 
-  -- where it is in the document
-  next_lies : {b : List ℕ} {start : ℕ} (offset : ℕ) (lies : LiesAt b start d) → offset + left_of old ≡ start + length d → drop offset b ≡ is.s ++ lies.behind
-  next_lies {b} {start} offset lies begins = left_lies is.passed.frames is.s offset lies is.passed.passed (rw (is.old_is) at begins)
+-- what is told of a level, with these steps and at an offset in it, is told of the one around it
+pub record IsOutward {K : Type 0} (Behind : ℕ → Wait K → Span K → Type 0) (b : List ℕ) (Tells : ℕ → Span K → List Step → ℕ → Type 0) : Type 0 where
+  pub out : (n : ℕ) (w : Wait K) (i : Span K) (is : IsHeld Behind b n w i) (first : Step) (steps : List Step) (at place : ℕ) → Tells n i (first ∷ steps) at
+      → IsOffsetOf w.level.bytes is.s i.bytes is.r (first ∷ steps) at place → Tells (suc n) w.level (step_at w ∷ first ∷ steps) place
 
-  -- its nested bytes
-  next_inside_lies : {b : List ℕ} {start : ℕ} (inner : RawDocument) (offset first : ℕ) → LiesAt b start d → offset + left_of old ≡ start + length d → Holds v (bytes_of inner)
-      → first + length (bytes_of inner) ≡ offset + size_of f → LiesAt b first (bytes_of inner)
-  next_inside_lies inner offset first lies begins holds far =
-      nested_lies (bytes_of inner) lies.behind offset first (next_lies offset lies begins) is.frame
-      (nested_last f.kind f.payload v (bytes_of inner) is.means holds) inner.envelope far
+first_outer : (path : List Step) (step last : Step) → first_number ((path ++ step ∷ []) ++ last ∷ []) ≡ first_number (path ++ step ∷ [])
+first_outer [] step last = refl
+first_outer (x ∷ path) step last = refl
 
-  -- what is stored of the level around them
-  next_stored : {b : List ℕ} {start : ℕ} (offset behind : ℕ) → LiesAt b start d → offset + left_of old ≡ start + length d → behind ≡ offset + size_of f
-      → Stores b (record { start = start; element = offset; number = number }) (wait_behind start d new number offset behind f.key)
-  next_stored {start = start} offset behind lies begins far =
-      let enough : 5 ≤ length d = lies.envelope.enough in
-      let begins : offset + length is.s ≡ start + length d = rw (is.old_is) at begins in
-      let bound = LeadsTo-bound (drop 4 d) is.passed.frames is.s is.passed.passed in
-      let size : size_of f + length is.r ≡ length is.s = frame_size is.s f is.r is.frame in
-      let fits : length is.s + 4 ≤ length d = omega (arith, bound, length-drop 4 d, enough) in
-      let rest : is.r ≡ drop (behind - start) d = led_behind d (is.passed.frames ++ f ∷ []) is.r (behind - start) enough
-      (LeadsTo-more (drop 4 d) is.passed.frames is.s f is.r is.passed.passed is.frame) (omega (arith, far, begins, size, fits)) in
-      record {
-        start_is = refl;
-        element_is = refl;
-        number_is = refl;
-        lies = lies;
-        frame = f;
-        rest = is.r ++ lies.behind;
-        at = rw (next_lies offset lies (rw (is.old_is) begins)) (frame_more is.s f is.r lies.behind is.frame);
-        first = omega (arith, begins, fits);
-        key_is = refl;
-        elements_are = is.new_is ∙ ap Some rest;
-        begins = omega (arith, far, begins, fits);
-        ends = omega (arith, far, begins, size);
-      }
+outermost_outer : (ws : List Waiting) (w : Waiting) (offset : ℕ) → outermost_of (ws ++ w ∷ []) offset ≡ outermost_of ws w.element
+outermost_outer [] w offset = refl
+outermost_outer (x ∷ ws) w offset = refl
 
-  -- the level that waits for them
-  next_held : (inner : RawDocument) (start offset behind end : ℕ) (sort : Sort) → Holds v (bytes_of inner) → offset + left_of old ≡ end → behind ≡ offset + size_of f
-      → (of : Sort) × IsHeld inside (record { sort = sort; bytes = d; end = end }) (wait_behind start d new number offset behind f.key)
-      (record { sort = of; bytes = bytes_of inner; end = behind })
-  next_held inner start offset behind end sort holds begins far =
-      let sorted = held_as v (bytes_of inner) holds in (
-        sorted.0,
-        record {
-          frames = is.passed.frames;
-          pairs = is.passed.pairs;
-          s = is.s;
-          nested = record {
-            f = f;
-            r = is.r;
-            v = v;
-            reaches = is.passed.passed;
-            frame = is.frame;
-            means = is.means;
-            holds = sorted.1;
-            number_is = is.passed.number_is;
-            key_is = refl;
-            left_is = is.new_is;
-            begins = refl;
-            ends = omega (arith, begins, far, next_size, ap left_of is.new_is);
-          };
-          each = is.passed.each;
-          bytes_are = refl;
-          element_is = sym far;
-        },
-      )
+-- so it is told of the outermost
 
--- where the element of the outermost level is
-first_at : (outer : List Wait) (w : Wait) (last : Step) (offset : ℕ) → (first_number (map step_at (outer ++ w ∷ []) ++ last ∷ []) ≡ first_number (map step_at outer ++ step_at w ∷ []))
-    × (outermost_of (outer ++ w ∷ []) offset ≡ outermost_of outer w.element)
-first_at [] w last offset = (refl, refl)
-first_at (x ∷ outer) w last offset = (refl, refl)
+-- it is told of a level with these steps, at an offset in it that is this one of the document
+abbrev IsToldAt : {K : Type 0} → (ℕ → Span K → List Step → ℕ → Type 0) → ℕ → ℕ → Span K → List Step → Type 0
+IsToldAt Tells offset n i steps = (at : ℕ) × Tells n i steps at × (i.start + at ≡ offset)
 
-outermost_behind : {n number : ℕ} {s : List ℕ} (many inside : ℕ) (b : List ℕ) (ws : List Wait) (i : Span) (offset : ℕ) (key : Option (List ℕ)) → IsPassed n i.bytes (Some s) number
-    → AreLinked IsHeld many inside (whole_span b) ws i → offset + length s ≡ i.end
-    → IsBehind b (first_number (map step_at ws ++ record { number = number; key = key } ∷ [])) (outermost_of ws offset)
-outermost_behind {s = s} zero inside b ws i offset key is (none, same) begins =
-    rw none (record {
-      frames = is.frames;
-      s = s;
-      reaches = rw (ap (λ (x : Span). x.bytes) same) (is.passed);
-      number_is = is.number_is;
-      begins = omega (arith, begins, ap (λ (x : Span). x.end) same);
-    })
-outermost_behind {number = number} (suc many) inside b ws i offset key is (outer, w, m, more, link, held) begins =
-    let first = first_at outer w (record { number = number; key = key }) offset in
-    let size = frame_size link.s link.nested.f link.nested.r link.nested.frame in
-    let there : w.element + length link.s ≡ m.end = omega (arith, size, link.element_is, link.nested.ends) in
-    rw (more, first.0, first.1) (outermost_behind many (suc inside) b outer m w.element (Some w.key) (held_next link).passed held there)
+outward : {K : Type 0} {Behind : ℕ → Wait K → Span K → Type 0} {document : Span K} {Tells : ℕ → Span K → List Step → ℕ → Type 0} → IsOutward Behind document.bytes Tells
+    → (inside depth : ℕ) (ws : List (Wait K)) (i : Span K) (first : Step) (steps : List Step) (offset : ℕ) → suc (length ws + inside) ≡ depth
+    → AreHeld Behind document inside ws i → IsToldAt Tells offset (suc inside) i (first ∷ steps) → IsToldAt Tells offset depth document (path_of ws ++ first ∷ steps)
+outward is inside depth [] i first steps offset many same told =
+    let all : depth ≡ suc inside = omega (arith, many) in
+    rw (← same, all) told
+outward is inside depth (w ∷ ws) i first steps offset many (held, more) (at, tells, far) =
+    let (place, offset_is, there) = held_place held first steps at offset far in
+    rw (append_assoc (path_of ws) (step_at w ∷ []) (first ∷ steps))
+    (outward is (suc inside) depth ws w.level (step_at w) (first ∷ steps) offset (omega (arith, many)) more (place, is.out (suc inside) w i held first steps at place tells offset_is, there))
 
--- a barrier with these steps, at this offset of the document
-abbrev IsBarredAt : within.Barrier → ℕ → ℕ → Span → List Step → Type 0
-IsBarredAt x offset n i steps = (at : ℕ) × FirstFaultAt n i.bytes x steps at × (at + i.end ≡ offset + length i.bytes)
+module _ {K : Type 0} (Behind : ℕ → Wait K → Span K → Type 0) (known : K) (document : RawDocument) where
+  -- the steps at which they wait are stored
+  steps_stored : (inside : ℕ) (ws : List (Wait K)) (i : Span K) → AreHeld Behind (whole_span known document) inside ws i → StoreSteps (bytes_of document) (all_stored ws) (path_of ws)
+  steps_stored inside [] i same = refl
+  steps_stored inside (w ∷ ws) i (held, more) =
+      let p = held_placed held in
+      stored_more (bytes_of document) (all_stored ws) (stored_at w) (path_of ws) (step_at w) (steps_stored (suc inside) ws w.level more)
+      (record { frame = w.f; rest = held.r ++ p.behind; at = rw (p.there) (frame_more held.s w.f held.r p.behind held.frame); first = omega (arith, p.counted); step_is = refl })
 
-held_barred : (x : within.Barrier) (offset n : ℕ) (o : Span) (w : Wait) (i : Span) (first : Step) (steps : List Step) → IsHeld n o w i
-    → IsBarredAt x offset n i (first ∷ steps) → IsBarredAt x offset (suc n) o (step_at w ∷ first ∷ steps)
-held_barred x offset n o w i first steps is (at, bars, far) =
-    let h = is.nested in
-    let (place, offset_is, there) = holds_place h first steps at offset far in
-    let holds : Holds h.v i.bytes = as_held h.v i.sort i.bytes h.holds in
-    (place, front_at x _ place (held_next is).passed (inr (h.f, h.r, h.frame, inr (h.v, i.bytes, first ∷ steps, at, h.means, holds, bars, rw (h.key_is) refl, offset_is))), there)
+  -- where the element of the outermost level is
+  outermost_behind : (inside : ℕ) (ws : List (Wait K)) (i : Span K) (frames : List Frame) (s : List ℕ) (step : Step)
+      → AreHeld Behind (whole_span known document) inside ws i → LeadsTo (drop 4 i.bytes) frames s → step.number ≡ length frames
+      → IsBehind (bytes_of document) (first_number (path_of ws ++ step ∷ [])) (outermost_of (all_stored ws) (offset_in i frames))
+  outermost_behind inside [] i frames s step same reaches number_is =
+      let l : LeadsTo (drop 4 (bytes_of document)) frames s = rw same at reaches in
+      let ends = end_size 4 (drop 4 (bytes_of document)) frames s l in
+      rw same (record { frames = frames; s = s; reaches = l; number_is = number_is; begins = omega (arith, ends, length-drop 4 (bytes_of document), document.envelope.enough) })
+  outermost_behind inside (w ∷ ws) i frames s step (held, more) reaches number_is =
+      rw (first_outer (path_of ws) (step_at w) step, outermost_outer (all_stored ws) (stored_at w) (offset_in i frames))
+      (outermost_behind (suc inside) ws w.level w.frames held.s (step_at w) more held.reaches refl)
 
--- a walk is at a place
-module _ {depth : ℕ} {b : List ℕ} {ws : List Wait} {old : Option (List ℕ)} {number offset start : ℕ} (at : IsAt depth b ws old number offset start) where
-  -- the number and the offset of what is left are within b
-  pub at_within : (2 * number + left_of old ≤ length b) × (offset + left_of old ≤ length b)
-  at_within =
-      let ends = bounds IsHeld (λ (i : Span). length i.bytes) (λ (i : Span). i.end)
-      (λ n o w i h. (length h.nested.r, holds_within h.nested, omega (arith, h.nested.begins, h.nested.ends))) at.many at.inside (whole_span b) ws _ refl at.held in
-      (omega (arith, passed_left at.inside at.d old number at.is, ends.0, ends.1), omega (arith, at.begins, ends.1))
+  none_held : (inside : ℕ) (ws : List (Wait K)) (i : Span K) → length ws ≡ 0 → AreHeld Behind (whole_span known document) inside ws i → i ≡ whole_span known document
+  none_held inside [] i none held = held
+  none_held inside (w ∷ ws) i none held = absurd (omega (arith, none))
 
-  -- what is behind an element begins behind it, and within b
-  pub at_size : (new : Option (List ℕ)) (f : Frame) (v : RawValue) → IsNext at.inside at.d old new number f v → (size_of f + left_of new ≡ left_of old) × (offset + size_of f ≤ length b)
-  at_size new f v is = (next_size is, omega (arith, next_size is, at_within.1))
+-- the innermost of them
+last_held : {K : Type 0} {Behind : ℕ → Wait K → Span K → Type 0} {document : Span K} {inside : ℕ} {i : Span K} (ws : List (Wait K)) (outer : List Waiting) (x : Waiting)
+    → all_stored ws ≡ outer ++ x ∷ [] → AreHeld Behind document inside ws i
+    → (w : Wait K) × (others : List (Wait K)) × (ws ≡ w ∷ others) × (outer ≡ all_stored others) × (x ≡ stored_at w) × IsHeld Behind document.bytes (suc inside) w i
+    × AreHeld Behind document (suc inside) others w.level
+last_held [] outer x same held = absurd (omega (arith, ap length same, length-append outer (x ∷ [])))
+last_held (w ∷ ws) outer x same held =
+    let both = same_from_push outer (all_stored ws) x (stored_at w) (sym same) in
+    (w, ws, refl, both.0, both.1, held.0, held.1)
 
-  pub at_whole_size : (new : Option (List ℕ)) (e : RawElement) → Looks old new (next.Whole e)
-      → (size_of (frame_of e) + left_of new ≡ left_of old) × (offset + size_of (frame_of e) ≤ length b)
-  at_whole_size new e looks = let (v, none, is) = next_whole at.is new e looks in at_size new (frame_of e) v is
+as_many : {K : Type 0} (ws : List (Wait K)) → length (all_stored ws) ≡ length ws
+as_many [] = refl
+as_many (w ∷ ws) = omega (arith, as_many ws, length-append (all_stored ws) (stored_at w ∷ []))
 
-  pub at_inside_size : (new : Option (List ℕ)) (e : RawElement) (inner : RawDocument) → Looks old new (next.Inside e inner)
-      → (size_of (frame_of e) + left_of new ≡ left_of old) × (offset + size_of (frame_of e) ≤ length b)
-  at_inside_size new e inner looks = let (v, holds, is) = next_inside at.is new e inner looks in at_size new (frame_of e) v is
+-- the element e is in front of s and means this value; this is left behind it
+pub record IsNext (s : List ℕ) (e : RawElement) (v : RawValue) (new : Option (List ℕ)) : Type 0 where
+  pub r : List ℕ
+  pub frame : IsFrame s (frame_of e) r
+  pub means : Means (frame_of e) (value v)
+  pub new_is : new ≡ Some r
 
-  -- nested bytes begin no earlier than the element that holds them
-  pub at_inside_fits : (new : Option (List ℕ)) (e : RawElement) (inner : RawDocument) → Looks old new (next.Inside e inner) → length (bytes_of inner) ≤ size_of (frame_of e)
-  at_inside_fits new e inner looks =
-      let (v, holds, is) = next_inside at.is new e inner looks in
-      omega (arith, nested_beside is.s (frame_of e) is.r v (bytes_of inner) is.frame is.means holds, frame_size is.s (frame_of e) is.r is.frame)
+-- a walk is in a level
+module _ {K : Type 0} {Behind : ℕ → Wait K → Span K → Type 0} {Fact : ℕ → Span K → List Frame → Type 0} {known : K} {document : RawDocument} {most : ℕ} {walk : Walk} {level : Level}
+    (at : IsAt Behind Fact known document most walk level) where
+  at_placed : IsPlaced (bytes_of document) at.levels.here at.frames at.rest
+  at_placed = placed (bytes_of document) at.levels.here at.frames at.rest at.levels.lies at.reaches
 
-  pub at_whole : (new : Option (List ℕ)) (behind : ℕ) (e : RawElement) → Looks old new (next.Whole e) → behind ≡ offset + size_of (frame_of e)
-      → IsAt depth b ws new (number + 1) behind start
-  at_whole new behind e looks far = record {
-    inside = at.inside;
-    many = at.many;
-    sort = at.sort;
-    d = at.d;
-    end = at.end;
-    held = at.held;
-    is = passed_whole at.inside at.d old new number e at.is looks;
-    levels = at.levels;
-    begins = omega (arith, far, at.begins, (at_whole_size new e looks).0);
-    lies = at.lies;
-    whole = at.whole;
-  }
+  -- what is left of it is within the document, and no more levels wait than may
+  pub at_within : (level.offset + length at.rest ≤ length (bytes_of document)) × (length walk.waiting.items ≤ most)
+  at_within = let p = at_placed in (omega (arith, p.ends, p.within, at.offset_is), omega (arith, ap length at.levels.stored, as_many at.levels.waits, at.levels.many))
 
-  -- a level is entered, for which the one around it waits then
-  module _ (new : Option (List ℕ)) (behind : ℕ) (e : RawElement) (inner : RawDocument) (looks : Looks old new (next.Inside e inner))
-      (far : behind ≡ offset + size_of (frame_of e)) where
-    abbrev pub waiting_then : Wait
-    waiting_then = wait_behind start at.d new number offset behind (frame_of e).key
+  -- the steps at which levels wait
+  abbrev pub at_path : List Step
+  at_path = path_of at.levels.waits
 
-    pub at_inside : (level : Level) → suc (length ws) < depth → IsOpened behind inner level → IsAt depth b (ws ++ waiting_then ∷ []) level.elements level.number level.offset level.start
-    at_inside level few opens =
-        let less : ℕ = at.inside - 1 in
-        let more : at.inside ≡ suc less = omega (arith, at.levels, few) in
-        let (v, holds, is) = next_inside (rw more at at.is) new e inner looks in
-        let waits = next_held is inner start offset behind at.end at.sort holds at.begins far in
-        record {
-          inside = less;
-          many = suc at.many;
-          sort = waits.0;
-          d = bytes_of inner;
-          end = behind;
-          held = (ws, waiting_then, record { sort = at.sort; bytes = at.d; end = at.end }, refl, waits.1, rw more at at.held);
-          is = begun less (bytes_of inner) level.elements level.number opens.left_is opens.first_is;
-          levels = omega (arith, at.levels, more, length-append ws (waiting_then ∷ []));
-          begins = rw (opens.left_is) (opens.begins);
-          lies = next_inside_lies is inner offset level.start at.lies (at.begins ∙ sym at.whole) holds (opens.starts ∙ far);
-          whole = opens.starts;
-        }
+  pub at_steps : StoreSteps (bytes_of walk.document) walk.waiting.items at_path
+  at_steps = rw (at.levels.stored, at.levels.document_is) (steps_stored Behind known document at.levels.inside at.levels.waits at.levels.here at.levels.held)
 
-    pub at_stored : Stores b (record { start = start; element = offset; number = number }) waiting_then
-    at_stored = let (v, holds, is) = next_inside at.is new e inner looks in next_stored is offset behind at.lies (at.begins ∙ sym at.whole) far
-
-  -- the final 0 is in front, and within b
-  pub over_end : (new : Option (List ℕ)) → Looks old new next.End → IsAtFinal old
-  over_end new looks s e = rw e at looks
-
-  pub at_over_within : (new : Option (List ℕ)) → Looks old new next.End → offset + 1 ≤ length b
-  at_over_within new looks = omega (arith, over at.inside at.d old new number at.is looks, at_within.1)
-
-  pub at_end : (new : Option (List ℕ)) → ws ≡ [] → Looks old new next.End → (t : Tree) × ReadsUpTo depth as_document b t
-  at_end new none looks =
-      let read = passed_end at.is as_document new looks in
-      let same = none_linked IsHeld at.many at.inside (whole_span b) ws _ (ap length none) at.held in
-      let depth_is : suc at.inside ≡ depth = omega (arith, at.levels, ap length none) in
-      (tree_of_pairs as_document read.0, rw (ap (λ (x : Span). x.bytes) same, ← depth_is) (read.1))
-
-  -- a barrier in front of what is left of the innermost level is that of b, at the offset of what is left
-  front_outward : (x : within.Barrier) (step : Step) → IsInFront at.inside at.d old x step → FirstFaultAt depth b x (map step_at ws ++ step ∷ []) offset
-  front_outward x step bars =
-      let here : ℕ = length at.d - left_of old in
-      let there : here + left_of old ≡ length at.d = omega (arith, passed_left at.inside at.d old number at.is) in
-      let told : IsOutward IsHeld (IsBarredAt x offset) step_at = record { out = held_barred x offset } in
-      let (u, is, far) = outward told at.many at.inside depth (whole_span b) ws
-      (record { sort = at.sort; bytes = at.d; end = at.end }) step [] at.levels at.held (here, bars here there, omega (arith, there, at.begins)) in
-      let same : offset ≡ u = omega (arith, far) in
-      rw same is
-
-  pub at_fault : (new : Option (List ℕ)) (key : Option (Bor (List ℕ))) (e : BorrowedError) → Looks old new (next.Fault key e)
-      → (fault : KeyedFault) × FirstFaultAt depth b (fault_of fault) (map step_at ws ++ record { number = number; key = option_copied key } ∷ []) offset
-      × TellsBorrowed e fault
-  at_fault new key e looks =
-      let bad = passed_fault at.inside at.d old new number key e at.is looks in
-      (bad.0, front_outward (fault_of bad.0) (record { number = number; key = option_copied key }) bad.1, bad.2)
-
-  pub at_deep : (new : Option (List ℕ)) (e : RawElement) (inner : RawDocument) → Looks old new (next.Inside e inner) → depth ≤ suc (length ws)
-      → FirstFaultAt depth b too_deep (map step_at ws ++ record { number = number; key = Some (frame_of e).key } ∷ []) offset
-  at_deep new e inner looks many =
-      let none : at.inside ≡ 0 = omega (arith, at.levels, many) in
-      front_outward too_deep (record { number = number; key = Some (frame_of e).key }) (rw none (passed_deep at.d old new number e inner (rw none at at.is) looks))
+  pub path_stored : (path : List Step) × StoreSteps (bytes_of walk.document) walk.waiting.items path
+  path_stored = (at_path, at_steps)
 
   -- the element of the outermost level that holds the innermost, or is next in it
-  pub at_outermost : (key : Option (List ℕ)) → IsBehind b (first_number (map step_at ws ++ record { number = number; key = key } ∷ [])) (outermost_of ws offset)
+  pub at_outermost : (key : Option (List ℕ)) → IsBehind (bytes_of document) (first_number (at_path ++ record { number = level.number; key = key } ∷ []))
+      (outermost_of walk.waiting.items level.offset)
   at_outermost key =
-      let (s, old_is) = left_now at.is in
-      outermost_behind at.many at.inside b ws _ offset key (rw old_is at at.is) at.held (rw old_is at at.begins)
+      rw (at.levels.stored, at.offset_is) (outermost_behind Behind known document at.levels.inside at.levels.waits at.levels.here at.frames at.rest (record { number = level.number; key = key })
+      at.levels.held at.reaches at.number_is)
 
-  -- the level that waits for the innermost goes on where that ends
-  module _ (outer : List Wait) (w : Wait) (same : ws ≡ outer ++ w ∷ []) (new : Option (List ℕ)) (looks : Looks old new next.End) where
-    last_held : (o : Span) × (many : ℕ) × IsHeld (suc at.inside) o w (record { sort = at.sort; bytes = at.d; end = at.end }) × AreLinked IsHeld many (suc at.inside) (whole_span b) outer o
-    last_held = last_link IsHeld at.many at.inside (whole_span b) outer w _ (rw same at at.held)
+  -- what is in front of what is left of the innermost is in front of the document, at the offset of what is left
+  pub front_outward : {Tells : ℕ → Span K → List Step → ℕ → Type 0} → IsOutward Behind (bytes_of document) Tells → (step : Step)
+      → ((here : ℕ) → BeginsAt at.levels.here.bytes at.rest here → Tells (suc at.levels.inside) at.levels.here (step ∷ []) here)
+      → Tells (suc most) (whole_span known document) (at_path ++ step ∷ []) level.offset
+  front_outward {Tells = Tells} out step front =
+      let p = at_placed in
+      let here : ℕ = level.offset - level.start in
+      let begins : BeginsAt at.levels.here.bytes at.rest here = omega (arith, p.ends, p.counted, at.offset_is, at.start_is) in
+      let (place, told, far) = outward out at.levels.inside (suc most) at.levels.waits at.levels.here step [] level.offset (omega (arith, at.levels.many)) at.levels.held
+      (here, front here begins, omega (arith, p.counted, at.offset_is, at.start_is)) in
+      let same : place ≡ level.offset = omega (arith, far) in
+      rw same at told
 
-    pub at_over : offset + 1 ≡ w.offset
-    at_over = omega (arith, at.begins, over at.inside at.d old new number at.is looks, last_held.2.nested.begins)
+  module _ {e : RawElement} {v : RawValue} {new : Option (List ℕ)} (is : IsNext at.rest e v new) where
+    pub next_ends : level.offset + size_of (frame_of e) ≤ length (bytes_of document)
+    next_ends = omega (arith, frame_size at.rest (frame_of e) is.r is.frame, at_within.0)
 
-    pub at_resumed : (c : Waiting) → Stores b c w → IsAt depth b outer w.elements (w.number + 1) w.offset w.start
-    at_resumed c stored =
-        let (o, many, is, held) = last_held in
-        let ends : w.offset + left_of w.elements ≡ o.end = omega (arith, ap left_of is.nested.left_is, is.nested.ends) in
+    pub next_within : IsWithin walk (with_left new level) e
+    next_within =
+        let p = at_placed in
         record {
-          inside = suc at.inside;
-          many = many;
-          sort = o.sort;
-          d = o.bytes;
-          end = o.end;
-          held = held;
-          is = resumed is (passed_end at.is at.sort new looks);
-          levels = omega (arith, at.levels, ap length same, length-append outer (w ∷ []));
-          begins = ends;
-          lies = rw (is.bytes_are) at stored.lies;
-          whole = omega (arith, stored_whole b c w stored, ends, ap length is.bytes_are);
+          ends = rw (at.levels.document_is) next_ends;
+          number_within = omega (arith, p.counted, at.number_is, at.offset_is);
+          start_within = omega (arith, p.counted, at.start_is, at.offset_is);
         }
 
--- it goes on so, nearer to the document's end
-module _ {document : RawDocument} {most : ℕ} {walk : Walk} {level : Level} (is : IsWalking document most walk level) (ws : List Wait) (new : Walk) (to : Level)
-    (further : IsFurther level new to ws) (same : new.document ≡ walk.document) where
-  pub walks_on : new.most_waiting ≡ walk.most_waiting → IsWalking document most new to
-  walks_on most_same = record { waits = ws; along = further.along; document_is = same ∙ is.document_is; most_is = most_same ∙ is.most_is }
+    -- the level goes on behind the element
+    pub at_whole : {Then : ℕ → Span K → List Frame → Type 0} {to : Level} → to ≡ level_behind (with_left new level) e → Then at.levels.inside at.levels.here (at.frames ++ frame_of e ∷ [])
+        → IsAt Behind Then known document most walk to
+    at_whole to_is knows = rw to_is (record {
+      levels = at.levels;
+      frames = at.frames ++ frame_of e ∷ [];
+      rest = is.r;
+      reaches = LeadsTo-more (drop 4 at.levels.here.bytes) at.frames at.rest (frame_of e) is.r at.reaches is.frame;
+      left_is = is.new_is;
+      number_is = omega (arith, at.number_is, length-append at.frames (frame_of e ∷ []));
+      offset_is = ap (λ (n : ℕ). n + size_of (frame_of e)) at.offset_is ∙ sym (end_behind (at.levels.here.start + 4) at.frames (frame_of e));
+      start_is = at.start_is;
+      knows = knows;
+    })
 
-  pub walks_nearer : length (bytes_of document) - to.offset < length (bytes_of document) - level.offset
-  walks_nearer =
-      let within : to.offset ≤ length (bytes_of document) = subst (λ (d : RawDocument). to.offset ≤ length (bytes_of d)) (same ∙ is.document_is) further.within in
-      omega (arith, further.further, within)
+    -- it waits for the level that its value holds
+    module _ (inner : RawDocument) (holds : Holds v (bytes_of inner)) where
+      pub inside_fits : length (bytes_of inner) ≤ size_of (frame_of e)
+      inside_fits = omega (arith, nested_beside at.rest (frame_of e) is.r v (bytes_of inner) is.frame is.means holds, frame_size at.rest (frame_of e) is.r is.frame)
 
--- what it tells is told of the document
-pub told_there : {document : RawDocument} {most : ℕ} {walk : Walk} {level : Level} → IsWalking document most walk level → (result : Option Barrier)
-    → TellsBarrierWithin (suc walk.most_waiting) (bytes_of walk.document) result → TellsBarrierWithin (suc most) (bytes_of document) result
-told_there {document} {most} {walk} {level} is result told =
-    subst (λ (n : ℕ). TellsBarrierWithin (suc n) (bytes_of document) result) is.most_is
-    (subst (λ (d : RawDocument). TellsBarrierWithin (suc walk.most_waiting) (bytes_of d) result) is.document_is told)
+      abbrev pub wait_here : Wait K
+      wait_here = record { level = at.levels.here; frames = at.frames; f = frame_of e; v = v }
 
--- a barrier that is told at its place is the document's first
-pub told_at : (old : Walk) (ws : List Wait) (step : Step) (offset : ℕ) (k : BarrierKind)
-    → ((x : within.Barrier) × IsBarrier k x × FirstFaultAt (suc old.most_waiting) (bytes_of old.document) x (map step_at ws ++ step ∷ []) offset)
-    → (e : WalkError) → IsBarrierAt ws step offset k e → TellsError old.most_waiting (bytes_of old.document) e
-told_at old ws step offset k bars (error.Barrier answer) (kind_is, steps_is, offset_is) = (bars.0, rw kind_is bars.1, rw (steps_is, offset_is) bars.2)
-told_at old ws step offset k bars error.OutOfMemory at = tt
+      abbrev pub span_inside : K → Span K
+      span_inside k = record { start = level.offset + size_of (frame_of e) - length (bytes_of inner); bytes = bytes_of inner; known = k }
 
--- a level that is too deep is
-pub deep_told : (walk : Walk) (from : Level) (ws : List Wait) (e : RawElement)
-    → (suc walk.most_waiting ≤ suc (length ws)
-    → FirstFaultAt (suc walk.most_waiting) (bytes_of walk.document) too_deep (map step_at ws ++ record { number = from.number; key = Some (frame_of e).key } ∷ []) from.offset)
-    → (answer : WalkError) → IsTooDeep walk from ws e answer → TellsError walk.most_waiting (bytes_of walk.document) answer
-deep_told walk from ws e bars (error.Barrier answer) (full, at) =
-    told_at walk ws _ from.offset kind.TooDeep (too_deep, refl, bars (omega (arith, full))) (error.Barrier answer) at
-deep_told walk from ws e bars error.OutOfMemory at = tt
+      pub at_inside : {Then : ℕ → Span K → List Frame → Type 0} {then : Walk} {to : Level} (k : K) → Enters walk (with_left new level) then to e inner
+          → ((n : ℕ) → at.levels.inside ≡ suc n → Behind (suc n) wait_here (span_inside k) × Then n (span_inside k) []) → IsAt Behind Then known document most then to
+      at_inside k enters knows =
+          let l = at.levels in
+          let p = at_placed in
+          let less : ℕ = l.inside - 1 in
+          let more : l.inside ≡ suc less = omega (arith, l.many, enters.room, l.most_is, ap length l.stored, as_many l.waits) in
+          let fits = inside_fits in
+          let ends : (span_inside k).start + length (bytes_of inner) ≡ offset_in l.here at.frames + size_of (frame_of e) = omega (arith, fits, at.offset_is) in
+          let both = knows less more in
+          rw (enters.level_is) (record {
+            levels = record {
+              inside = less;
+              waits = wait_here ∷ l.waits;
+              here = span_inside k;
+              document_is = enters.document_is ∙ l.document_is;
+              most_is = enters.most_is ∙ l.most_is;
+              many = omega (arith, l.many, more);
+              stored = enters.stored ∙ (λ i. l.stored i ++ record { start = at.start_is i; element = at.offset_is i; number = at.number_is i } ∷ []);
+              held = (
+                record { s = at.rest; r = is.r; lies = l.lies; reaches = at.reaches; frame = is.frame; means = is.means; holds = holds; ends = ends; knows = both.0 },
+                rw more at l.held,
+              );
+              lies = nested_lies (bytes_of inner) p.behind (offset_in l.here at.frames) (span_inside k).start p.there is.frame
+                  (nested_last (frame_of e).kind (frame_of e).payload v (bytes_of inner) is.means holds) inner.envelope ends;
+            };
+            frames = [];
+            rest = drop 4 (bytes_of inner);
+            reaches = refl;
+            left_is = refl;
+            number_is = refl;
+            offset_is = refl;
+            start_is = refl;
+            knows = both.1;
+          })
+
+  -- the final 0 is in front of what is left
+  module _ (final : at.rest ≡ 0 ∷ []) where
+    pub at_goes_on : (outer : List Waiting) (x : Waiting) → walk.waiting.items ≡ outer ++ x ∷ [] → GoesOn (bytes_of walk.document) x (level.offset + 1)
+    at_goes_on outer x items_are =
+        let (w, others, all, outer_is, x_is, held, more) = last_held at.levels.waits outer x (sym at.levels.stored ∙ items_are) at.levels.held in
+        let p = at_placed in
+        let q = held_placed held in
+        let size = frame_size held.s w.f held.r held.frame in
+        rw (x_is, at.levels.document_is) (record {
+          bytes = w.level.bytes;
+          lies = held.lies;
+          begins = omega (arith, p.ends, at.offset_is, ap length final, held.ends, q.counted);
+          ends = omega (arith, p.ends, at.offset_is, ap length final, held.ends, q.ends, size);
+        })
+
+    -- the level that waits goes on
+    pub at_resumed : {Then : ℕ → Span K → List Frame → Type 0} {new : Walk} {to : Level} → Leaves walk level.offset new to
+        → ((w : Wait K) → IsHeld Behind (bytes_of document) (suc at.levels.inside) w at.levels.here → Then (suc at.levels.inside) w.level (w.frames ++ w.f ∷ []))
+        → IsAt Behind Then known document most new to
+    at_resumed {new = new} {to} leaves knows =
+        let (w, others, all, outer_is, x_is, held, more) = last_held at.levels.waits new.waiting.items leaves.w (sym at.levels.stored ∙ leaves.stored) at.levels.held in
+        let there = subst (λ (y : Waiting). (d : List ℕ) → LiesAt (bytes_of walk.document) y.start d → to ≡ resumed_level y d (level.offset + 1)) x_is leaves.level_is w.level.bytes
+        (rw (at.levels.document_is) (held.lies)) in
+        let frames : List Frame = w.frames ++ w.f ∷ [] in
+        let reaches = LeadsTo-more (drop 4 w.level.bytes) w.frames held.s w.f held.r held.reaches held.frame in
+        let far : level.offset + 1 ≡ offset_in w.level frames = omega (arith, at_placed.ends, at.offset_is, ap length final, held.ends, end_behind (w.level.start + 4) w.frames w.f) in
+        rw (there, far) (record {
+          levels = record {
+            inside = suc at.levels.inside;
+            waits = others;
+            here = w.level;
+            document_is = leaves.document_is ∙ at.levels.document_is;
+            most_is = leaves.most_is ∙ at.levels.most_is;
+            many = omega (arith, at.levels.many, ap length all);
+            stored = outer_is;
+            held = more;
+            lies = held.lies;
+          };
+          frames = frames;
+          rest = held.r;
+          reaches = reaches;
+          left_is = ap Some (sym (left_there w.level frames held.r held.lies.envelope.enough reaches));
+          number_is = omega (arith, length-append w.frames (w.f ∷ []));
+          offset_is = refl;
+          start_is = refl;
+          knows = knows w held;
+        })
+
+    -- which is further on
+    pub resumed_further : {new : Walk} {to : Level} → Leaves walk level.offset new to → (to.offset ≡ level.offset + 1) × (0 < to.number)
+    resumed_further {new} leaves =
+        let goes = at_goes_on new.waiting.items leaves.w leaves.stored in
+        let there = leaves.level_is goes.bytes goes.lies in
+        (ap (λ (l : Level). l.offset) there, omega (arith, ap (λ (l : Level). l.number) there))
+
+  -- where none waits, it is the document
+  pub at_outside : walk.waiting.items ≡ [] → (at.levels.here ≡ whole_span known document) × (at.levels.inside ≡ most)
+  at_outside none =
+      let few : length at.levels.waits ≡ 0 = omega (arith, as_many at.levels.waits, ap length at.levels.stored, ap length none) in
+      (none_held Behind known document at.levels.inside at.levels.waits at.levels.here few at.levels.held, omega (arith, at.levels.many, few))
+
+  -- where no more may wait, none may be inside
+  pub none_inside : walk.most_waiting ≤ length walk.waiting.items → at.levels.inside ≡ 0
+  none_inside full = omega (arith, full, at.levels.most_is, at.levels.many, as_many at.levels.waits, ap length at.levels.stored)

@@ -1,9 +1,8 @@
 -- Where a walk may start.
-use Rattle.std.proofs.Common.{◌≡◌, ◌∙◌, ◌≤◌, ◌-◌, [], ℕ, suc, List, Option, Some, inl, inr, ◌⊎◌, ◌<◌, length, drop, arith, ap, refl, sym, subst, length-drop}
-use Rattle.raw_tree.proofs.Common.{IsEnvelope, as_document}
-use Rattle.raw_tree.proofs.walk.Common.{AreReadBefore, HasNoneBefore, HasRead, IsAt, IsBehind, Wait}
-use Rattle.raw_view.proofs.Face.{LeadsTo-bound}
-use Rattle.raw_tree.proofs.walk.Offsets.{drop_both, leads_behind, whole_lies}
+use Rattle.std.proofs.Common.{◌≡◌, ◌∙◌, ◌≤◌, [], ℕ, List, Some, length, drop, arith, ap, refl, sym, length-drop}
+use Rattle.raw_tree.proofs.Common.{Frame, LeadsTo, bytes_of}
+use Rattle.raw_tree.proofs.walk.Common.{BeginsAt, HasNoneBefore, IsAt, IsBegun, IsBehind, Level, RawDocument, Span, Wait, Walk, whole_span, end_of}
+use Rattle.raw_tree.proofs.walk.Offsets.{left_there, placed, whole_lies}
 
 -- the first element is behind no other
 pub first_behind : (b : List ℕ) → 5 ≤ length b → IsBehind b 0 4
@@ -21,41 +20,33 @@ first_begins depth b enough inside e = record {
   begins = omega (arith, length-drop 4 b, enough);
 }
 
--- a start is within the document
-pub start_within : (inside : ℕ) (b : List ℕ) (number offset : ℕ) → 5 ≤ length b → AreReadBefore inside b number offset → (4 ≤ offset) × (offset ≤ length b)
-start_within inside b number offset enough is =
-    let bound = LeadsTo-bound (drop 4 b) is.frames is.s is.reaches in
-    (omega (arith, bound, length-drop 4 b, enough, is.begins), omega (arith, is.begins))
-
-pub not_outside : (offset n : ℕ) → (4 ≤ offset) × (offset ≤ n) → (offset < 4) ⊎ (n < offset) → ⊥
-not_outside offset n within (inl before) = omega (arith, within.0, before)
-not_outside offset n within (inr behind) = omega (arith, within.1, behind)
-
--- what the loop over levels keeps holds at a start
-pub at_start : (most depth : ℕ) (b : List ℕ) (ws : List Wait) (left : Option (List ℕ)) (number offset : ℕ) → IsEnvelope b → suc most ≡ depth → ws ≡ []
-    → left ≡ Some (drop offset b) → AreReadBefore most b number offset → IsAt depth b ws left number offset 0
-at_start most depth b ws left number offset envelope whole none e is =
-    let enough : 5 ≤ length b = envelope.enough in
-    let bound = LeadsTo-bound (drop 4 b) is.frames is.s is.reaches in
-    let behind : drop (length (drop 4 b) - length is.s) (drop 4 b) ≡ drop offset b = drop_both b offset (length (drop 4 b) - length is.s) (omega (arith, bound, length-drop 4 b, enough, is.begins)) in
-    let same : is.s ≡ drop offset b = leads_behind (drop 4 b) is.frames is.s is.reaches ∙ behind in
-    let size : length is.s ≡ length (drop offset b) = ap length same in
+-- a walk that has begun behind some frames is there
+pub at_start : {K : Type 0} {Behind : ℕ → Wait K → Span K → Type 0} {Fact : ℕ → Span K → List Frame → Type 0} {document : RawDocument} {offset : ℕ} {walk : Walk} {level : Level}
+    → IsBegun document offset walk level → (known : K) (frames : List Frame) (s : List ℕ) → LeadsTo (drop 4 (bytes_of document)) frames s → BeginsAt (bytes_of document) s offset
+    → level.number ≡ length frames → Fact walk.most_waiting (whole_span known document) frames → IsAt Behind Fact known document walk.most_waiting walk level
+at_start {document = document} {offset} {walk} begun known frames s l begins number_is knows =
+    let b = bytes_of document in
+    let lies = whole_lies b document.envelope in
+    let p = placed b (whole_span known document) frames s lies l in
+    let there : end_of 4 frames ≡ offset = omega (arith, p.ends, begins) in
     record {
-      inside = most;
-      sort = as_document;
-      d = b;
-      end = length b;
-      many = 0;
-      held = (none, refl);
-      is = record {
-        frames = is.frames;
-        pairs = is.pairs;
-        passed = subst (λ (l : Option (List ℕ)). HasRead (drop 4 b) is.frames l) (ap Some same ∙ sym e) is.reaches;
-        each = is.each;
-        number_is = is.number_is;
+      levels = record {
+        inside = walk.most_waiting;
+        waits = [];
+        here = whole_span known document;
+        document_is = begun.document_is;
+        most_is = refl;
+        many = omega arith;
+        stored = begun.none_waits;
+        held = refl;
+        lies = lies;
       };
-      levels = rw none (omega (arith, whole));
-      begins = rw e (omega (arith, is.begins, size));
-      lies = whole_lies b 0 envelope refl;
-      whole = omega arith;
+      frames = frames;
+      rest = s;
+      reaches = l;
+      left_is = begun.left_is ∙ ap Some (sym (left_there (whole_span known document) frames s document.envelope.enough l ∙ ap (λ (n : ℕ). drop n b) (omega (arith, there))));
+      number_is = number_is;
+      offset_is = begun.offset_is ∙ sym there;
+      start_is = begun.start_is;
+      knows = knows;
     }

@@ -1,74 +1,48 @@
--- The members of containers: that their trees are those of their members, and the steps of a call that goes through
--- them.
-use Rattle.std.proofs.Common.{◌≡◌, ◌↔◌, ◌≤◌, ◌<◌, ℕ, zero, suc, ◌+◌, List, [], ◌∷◌, length, map, drop, None, Some, slice_get, get_or, refl, ap, sym, ◌∙◌, arith, drop_of_length-le}
-use Rattle.raw_tree.proofs.Common.{slice_get-get_or, IsNulFree, nul_free_parts, InTrees, InEntries, Tree, Trees, Entries, no_tree, tree_then, no_entry, entry_then, trees, entries}
-use Rattle.raw_tree.proofs.Common.{tree_of, with_trees, Bson, encoded_len, items_len, entries_len, MemberKey, text, number, numbered, keyed, members, members_len, opening_len, AreMembersFree}
-use Rattle.raw_tree.proofs.Common.{tree_of_container, Container}
+-- The members of trees: what is left of them behind the first, their bytes, how many these are, and whether a 0 is in them.
+use Rattle.std.proofs.Common.{◌≡◌, ◌↔◌, ℕ, ◌+◌, List, [], ◌∷◌, ◌++◌, decimal, map, reverse, None, Some, slice_get, refl, ap, arith}
+use Rattle.std.proofs.lemmas.List.{drop_all, drop_more, reverse-append}
+use Rattle.std.proofs.lemmas.Option.{get_or_from_slice_get, slice_get_cases, slice_get_within}
+use Rattle.raw_tree.proofs.writer.Decimals.{decimal_nul_free}
+use Rattle.raw_tree.proofs.Common.{map-append, IsNulFree, nul_free_parts, InTrees, InEntries, Tree, Trees, no_tree, tree_then, no_entry, entry_then, Document, pairs_of}
+use Rattle.raw_tree.proofs.Common.{tree_of, Bson, element_of, kind_of_tree, tree_payload, items_bytes, entries_bytes, encoded_len, items_len, entries_len, numbered, members, opening_len}
+use Rattle.raw_tree.proofs.Common.{HoldsTrees, tree_of_container, Container}
+use Rattle.raw_tree.specs.writer.Members.{pairs_from}
 
--- the members of pairs and of values
+-- steps
 
-length-numbered : (n : ℕ) (vs : List Bson) → length (numbered n (trees (map tree_of vs))) ≡ length vs
-length-numbered n [] = refl
-length-numbered n (v ∷ vs) = ap suc (length-numbered (n + 1) vs)
+pub pair_step : (d : Document) (i : ℕ) (key : List ℕ) (v : Bson) → slice_get (pairs_of d) i ≡ Some (key, v) → pairs_from d i ≡ entry_then key (tree_of v) (pairs_from d (i + 1))
+pair_step d i key v e =
+    rw (drop_more (pairs_of d) i (key, v) (slice_get_within (pairs_of d) i (key, v) e), get_or_from_slice_get (pairs_of d) i (key, v) (key, v) e) refl
 
-pub keyed_at : (ps : List (List ℕ × Bson)) (i : ℕ) (key : List ℕ) (v : Bson) → slice_get ps i ≡ Some (key, v) → slice_get (keyed (entries (with_trees ps))) i ≡ Some (text key, tree_of v)
-keyed_at [] i key v e = cc
-keyed_at (p ∷ ps) zero key v e = grind arith
-keyed_at (p ∷ ps) (suc i) key v e = keyed_at ps i key v e
+pub last_pair : (d : Document) (i : ℕ) → slice_get (pairs_of d) i ≡ None → pairs_from d i ≡ no_entry
+last_pair d i e = grind (arith, drop_all, slice_get_cases)
 
-pub numbered_at : (n : ℕ) (vs : List Bson) (i : ℕ) (v : Bson) → slice_get vs i ≡ Some v → slice_get (numbered n (trees (map tree_of vs))) i ≡ Some (number (n + i), tree_of v)
-numbered_at n [] i v e = cc
-numbered_at n (u ∷ vs) zero v e = grind arith
-numbered_at n (u ∷ vs) (suc i) v e = grind (arith, numbered_at (n + 1) vs i v)
+-- what f says of the levels that wait, the innermost first
+abbrev pub stack : {A B : Type 0} → (A → B) → List A → List B
+stack f ws = reverse (map f ws)
 
--- what is looked up of a document, and of a list
+pub stack-last : {A B : Type 0} (f : A → B) (ws : List A) (w : A) → stack f (ws ++ w ∷ []) ≡ f w ∷ stack f ws
+stack-last f ws w = rw (map-append f ws (w ∷ [])) (reverse-append (map f ws) (f w ∷ []))
 
-pub past_values : (vs : List Bson) (i : ℕ) → length vs ≤ i → length (numbered 0 (trees (map tree_of vs))) ≤ i
-past_values vs i past = omega (arith, length-numbered 0 vs)
+-- trees
 
-pub no_pair : (ps : List (List ℕ × Bson)) (i : ℕ) → slice_get ps i ≡ None → length (keyed (entries (with_trees ps))) ≤ i
-no_pair [] i e = omega arith
-no_pair (p ∷ ps) zero e = cc
-no_pair (p ∷ ps) (suc i) e = let h = no_pair ps i e in omega arith
+pub items_bytes-numbered : (n : ℕ) (ts : Trees) → items_bytes n ts ≡ entries_bytes (numbered n ts)
+items_bytes-numbered n no_tree = refl
+items_bytes-numbered n (tree_then t ts) = ap (λ (b : List ℕ). element_of (kind_of_tree t) (decimal n) (tree_payload t) ++ b) (items_bytes-numbered (n + 1) ts)
 
-pub found_value : (vs : List Bson) (i : ℕ) (v : Bson) → i < length vs → v ≡ get_or vs i v → slice_get (numbered 0 (trees (map tree_of vs))) i ≡ Some (number i, tree_of v)
-found_value vs i v within is =
-    let first : 0 + i ≡ i = omega arith in
-    rw first at (numbered_at 0 vs i v (slice_get-get_or vs i v within ∙ ap Some (sym is)))
+items_len-numbered : (n : ℕ) (ts : Trees) → items_len n ts ≡ entries_len (numbered n ts)
+items_len-numbered n no_tree = refl
+items_len-numbered n (tree_then t ts) = omega (arith, items_len-numbered (n + 1) ts)
 
--- a step
+pub members_len : (t : Tree) → HoldsTrees t → encoded_len t ≡ opening_len t + 1 + entries_len (members t)
+members_len t h = grind (arith, items_len-numbered)
 
-left_behind : (ms : List (MemberKey × Tree)) (i : ℕ) (m : MemberKey × Tree) → slice_get ms i ≡ Some m → drop i ms ≡ m ∷ drop (suc i) ms
-left_behind [] i m e = cc
-left_behind (x ∷ ms) zero m e = grind arith
-left_behind (x ∷ ms) (suc i) m e = left_behind ms i m e
+items_free : (n : ℕ) (ts : Trees) → InTrees nul_free_parts ts ↔ InEntries nul_free_parts (numbered n ts)
+items_free n no_tree = ((λ h. h), (λ h. h))
+items_free n (tree_then t ts) = let rest = items_free (n + 1) ts in ((λ h. (decimal_nul_free n, h.0, rest.0 h.1)), (λ h. (h.1, rest.1 h.2)))
 
-pub left_at : (ms : List (MemberKey × Tree)) (i : ℕ) (m : MemberKey × Tree) → slice_get ms i ≡ Some m → drop i ms ≡ m ∷ drop (i + 1) ms
-left_at ms i m e = grind (arith, left_behind)
+pub members_free : (t : Tree) → HoldsTrees t → IsNulFree t ↔ InEntries nul_free_parts (members t)
+members_free t h = grind (arith, items_free)
 
-pub none_left : (ms : List (MemberKey × Tree)) (i : ℕ) → length ms ≤ i → drop i ms ≡ []
-none_left ms i past = drop_of_length-le ms past
-
--- the tree of a container by its members
-
-items_len-members : (n : ℕ) (ts : Trees) → items_len n ts ≡ members_len (numbered n ts)
-items_len-members n no_tree = refl
-items_len-members n (tree_then t ts) = omega (arith, items_len-members (n + 1) ts)
-
-entries_len-members : (es : Entries) → entries_len es ≡ members_len (keyed es)
-entries_len-members no_entry = refl
-entries_len-members (entry_then key t es) = omega (arith, entries_len-members es)
-
-pub container_len : (c : Container) → encoded_len (tree_of_container c) ≡ opening_len (tree_of_container c) + 1 + members_len (members (tree_of_container c))
-container_len c = grind (arith, entries_len-members, items_len-members)
-
-items_free : (n : ℕ) (ts : Trees) → InTrees nul_free_parts ts ↔ AreMembersFree (numbered n ts)
-items_free n no_tree = ((λ h. tt), (λ h. tt))
-items_free n (tree_then t ts) = let rest = items_free (n + 1) ts in ((λ h. (tt, h.0, rest.0 h.1)), (λ h. (h.1, rest.1 h.2)))
-
-entries_free : (es : Entries) → InEntries nul_free_parts es ↔ AreMembersFree (keyed es)
-entries_free no_entry = ((λ h. tt), (λ h. tt))
-entries_free (entry_then key t es) = let rest = entries_free es in ((λ h. (h.0, h.1, rest.0 h.2)), (λ h. (h.0, h.1, rest.1 h.2)))
-
-pub members_free : (c : Container) → IsNulFree (tree_of_container c) ↔ AreMembersFree (members (tree_of_container c))
-members_free c = grind (arith, entries_free, items_free)
+pub container_holds : (c : Container) → HoldsTrees (tree_of_container c)
+container_holds c = grind arith

@@ -67,9 +67,9 @@ IsOneMore old key t new =
     (new.elements ≡ old.elements) × (new.holder ≡ old.holder)
     × ((pairs : List (List ℕ × Tree)) → AreDrafted old.holder old.draft pairs → AreDrafted old.holder new.draft (pairs ++ (key, t) ∷ []))
 
--- the tree is that of the value which holds bytes that are read as the contents
+-- the tree is that of the value which holds bytes that are read as the contents, with as many levels
 abbrev pub ClosesAs : Contents → Bson → Type 0
-ClosesAs c t = (d : List ℕ) → ReadsAs (sort_of (holder_of c)) d (tree_of_contents c) → StandsFor ReadsAs (holding (holder_of c) d) (tree_of t)
+ClosesAs c t = (levels : ℕ) (d : List ℕ) → ReadsUpTo levels (sort_of (holder_of c)) d (tree_of_contents c) → StandsFor (ReadsUpTo levels) (holding (holder_of c) d) (tree_of t)
 
 -- the contents are those of the pairs that are drafted
 abbrev pub Finishes : Holder → Draft → Contents → Type 0
@@ -77,7 +77,9 @@ Finishes h d c = (holder_of c ≡ h) × ((pairs : List (List ℕ × Tree)) → A
 
 -- the tree is that of the value which holds bytes that are read as the pairs that are drafted
 abbrev pub DraftsTree : Holder → Draft → Bson → Type 0
-DraftsTree h d t = (pairs : List (List ℕ × Tree)) (b : List ℕ) → AreDrafted h d pairs → ReadsAs (sort_of h) b (tree_of_pairs (sort_of h) pairs) → StandsFor ReadsAs (holding h b) (tree_of t)
+DraftsTree h d t =
+    (pairs : List (List ℕ × Tree)) (levels : ℕ) (b : List ℕ) → AreDrafted h d pairs → ReadsUpTo levels (sort_of h) b (tree_of_pairs (sort_of h) pairs)
+    → StandsFor (ReadsUpTo levels) (holding h b) (tree_of t)
 
 -- the bytes that this holds are read as the contents
 abbrev pub AreRead : Holder → List ℕ → Contents → Type 0

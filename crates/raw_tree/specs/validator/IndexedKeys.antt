@@ -1,5 +1,5 @@
 -- Keys with an index, and how a key is looked for in one. No public contract cites this file.
-use Rattle.std.specs.Prelude.{◌≡◌, ◌++◌, ◌∷◌, [], ℕ, List, Option, None, Some, if◌then◌else◌, position}
+use Rattle.std.specs.Prelude.{◌≡◌, ◌++◌, ◌∷◌, [], ℕ, List, Option, None, Some, if◌then◌else◌, position, unwrap_or}
 use Rattle.std.specs.BTreeMap.{BTreeMap, get, is_at}
 use Rattle.std.specs.Cmp.Lexicographic.{slice_cmp}
 use Rattle.std.specs.Ordering.{nat_cmp, ordering_then}
@@ -27,9 +27,10 @@ key_cmp x y = ordering_then (nat_cmp x.0 y.0) (slice_cmp nat_cmp x.1.now y.1.now
 abbrev pub HasPlaces : BTreeMap (ℕ × Bor (List ℕ)) ℕ → List (List ℕ) → Type 0
 HasPlaces places keys = (q : Bor (List ℕ)) → get key_cmp places (hash_of q.now, q) ≡ position (bytes_eq q.now) keys
 
--- the key has this place in the map, and each other the one that it had
-abbrev pub GivesPlace : BTreeMap (ℕ × Bor (List ℕ)) ℕ → ℕ → Bor (List ℕ) → ℕ → BTreeMap (ℕ × Bor (List ℕ)) ℕ → Type 0
-GivesPlace old hash key place new = (q : ℕ × Bor (List ℕ)) → get key_cmp new q ≡ (if is_at (key_cmp (hash, key)) q then Some place else get key_cmp old q)
+-- the key has the place that it had in the map, or the next, and each other the one that it had
+pub record GivesPlace (old : BTreeMap (ℕ × Bor (List ℕ)) ℕ) (hash : ℕ) (key : Bor (List ℕ)) (next place : ℕ) (new : BTreeMap (ℕ × Bor (List ℕ)) ℕ) : Type 0 where
+  pub place_is : place ≡ unwrap_or (get key_cmp old (hash, key)) next
+  pub gives : (q : ℕ × Bor (List ℕ)) → get key_cmp new q ≡ (if is_at (key_cmp (hash, key)) q then Some place else get key_cmp old q)
 
 -- by these fingerprints, or in this order, each of the keys is found
 abbrev pub Finds : Finder → List (List ℕ) → Type 0

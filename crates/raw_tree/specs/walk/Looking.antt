@@ -1,4 +1,4 @@
--- What a look at a level tells. Public contracts go by `size_of` alone of what is here.
+-- What a look at a level tells. Of what is here public contracts go by `size_of` and `HasNoneBefore` alone.
 use Rattle.std.specs.Prelude.{◌≡◌, ◌+◌, ℕ, suc, List, [], ◌∷◌, drop, length, Option, None, Some}
 use Rattle.std.specs.Option.{option_copied}
 use Rattle.raw_view.specs.Document.{bytes_of}
@@ -12,16 +12,11 @@ use Rattle.raw_view.specs.declared.bson_ref.RawBsonRef.{RawBsonRef}
 use Rattle.raw_view.specs.declared.element.RawElement.{RawElement}
 use Rattle.raw_view.specs.declared.level.RawLevel.{RawLevel}
 use Rattle.raw_tree.specs.reader.Reading.{Holds, StandForEach, ReadsUpTo}
-use Rattle.raw_tree.specs.walk.Places.{Step, BeginsAt}
-use Rattle.raw_tree.specs.walk.Waits.{Wait}
+use Rattle.raw_tree.specs.walk.Places.{BeginsAt}
 use Rattle.raw_tree.specs.walk.Aheads.{Ahead}
 use Rattle.raw_tree.specs.walk.Aheads as next
 use Rattle.raw_tree.specs.declared.walk.level.Next.{Next}
 use Rattle.raw_tree.specs.declared.walk.level.Next.TheVariants as seen
-
--- the step at which a level waits
-abbrev pub step_at : Wait → Step
-step_at w = record { number = w.number; key = Some w.key }
 
 -- how many bytes a frame takes: a tag, its key with a 0, and its payload
 abbrev pub size_of : Frame → ℕ
@@ -68,6 +63,11 @@ abbrev pub HasValue : Next → Type 0
 HasValue (seen.Whole e v) = IsValueOf v e × IsSingle (value_of v)
 HasValue (seen.Inside e inner) = IsHeldBy inner e
 HasValue _ = Unit {0}
+
+-- a look tells what is next, and has its value
+pub record HasLooked (old new : Option (List ℕ)) (x : Next) : Type 0 where
+  pub sees : Sees old new x
+  pub value : HasValue x
 
 -- no frame is in front of what is left; or the element is that frame, and this is left behind it
 abbrev pub TakesFrame : Option (List ℕ) → Option RawElement → Option (List ℕ) → Type 0

@@ -1,19 +1,13 @@
--- What is stored of a level that waits, in terms of lists. No public contract cites this file.
-use Rattle.std.specs.Prelude.{◌≡◌, ◌≤◌, ◌+◌, ◌-◌, ◌++◌, ◌∷◌, [], ℕ, List, Option, Some, drop, length}
+-- What is stored of a level that waits. No public contract cites this file.
+use Rattle.std.specs.Prelude.{◌≡◌, ◌≤◌, ◌+◌, ◌-◌, ◌++◌, ◌∷◌, [], ℕ, List, Some, drop, length}
 use Rattle.raw_view.specs.Frame.Envelope.{IsEnvelope}
 use Rattle.raw_view.specs.Frame.{Frame, IsFrame}
+use Rattle.raw_view.specs.Frame.ElementSteps.{frame_of}
+use Rattle.raw_view.specs.declared.element.RawElement.{RawElement}
+use Rattle.raw_tree.specs.walk.Looking.{size_of}
+use Rattle.raw_tree.specs.walk.Places.{Step}
+use Rattle.raw_tree.specs.declared.walk.level.Level.{Level}
 use Rattle.raw_tree.specs.declared.walk.level.Waiting.{Waiting}
-
--- A level that waits for the one that an element of it holds: where it begins and its bytes; where that element begins; what
--- is left behind it, how many elements are before it, where what is left begins, and the element's key.
-pub record Wait : Type 0 where
-  pub start : ℕ
-  pub bytes : List ℕ
-  pub element : ℕ
-  pub elements : Option (List ℕ)
-  pub number : ℕ
-  pub offset : ℕ
-  pub key : List ℕ
 
 -- at this offset of b is a document or an array with the bytes d
 pub record LiesAt (b : List ℕ) (start : ℕ) (d : List ℕ) : Type 0 where
@@ -21,30 +15,44 @@ pub record LiesAt (b : List ℕ) (start : ℕ) (d : List ℕ) : Type 0 where
   pub lies : drop start b ≡ d ++ behind
   pub envelope : IsEnvelope d
 
--- this is stored of the level x of b: where it begins, where its element is, and the number of that
-pub record Stores (b : List ℕ) (w : Waiting) (x : Wait) : Type 0 where
-  pub start_is : w.start ≡ x.start
-  pub element_is : w.element ≡ x.element
-  pub number_is : w.number ≡ x.number
-  pub lies : LiesAt b x.start x.bytes
+-- a level of b is stored that waits at this step
+pub record StoresStep (b : List ℕ) (w : Waiting) (step : Step) : Type 0 where
   pub frame : Frame
   pub rest : List ℕ
   pub at : IsFrame (drop w.element b) frame rest
   pub first : 4 ≤ w.element
-  pub key_is : x.key ≡ frame.key
-  pub elements_are : x.elements ≡ Some (drop (x.offset - x.start) x.bytes)
-  pub begins : x.start + 4 ≤ x.offset
-  pub ends : x.offset ≤ x.start + length x.bytes
+  pub step_is : step ≡ record { number = w.number; key = Some frame.key }
 
 -- so it is of each level
-abbrev pub StoreEach : List ℕ → List Waiting → List Wait → Type 0
-StoreEach b [] xs = xs ≡ []
-StoreEach b (w ∷ ws) [] = ⊥
-StoreEach b (w ∷ ws) (x ∷ xs) = Stores b w x × StoreEach b ws xs
+abbrev pub StoreSteps : List ℕ → List Waiting → List Step → Type 0
+StoreSteps b [] steps = steps ≡ []
+StoreSteps b (w ∷ ws) [] = ⊥
+StoreSteps b (w ∷ ws) (step ∷ steps) = StoresStep b w step × StoreSteps b ws steps
 
--- the level goes on behind its element
-pub record ResumesBehind (x : Wait) (elements : Option (List ℕ)) (number offset start : ℕ) : Type 0 where
-  pub elements_are : elements ≡ x.elements
-  pub number_is : number ≡ x.number + 1
-  pub offset_is : offset ≡ x.offset
-  pub start_is : start ≡ x.start
+-- this offset is within the level of b that is stored
+pub record GoesOn (b : List ℕ) (w : Waiting) (offset : ℕ) : Type 0 where
+  pub bytes : List ℕ
+  pub lies : LiesAt b w.start bytes
+  pub begins : w.start + 4 ≤ offset
+  pub ends : offset ≤ w.start + length bytes
+
+-- that level with the bytes d, where it goes on behind its element, which ends at this offset
+abbrev pub resumed_level : Waiting → List ℕ → ℕ → Level
+resumed_level w d offset = record { elements = Some (drop (offset - w.start) d); number = w.number + 1; offset = offset; start = w.start }
+
+-- a level with the bytes d that is entered, and ends at this offset
+abbrev pub entered_level : List ℕ → ℕ → Level
+entered_level d end = record { elements = Some (drop 4 d); number = 0; offset = end - length d + 4; start = end - length d }
+
+-- a level behind an element that was in front
+abbrev pub level_behind : Level → RawElement → Level
+level_behind level e = record { elements = level.elements; number = level.number + 1; offset = level.offset + size_of (frame_of e); start = level.start }
+
+-- what is stored of a level whose element is in front
+abbrev pub stored_level : Level → Waiting
+stored_level level = record { start = level.start; element = level.offset; number = level.number }
+
+-- where the element of the outermost level begins that holds the levels inside, or that is next, at this offset
+abbrev pub outermost_of : List Waiting → ℕ → ℕ
+outermost_of [] offset = offset
+outermost_of (w ∷ ws) offset = w.element

@@ -1,26 +1,24 @@
 -- What a walk over all levels of a document has passed, and what it comes to next. No contract of a call for users cites this file.
-use Rattle.std.specs.Prelude.{◌≡◌, ◌+◌, ◌++◌, ◌∷◌, ◌<◌, ◌≤◌, ℕ, zero, suc, Bool, true, false, List, Option, Some, Result, Ok, Err, drop, length, map, []}
+use Rattle.std.specs.Prelude.{◌≡◌, ◌+◌, ◌++◌, ◌∷◌, ◌<◌, ◌≤◌, ℕ, suc, Bool, true, false, List, Option, Some, Result, Ok, Err, drop, length, []}
 use Rattle.bson_model.specs.Tree.{Tree}
 use Rattle.raw_view.specs.Document.{bytes_of}
-use Rattle.raw_view.specs.Frame.ElementSteps.{HasRead, frame_of}
+use Rattle.raw_view.specs.Frame.ElementSteps.{frame_of}
 use Rattle.raw_view.specs.Frame.{Frame, IsFrame, LeadsTo}
 use Rattle.raw_view.specs.Meaning.{RawValue, Means, value}
 use Rattle.raw_view.specs.Meaning.Value.{IsSingle, held_value, value_of}
 use Rattle.raw_view.specs.declared.document.RawDocument.{RawDocument}
 use Rattle.raw_view.specs.declared.element.RawElement.{RawElement}
-use Rattle.raw_tree.specs.reader.Reading.{Holds, Sort, as_document, tree_of_pairs, ReadsUpTo, StandForEach}
-use Rattle.raw_tree.specs.validator.Validating.{HoldsAs, left_of}
+use Rattle.raw_tree.specs.reader.Reading.{Holds, as_document, ReadsUpTo}
 use Rattle.raw_tree.specs.declared.reader.limits.Limits.{Limits}
-use Rattle.raw_tree.specs.walk.Aheads.{Ahead}
-use Rattle.raw_tree.specs.walk.Aheads as next
 use Rattle.raw_tree.specs.walk.Barriers.{TellsBarrier, TellsBarrierWithin, steps_of}
-use Rattle.raw_tree.specs.walk.Looking.{Looks, size_of, step_at}
+use Rattle.raw_tree.specs.walk.Looking.{size_of}
 use Rattle.raw_tree.specs.walk.Places.{BeginsAt, Step}
 use Rattle.raw_tree.specs.walk.Visits.{HasVisits, Visit, VisitsEach, end_of, whole, enter, leave}
-use Rattle.raw_tree.specs.walk.Waits.{ResumesBehind, LiesAt, StoreEach, Wait}
+use Rattle.raw_tree.specs.walk.Waits.{LiesAt, entered_level, resumed_level, stored_level}
 use Rattle.raw_tree.specs.declared.walk.barrier.BarrierKind.{BarrierKind}
 use Rattle.raw_tree.specs.declared.walk.barrier.BarrierKind.TheVariants as kind
 use Rattle.raw_tree.specs.declared.walk.level.Level.{Level}
+use Rattle.raw_tree.specs.declared.walk.level.Waiting.{Waiting}
 use Rattle.raw_tree.specs.declared.walk.Event.{Event}
 use Rattle.raw_tree.specs.declared.walk.Event.TheVariants as event
 use Rattle.raw_tree.specs.declared.walk.Walk.{Walk}
@@ -29,74 +27,85 @@ use Rattle.raw_tree.specs.declared.walk.WalkError.TheVariants as error
 
 -- levels
 
--- these bytes are read as the tree of some pairs
-abbrev pub AreReadTo : ℕ → Sort → List ℕ → Type 0
-AreReadTo n sort d = (pairs : List (List ℕ × Tree)) × ReadsUpTo n sort d (tree_of_pairs sort pairs)
-
--- so many frames of b have been passed, and they stand for some trees, with at most so many levels inside
-pub record IsPassed (inside : ℕ) (b : List ℕ) (left : Option (List ℕ)) (number : ℕ) : Type 0 where
-  pub frames : List Frame
-  pub pairs : List (List ℕ × Tree)
-  pub passed : HasRead (drop 4 b) frames left
-  pub each : StandForEach (ReadsUpTo inside) frames pairs
-  pub number_is : number ≡ length frames
-
--- the bytes of a level, what they are read as, and where in the document they end
-pub record Span : Type 0 where
-  pub sort : Sort
+-- a level: where it begins, its bytes, and what else is known of it
+pub record Span (K : Type 0) : Type 0 where
+  pub start : ℕ
   pub bytes : List ℕ
-  pub end : ℕ
+  pub known : K
 
-abbrev pub whole_span : List ℕ → Span
-whole_span b = record { sort = as_document; bytes = b; end = length b }
-
--- Some frames have been passed of the outer bytes, and s is left of them. The value of the frame in front holds the inner
--- bytes, which end where what is left behind it begins.
-pub record HoldsLevel (frames : List Frame) (s : List ℕ) (o : Span) (w : Wait) (i : Span) : Type 0 where
-  pub f : Frame
-  pub r : List ℕ
-  pub v : RawValue
-  pub reaches : LeadsTo (drop 4 o.bytes) frames s
-  pub frame : IsFrame s f r
-  pub means : Means f (value v)
-  pub holds : HoldsAs v i.sort i.bytes
-  pub number_is : w.number ≡ length frames
-  pub key_is : w.key ≡ f.key
-  pub left_is : w.elements ≡ Some r
-  pub begins : w.offset ≡ i.end
-  pub ends : w.offset + length r ≡ o.end
-
--- and the frames stand for trees, with at most so many levels inside
-pub record IsHeld (inside : ℕ) (o : Span) (w : Wait) (i : Span) : Type 0 where
+-- a level that waits: these frames of it were passed, and the value of the frame behind them holds the next level
+pub record Wait (K : Type 0) : Type 0 where
+  pub level : Span K
   pub frames : List Frame
-  pub pairs : List (List ℕ × Tree)
+  pub f : Frame
+  pub v : RawValue
+
+-- the document as a level
+abbrev pub whole_span : {K : Type 0} → K → RawDocument → Span K
+whole_span known document = record { start = 0; bytes = bytes_of document; known = known }
+
+-- where what is behind some frames of a level begins
+abbrev pub offset_in : {K : Type 0} → Span K → List Frame → ℕ
+offset_in i frames = end_of (i.start + 4) frames
+
+-- the step at which a level waits, and what is stored of it
+abbrev pub step_at : {K : Type 0} → Wait K → Step
+step_at w = record { number = length w.frames; key = Some w.f.key }
+
+abbrev pub stored_at : {K : Type 0} → Wait K → Waiting
+stored_at w = record { start = w.level.start; element = offset_in w.level w.frames; number = length w.frames }
+
+-- the same of all that wait: the list has the innermost first, and the result the outermost
+abbrev pub path_of : {K : Type 0} → List (Wait K) → List Step
+path_of [] = []
+path_of (w ∷ ws) = path_of ws ++ step_at w ∷ []
+
+abbrev pub all_stored : {K : Type 0} → List (Wait K) → List Waiting
+all_stored [] = []
+all_stored (w ∷ ws) = all_stored ws ++ stored_at w ∷ []
+
+-- A level of b waits for the level i in it. So many levels may be inside the one that waits, and Behind is known of both.
+pub record IsHeld {K : Type 0} (Behind : ℕ → Wait K → Span K → Type 0) (b : List ℕ) (inside : ℕ) (w : Wait K) (i : Span K) : Type 0 where
   pub s : List ℕ
-  pub nested : HoldsLevel frames s o w i
-  pub each : StandForEach (ReadsUpTo inside) frames pairs
-  pub bytes_are : w.bytes ≡ o.bytes
-  pub element_is : w.element + size_of nested.f ≡ w.offset
+  pub r : List ℕ
+  pub lies : LiesAt b w.level.start w.level.bytes
+  pub reaches : LeadsTo (drop 4 w.level.bytes) w.frames s
+  pub frame : IsFrame s w.f r
+  pub means : Means w.f (value w.v)
+  pub holds : Holds w.v i.bytes
+  pub ends : i.start + length i.bytes ≡ offset_in w.level w.frames + size_of w.f
+  pub knows : Behind inside w i
 
--- So many levels wait, the outermost first, and each is linked to the one that it waits for. So many may be inside the
--- innermost.
-module _ {A S : Type 0} (Link : ℕ → S → A → S → Type 0) where
-  abbrev pub AreLinked : (many inside : ℕ) → S → List A → S → Type 0
-  AreLinked zero inside o ws i = (ws ≡ []) × (o ≡ i)
-  AreLinked (suc many) inside o ws i = (outer : List A) × (w : A) × (m : S) × (ws ≡ outer ++ w ∷ []) × Link (suc inside) m w i × AreLinked many (suc inside) o outer m
+-- each waits for the one before it in the list, and the first for i, inside of which may be so many; the outermost is the document
+abbrev pub AreHeld : {K : Type 0} → (ℕ → Wait K → Span K → Type 0) → (document : Span K) → (inside : ℕ) → List (Wait K) → Span K → Type 0
+AreHeld Behind document inside [] i = i ≡ document
+AreHeld Behind document inside (w ∷ ws) i = IsHeld Behind document.bytes (suc inside) w i × AreHeld Behind document (suc inside) ws w.level
 
--- what the loop keeps: the innermost level passes over some bytes, for which the others wait, and what is left of them begins
--- at this offset of b; so many levels may be inside
-pub record IsAt (depth : ℕ) (b : List ℕ) (ws : List Wait) (left : Option (List ℕ)) (number offset start : ℕ) : Type 0 where
+-- The levels of a walk over this document, for whose innermost level so many may wait: those that wait, and the innermost. Of the
+-- document `known` is known.
+pub record AreLevels {K : Type 0} (Behind : ℕ → Wait K → Span K → Type 0) (known : K) (document : RawDocument) (most : ℕ) (walk : Walk) : Type 0 where
   pub inside : ℕ
-  pub many : ℕ
-  pub sort : Sort
-  pub d : List ℕ
-  pub end : ℕ
-  pub held : AreLinked IsHeld many inside (whole_span b) ws (record { sort = sort; bytes = d; end = end })
-  pub is : IsPassed inside d left number
-  pub levels : suc (length ws + inside) ≡ depth
-  pub begins : offset + left_of left ≡ end
-  pub lies : LiesAt b start d
-  pub whole : start + length d ≡ end
+  pub waits : List (Wait K)
+  pub here : Span K
+  pub document_is : walk.document ≡ document
+  pub most_is : walk.most_waiting ≡ most
+  pub many : length waits + inside ≡ most
+  pub stored : walk.waiting.items ≡ all_stored waits
+  pub held : AreHeld Behind (whole_span known document) inside waits here
+  pub lies : LiesAt (bytes_of document) here.start here.bytes
+
+-- So they are, and the innermost has passed some frames. Fact is known of how many levels may be inside it, of it and of them.
+pub record IsAt {K : Type 0} (Behind : ℕ → Wait K → Span K → Type 0) (Fact : ℕ → Span K → List Frame → Type 0) (known : K) (document : RawDocument) (most : ℕ) (walk : Walk)
+    (level : Level) : Type 0 where
+  pub levels : AreLevels Behind known document most walk
+  pub frames : List Frame
+  pub rest : List ℕ
+  pub reaches : LeadsTo (drop 4 levels.here.bytes) frames rest
+  pub left_is : level.elements ≡ Some rest
+  pub number_is : level.number ≡ length frames
+  pub offset_is : level.offset ≡ offset_in levels.here frames
+  pub start_is : level.start ≡ levels.here.start
+  pub knows : Fact levels.inside levels.here frames
 
 -- so many elements of the document b are in front of what begins at this offset
 pub record IsBehind (b : List ℕ) (number offset : ℕ) : Type 0 where
@@ -106,45 +115,19 @@ pub record IsBehind (b : List ℕ) (number offset : ℕ) : Type 0 where
   pub number_is : number ≡ length frames
   pub begins : BeginsAt b s offset
 
--- where the element of the outermost level begins that holds the levels inside, or that is next, at this offset
-abbrev pub outermost_of : List Wait → ℕ → ℕ
-outermost_of [] offset = offset
-outermost_of (w ∷ ws) offset = w.element
-
 -- steps of the walk
 
--- a level that is entered; it ends where what is left of the one around it begins
-pub record IsOpened (behind : ℕ) (inner : RawDocument) (level : Level) : Type 0 where
-  pub left_is : level.elements ≡ Some (drop 4 (bytes_of inner))
-  pub first_is : level.number ≡ 0
-  pub begins : level.offset + length (drop 4 (bytes_of inner)) ≡ behind
-  pub starts : level.start + length (bytes_of inner) ≡ behind
-
--- the walk is within the document, and these levels wait for the innermost, the outermost first
-pub record IsAlong (walk : Walk) (level : Level) (ws : List Wait) : Type 0 where
-  pub are_stored : StoreEach (bytes_of walk.document) walk.waiting.items ws
-  pub at : IsAt (suc walk.most_waiting) (bytes_of walk.document) ws level.elements level.number level.offset level.start
-
--- the level as it was when this was left of it
+-- the level where this is left of it
 abbrev pub with_left : Option (List ℕ) → Level → Level
 with_left left level = record { elements = left; number = level.number; offset = level.offset; start = level.start }
 
--- so it was, before what is next in the level was looked at
-pub record IsLooked (walk : Walk) (level : Level) (left : Option (List ℕ)) (ws : List Wait) (seen : Ahead) : Type 0 where
-  pub along : IsAlong walk (with_left left level) ws
-  pub looks : Looks left level.elements seen
+-- the element in front of the level ends within the document, and the level's number and start are at most its offset
+pub record IsWithin (walk : Walk) (level : Level) (e : RawElement) : Type 0 where
+  pub ends : level.offset + size_of (frame_of e) ≤ length (bytes_of walk.document)
+  pub number_within : level.number ≤ level.offset
+  pub start_within : level.start ≤ level.offset
 
--- it is so further on, and some bytes have been passed
-pub record IsFurther (from : Level) (walk : Walk) (to : Level) (ws : List Wait) : Type 0 where
-  pub along : IsAlong walk to ws
-  pub further : from.offset < to.offset
-  pub within : to.offset ≤ length (bytes_of walk.document)
-
--- the final 0 of the level is in front of what is left
-abbrev pub IsAtFinal : Option (List ℕ) → Type 0
-IsAtFinal left = (s : List ℕ) → left ≡ Some s → s ≡ 0 ∷ []
-
--- it has come to nothing, and what is left of the outermost level begins at this offset
+-- no level waits, and what is left of the outermost level begins at this offset
 pub record IsBegun (document : RawDocument) (offset : ℕ) (walk : Walk) (level : Level) : Type 0 where
   pub document_is : walk.document ≡ document
   pub none_waits : walk.waiting.items ≡ []
@@ -154,47 +137,23 @@ pub record IsBegun (document : RawDocument) (offset : ℕ) (walk : Walk) (level 
 
 -- visits so far
 
--- A level that waits: these frames of the bytes b were passed, with these visits. The value of the frame behind them holds the
--- level that was entered, which begins at `first`. So many levels may be inside that.
-pub record IsEntered (inside start : ℕ) (b : List ℕ) (w : Wait) : Type 0 where
-  pub frames : List Frame
+-- What is known of a level are the visits before it. With those of the frames that it has passed they are all so far.
+pub record HasSeen (seen : List Visit) (inside : ℕ) (i : Span (List Visit)) (frames : List Frame) : Type 0 where
+  pub visits : List Visit
+  pub each : VisitsEach (HasVisits inside) (i.start + 4) frames visits
+  pub seen_is : seen ≡ i.known ++ visits
+
+-- what is known of a level that is entered: all visits before its element, then the entry
+pub record IsEntered (inside : ℕ) (w : Wait (List Visit)) (i : Span (List Visit)) : Type 0 where
   pub before : List Visit
-  pub s : List ℕ
-  pub f : Frame
-  pub r : List ℕ
-  pub v : RawValue
-  pub d : List ℕ
-  pub first : ℕ
-  pub reaches : LeadsTo (drop 4 b) frames s
-  pub visits : VisitsEach (HasVisits (suc inside)) (start + 4) frames before
-  pub frame : IsFrame s f r
-  pub means : Means f (value v)
-  pub holds : Holds v d
-  pub ends : first + length d ≡ w.offset
-  pub left_is : w.elements ≡ Some r
-  pub far : w.offset ≡ end_of (start + 4) frames + size_of f
+  pub seen : HasSeen before inside w.level w.frames
+  pub known_is : i.known ≡ before ++ enter (offset_in w.level w.frames) w.f w.v ∷ []
 
--- The visits so far of the bytes b, which begin at `start`, where these levels wait, the outermost first: of each level those of the
--- frames that were passed, and the entry into the next one. Of the innermost level this is left, and begins at this offset. So many
--- levels may be inside b.
-abbrev pub HasSeen : ℕ → (start : ℕ) → List ℕ → List Wait → Option (List ℕ) → (offset : ℕ) → List Visit → Type 0
-HasSeen inside start b [] left offset seen =
-    (frames : List Frame) × HasRead (drop 4 b) frames left × VisitsEach (HasVisits inside) (start + 4) frames seen × (offset ≡ end_of (start + 4) frames)
-HasSeen zero start b (w ∷ ws) left offset seen = ⊥
-HasSeen (suc inside) start b (w ∷ ws) left offset seen =
-    (is : IsEntered inside start b w) × (inner : List Visit) × HasSeen inside is.first is.d ws left offset inner × (seen ≡ is.before ++ enter (end_of (start + 4) is.frames) is.f is.v ∷ inner)
-
--- a walk over this document, for whose innermost level so many may wait
-pub record IsWalking (document : RawDocument) (most : ℕ) (walk : Walk) (level : Level) : Type 0 where
-  pub waits : List Wait
-  pub along : IsAlong walk level waits
-  pub document_is : walk.document ≡ document
-  pub most_is : walk.most_waiting ≡ most
-
--- and so far it has come to these visits
+-- A walk over this document, for whose innermost level so many may wait, has come to these visits so far: of each level that waits
+-- to those of the frames that were passed, and to the entry into the next one; of the innermost level to those of the frames that
+-- were passed. The outermost level comes first.
 pub record HasCome (document : RawDocument) (most : ℕ) (walk : Walk) (level : Level) (seen : List Visit) : Type 0 where
-  pub walking : IsWalking document most walk level
-  pub seen_is : HasSeen most 0 (bytes_of document) walking.waits level.elements level.offset seen
+  pub at : IsAt IsEntered (HasSeen seen) [] document most walk level
 
 -- The document has few enough bytes, and the walk has come to nothing. Its depth isn't known yet.
 pub record BeginsWithin (limits : Limits) (document : RawDocument) (walk : Walk) (level : Level) : Type 0 where
@@ -210,44 +169,43 @@ abbrev pub TellsErrorWithin : Limits → List ℕ → WalkError → Type 0
 TellsErrorWithin limits b (error.Barrier answer) = TellsBarrier limits b (Some answer)
 TellsErrorWithin limits b error.OutOfMemory = length b ≤ limits.bytes
 
--- the error is a barrier of this kind, at this step and offset in the level for which these wait; or memory ran out
-abbrev pub IsBarrierAt : List Wait → Step → (offset : ℕ) → BarrierKind → WalkError → Type 0
-IsBarrierAt ws step offset k (error.Barrier b) = (b.kind ≡ k) × (steps_of b.place ≡ map step_at ws ++ step ∷ []) × (b.place.offset ≡ offset)
-IsBarrierAt ws step offset k error.OutOfMemory = Unit {0}
+-- the error is a barrier of this kind, at this step and offset in the level to which this path leads; or memory ran out
+abbrev pub IsBarrierAt : List Step → Step → (offset : ℕ) → BarrierKind → WalkError → Type 0
+IsBarrierAt path step offset k (error.Barrier b) = (b.kind ≡ k) × (steps_of b.place ≡ path ++ step ∷ []) × (b.place.offset ≡ offset)
+IsBarrierAt path step offset k error.OutOfMemory = Unit {0}
 
 -- the error is the first barrier of the document b, inside of which may be so many levels; or memory ran out
 abbrev pub TellsError : ℕ → List ℕ → WalkError → Type 0
 TellsError most b (error.Barrier answer) = TellsBarrierWithin (suc most) b (Some answer)
 TellsError most b error.OutOfMemory = Unit {0}
 
--- an element is passed whose value holds no level
-abbrev pub Passes : Walk → (from : Level) → List Wait → (to : Level) → RawElement → Type 0
-Passes walk from ws to e =
-    IsFurther from walk to ws × Looks from.elements to.elements (next.Whole e) × (to.offset ≡ from.offset + size_of (frame_of e)) × (to.start ≡ from.start)
-    × (to.number ≡ from.number + 1)
-
--- a level with the bytes d that waits, behind the element of this number and key that begins at this offset
-abbrev pub wait_behind : (start : ℕ) (d : List ℕ) (new : Option (List ℕ)) (number offset behind : ℕ) (key : List ℕ) → Wait
-wait_behind start d new number offset behind key = record { start = start; bytes = d; element = offset; elements = new; number = number; offset = behind; key = key }
-
--- the level that an element holds is entered; this one waits for it
-abbrev pub Enters : (from : Level) → List Wait → Wait → Walk → (to : Level) → RawElement → RawDocument → Type 0
-Enters from ws w new to e inner =
-    IsFurther from new to (ws ++ w ∷ []) × Looks from.elements w.elements (next.Inside e inner) × (w.offset ≡ from.offset + size_of (frame_of e))
-    × IsOpened w.offset inner to
-
 -- the level that an element holds is too deep, which is told with its place; or memory ran out
-abbrev pub IsTooDeep : Walk → (from : Level) → List Wait → RawElement → WalkError → Type 0
-IsTooDeep walk from ws e (error.Barrier answer) =
-    (walk.most_waiting ≤ length ws) × IsBarrierAt ws (record { number = from.number; key = Some (frame_of e).key }) from.offset kind.TooDeep (error.Barrier answer)
-IsTooDeep walk from ws e error.OutOfMemory = Unit {0}
+abbrev pub IsTooDeep : Walk → (from : Level) → List Step → RawElement → WalkError → Type 0
+IsTooDeep walk from path e (error.Barrier answer) =
+    (walk.most_waiting ≤ length walk.waiting.items)
+    × IsBarrierAt path (record { number = from.number; key = Some (frame_of e).key }) from.offset kind.TooDeep (error.Barrier answer)
+IsTooDeep walk from path e error.OutOfMemory = Unit {0}
 
--- at the end of a level the walk goes back to the one around it; where there is none, the document has been read
-abbrev pub LeavesOrEnds : Walk → (from : Level) → List Wait → Walk → (to : Level) → Bool → Type 0
-LeavesOrEnds old from ws new to true =
-    (outer : List Wait) × (w : Wait) × (ws ≡ outer ++ w ∷ []) × IsFurther from new to outer × IsAtFinal from.elements
-    × ResumesBehind w to.elements to.number to.offset to.start
-LeavesOrEnds old from ws new to false = (t : Tree) × ReadsUpTo (suc old.most_waiting) as_document (bytes_of old.document) t × (ws ≡ []) × IsAtFinal from.elements
+-- the level that an element in front of this one holds is entered
+pub record Enters (old : Walk) (from : Level) (new : Walk) (to : Level) (e : RawElement) (inner : RawDocument) : Type 0 where
+  pub document_is : new.document ≡ old.document
+  pub most_is : new.most_waiting ≡ old.most_waiting
+  pub room : length old.waiting.items < old.most_waiting
+  pub stored : new.waiting.items ≡ old.waiting.items ++ stored_level from ∷ []
+  pub level_is : to ≡ entered_level (bytes_of inner) (from.offset + size_of (frame_of e))
+
+-- at the final 0 of a level, which is at this offset, the walk goes back to the level around it
+pub record Leaves (old : Walk) (offset : ℕ) (new : Walk) (to : Level) : Type 0 where
+  pub document_is : new.document ≡ old.document
+  pub most_is : new.most_waiting ≡ old.most_waiting
+  pub w : Waiting
+  pub stored : old.waiting.items ≡ new.waiting.items ++ w ∷ []
+  pub level_is : (d : List ℕ) → LiesAt (bytes_of old.document) w.start d → to ≡ resumed_level w d (offset + 1)
+
+-- so it does; or no level waits
+abbrev pub LeavesOrEnds : Walk → (offset : ℕ) → Walk → (to : Level) → Bool → Type 0
+LeavesOrEnds old offset new to true = Leaves old offset new to
+LeavesOrEnds old offset new to false = old.waiting.items ≡ []
 
 -- a barrier is at this offset
 abbrev pub IsThere : (offset : ℕ) → WalkError → Type 0
@@ -268,7 +226,8 @@ pub record ComesTo (document : RawDocument) (most : ℕ) (from : Level) (seen : 
   pub ends : EndsWithin (bytes_of document) x
 
 -- What a walk over this document comes to, for whose innermost level so many may wait. So far it has come to these visits, and is in
--- the level `from`; then it is in the level `to`. At the end these are all visits of the document, and a barrier is behind them.
+-- the level `from`; then it is in the level `to`. At the end these are all visits of the document. An error is the document's first
+-- barrier, which is where `from` is, or memory ran out.
 abbrev pub Comes : RawDocument → (most : ℕ) → List Visit → Walk → (from : Level) → Walk → (to : Level) → Result Event WalkError → Type 0
 Comes document most seen old from new to (Ok (event.Whole e v)) =
     ComesTo document most from seen new to (whole from.offset (frame_of e) (value_of v)) × IsSingle (value_of v) × (to.number ≡ from.number + 1)

@@ -110,7 +110,7 @@ impl<'a> Draft<'a> {
     }
 
     /// Where nothing is read yet, takes the room that a spare draft has.
-    #[tactic(auto, using(std::proofs::lemmas::Grind::common_steps, bson_model::proofs::Face::tree_laws, crate::proofs::reader::Stacks::no_values, crate::proofs::reader::Stacks::same_none))]
+    #[tactic(auto, using(std::proofs::lemmas::Grind::common_steps, bson_model::proofs::Face::tree_laws, std::proofs::lemmas::List::nil_from_length, crate::proofs::reader::Stacks::drafted_none, crate::proofs::reader::Stacks::no_trees))]
     #[inline(always)]
     fn take_room(&mut self, spare: &mut Draft<'a>)
         ensures { IsSameDraft self.old self.new }
@@ -124,7 +124,7 @@ impl<'a> Draft<'a> {
     }
 
     /// Puts a pair last; the only error is out of memory.
-    #[tactic(auto, using(std::proofs::lemmas::Grind::common_steps, bson_model::proofs::Face::tree_laws, crate::proofs::reader::Stacks::map_last))]
+    #[tactic(auto, using(std::proofs::lemmas::Grind::common_steps, bson_model::proofs::Face::tree_laws, std::proofs::lemmas::List::map_push))]
     #[inline(always)]
     fn put_pair(&mut self, key: &'a str, value: Bson) -> Result<()>
         ensures put { OnOk result (IsPairMore self.old key.now (tree_of value) self.new) }
@@ -136,7 +136,7 @@ impl<'a> Draft<'a> {
     }
 
     /// Puts a value last; the only error is out of memory.
-    #[tactic(auto, using(std::proofs::lemmas::Grind::common_steps, bson_model::proofs::Face::tree_laws, crate::proofs::reader::Stacks::map_last))]
+    #[tactic(auto, using(std::proofs::lemmas::Grind::common_steps, bson_model::proofs::Face::tree_laws, std::proofs::lemmas::List::map_push))]
     #[inline(always)]
     fn put_value(&mut self, value: Bson) -> Result<()>
         ensures put { OnOk result (map tree_of self.new.values.items ≡ map tree_of self.old.values.items ++ tree_of value ∷ []) }
@@ -181,6 +181,7 @@ pub(crate) fn begin<'a>(alloc: Global, nested: RawLevel<'a>) -> Level<'a>
 
 /// Puts a value last, under this key unless the level is an array; the only error is out of memory. The
 /// first takes the room that another level left.
+#[tactic(auto, using(std::proofs::lemmas::Grind::common_steps, bson_model::proofs::Face::tree_laws, std::proofs::lemmas::List::map_push))]
 #[inline(always)]
 pub(crate) fn put<'a>(
     level: &mut Level<'a>,
@@ -200,7 +201,7 @@ pub(crate) fn put<'a>(
 
 /// What the bytes of a level are read as, once all are. It takes the values with the room that they are in; the
 /// only error is out of memory.
-#[tactic(auto, using(std::proofs::lemmas::Grind::common_steps, bson_model::proofs::Face::tree_laws, crate::proofs::reader::Stacks::array_finished, crate::proofs::reader::Stacks::document_finished, crate::proofs::reader::Stacks::scope_finished))]
+#[tactic(auto, using(std::proofs::lemmas::Grind::common_steps, bson_model::proofs::Face::tree_laws, crate::proofs::reader::Stacks::zip_pairs))]
 pub(crate) fn finish<'a>(
     alloc: Global,
     holder: Holder<'a>,
@@ -225,7 +226,6 @@ pub(crate) fn finish<'a>(
 
 /// The value that holds the bytes of a level, once all are read; the only error is out of memory. Its
 /// room goes to a later level.
-#[tactic(auto, using(std::proofs::lemmas::Grind::common_steps, bson_model::proofs::Face::tree_laws, crate::proofs::reader::Stacks::ended, crate::proofs::reader::Stacks::same_items))]
 #[inline(always)]
 pub(crate) fn end<'a>(alloc: Global, level: Level<'a>, spare: &mut Draft<'a>) -> Result<Bson>
     ensures ended { IfOk result (DraftsTree level.entry.holder level.entry.draft) }

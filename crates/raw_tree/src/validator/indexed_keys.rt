@@ -1,10 +1,9 @@
 //! Keys with an index, which finds a repeated one in n log n steps whatever the keys are.
 #![tactic(auto)]
 
-ghost use Rattle.std.specs.Prelude.{◌≡◌, [], unwrap_or, position, IfOk, IfSome, IfNone, OnErr};
-ghost use Rattle.std.specs.BTreeMap.{get, IsUnchanged};
-ghost use Rattle.std.specs.Str.{bytes_eq};
-ghost use Rattle.raw_tree.specs.validator.IndexedKeys.{Finds, GivesPlace, HasPlaces, InsertsKey, key_cmp};
+ghost use Rattle.std.specs.Prelude.{◌≡◌, [], IfOk, IfSome, IfNone, OnErr};
+ghost use Rattle.std.specs.BTreeMap.{IsUnchanged};
+ghost use Rattle.raw_tree.specs.validator.IndexedKeys.{Finds, GivesPlace, HasPlaces, InsertsKey};
 ghost use Rattle.raw_tree.specs.validator.Fingerprints.{HaveFingerprints, hash_of};
 ghost use Rattle.raw_tree.specs.validator.References.{texts};
 
@@ -53,9 +52,8 @@ fn place_in_order<'a>(
     key: &'a str,
     next: usize,
 ) -> Result<usize, AllocError>
-    ensures place { IfOk result
-        (λ place. place ≡ unwrap_or (get key_cmp places.old (hash, key.entry)) next) }
-    ensures gives { IfOk result (λ place. GivesPlace places.old hash key.entry place places.new) }
+    ensures gives { IfOk result
+        (λ place. GivesPlace places.old hash key.entry next place places.new) }
     ensures same { OnErr result (IsUnchanged places.old places.new) }
 {
     let Ok(found) = places.insert((hash, key), next) else {

@@ -1,9 +1,9 @@
 //! A level that is looked through: what is next in it.
 #![tactic(auto)]
 
-ghost use Rattle.std.specs.Prelude.{◌≡◌, ◌≤◌, ◌<◌, ◌+◌, ◌^◌, ℕ, List, Some, drop, length};
-ghost use Rattle.raw_tree.specs.walk.Looking.{HasValue, Sees, size_of};
-ghost use Rattle.raw_tree.specs.walk.Waits.{ResumesBehind, LiesAt, Stores, Wait};
+ghost use Rattle.std.specs.Prelude.{◌≡◌, ◌≤◌, ◌<◌, ◌+◌, ◌^◌, ℕ, List, length};
+ghost use Rattle.raw_tree.specs.walk.Looking.{HasLooked, size_of};
+ghost use Rattle.raw_tree.specs.walk.Waits.{GoesOn, LiesAt, entered_level, resumed_level};
 ghost use Rattle.raw_view.specs.Document.{bytes_of};
 ghost use Rattle.raw_view.specs.Frame.ElementSteps.{frame_of};
 
@@ -26,10 +26,7 @@ impl<'a> Level<'a> {
     /// The level of these bytes, which end there.
     pub(crate) fn new(document: RawDocument<'a>, end: usize) -> Level<'a>
         requires { length (bytes_of document) ≤ end }
-        ensures elements { result.elements ≡ Some (drop 4 (bytes_of document.entry)) }
-        ensures number { result.number ≡ 0 }
-        ensures offset { result.offset + length (drop 4 (bytes_of document.entry)) ≡ end }
-        ensures start { result.start + length (bytes_of document.entry) ≡ end }
+        ensures { result ≡ entered_level (bytes_of document.entry) end }
     {
         let start = end - document.as_bytes().len();
         Level {
@@ -42,11 +39,10 @@ impl<'a> Level<'a> {
 
     /// The level that waits, behind its element, which ends at this offset of the document.
     pub(crate) fn behind(document: RawDocument<'a>, waiting: Waiting, offset: usize) -> Level<'a>
-        requires { (x : Wait) × Stores (bytes_of document) waiting x × (offset ≡ x.offset) }
-        ensures { (x : Wait)
-            → Stores (bytes_of document.entry) waiting x
-            → offset ≡ x.offset
-            → ResumesBehind x result.elements result.number result.offset result.start }
+        requires { GoesOn (bytes_of document) waiting offset }
+        ensures { (d : List ℕ)
+            → LiesAt (bytes_of document.entry) waiting.start d
+            → result ≡ resumed_level waiting d offset }
     {
         let start = waiting.start as usize;
         let Some(elements) = Elements::from_offset(document_at(document, start), offset - start)
@@ -100,8 +96,7 @@ pub(crate) enum Next<'a> {
 /// Looks at what is next in a level.
 #[inline(always)]
 pub(crate) fn look<'a>(elements: &mut Elements<'a>) -> Next<'a>
-    ensures sees { Sees elements.old elements.new result }
-    ensures value { HasValue result }
+    ensures { HasLooked elements.old elements.new result }
 {
     let element = match elements.next() {
         None => return Next::End,

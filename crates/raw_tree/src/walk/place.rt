@@ -4,10 +4,9 @@
 ghost use Rattle.std.specs.Prelude.{◌≡◌, ◌++◌, ◌∷◌, [], List, map, IfOk, IfErr, OnOk};
 ghost use Rattle.std.specs.Option.{option_copied};
 ghost use Rattle.raw_tree.specs.walk.Barriers.{step_of, steps_of};
-ghost use Rattle.raw_tree.specs.walk.Looking.{step_at};
 ghost use Rattle.raw_tree.specs.walk.Rooms.{filled_from};
-ghost use Rattle.raw_tree.specs.walk.Places.{last_key};
-ghost use Rattle.raw_tree.specs.walk.Waits.{StoreEach, Wait};
+ghost use Rattle.raw_tree.specs.walk.Places.{Step, last_key};
+ghost use Rattle.raw_tree.specs.walk.Waits.{StoreSteps};
 ghost use Rattle.raw_view.specs.Document.{bytes_of};
 ghost use Rattle.raw_view.specs.Errors.{IsOutOfMemory};
 
@@ -91,10 +90,10 @@ fn path_to<'a>(
     waiting: &[Waiting],
     last: PathStep<'a>,
 ) -> Result<Vec<PathStep<'a>>>
-    requires { (xs : List Wait) × StoreEach (bytes_of document) waiting.now xs }
-    ensures path { (xs : List Wait)
-        → StoreEach (bytes_of document.entry) waiting.now xs
-        → IfOk result (λ path. map step_of path.items ≡ map step_at xs ++ step_of last.entry ∷ []) }
+    requires { (outer : List Step) × StoreSteps (bytes_of document) waiting.now outer }
+    ensures path { (outer : List Step)
+        → StoreSteps (bytes_of document.entry) waiting.now outer
+        → IfOk result (λ path. map step_of path.items ≡ outer ++ step_of last.entry ∷ []) }
     ensures err { IfErr result IsOutOfMemory }
 {
     let mut path = Vec::with_capacity(alloc, waiting.len() + 1)?;
@@ -119,12 +118,12 @@ pub(crate) fn place_in<'a>(
     key: Option<&'a str>,
     offset: usize,
 ) -> Result<Place<'a>>
-    requires { (xs : List Wait) × StoreEach (bytes_of document) waiting.now xs }
-    ensures path { (xs : List Wait)
-        → StoreEach (bytes_of document.entry) waiting.now xs
+    requires { (outer : List Step) × StoreSteps (bytes_of document) waiting.now outer }
+    ensures path { (outer : List Step)
+        → StoreSteps (bytes_of document.entry) waiting.now outer
         → IfOk result
         (λ place. steps_of place
-        ≡ map step_at xs ++ record { number = number; key = option_copied key.entry } ∷ []) }
+        ≡ outer ++ record { number = number; key = option_copied key.entry } ∷ []) }
     ensures offset { IfOk result (λ place. place.offset ≡ offset) }
     ensures err { IfErr result IsOutOfMemory }
 {

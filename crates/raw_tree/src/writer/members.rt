@@ -2,8 +2,9 @@
 #![tactic(auto, using(std::proofs::lemmas::Grind::common_steps, bson_model::proofs::Face::tree_laws))]
 
 ghost use Rattle.std.specs.Prelude.{◌≡◌, ◌≤◌, ◌<◌, ◌+◌, ◌^◌, length, decimal, IfSome, IfNone};
-ghost use Rattle.bson_model.specs.Tree.{tree_of, tree_of_document, tree_of_list};
-ghost use Rattle.raw_tree.specs.writer.Members.{IsKeyFree, IsMemberAt, IsStep, IsTreeOf, key_bytes, key_of, members_left, members, tree_of_container};
+ghost use Rattle.bson_model.specs.Bytes.{NulFree};
+ghost use Rattle.bson_model.specs.Tree.{tree_of};
+ghost use Rattle.raw_tree.specs.writer.Members.{IsStep, IsTreeOf, key_bytes, members, members_from, members_left, pairs_from, tree_of_container, values_from};
 
 use crate::put::payload::is_nul_free;
 use bson_model::{Bson, Document, JavaScriptCodeWithScope};
@@ -39,10 +40,10 @@ pub(crate) struct Members<'a> {
 }
 
 /// The pair at a place of a document, counted from 0.
-#[tactic(auto, using(std::proofs::lemmas::Grind::common_steps, bson_model::proofs::Face::tree_laws, crate::proofs::writer::MemberSteps::keyed_at, crate::proofs::writer::MemberSteps::no_pair))]
+#[tactic(auto, using(std::proofs::lemmas::Grind::common_steps, crate::proofs::writer::MemberSteps::pair_step, crate::proofs::writer::MemberSteps::last_pair))]
 #[inline(always)]
 fn pair_at(document: &Document, place: usize) -> Option<(Key<'_>, &Bson)>
-    ensures member { IsMemberAt (members (tree_of_document document.now)) place result }
+    ensures member { IsStep (pairs_from document.now place) result (pairs_from document.now (place + 1)) }
     ensures fits { IfSome result (λ m. place + 1 < 2 ^ 64) }
 {
     let (key, value) = document.pair_at(place)?;
@@ -50,10 +51,9 @@ fn pair_at(document: &Document, place: usize) -> Option<(Key<'_>, &Bson)>
 }
 
 /// The value at a place of a list, counted from 0.
-#[tactic(auto, using(std::proofs::lemmas::Grind::common_steps, bson_model::proofs::Face::tree_laws, crate::proofs::writer::MemberSteps::found_value, crate::proofs::writer::MemberSteps::past_values))]
 #[inline(always)]
 fn value_at(values: &[Bson], place: usize) -> Option<(Key<'_>, &Bson)>
-    ensures member { IsMemberAt (members (tree_of_list values.now)) place result }
+    ensures member { IsStep (values_from values.now place) result (values_from values.now (place + 1)) }
     ensures fits { IfSome result (λ m. place + 1 < 2 ^ 64) }
 {
     if place >= values.len() {
@@ -66,7 +66,7 @@ impl<'a> Container<'a> {
     /// The member at a place, counted from 0.
     #[inline(always)]
     fn member_at(self, place: usize) -> Option<(Key<'a>, &'a Bson)>
-        ensures member { IsMemberAt (members (tree_of_container self.entry)) place result }
+        ensures member { IsStep (members_from self.entry place) result (members_from self.entry (place + 1)) }
         ensures fits { IfSome result (λ m. place + 1 < 2 ^ 64) }
     {
         match self {
@@ -91,7 +91,6 @@ impl<'a> Members<'a> {
     }
 
     /// The first member that is left, which is then passed.
-    #[tactic(auto, using(std::proofs::lemmas::Grind::common_steps, bson_model::proofs::Face::tree_laws, crate::proofs::writer::MemberSteps::left_at, crate::proofs::writer::MemberSteps::none_left))]
     #[inline(always)]
     pub(crate) fn next(&mut self) -> Option<(Key<'a>, &'a Bson)>
         ensures container { self.new.container ≡ self.old.container }
@@ -104,11 +103,12 @@ impl<'a> Members<'a> {
 }
 
 /// How many bytes the key takes without its final 0; `None` where it holds a 0.
+#[tactic(auto, using(std::proofs::lemmas::Grind::common_steps, crate::proofs::writer::Decimals::decimal_nul_free))]
 #[inline(always)]
 pub(crate) fn key_len(key: Key<'_>) -> Option<usize>
     ensures some { IfSome result
-        (λ len. IsKeyFree (key_of key.entry) × (len ≡ length (key_bytes (key_of key.entry)))) }
-    ensures none { IfNone result (¬ IsKeyFree (key_of key.entry)) }
+        (λ len. NulFree (key_bytes key.entry) × (len ≡ length (key_bytes key.entry))) }
+    ensures none { IfNone result (¬ NulFree (key_bytes key.entry)) }
 {
     match key {
         Key::Text(text) => {
@@ -123,6 +123,7 @@ pub(crate) fn key_len(key: Key<'_>) -> Option<usize>
 }
 
 /// How many bytes the decimal of a number takes.
+#[tactic(auto, using(std::proofs::lemmas::Grind::common_steps, std::proofs::lemmas::Fmt::decimal_digit, std::proofs::lemmas::Fmt::decimal_step, crate::proofs::writer::Decimals::at_most_twenty))]
 #[inline(always)]
 fn decimal_len(number: usize) -> usize
     ensures len { result ≡ length (decimal number) }

@@ -1,6 +1,5 @@
-use Rattle.std.proofs.Common.{inl, inr, ◌≤◌, length, ap, arith, List, ℕ, Ok, Some}
-use Rattle.raw_form.proofs.canonical.Common.{Error, IsEnvelope, Limits, ReadsWithin, RefusesFormOf, Tree, as_document, bytes_of, bytes_one_way, canonical_form, canonical_is_own_form, document}
-use Rattle.raw_form.proofs.canonical.Common.{document_reads, read_within}
+use Rattle.std.proofs.Common.{inl, inr, List, ℕ, Ok, Some}
+use Rattle.raw_form.proofs.canonical.Common.{Error, IsEnvelope, Limits, ReadsWithin, RefusesFormOf, Tree, as_document, bytes_of, bytes_one_way, canonical_form, canonical_is_own_form, document, document_reads, read_within}
 use Rattle.std.proofs.lemmas.Result.{IfErr-weaker, IfOk-weaker}
 use Rattle.raw_form.specs.FormsWithin.{RefusesFormWithin}
 use Rattle.raw_tree.proofs.Face.{barrier_told}
@@ -9,21 +8,18 @@ use Rattle.raw_form.proofs.canonical.form_within.Goals as goal
 
 pub returns-in-Some-2-clause-refused : goal.returns-in-Some-2-clause-refused
 returns-in-Some-2-clause-refused c =
-    let b = bytes_of c.args.document in
-    let few : length b ≤ c.args.limits.bytes = omega (arith, ap length c.as_bytes-bytes.ensures.bytes, c.if-bytes-limits.false) in
+    let few = rw c.as_bytes-bytes.ensures.bytes at c.if-bytes-limits.false in
     let told = rw c.in-Some-2.is at c.in_ok-barrier.ensures.told in
-    let first = barrier_told c.args.limits b (Ok (Some c.in-Some-2.barrier)) few told in
-    inr (c.args.document.envelope, inl (inr (first.0, first.1, c.error_of.ensures first.0 first.2)))
+    let (x, first, is, there) = barrier_told c.args.limits _ (Ok (Some c.in-Some-2.barrier)) few told in
+    inr (c.args.document.envelope, inl (inr (x, first, c.error_of.ensures x is)))
 
 pub returns-in_default-clause-form : goal.returns-in_default-clause-form
 returns-in_default-clause-form c =
-    let b = bytes_of c.args.document in
-    let few : length b ≤ c.args.limits.bytes = omega (arith, ap length c.as_bytes-bytes.ensures.bytes, c.if-bytes-limits.false) in
+    let few = rw c.as_bytes-bytes.ensures.bytes at c.if-bytes-limits.false in
     let canonical = rw c.in_default.is at c.in_ok-start.ensures.start in
-    let read = document_reads c.args.limits.depth b canonical in
-    let within = read_within c.args.limits b (document read.0) few read.1 in
+    let (es, read) = document_reads c.args.limits.depth _ canonical in
     rw (c.in_ok-from_slice.ensures.items, c.as_bytes-bytes.ensures.bytes)
-    (record { form = canonical_is_own_form b c.args.document.envelope (c.args.limits.depth, canonical); within = (document read.0, within) })
+    (record { form = canonical_is_own_form _ c.args.document.envelope (c.args.limits.depth, canonical); within = (document es, read_within c.args.limits _ (document es) few read) })
 
 -- why there is no encoding
 refused_form : (limits : Limits) (b : List ℕ) (t : Tree) (e : Error) → IsEnvelope b → ReadsWithin limits b t → RefusesFormOf b e → RefusesFormWithin limits b e
@@ -34,8 +30,8 @@ refused_form limits b t e env read (inr (u, reads, long)) =
 -- the document is within the limits
 read_in : (c : In_default-2) → (t : Tree) × ReadsWithin c.args.limits (bytes_of c.args.document) t
 read_in c =
-    let told = rw c.in_default-2.is at c.in_ok-barrier.ensures.told in
-    (told.0, read_within c.args.limits (bytes_of c.args.document) told.0 (omega (arith, ap length c.as_bytes-bytes.ensures.bytes, c.if-bytes-limits.false)) told.1)
+    let (t, read) = rw c.in_default-2.is at c.in_ok-barrier.ensures.told in
+    (t, read_within c.args.limits _ t (rw c.as_bytes-bytes.ensures.bytes at c.if-bytes-limits.false) read)
 
 pub returns-clause-form : goal.returns-clause-form
 returns-clause-form c =

@@ -1,4 +1,5 @@
-use Rattle.std.proofs.Common.{rules, Ok, Some, suc}
+use Rattle.std.proofs.Common.{rules, Ok, Some, arith, suc}
+use Rattle.raw_form.proofs.canonical.Common.{bytes_of}
 use Rattle.raw_form.proofs.flatten.Flattening.{flat_more, flattens_end, flattens_enter, flattens_leave, flattens_whole, many_around}
 use Rattle.raw_tree.proofs.Face.{barrier_told, come_within, envelope_fits}
 use Rattle.raw_form.proofs.flatten.flatten_to.Goals as goal
@@ -29,6 +30,10 @@ unreachable-requires c = search (rules, c.next.ensures.event _ _ _ c.events.inva
 
 pub overflow_sub-count : goal.overflow_sub-count
 overflow_sub-count c = search (rules, flattens_leave _ _ c.pop.new.self.items c.in-Some.place c.events.invariant.2)
+
+pub set_inside-requires : goal.set_inside-requires
+set_inside-requires c =
+    omega (arith, (come_within c.events.invariant.1).0, envelope_fits (bytes_of c.args.document) c.args.document.envelope, c.events.invariant.2.few)
 
 pub events-smaller : goal.events-smaller
 events-smaller c = search (rules, c.next.ensures.event _ _ _ c.events.invariant.1)

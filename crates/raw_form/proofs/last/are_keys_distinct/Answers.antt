@@ -1,34 +1,31 @@
-use Rattle.std.proofs.Common.{rules, ◌≡◌, ◌++◌, ◌∷◌, None, Bool, Option, [], false, is_some, arith, refl}
-use Rattle.raw_form.proofs.canonical.Common.{Frame, frame_of, keys_of_frames, map-append}
+use Rattle.std.proofs.Common.{◌≡◌, ◌++◌, ◌∷◌, None, [], arith, refl}
+use Rattle.raw_form.proofs.canonical.Common.{frame_of, keys_of, map-append}
 use Rattle.raw_tree.specs.References.{texts}
 use Rattle.raw_tree.proofs.Face.{keys_distinct}
-use Rattle.raw_form.proofs.last.Listed.{passed_more, passed_over}
+use Rattle.raw_form.proofs.last.Places.{passed_all, passed_more}
 use Rattle.raw_form.proofs.last.are_keys_distinct.Goals as goal
 
 pub elements-init : goal.elements-init
-elements-init c = record {
-  passed = record { frames = []; read = rw c.new-elements.ensures refl };
-  below = texts c.truncate.new.self.items;
-  keys = rw c.deref.ensures.value at c.behind-keys.ensures;
-}
+elements-init c = (
+  texts c.truncate.new.self.items,
+  [],
+  rw c.deref.ensures.value at c.behind-keys.ensures,
+  λ pairs read. record { passed = []; rest = pairs; whole = refl; left_is = rw c.new-elements.ensures read; holds = refl },
+)
 
 pub returns-in_default-clause-distinct : goal.returns-in_default-clause-distinct
-returns-in_default-clause-distinct c = search (rules, passed_over c.elements.invariant.passed, keys_distinct)
-
-pub elements-smaller : goal.elements-smaller
-elements-smaller c = search (rules, passed_more c.elements.invariant.passed)
-
--- a key that has no place
-none_added : {T : Type 0} (o : Option T) (some : Bool) → some ≡ is_some o → some ≡ false → o ≡ None
-none_added o some e is_false = grind arith
+returns-in_default-clause-distinct c pairs read =
+    let (below, own, keys, each) = c.elements.invariant in
+    λ told. rw (passed_all (each pairs read) _ c.in_default.ensures) (keys_distinct _ _ below own keys)
 
 pub elements-preserved : goal.elements-preserved
 elements-preserved c =
-    let is = c.elements.invariant in
-    let frames = is.passed.frames in
-    let more = passed_more is.passed c.next_element.new.elements c.in-Some.element c.in-Some.ensures in
-    let none = none_added c.in_ok-add.field-0 c.is_some.result c.is_some.ensures c.if-is_some.false in
-    let told = rw none at (c.in_ok-add.ensures.adds is.below (keys_of_frames frames) is.keys) in
-    let grown : keys_of_frames (frames ++ frame_of c.in-Some.element ∷ []) ≡ keys_of_frames frames ++ c.key.result.now ∷ [] =
-    rw (map-append (λ (x : Frame). x.key) frames (frame_of c.in-Some.element ∷ []), c.key.ensures) refl in
-    record { passed = record { frames = frames ++ frame_of c.in-Some.element ∷ []; read = more.0 }; below = is.below; keys = rw grown told.keys }
+    let (below, own, keys, each) = c.elements.invariant in
+    let key = (frame_of c.in-Some.element).key in
+    let none : c.in_ok-add.field-0 ≡ None = grind (arith, c.is_some.ensures, c.if-is_some.false) in (
+      below,
+      own ++ key ∷ [],
+      (rw (none, c.key.ensures) at (c.in_ok-add.ensures.adds below own keys)).keys,
+      λ pairs read. passed_more (each pairs read) (λ passed. keys_of passed ≡ own ++ key ∷ []) _ c.in-Some.element c.in-Some.ensures
+          (λ passed t stands same. rw (map-append (λ p. p.0) passed ((key, t) ∷ []), same) refl),
+    )

@@ -1,5 +1,5 @@
 use Rattle.raw_form.proofs.canonical.Common.{bytes_of, left_of}
-use Rattle.raw_form.proofs.last.Listed.{AreListed}
+use Rattle.raw_form.proofs.last.Places.{AreListed}
 use Rattle.raw_form.proofs.last.list_places.Given as goal
 
 abbrev pub invariant-elements : goal.invariant-elements

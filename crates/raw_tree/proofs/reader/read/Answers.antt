@@ -1,4 +1,4 @@
-use Rattle.std.proofs.Common.{◌≡◌, ◌++◌, ◌∷◌, [], rules, arith, refl, vec_len}
+use Rattle.std.proofs.Common.{rules, arith, refl, vec_len}
 use Rattle.raw_tree.proofs.Common.{err_from_is_err_and, tree_of, frame_of, held_value, value_of, Waiting}
 use Rattle.raw_tree.proofs.reader.LevelSteps.{front_inside, front_whole, levels_begin, few_frames, stopped, failed, ran_out, finished, popped, ran_out_behind, too_deep_inside, put_whole, went_in, no_more, step_smaller, inward_smaller, outward_smaller}
 use Rattle.raw_tree.proofs.reader.Stacks.{Front, with_left}
@@ -7,8 +7,7 @@ use Rattle.raw_tree.proofs.reader.read.Goals.{In-Inside, In-Whole}
 
 pub levels-init : goal.levels-init
 levels-init c =
-    rw c.requires.fresh (levels_begin c.args.depth c.in-Some.most_waiting c.args.nested c.new-waiting.result.items c.begin-level.result c.in-Some.ensures.some c.new-waiting.ensures.items
-    c.begin-level.ensures)
+    rw c.requires.fresh (levels_begin c.in-Some.ensures.some c.new-waiting.ensures.items c.begin-level.ensures)
 
 -- a fault
 
@@ -45,8 +44,8 @@ levels-smaller-in-End c =
 
 pub levels-preserved-in-End : goal.levels-preserved-in-End
 levels-preserved-in-End c =
-    popped c.levels.invariant c.look.new.elements (rw c.in-End.is at c.look.ensures.sees) c.pop.new.self.items c.in-Some-pop.outer c.in_ok-ended-in-End.ended c.put.new.level
-    c.in-Some-pop.ensures.items c.in_ok-ended-in-End.ensures.ended c.in_ok-put-in-End.ensures.put
+    popped c.levels.invariant c.look.new.elements (rw c.in-End.is at c.look.ensures.sees) c.in-Some-pop.outer c.in_ok-ended-in-End.ended c.in-Some-pop.ensures.items
+    c.in_ok-ended-in-End.ensures.ended c.in_ok-put-in-End.ensures.put
 
 -- an element that holds a level
 
@@ -68,17 +67,13 @@ returns-in_err-push-in-Inside c =
 pub levels-smaller-in-Inside : goal.levels-smaller-in-Inside
 levels-smaller-in-Inside c =
     let outer : Waiting = record { level = with_left c.levels.level c.look.new.elements; key = c.key-key.result } in
-    let grown : c.push.new.self.items ≡ c.levels.waiting.items ++ outer ∷ [] = search rules in
     inward_smaller c.levels.level c.begin-level-in-Inside.result c.levels.waiting.items c.push.new.self.items outer c.in-Inside.inner c.levels.invariant.reading.left
-    (inside (goal.at.levels-smaller-in-Inside c).In-Inside) grown c.begin-level-in-Inside.ensures
+    (inside (goal.at.levels-smaller-in-Inside c).In-Inside) (search rules) c.begin-level-in-Inside.ensures
 
 pub levels-preserved-in-Inside : goal.levels-preserved-in-Inside
 levels-preserved-in-Inside c =
-    let outer : Waiting = record { level = with_left c.levels.level c.look.new.elements; key = c.key-key.result } in
-    let grown : c.push.new.self.items ≡ c.levels.waiting.items ++ outer ∷ [] = search rules in
     rw c.add-in-Inside.ensures (went_in c.levels.invariant c.in-Inside.inner (inside (goal.at.levels-preserved-in-Inside c).In-Inside) c.key-key.result c.key-key.ensures
-    (omega (arith, c.in-Some.ensures.some, c.if-is_reached.ensures.no refl, c.len.ensures, c.levels.waiting.ok.0)) c.push.new.self.items c.begin-level-in-Inside.result grown
-    c.begin-level-in-Inside.ensures)
+    (omega (arith, c.in-Some.ensures.some, c.if-is_reached.ensures.no refl, c.len.ensures, c.levels.waiting.ok.0)) (search rules) c.begin-level-in-Inside.ensures)
 
 -- one that holds none
 

@@ -1,5 +1,5 @@
 use Rattle.std.proofs.Common.{◌-◌, ◌^◌, arith}
-use Rattle.raw_tree.proofs.reader.Within.{told_of_all}
+use Rattle.raw_tree.proofs.reader.Limited.{told_of_all}
 use Rattle.raw_tree.proofs.reader.read_all.Goals as goal
 
 pub returns : goal.returns

@@ -1,14 +1,13 @@
-use Rattle.std.proofs.Common.{◌≡◌, rules, ◌<◌, ◌^◌, Some, drop, length, length-drop, arith, refl}
+use Rattle.std.proofs.Common.{◌≡◌, rules, Some, length, length-drop, arith, refl}
 use Rattle.raw_form.proofs.canonical.Common.{bytes_of, document}
-use Rattle.raw_form.proofs.rewritten.Members.{array_begins}
+use Rattle.raw_form.proofs.rewritten.Members.{read_pairs}
 use Rattle.raw_form.proofs.rewritten.Rewritten.new.Goals as goal
 
 pub returns-in-Array-clause-left : goal.returns-in-Array-clause-left
 returns-in-Array-clause-left c t stands =
-    let d = bytes_of c.args.held.document in
-    let small : length (drop 4 d) < 2 ^ 64 = omega (arith, length-drop 4 d, c.args.held.document.envelope.header.fits) in
-    rw (c.level-in-Array.ensures.keys, c.level-in-Array.ensures.elements, c.level-in-Array.ensures.code_len, c.none-in-Array.ensures)
-    (array_begins d t small (rw c.in-Array.is at stands))
+    let (pairs, rest, same) = read_pairs (rw c.in-Array.is at stands) in
+    rw (c.level-in-Array.ensures.keys, c.level-in-Array.ensures.elements, c.level-in-Array.ensures.code_len, c.none-in-Array.ensures, same)
+    (refl, (omega (arith, length-drop 4 (bytes_of c.args.held.document), c.args.held.document.envelope.header.fits), pairs, rest, refl))
 
 pub returns-in_ok-keys-in-Code-clause-left : goal.returns-in_ok-keys-in-Code-clause-left
 returns-in_ok-keys-in-Code-clause-left c t stands =

@@ -1,14 +1,7 @@
-use Rattle.std.proofs.Common.{rules, List, ℕ, map, refl, arith, ap, ◌∙◌, ◌+◌}
-use Rattle.raw_form.proofs.canonical.Common.{Tree, entries, keyed, numbered, trees}
-use Rattle.raw_form.proofs.rewritten.KnownFrames.{one_known}
-use Rattle.raw_form.proofs.rewritten.Members.{pair_over, pair_taken, some_left}
+use Rattle.std.proofs.Common.{List, ℕ, map, refl, arith, ap, ◌∙◌, ◌+◌}
+use Rattle.raw_form.proofs.canonical.Common.{Tree, entries, numbered, trees}
+use Rattle.raw_form.proofs.rewritten.Members.{one_known, pair_taken}
 use Rattle.raw_form.proofs.rewritten.Rewritten.next.Goals as goal
-
-pub returns-in_err-element-in-Numbers-clause-next : goal.returns-in_err-element-in-Numbers-clause-next
-returns-in_err-element-in-Numbers-clause-next c = search (rules, pair_over)
-
-pub returns-in_err-element-in-Distinct-clause-next : goal.returns-in_err-element-in-Distinct-clause-next
-returns-in_err-element-in-Distinct-clause-next c = search (rules, pair_over)
 
 pub returns-in_ok-element-in-Numbers-clause-next : goal.returns-in_ok-element-in-Numbers-clause-next
 returns-in_ok-element-in-Numbers-clause-next c ms left =
@@ -26,8 +19,8 @@ returns-in_ok-element-in-Distinct-clause-next c ms left =
     let here = rw c.in-Distinct.is at left in
     let next = pair_taken old new here.0 e here.1 c.in_ok-element-in-Distinct.ensures in
     let own = one_known c.in-Distinct.known _ old new e c.saturating_sub.ensures here.3 c.in_ok-element-in-Distinct.ensures in
-    let same = here.2 ∙ ap (λ (ps : List (List ℕ × Tree)). keyed (entries ps)) next.2 in
-    (next.0, keyed (entries next.1), same, next.3, (next.1, next.4, refl, own.1), (λ told. own.0 (some_left c.in-Distinct.known _ refl told)))
+    let same = here.2 ∙ ap entries next.2 in
+    (next.0, entries next.1, same, next.3, (next.1, next.4, refl, own.1), own.0)
 
 pub returns-in_err-element-in-Repeated-clause-next : goal.returns-in_err-element-in-Repeated-clause-next
 returns-in_err-element-in-Repeated-clause-next c ms left =
@@ -37,3 +30,6 @@ returns-in_err-element-in-Repeated-clause-next c ms left =
 pub returns-in_ok-element-in-Repeated-clause-next : goal.returns-in_ok-element-in-Repeated-clause-next
 returns-in_ok-element-in-Repeated-clause-next c ms left =
     c.in_ok-element-in-Repeated.ensures ms (rw (c.deref_mut.ensures.value) (rw c.in-Repeated.is at left))
+
+pub next-requires : goal.next-requires
+next-requires c = (c.requires.0, rw (c.deref_mut.ensures.value) (rw c.in-Repeated.is at c.requires.1))

@@ -1,7 +1,7 @@
-use Rattle.std.proofs.Common.{rules, ◌≡◌, ◌++◌, ◌∷◌, [], List, ℕ, Bor, ap, ◌∙◌}
+use Rattle.std.proofs.Common.{rules, ◌≡◌}
 use Rattle.raw_tree.specs.validator.Fingerprints.{HaveFingerprints}
 use Rattle.raw_tree.specs.validator.References.{texts}
-use Rattle.raw_tree.proofs.validator.Fingerprinting.{fingerprint_new, fingerprints_inserted, fingerprints_more}
+use Rattle.raw_tree.proofs.validator.Fingerprinting.{fingerprint_put, fingerprints_inserted}
 use Rattle.raw_tree.proofs.validator.References.{texts_push}
 use Rattle.raw_tree.proofs.validator.indexed_keys.insert_wider.Goals as goal
 
@@ -10,11 +10,8 @@ returns-then-put-clause-inserts c =
     let items = c.args.keys.now.items in
     let same : c.if-len-ge-MANY.keys.items ≡ items = search rules in
     let have : HaveFingerprints c.in-Some.fingerprints (texts items) = rw (c.in-Some.is, c.deref.ensures.value) at c.in_ok-fingerprints.ensures.fingerprints in
-    let new = c.put.ensures.new c.if-put.true in
-    let pushed = texts_push items c.args.key (c.in_ok-list.ensures.listed ∙ ap (λ (xs : List (Bor (List ℕ))). xs ++ c.args.key ∷ []) same) in (
-      (fingerprint_new c.in-Some.fingerprints (texts items) c.args.key.now have new.0, pushed),
-      fingerprints_more c.in-Some.fingerprints c.put.new.self (texts items) (texts c.list.new.listed.items) c.put.ensures.kept have c.args.key.now pushed new.1,
-    )
+    fingerprint_put c.in-Some.fingerprints c.put.new.self (texts items) (texts c.list.new.listed.items) c.put.ensures.kept have c.args.key.now (c.put.ensures.new c.if-put.true)
+    (texts_push items c.args.key (rw same at c.in_ok-list.ensures.listed))
 
 pub returns-clause-inserts : goal.returns-clause-inserts
 returns-clause-inserts c =

@@ -2,5 +2,4 @@ use Rattle.raw_tree.proofs.validator.KeyOrder.{places_next}
 use Rattle.raw_tree.proofs.validator.indexed_keys.ordered_keys.Goals as goal
 
 pub loop-place-preserved : goal.loop-place-preserved
-loop-place-preserved c = places_next c.loop-place.places c.place_in_order.new.places c.args.keys.now c.loop-place.place _ c.in_ok-place_in_order.field-0 c.loop-place-test.true
-    c.loop-place.invariant (rw c.hash_of.ensures at c.in_ok-place_in_order.ensures.gives) (rw c.hash_of.ensures at c.in_ok-place_in_order.ensures.place)
+loop-place-preserved c = places_next c.args.keys.now c.loop-place.place _ c.loop-place-test.true c.loop-place.invariant c.in_ok-place_in_order.ensures.gives c.hash_of.ensures

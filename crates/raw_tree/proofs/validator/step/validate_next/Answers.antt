@@ -1,6 +1,7 @@
-use Rattle.std.proofs.Common.{arith, ◌≡◌, ◌++◌, ◌∷◌, [], List, ℕ, Bor, Option, None, Some, Ok, Err, length, refl, subst, inr}
-use Rattle.raw_tree.proofs.Common.{AreKeysCanonical, BorrowedError, Cause, IsFrame, RawElement, RawValue, Sort, StepsFront, faulty, frame_of, value, value_of}
-use Rattle.raw_tree.proofs.walk.Common.{BreachesItself, HasKeysSoFar, HoldsAsTold, IsSingleWith, Validated, Validates, KeysSoFar, TellsValidated, TellsOpenKey, option_copied}
+use Rattle.std.proofs.Common.{arith, ◌++◌, ◌∷◌, [], List, ℕ, Bor, Option, None, Some, Ok, Err, refl, subst, inr}
+use Rattle.raw_tree.proofs.Common.{AreKeysCanonical, BorrowedError, IsFrame, RawElement, RawValue, Sort, StepsFront, faulty, frame_of, value, value_of}
+use Rattle.raw_tree.specs.validator.OpenKeys.{AddsOpenKey}
+use Rattle.raw_tree.proofs.walk.Common.{BreachesItself, HoldsAsTold, IsSingleWith, Validated, Validates, KeysSoFar, TellsValidated, option_copied}
 use Rattle.raw_tree.specs.declared.validator.breach.Cause.TheVariants as cause
 use Rattle.raw_tree.specs.declared.validator.step.Validated.TheVariants as validated
 use Rattle.raw_tree.proofs.walk.Fronts.{stop_of}
@@ -13,20 +14,13 @@ validates_stop (Some s) new e ks k before after number st =
     let stop = stop_of e.kind (option_copied e.key) s st.0 in
     λ sort below own h canonical n. (stop.0.fault, stop.0.key, stop.1, refl)
 
--- an element is next
+-- an element is next, whose key is canonical
 validates_next : (old new : Option (List ℕ)) (e : RawElement) (ks k : KeysSoFar) (before after : List (Bor (List ℕ))) (number : ℕ) (answer : Validated) → StepsFront old (Some (Ok e)) new
-    → ((s r : List ℕ) (sort : Sort) (below own : List (List ℕ)) → IsFrame s (frame_of e) r → HasKeysSoFar ks before sort below own → AreKeysCanonical sort own
-    → number ≡ length own → TellsValidated sort below own s new k after answer)
+    → AddsOpenKey ks before number (frame_of e).key k after None
+    → ((s r : List ℕ) (sort : Sort) (below own : List (List ℕ)) → IsFrame s (frame_of e) r → AreKeysCanonical sort (own ++ (frame_of e).key ∷ []) → TellsValidated sort below own s new k after answer)
     → Validates old ks before number new k after answer
-validates_next None new e ks k before after number answer st f = tt
-validates_next (Some s) new e ks k before after number answer st f = λ sort below own h canonical n. f s st.0 sort below own st.1 h canonical n
-
--- the key of the element is canonical
-key_more : (sort : Sort) (below own : List (List ℕ)) (key same : List ℕ) (k : KeysSoFar) (refs : List (Bor (List ℕ))) (answer : Option Cause) → key ≡ same
-    → answer ≡ None → TellsOpenKey sort below own key k refs answer → AreKeysCanonical sort (own ++ same ∷ [])
-key_more sort below own key same k refs answer e none h =
-    let told = subst (λ (x : Option Cause). TellsOpenKey sort below own key k refs x) none h in
-    subst (λ (x : List ℕ). AreKeysCanonical sort (own ++ x ∷ [])) e told.1
+validates_next None new e ks k before after number answer st adds f = tt
+validates_next (Some s) new e ks k before after number answer st adds f = λ sort below own h canonical n. f s st.0 sort below own st.1 (adds sort below own h canonical n).1
 
 descends : (v : RawValue) → IsSingleWith (λ A. ¬ A) v → BreachesItself (value v) cause.Options
 descends v h = grind arith
@@ -38,25 +32,15 @@ returns-in-Some-Err-clause-validates c =
 
 pub returns-in_default-resolve-clause-validates : goal.returns-in_default-resolve-clause-validates
 returns-in_default-resolve-clause-validates c =
-    let e = c.in-Some-Ok.element in
-    let st = rw c.in-Some-Ok.field-0-is at c.in-Some-Ok.ensures.steps in
-    validates_next c.args.elements.now c.next.new.self e c.args.keys.now c.add.new.self c.args.listed.now.items c.add.new.listed.items c.args.number
-    (validated.Breach (Some c.key-key.result) cause.Value) st (λ s r sort below own frame h canonical n.
-    let more = key_more sort below own c.key-key.result.now
-    (frame_of e).key c.add.new.self c.add.new.listed.items c.in_ok-cause.field-0 c.key-key.ensures c.in_default.is
-    (c.in_ok-cause.ensures.adds sort below own h canonical n) in
     let fault = c.in_default-resolve.ensures.fault in
-    (frame_of e, r, frame, c.key-key.ensures, inr (more, faulty fault.0, fault.1, refl)))
+    validates_next c.args.elements.now c.next.new.self c.in-Some-Ok.element c.args.keys.now c.add.new.self c.args.listed.now.items c.add.new.listed.items c.args.number
+    (validated.Breach (Some c.key-key.result) cause.Value) (rw c.in-Some-Ok.field-0-is at c.in-Some-Ok.ensures.steps) (rw (c.key-key.ensures, c.in_default.is) at c.in_ok-cause.ensures.adds)
+    (λ s r sort below own frame more. (frame_of c.in-Some-Ok.element, r, frame, c.key-key.ensures, inr (more, faulty fault.0, fault.1, refl)))
 
 pub returns-in-Descending-clause-validates : goal.returns-in-Descending-clause-validates
 returns-in-Descending-clause-validates c =
-    let e = c.in-Some-Ok.element in
     let v = value_of c.in-Ok.value in
-    let st = rw c.in-Some-Ok.field-0-is at c.in-Some-Ok.ensures.steps in
     let holds = subst (HoldsAsTold v) c.in-Descending.is c.held_by.ensures in
-    validates_next c.args.elements.now c.next.new.self e c.args.keys.now c.add.new.self c.args.listed.now.items c.add.new.listed.items c.args.number
-    (validated.Breach (Some c.key-key.result) cause.Options) st (λ s r sort below own frame h canonical n.
-    let more = key_more sort below own c.key-key.result.now
-    (frame_of e).key c.add.new.self c.add.new.listed.items c.in_ok-cause.field-0 c.key-key.ensures c.in_default.is
-    (c.in_ok-cause.ensures.adds sort below own h canonical n) in
-    (frame_of e, r, frame, c.key-key.ensures, inr (more, value v, c.in-Ok.ensures.value, descends v holds)))
+    validates_next c.args.elements.now c.next.new.self c.in-Some-Ok.element c.args.keys.now c.add.new.self c.args.listed.now.items c.add.new.listed.items c.args.number
+    (validated.Breach (Some c.key-key.result) cause.Options) (rw c.in-Some-Ok.field-0-is at c.in-Some-Ok.ensures.steps) (rw (c.key-key.ensures, c.in_default.is) at c.in_ok-cause.ensures.adds)
+    (λ s r sort below own frame more. (frame_of c.in-Some-Ok.element, r, frame, c.key-key.ensures, inr (more, value v, c.in-Ok.ensures.value, descends v holds)))

@@ -1,10 +1,10 @@
-use Rattle.std.proofs.Common.{◌≡◌, ◌-◌, ℕ, suc, length}
+use Rattle.std.proofs.Common.{◌≡◌, ◌-◌, ℕ, List, suc, length}
 use Rattle.raw_tree.proofs.Common.{bytes_of}
-use Rattle.raw_tree.proofs.walk.Common.{IsWalking}
+use Rattle.raw_tree.proofs.walk.Common.{HasCome, Visit}
 use Rattle.raw_tree.proofs.walk.faults.first_behind.Given as goal
 
 abbrev pub invariant-elements : goal.invariant-elements
-invariant-elements l = (most : ℕ) × IsWalking l.fn.document most l.walk l.level × (suc most ≡ l.fn.depth)
+invariant-elements l = (most : ℕ) × (seen : List Visit) × HasCome l.fn.document most l.walk l.level seen × (suc most ≡ l.fn.depth)
 
 -- the bytes behind the offset
 abbrev pub decreases-elements : goal.decreases-elements

@@ -1,7 +1,7 @@
 use Rattle.std.proofs.Common.{arith, ap, length}
 use Rattle.raw_tree.proofs.Common.{bytes_of}
 use Rattle.raw_tree.proofs.reader.Limited.{answered_one_way}
-use Rattle.raw_tree.proofs.walk.Within.{barrier_told}
+use Rattle.raw_tree.proofs.walk.OneBarrier.{barrier_told}
 use Rattle.raw_tree.proofs.walk.faults.first_fault_within.Goals as goal
 
 pub returns-then-as_bytes-limits-clause-one_answer : goal.returns-then-as_bytes-limits-clause-one_answer

@@ -1,10 +1,7 @@
 use Rattle.std.proofs.Common.{Some, Ok, Result, subst}
-use Rattle.raw_view.specs.Frame.Front.{StepsFront}
-use Rattle.raw_view.specs.Meaning.Value.{value_of}
-use Rattle.raw_view.specs.declared.element.RawElement.{RawElement}
-use Rattle.raw_view.specs.declared.error.BorrowedError.{BorrowedError}
 use Rattle.raw_tree.proofs.walk.Fronts.{looks_inside, looks_stop, looks_whole}
 use Rattle.raw_tree.proofs.walk.level.look.Goals.{In-Ok}
+use Rattle.raw_tree.proofs.Common.{StepsFront, value_of, RawElement, BorrowedError}
 use Rattle.raw_tree.proofs.walk.level.look.Goals as goal
 
 pub returns-in-Some-Err : goal.returns-in-Some-Err

@@ -1,6 +1,7 @@
-use Rattle.std.proofs.Common.{◌+◌, length}
-use Rattle.raw_tree.proofs.Common.{encoded_len, members_len, members_left, tree_of_container}
-use Rattle.raw_tree.proofs.writer.MeasuredMembers.{IsMeasuring, len_waiting}
+use Rattle.std.proofs.Common.{◌+◌, ◌∷◌, length}
+use Rattle.raw_tree.proofs.Common.{encoded_len, members_left, tree_of_container}
+use Rattle.raw_tree.proofs.writer.MeasuredMembers.{IsMeasuring, left_in}
+use Rattle.raw_tree.proofs.writer.MemberSteps.{stack}
 use Rattle.raw_tree.proofs.writer.measuring.+measure.Given as goal
 
 abbrev pub decreases-measure : goal.decreases-measure
@@ -8,8 +9,8 @@ decreases-measure l = encoded_len (tree_of_container l.container)
 
 -- the container is measured but for the members that wait and those that are left
 abbrev pub invariant-members : goal.invariant-members
-invariant-members l = IsMeasuring (tree_of_container l.container) l.waiting.items (members_left l.members) l.total
+invariant-members l = IsMeasuring (tree_of_container l.container) (members_left l.members ∷ stack members_left l.waiting.items) l.total
 
 -- what is left, and the levels
 abbrev pub decreases-members : goal.decreases-members
-decreases-members l = members_len (members_left l.members) + (len_waiting l.waiting.items + length l.waiting.items)
+decreases-members l = left_in (members_left l.members ∷ stack members_left l.waiting.items) + length l.waiting.items

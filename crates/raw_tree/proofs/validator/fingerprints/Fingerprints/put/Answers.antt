@@ -5,8 +5,6 @@ use Rattle.raw_tree.proofs.validator.fingerprints.Fingerprints.put.Goals as goal
 
 pub returns-clause-kept : goal.returns-clause-kept
 returns-clause-kept c k h =
-    let slots = c.args.self.now.slots.items in
-    let fingerprint = c.fingerprint_of-fingerprint.result in
     let free = rw c.deref.ensures.value at c.in-Some.ensures.free in
-    fingerprints_kept slots c.in-Some.at fingerprint (bit_and (hash_of k) c.args.self.now.mask) (fingerprint_of (hash_of k))
+    fingerprints_kept c.args.self.now.slots.items c.in-Some.at c.fingerprint_of-fingerprint.result (bit_and (hash_of k) c.args.self.now.mask) (fingerprint_of (hash_of k))
     c.fingerprint_of-fingerprint.ensures.some (fingerprint_some (hash_of k)) free.within free.free h

@@ -19,9 +19,7 @@ pub returns-else-is_behind : goal.returns-else-is_behind
 returns-else-is_behind c =
     let filtered = rw c.deref-in-Ascending.ensures.value at c.filter_of-filter.ensures in
     let listed = ascending_listed c.in-Ascending.first c.args.listed.now.items c.filter_of-filter.result filtered in
-    record {
-      adds = rw c.in-Ascending.is (IfOk-weaker c.add_listed.result _ _ (λ place adds below own has. adds below own (listed below own has)) c.add_listed.ensures.adds);
-    }
+    record { adds = rw c.in-Ascending.is (IfOk-weaker c.add_listed.result _ _ (λ place adds below own has. adds below own (listed below own has)) c.add_listed.ensures.adds) }
 
 pub returns-in-Indexed : goal.returns-in-Indexed
 returns-in-Indexed c = record {

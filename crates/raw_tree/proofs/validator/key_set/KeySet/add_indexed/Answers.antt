@@ -1,11 +1,11 @@
 use Rattle.std.specs.Box.{with_value}
-use Rattle.raw_tree.proofs.validator.KeySets.{listed_moved, own_distinct}
+use Rattle.raw_tree.proofs.validator.KeySets.{listed_moved, own_texts}
 use Rattle.raw_tree.proofs.validator.key_set.KeySet.add_indexed.Goals as goal
 
 pub indexed-requires : goal.indexed-requires
 indexed-requires c =
     let r = c.requires in
-    rw c.deref.ensures.value (own_distinct c.args.first c.args.listed.now.items r.0 r.1 r.2)
+    rw (c.deref.ensures.value, own_texts c.args.listed.now.items r.0 r.1 c.args.first r.2.1 r.2.2) r.2.0
 
 pub returns : goal.returns
 returns c =

@@ -1,12 +1,12 @@
 use Rattle.std.proofs.Common.{sym, ◌∙◌}
 use Rattle.std.proofs.lemmas.Result.{IfOk-weaker}
-use Rattle.raw_tree.proofs.validator.KeySets.{listed_found, listed_more, moved_listed, own_filtered}
+use Rattle.raw_tree.proofs.validator.KeySets.{listed_found, listed_more, own_texts}
 use Rattle.raw_tree.proofs.validator.key_set.KeySet.add_listed.Goals as goal
 
 pub place_among-requires-clause-filtered : goal.place_among-requires-clause-filtered
 place_among-requires-clause-filtered c =
     let r = c.requires.are in
-    rw c.deref.ensures.value (own_filtered c.args.first c.args.listed.now.items c.args.filter r.0 r.1 r.2)
+    rw (c.deref.ensures.value, own_texts c.args.listed.now.items r.0 r.1 c.args.first r.2.1 r.2.2) r.2.3
 
 pub returns-in-Some : goal.returns-in-Some
 returns-in-Some c = record {
@@ -22,7 +22,4 @@ returns-then-own-lt-MOST_LISTED c =
     }
 
 pub returns : goal.returns
-returns c = record {
-  adds = IfOk-weaker c.add_indexed.result _ _
-      (moved_listed c.args.first c.args.filter c.args.listed.now.items c.args.key.now c.add_indexed.new.self c.add_indexed.new.listed.items) c.add_indexed.ensures.moves;
-}
+returns c = record { adds = IfOk-weaker c.add_indexed.result _ _ (λ place moves below own has. moves below own (has.0, has.1, has.2)) c.add_indexed.ensures.moves }

@@ -7,6 +7,4 @@ use Rattle.raw_tree.proofs.validator.key_set.KeySet.behind.Goals as goal
 
 pub returns : goal.returns
 unfolding IsDistinct
-returns c =
-    let refs = c.args.listed.now in
-    (tt, sym (length_texts refs), sym (append-nil (texts refs)), tt)
+returns c = (tt, sym (length_texts c.args.listed.now), sym (append-nil (texts c.args.listed.now)), tt)

@@ -1,11 +1,12 @@
-use Rattle.raw_tree.proofs.validator.LevelKeys.{differs, distinct_breach, distinct_more, numbers_more, numbers_breach}
+use Rattle.std.proofs.lemmas.Bool.{iff_false}
+use Rattle.raw_tree.proofs.validator.LevelKeys.{distinct_breach, distinct_more, numbers_more, numbers_breach}
 use Rattle.raw_tree.proofs.validator.keys_so_far.KeysSoFar.add.Goals as goal
 
 pub returns-then-is_decimal-clause-adds : goal.returns-then-is_decimal-clause-adds
 returns-then-is_decimal-clause-adds c = rw (c.in-Numbers.is) (numbers_more c.args.listed.now.items c.args.number c.args.key.now (c.is_decimal.ensures.0 c.if-is_decimal.true))
 
 pub returns-else-is_decimal-clause-adds : goal.returns-else-is_decimal-clause-adds
-returns-else-is_decimal-clause-adds c = rw (c.in-Numbers.is) (numbers_breach c.args.listed.now.items c.args.number c.args.key.now (differs c.is_decimal.ensures.1 c.if-is_decimal.false))
+returns-else-is_decimal-clause-adds c = rw (c.in-Numbers.is) (numbers_breach c.args.listed.now.items c.args.number c.args.key.now (iff_false c.is_decimal.ensures c.if-is_decimal.false))
 
 pub returns-in-Some-clause-adds : goal.returns-in-Some-clause-adds
 returns-in-Some-clause-adds c =
