@@ -21,15 +21,15 @@ What each edit came to:
     bad                 the edit can't be applied or read, or the check ended without a verdict
 
 The first is well, the second is told, so that somebody mends the edit, and the others fail the run. Each verdict but bad is
-kept at once in ~/.cache/foyeranise, by a checksum of all that it rests on, and --anew ignores these. With --beside, what it rests on
-of a crate below is what its library shows, not its bodies. The proofs that edits
+kept at once in ~/.cache/foyeranise, by a checksum of all that it rests on, and --anew ignores these. The proofs that edits
 are tried over go on from what `rt check` left in the crates' out/, but with --from-nothing. With --beside, a run of `rt ci` in
 this folder proves the crates as they are: the edits of a crate begin once the file that is named says that those below it are
 proved, over the libraries that the run left, and only the edited functions are proved. A function of the crate that is not
 edited has a hole for its proof, where its source tells its name, and a body that never returns: of what an edited one calls,
-its proof needs the contract alone. So what has no complaint, and depends on such a hole alone, is still proved. Two flags prove
-nothing: --applies sees that each edit applies, and --compiles that each edited text compiles, many edits in a copy, over the
-libraries that `rt check` built.
+its proof needs the contract alone. So what has no complaint, and depends on such a hole alone, is still proved. And so a verdict
+rests neither on the bodies of other functions, nor on their proofs, be they of the same crate or of one below: where these alone
+change, it is taken from an earlier run. Two flags prove nothing: --applies sees that each edit applies, and --compiles that each
+edited text compiles, many edits in a copy, over the libraries that `rt check` built.
 """
 
 import argparse
@@ -73,6 +73,9 @@ TYPE = re.compile(r"(?m)^(?:pub(?:\([^)]*\))? )?(?:struct|enum) (\w+)")
 # the line that ends in a body's first brace
 BODY = re.compile(r" *(?!ensures\b|requires\b|decreases\b|ghost\b).*(?<![^ ]){$")
 TESTS = re.compile(r"#\[cfg\(test\)\]\s+mod (\w+);")
+
+# what is written of the proof of a function, in a folder of its name
+OF_FUNCTIONS = ("Answers.antt", "Invariants.antt", "Proof.antt")
 
 # complaints that a proof names what isn't there any more
 NAMES_LOST = re.compile(r"has no field|is not in scope|has no `|was not admitted|is no name")
@@ -145,6 +148,17 @@ def without_bodies(text, numbers):
         if begin < end < len(lines) and "const fn" not in lines[number]:
             lines[begin + 1 : end] = [indent + "    loop {}"]
     return "\n".join(lines)
+
+
+def hollowed(folder, functions, asked, texts):
+    """Returns these texts of a crate, and those of its other modules, without the bodies of the functions that aren't asked for."""
+    texts, lines = dict(texts), {}
+    for function, (file, number) in functions.items():
+        if function not in asked:
+            lines.setdefault(str(file.relative_to(folder)), []).append(number)
+    for file, numbers in lines.items():
+        texts[file] = without_bodies(texts.get(file) or (folder / file).read_text(), numbers)
+    return texts
 
 
 @dataclasses.dataclass(eq=False)
@@ -402,20 +416,15 @@ class Prover:
         shutil.rmtree(folder / "proofs", ignore_errors=True)
         if (self.top / "crates" / crate / "proofs").is_dir():
             shutil.copytree(self.top / "crates" / crate / "proofs", folder / "proofs")
-        texts, lines = dict(texts), {}
-        for function, (file, number) in self.over[crate].items():
+        asked = {f"{crate}::{it}" for it in asked}
+        for function in self.over[crate].keys() - asked:
             path = function.split("::")[1:]
-            if "::".join(path) in asked:
-                continue
-            lines.setdefault(str(file.relative_to(self.top / "crates" / crate)), []).append(number)
             place = folder / "proofs" / "/".join(path)
             place.mkdir(parents=True, exist_ok=True)
-            for it in ("Answers.antt", "Invariants.antt"):
+            for it in OF_FUNCTIONS:
                 (place / it).unlink(missing_ok=True)
             (place / "Proof.antt").write_text(HOLE.format(module=".".join([crate, "proofs", *path]), name=path[-1]))
-        for file, numbers in lines.items():
-            texts[file] = without_bodies(texts.get(file) or (self.top / "crates" / crate / file).read_text(), numbers)
-        return texts
+        return hollowed(self.top / "crates" / crate, self.over[crate], asked, texts)
 
     def only(self, crate, now):
         """Returns the flags for a check of what these edits change alone, where nothing else of the crate has to be proved here."""
@@ -500,7 +509,7 @@ def try_rounds(prover, crate, edits, folder):
         try_round(prover, crate, now, texts)
         for edit in now:
             if edit.verdict:
-                prover.keep(edit, crate in prover.over)
+                prover.keep(edit, prover.over.get(crate))
 
 
 def try_alone(prover, crate, edit, folder):
@@ -515,7 +524,7 @@ def try_alone(prover, crate, edit, folder):
         edit.settle(BAD, said.unreadable() or said.lines[-1])
     else:
         edit.settle(*((REFUSED, strong[0]) if strong else (NAME_ALONE, complaints[0] if complaints else said.lines[-1])))
-    prover.keep(edit, crate in prover.over)
+    prover.keep(edit, {} if crate in prover.over else None)
 
 
 def try_crate(prover, crate, edits):
@@ -529,57 +538,70 @@ def try_crate(prover, crate, edits):
 
 
 class Store:
-    """Verdicts of earlier runs, each under a checksum of all that it rests on. Over the libraries of a run beside, that is what an edit's
-    crate sees of those below: another body there leaves it as it was."""
+    """Verdicts of earlier runs, each under a checksum of all that it rests on: of an edit's crate and those below all files, or, where
+    it was tried over the libraries of a run beside, what the prover sees of them."""
 
     def __init__(self, top, is_read):
         self.top, self.is_read, self.below, self.sums = top, is_read, libraries(top), {}
         self.kit = subprocess.run(["rt", "version"], stdout=subprocess.PIPE, check=True).stdout
 
-    def sum_of(self, crate, files):
-        """Returns a checksum of these files of the crate."""
+    def sum_of(self, files, texts={}):
+        """Returns a checksum of these files, some of which have other texts."""
         sum = hashlib.sha256()
         for file in sorted(files):
-            sum.update(f"{file.relative_to(self.top)}\0{file.stat().st_size}\0".encode() + file.read_bytes())
+            text = texts[file].encode() if file in texts else file.read_bytes()
+            sum.update(f"{file.relative_to(self.top)}\0{len(text)}\0".encode() + text)
         return sum.hexdigest()
 
-    def own(self, crate):
-        """Returns a checksum of the crate's own files."""
+    def files_of(self, crate, *parts):
+        return [it for part in parts for it in (self.top / "crates" / crate / part).rglob("*") if it.is_file()]
+
+    def whole(self, crate):
+        """Returns a checksum of the crate's files."""
         if crate not in self.sums:
-            folder = self.top / "crates" / crate
-            self.sums[crate] = self.sum_of(crate, [it for part in PARTS for it in (folder / part).rglob("*") if it.is_file()])
+            self.sums[crate] = self.sum_of(self.files_of(crate, *PARTS))
         return self.sums[crate]
 
     def face(self, crate):
         """Returns a checksum of what crates above see of one whose library a run beside has built: its definitions, its lemmas, and its
         functions without their bodies. The proofs of functions are cited nowhere else (checks/faces.sh)."""
         if (crate, "face") not in self.sums:
-            folder = self.top / "crates" / crate
-            texts = [it for part in ("specs", "proofs") for it in (folder / part).rglob("*.antt") if it.name not in ("Answers.antt", "Invariants.antt")]
-            rlib = folder / "out" / "rlib" / f"{crate}.rlib"
-            heads = [it for part in ("lang/src", "interface/lang/src") for it in (rlib / part).rglob("*") if it.is_file()]
-            self.sums[crate, "face"] = self.sum_of(crate, texts + heads)
+            texts = [it for it in self.files_of(crate, "specs", "proofs") if it.suffix == ".antt" and it.name not in OF_FUNCTIONS]
+            rlib = f"out/rlib/{crate}.rlib"
+            self.sums[crate, "face"] = self.sum_of(texts + self.files_of(crate, f"{rlib}/lang/src", f"{rlib}/interface/lang/src"))
         return self.sums[crate, "face"]
 
-    def place(self, edit, sum_below):
-        crates = [*self.below[edit.crate], edit.crate]
+    def hollow(self, edit, functions):
+        """Returns a checksum of the files of the edit's crate with this edit, as they are where the proofs of these functions, but for
+        those that it changes, are holes."""
+        folder = self.top / "crates" / edit.crate
+        holes = {folder.joinpath("proofs", *it.split("::")[1:]) for it in functions.keys() - edit.functions}
+        texts = hollowed(folder, functions, edit.functions, edit.applied(folder, {}))
+        files = [it for it in self.files_of(edit.crate, *PARTS) if not (it.name in OF_FUNCTIONS and it.parent in holes)]
+        return self.sum_of(files, {folder / name: text for name, text in texts.items()})
+
+    def place(self, edit, holes=None):
+        """Returns where the verdict is kept on an edit that was tried over the libraries of a run beside, where these functions have holes for
+        their proofs; or that was tried over proofs alone."""
+        below = self.below[edit.crate]
+        crates = [*below, edit.crate]
         lines = [it for it in (self.top / "crates.txt").read_text().splitlines() if re.split(r"[\s:]", it)[0] in crates]
         script = pathlib.Path(__file__).read_bytes()
-        below = [sum_below(it) for it in self.below[edit.crate]]
-        rests_on = (self.kit, script, lines, below, self.own(edit.crate), edit.name, edit.text)
+        own = self.hollow(edit, holes) if holes else self.whole(edit.crate)
+        seen = [self.whole(it) if holes is None else self.face(it) for it in below]
+        rests_on = (self.kit, script, lines, seen, own, edit.name, edit.text)
         return KEPT / hashlib.sha256(repr(rests_on).encode()).hexdigest()
 
-    def recall(self, edit, is_beside=False):
-        place = self.place(edit, self.face if is_beside else self.own)
+    def recall(self, edit, holes=None):
+        place = self.place(edit, holes)
         if self.is_read and place.is_file():
             edit.settle(*json.loads(place.read_text()))
 
-    def keep(self, edit, is_beside=False):
+    def keep(self, edit, holes=None):
         if edit.verdict == BAD:
             return
         KEPT.mkdir(parents=True, exist_ok=True)
-        for sum_below in (self.own, self.face) if is_beside else (self.own,):
-            place = self.place(edit, sum_below)
+        for place in {self.place(edit), self.place(edit, holes)}:
             new = place.with_suffix(f".{os.getpid()}")
             new.write_text(json.dumps([edit.verdict, edit.why]))
             new.rename(place)
@@ -654,8 +676,9 @@ def try_all(top, edits, jobs, at_once, store, from_nothing, beside):
             for crate in Beside(top, beside).crates(wanted) if beside else ():
                 prover.over[crate] = functions_of(top / "crates" / crate)
                 for edit in edits:
-                    if edit.crate == crate and not edit.verdict:
-                        store.recall(edit, is_beside=True)
+                    for holes in (prover.over[crate], {}):
+                        if edit.crate == crate and not edit.verdict and (edit.functions or not holes):
+                            store.recall(edit, holes)
                 tried.append(start(crate))
             tried += prove_and_try(prover, [it for it in wanted if it not in prover.over], edits, start)
             for it in tried:

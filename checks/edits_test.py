@@ -228,26 +228,47 @@ class Edits(unittest.TestCase):
     def test_a_body_below_is_no_part_of_what_a_verdict_rests_on_beside_a_run(self):
         low = self.top / "crates/low"
         (self.top / "crates.txt").write_text("low:\ntiny: low\n")
-        (self.top / "crates/tiny/edits/next_is_wrong.edit").write_text(edit(NEXT_IS_WRONG, functions="next"))
         shown = low / "out/rlib/low.rlib/lang/src/lib.rt"
         files = [low / "src/lib.rt", low / "proofs/f/Answers.antt", low / "proofs/Face.antt", low / "specs/Words.antt", shown, self.top / "crates/tiny/src/lib.rt"]
         for file in files:
             file.parent.mkdir(parents=True, exist_ok=True)
             file.write_text(SOURCE)
+        changed = self.moved({file: SOURCE + "\n" for file in files})
+        self.assertEqual(changed, [[True, False], [True, False], [True, True], [True, True], [False, True], [True, True]])
+
+    def test_nor_is_the_body_or_the_proof_of_another_function_of_the_crate(self):
+        tiny = self.top / "crates/tiny"
+        for file in ("proofs/widened/Answers.antt", "proofs/next/Answers.antt", "proofs/Lemmas.antt"):
+            (tiny / file).parent.mkdir(parents=True, exist_ok=True)
+            (tiny / file).write_text("one")
+        changed = self.moved({
+            tiny / "src/lib.rt": SOURCE.replace("{\n    x as u16\n", "{\n    let _ = 1;\n    u16::from(x)\n"),
+            tiny / "proofs/widened/Answers.antt": "another",
+            tiny / "proofs/next/Answers.antt": "another",
+            tiny / "proofs/Lemmas.antt": "another",
+        })
+        self.assertEqual(changed, [[True, False], [True, False], [True, True], [True, True]])
+        changed = self.moved({tiny / "src/lib.rt": SOURCE.replace("result ≡ x }", "x ≡ result }")})
+        self.assertEqual(changed, [[True, True]])
+
+    def moved(self, texts):
+        """Returns of each of these files, whose texts change one after the other, whether the places change where the verdict on a wrong
+        body of `next` is kept: of one over proofs alone, and of one that is tried beside a run."""
+        (self.top / "crates/tiny/edits/next_is_wrong.edit").write_text(edit(NEXT_IS_WRONG, functions="next"))
         wrong = script.Edit.read("tiny", self.top / "crates/tiny/edits/next_is_wrong.edit")
 
         store = script.Store(self.top, is_read=True)
 
         def places():
             store.sums.clear()
-            return store.place(wrong, store.own), store.place(wrong, store.face)
+            return store.place(wrong), store.place(wrong, script.functions_of(self.top / "crates/tiny"))
 
         changed = []
-        for file in files:
+        for file, text in texts.items():
             before = places()
-            file.write_text(SOURCE + "\n")
+            file.write_text(text)
             changed.append([old != new for old, new in zip(before, places())])
-        self.assertEqual(changed, [[True, False], [True, False], [True, True], [True, True], [False, True], [True, True]])
+        return changed
 
     def test_each_edit_applies(self):
         status, printed = self.tried({"next_is_wrong": edit(NEXT_IS_WRONG, functions="next")}, "--applies")
@@ -279,7 +300,7 @@ class Recorded:
     def only(self, crate, now):
         return []
 
-    def keep(self, edit, is_beside):
+    def keep(self, edit, holes):
         pass
 
     def forget(self, crate):
