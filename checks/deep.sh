@@ -2,7 +2,7 @@
 # Documents of very many levels, each but the innermost holding the next under the empty key: what the programs print of
 # them on a stack of 256 KiB, and that canon asks for memory no more often for 2,000,000 levels than for 501, beside what
 # list asks for to read the text. Then the tests of deep trees, on such a stack: all that they were given is released,
-# and to drop a tree asks for nothing. It takes the programs and the tests as they were built last, by bin/test or by
+# and to drop a tree asks for nothing. Last, on 8 MB, the comparison and the printed text of trees. It takes the programs and the tests as they were built last, by bin/test or by
 # `rt run` and `rt test`.
 set -u
 cd "$(dirname "$(realpath "$0")")/.." || exit 1
@@ -14,7 +14,7 @@ for built in "$program" "$dump" crates/bson_tests/out/bson_tests_tests; do
         exit 1
     fi
 done
-ulimit -s 256 || exit 1
+ulimit -S -s 256 || exit 1
 ulimit -c 0 # a program that fills its stack is killed, and leaves no core file
 work=$(mktemp -d) || exit 1
 trap 'rm -rf "$work"' EXIT
@@ -132,4 +132,7 @@ if [ "$dropped" != "$requests" ]; then
     echo "deep: $dropped requests where a tree is dropped, and $requests where it is forgotten" >&2
     failed=1
 fi
+ulimit -S -s 8192 || exit 1
+tried views levels_are_compared
+tried views levels_are_printed
 exit "$failed"
