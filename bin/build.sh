@@ -57,7 +57,7 @@ crates() {
 # minutes_of CRATE: how many processor minutes its first proof takes, as far as it was measured
 minutes_of() {
     case $1 in
-    raw_tree | bytes_from_json | dump_runs) echo 10 ;;
+    raw_tree | bytes_from_json) echo 10 ;;
     raw_view | raw_bson | bsonraw_dump) echo 6 ;;
     bson_model | bsonraw | bsonraw_c) echo 3 ;;
     *) echo 4 ;;

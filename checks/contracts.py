@@ -18,8 +18,9 @@ CRATES = ["bson_model", "raw_view", "raw_tree", "bytes_from_json", *USED]
 PROGRAMS = {
     "bsonraw/src/answer.rt": ["answer"],
     "bsonraw/src/run.rt": ["run"],
+    "dump_commands/src/reporting.rt": ["put_summary"],
     "dump_runs/src/batch.rt": ["run_all"],
-    "dump_runs/src/run.rt": ["run", "put_summary"],
+    "dump_runs/src/run.rt": ["run"],
 }
 KINDS = "fn|struct|enum|type|const|trait"
 

@@ -183,6 +183,7 @@ GIVES = {
     "dump_input": "inputs as they are read",
     "dump_files": "files, and what is told of them",
     "dump_cli": "the command line",
+    "dump_commands": "what each command makes of a document",
     "dump_runs": "runs over dumps",
     "text_runs": "runs over texts",
     "bsonraw_dump": "the program for dumps",

@@ -3,7 +3,7 @@ use Rattle.std.specs.Prelude.{ℕ, List, codes}
 use Rattle.bsonraw_dump.specs.declared.reading.Reading.{Reading}
 use Rattle.bsonraw_dump.specs.declared.reading.Reading.TheVariants as reading
 use Rattle.dump_lines.specs.declared.style.Style.{Style}
-use Rattle.dump_runs.specs.Binary.{MakesBson, MakesNoBson}
+use Rattle.dump_commands.specs.Binary.{MakesBson, MakesNoBson}
 
 -- how what is found in the inputs is printed
 abbrev pub style_of : Reading → Style

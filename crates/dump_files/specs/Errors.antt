@@ -4,7 +4,7 @@ use Rattle.json.specs.Print.{quoted}
 use Rattle.dump_lines.specs.Told.{object_line, error_members}
 use Rattle.dump_input.specs.declared.done.Lack.{Lack}
 use Rattle.dump_input.specs.declared.done.Lack.TheVariants as lack
-use Rattle.dump_input.specs.declared.failure.Failure.TheVariants as failure
+use Rattle.dump_lines.specs.declared.failure.Failure.TheVariants as failure
 use Rattle.dump_lines.specs.declared.style.Style.{Style}
 use Rattle.dump_lines.specs.declared.style.Style.TheVariants as style
 

@@ -6,7 +6,7 @@ ghost use Rattle.dump_files.specs.Errors.{error_line, input_name, input_words, l
 ghost use Rattle.dump_lines.specs.declared.style.Style.TheVariants.{Json, Words};
 
 use dump_input::done::Lack;
-use dump_input::failure::Failure;
+use dump_lines::failure::Failure;
 use dump_lines::object::error_object;
 use dump_lines::style::Style;
 use dump_lines::text::{push_number, push_quoted, push_words, quotation};

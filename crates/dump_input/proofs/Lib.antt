@@ -1,5 +1,3 @@
-pub mod Cases
-pub mod Fronts
 mod Filling
 pub mod Ahead
 pub mod Going

@@ -3,10 +3,10 @@
 
 ghost use Rattle.std.specs.Prelude.{IfErr};
 ghost use Rattle.std.specs.Io.KnownBytes.{Keeps};
-ghost use Rattle.dump_input.specs.Failing.{IsReading};
+ghost use Rattle.dump_lines.specs.Failing.{IsReading};
 
-use crate::failure::Failure;
 use crate::status::Status;
+use dump_lines::failure::Failure;
 use std::io::Write;
 
 /// An input that wasn't read to its end.

@@ -1,9 +1,8 @@
-//! Inputs as they are read: what is ahead, where documents go on, where a text ends; and how what is made is written.
+//! Inputs as they are read: what is ahead, where documents go on, where a text ends.
 #![tactic(auto)]
 
 pub mod done;
 pub mod ending;
-pub mod failure;
 pub mod inputs;
 pub mod position;
 pub mod resync;
@@ -11,4 +10,3 @@ pub mod scan;
 pub mod status;
 pub mod turn;
 pub mod window;
-pub mod write;

@@ -2,11 +2,11 @@
 #![tactic(auto)]
 
 ghost use Rattle.std.specs.Prelude.{◌≡◌, IfErr, IfOk, OnErr, length};
-ghost use Rattle.dump_input.specs.Failing.{IsReading};
+ghost use Rattle.dump_lines.specs.Failing.{IsReading};
 ghost use Rattle.dump_input.specs.Texts.{IsFar, first_position, position_over};
 ghost use Rattle.dump_input.specs.Texts as says;
 
-use crate::failure::{Failure, in_range};
+use dump_lines::failure::{Failure, in_range};
 
 /// A place in a text of UTF-8.
 #[derive(Clone, Copy)]

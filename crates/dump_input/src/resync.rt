@@ -5,12 +5,12 @@ ghost use Rattle.std.specs.Prelude.{◌≡◌, ◌≤◌, ◌<◌, IfErr, IfOk, 
 ghost use Rattle.dump_input.specs.Cut.{IsPiece};
 ghost use Rattle.dump_input.specs.Reading.{GoesAhead, IsWindow, Stays, ahead_of};
 ghost use Rattle.dump_input.specs.Resync.{Doubts, SeesBehind, SeesInside, SkipsTo, TellsPart};
-ghost use Rattle.dump_input.specs.Failing.{IsReading};
+ghost use Rattle.dump_lines.specs.Failing.{IsReading};
 ghost use Rattle.raw_resync.specs.Seeking.{IsWork};
 
 use crate::ending::Ending;
-use crate::failure::Failure;
 use crate::window::{Next, Window, look_ahead};
+use dump_lines::failure::Failure;
 use raw_resync::{Check, Part, Places, Sought, Work, check_behind, seek};
 use raw_tree::Limits;
 use std::alloc::Global;

@@ -5,10 +5,10 @@ ghost use Rattle.std.specs.Prelude.{◌≡◌, ◌+◌, ◌≤◌, ◌<◌, ◌^
 ghost use Rattle.std.specs.Io.KnownBytes.{IsAtEnd};
 ghost use Rattle.dump_input.specs.Cut.{said_len, IsSoundLength};
 ghost use Rattle.dump_input.specs.Reading.{FillsBuffer, IsNextPiece, IsWindow, ReadsRest, SeesAhead, Stays, TellsNext, ahead_of, offset_of};
-ghost use Rattle.dump_input.specs.Failing.{IsReading};
+ghost use Rattle.dump_lines.specs.Failing.{IsReading};
 
 use crate::ending::Ending;
-use crate::failure::{Failure, in_range};
+use dump_lines::failure::{Failure, in_range};
 use std::alloc::{AllocError, Global};
 use std::io;
 use std::io::{ErrorKind, Read};

@@ -2,3 +2,5 @@ pub mod Find
 pub mod Told
 pub mod Origins
 pub mod Values
+pub mod Failing
+pub mod Fronts

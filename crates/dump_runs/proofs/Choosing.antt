@@ -5,13 +5,14 @@ use Rattle.raw_tree.specs.declared.reader.limits.Limits.{Limits}
 use Rattle.dump_runs.specs.Halting.{Halts}
 use Rattle.dump_runs.specs.Portion.{AreAsked, EndsPortion, HaltsPortion, HasFailed, IsAllInFront, IsChosen, IsEnough, IsInFront, IsRunOver, PassesPortion, documents_of_parts}
 use Rattle.dump_input.specs.Reading.{IsWindow, ahead_of}
-use Rattle.dump_runs.specs.Run.{EndsAs, Entry, FailsAt, Gap, Part, PassesAll, piece, gap, skipped, bytes_of_parts, count_finding, count_left, count_part}
-use Rattle.dump_runs.specs.declared.command.Command.{Command}
-use Rattle.dump_runs.specs.declared.counts.Counts.{Counts}
-use Rattle.dump_input.specs.declared.failure.ReadFailure.{ReadFailure}
+use Rattle.dump_commands.specs.Counting.{count_finding, count_left}
+use Rattle.dump_runs.specs.Run.{EndsAs, Entry, FailsAt, Gap, Part, PassesAll, piece, gap, skipped, bytes_of_parts, count_part}
+use Rattle.dump_commands.specs.declared.command.Command.{Command}
+use Rattle.dump_commands.specs.declared.counts.Counts.{Counts}
+use Rattle.dump_lines.specs.declared.failure.ReadFailure.{ReadFailure}
 use Rattle.dump_lines.specs.declared.find.Finding.{Finding}
 use Rattle.dump_lines.specs.declared.find.Finding.TheVariants as finding
-use Rattle.dump_runs.specs.declared.kept.Kept.{Kept}
+use Rattle.dump_commands.specs.declared.kept.Kept.{Kept}
 use Rattle.dump_runs.specs.declared.portion.Portion.{Portion}
 use Rattle.dump_input.specs.declared.ending.Ending.{Ending}
 use Rattle.dump_runs.specs.declared.run.Stop.{Stop}

@@ -6,9 +6,9 @@ use Rattle.raw_tree.proofs.Face.{document_reads, read_within}
 use Rattle.raw_resync.specs.Resync.{IsSound}
 use Rattle.dump_input.specs.Cut.{IsPiece}
 use Rattle.dump_lines.specs.Find.{Account, Finds, MayBeDamaged}
-use Rattle.dump_runs.specs.Findings.{FindsFor}
-use Rattle.dump_runs.specs.declared.command.Command.{Command}
-use Rattle.dump_runs.specs.declared.command.Command.TheVariants as command
+use Rattle.dump_commands.specs.Findings.{FindsFor}
+use Rattle.dump_commands.specs.declared.command.Command.{Command}
+use Rattle.dump_commands.specs.declared.command.Command.TheVariants as command
 use Rattle.dump_lines.specs.declared.find.Finding.{Finding}
 use Rattle.dump_lines.specs.declared.find.Finding.TheVariants as finding
 

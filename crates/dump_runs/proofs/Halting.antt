@@ -1,26 +1,24 @@
 -- What was written where a run over an input fails.
 use Rattle.std.proofs.Common.{◌≡◌, ◌++◌, ℕ, List, [], Bool, true, Option, None, Some, IfSome, append-nil, append_assoc, ap, ◌∙◌, drop, fold, inl, inr, length, length-take-le, not, refl, subst, sym, take, take-append-drop}
-use Rattle.std.specs.Io.KnownBytes.{Appends, Consumes}
+use Rattle.std.specs.Io.KnownBytes.{Consumes}
 use Rattle.raw_resync.specs.Resync.{IsSound}
 use Rattle.raw_resync.specs.Seeking.{IsWork, no_work}
 use Rattle.raw_resync.specs.declared.work.Work.{Work}
 use Rattle.raw_tree.specs.declared.reader.limits.Limits.{Limits}
-use Rattle.dump_lines.specs.Find.{Account}
-use Rattle.dump_input.specs.Fronts.{AppendsFront, HasFront}
-use Rattle.dump_runs.specs.Halting.{Halts, IsNextPiece, ReportsFront, HaltsAhead, HaltsIn, HaltsInGap, HaltsInside, HaltsLeaving, HaltsNext, HaltsOne}
+use Rattle.dump_lines.specs.Fronts.{AppendsFront, HasFront}
+use Rattle.dump_commands.specs.Reporting.{lines_of_repeats}
+use Rattle.dump_runs.specs.Halting.{Halts, IsNextPiece, HaltsAhead, HaltsIn, HaltsInGap, HaltsInside, HaltsLeaving, HaltsNext, HaltsOne}
 use Rattle.dump_input.specs.Reading.{TellsNext, ahead_of}
 use Rattle.dump_input.specs.Resync.{IsBelieved, TellsPart}
-use Rattle.dump_runs.specs.Run.{Passed, PassesAll, MayPassOne, Part, Reports, bytes_of_parts, lines_of_repeats, work_behind}
+use Rattle.dump_runs.specs.Run.{Passed, PassesAll, MayPassOne, Part, bytes_of_parts, work_behind}
 use Rattle.dump_lines.specs.Origins.{origin_at}
-use Rattle.dump_runs.specs.Unique.{repeat_at}
+use Rattle.dump_commands.specs.Unique.{repeat_at}
 use Rattle.dump_runs.specs.Endings.{ending_line}
-use Rattle.dump_runs.specs.declared.command.Command.{Command}
-use Rattle.dump_runs.specs.declared.command.Command.TheVariants as command
-use Rattle.dump_runs.specs.declared.counts.Counts.{Counts}
+use Rattle.dump_commands.specs.declared.command.Command.{Command}
+use Rattle.dump_commands.specs.declared.counts.Counts.{Counts}
 use Rattle.dump_input.specs.declared.ending.Ending.{Ending}
 use Rattle.dump_runs.specs.declared.rest.Rest.TheVariants as rest
-use Rattle.dump_lines.specs.declared.find.Finding.{Finding}
-use Rattle.dump_runs.specs.declared.kept.Kept.{Kept}
+use Rattle.dump_commands.specs.declared.kept.Kept.{Kept}
 use Rattle.dump_runs.specs.declared.run.Asked.{Asked}
 use Rattle.dump_runs.specs.declared.run.Stop.TheVariants as stop
 use Rattle.dump_runs.specs.declared.run.Outcome.{Outcome}
@@ -45,25 +43,6 @@ ahead_front s x (Some rest) read = (rest, read)
 -- and the first of them
 first_front : (s x : List ℕ) (n : ℕ) → HasFront s x → HasFront s (take n x)
 first_front s x n (rest, is) = (drop n x ++ rest, is ∙ ap (λ (y : List ℕ). y ++ rest) (sym (take-append-drop n x)) ∙ append_assoc (take n x) (drop n x) rest)
-
--- a command but list
-abbrev pub IsOther : Command → Type 0
-IsOther command.List = ⊥
-IsOther _ = Unit {0}
-
--- a front of all lines is reported
-pub reports_front : (c : Command) (style : Style) (name : List ℕ) (offset : ℕ) (b : List ℕ) (f : Finding) (told : Option Account) {old new : Option (List ℕ)} {text : List ℕ}
-    → IsOther c → Reports c style name offset b f told text → AppendsFront old new text
-    → (lines : List ℕ) × ReportsFront c style name offset b f told lines × Appends old new lines
-reports_front command.List style name offset b f told other reports front = absurd other
-reports_front command.Check style name offset b f told {text = text} other reports front = (front.front, (text, reports, (front.behind, front.whole)), front.put)
-reports_front command.Count style name offset b f told {text = text} other reports front = (front.front, (text, reports, (front.behind, front.whole)), front.put)
-reports_front command.Sound style name offset b f told {text = text} other reports front = (front.front, (text, reports, (front.behind, front.whole)), front.put)
-reports_front command.Fields style name offset b f told {text = text} other reports front = (front.front, (text, reports, (front.behind, front.whole)), front.put)
-reports_front command.Canon style name offset b f told {text = text} other reports front = (front.front, (text, reports, (front.behind, front.whole)), front.put)
-reports_front (command.Unique spelling) style name offset b f told {text = text} other reports front = (front.front, (text, reports, (front.behind, front.whole)), front.put)
-reports_front (command.Json form) style name offset b f told {text = text} other reports front = (front.front, (text, reports, (front.behind, front.whole)), front.put)
-reports_front (command.Pick picking) style name offset b f told {text = text} other reports front = (front.front, (text, reports, (front.behind, front.whole)), front.put)
 
 -- a piece that is passed is one of which a front is
 pub halts_passed : (asked : Asked) (any : Bool) (offset : ℕ) (b : List ℕ) (d d' w w' : Option (List ℕ)) (k k' : Kept) (o : Outcome)

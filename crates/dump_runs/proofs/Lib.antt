@@ -1,16 +1,9 @@
 mod Findings
-mod Digesting
 mod Repeating
 mod Writing
-mod Levels
-mod Listed
 mod Passing
 mod Stopping
 mod Halting
 mod Choosing
 mod Portioning
-mod Picked
 mod Summing
-mod Tabled
-mod Prefixes
-mod Endings

@@ -7,27 +7,30 @@ use Rattle.std.proofs.KnownBytes.{Appends-nil, Appends-trans}
 use Rattle.raw_tree.specs.declared.reader.limits.Limits.{Limits}
 use Rattle.dump_runs.proofs.Findings.{finds_sound}
 use Rattle.dump_input.proofs.Face.{place_since, tells_document, tells_other, read_behind}
-use Rattle.dump_runs.proofs.Repeating.{firsts_more, firsts_none, repeats_more, repeats_none}
-use Rattle.dump_runs.proofs.Writing.{writes_none, writes_more}
+use Rattle.dump_commands.proofs.Face.{firsts_none, repeats_none, writes_none}
+use Rattle.dump_runs.proofs.Repeating.{firsts_more, repeats_more}
+use Rattle.dump_runs.proofs.Writing.{writes_more}
 use Rattle.std.proofs.lemmas.Grind.{flat_map-append, fold-append}
 use Rattle.dump_input.specs.Cut.{IsPiece}
-use Rattle.dump_runs.specs.Fields.{Table, tabled, with_document}
+use Rattle.dump_commands.specs.Fields.{Table, tabled, with_document}
 use Rattle.dump_runs.specs.Portion.{HasPassedFront}
 use Rattle.dump_input.specs.Reading.{ReadsAhead, TellsNext, ahead_of}
 use Rattle.dump_input.specs.Resync.{BreaksWith, IsBelieved, IsNextPlace, SkipsTo, Spends, TellsPart}
 use Rattle.raw_resync.specs.Resync.{IsSound}
 use Rattle.raw_resync.specs.Seeking.{IsWork, no_work}
 use Rattle.raw_resync.specs.declared.work.Work.{Work}
-use Rattle.dump_runs.specs.Run.{AreParts, Entry, Gap, IsEntry, IsGap, IsPart, IsTaken, Part, piece, gap, skipped, Passed, PassesFront, PassesGap, PassesNext, PassesOne, MayPassFront, Writes, WritesNothing, bytes_of_part, bytes_of_parts, made_of_part, made_of_parts, forms_of_part, forms_of_parts, lines_of_part, fields_of_part, fields_of_parts, lines_of_repeats, repeats_of_part, count_entry, count_part, findings_in, findings_of, work_behind}
+use Rattle.dump_commands.specs.Making.{Writes}
+use Rattle.dump_commands.specs.Reporting.{lines_of_repeats}
+use Rattle.dump_runs.specs.Run.{AreParts, Entry, Gap, IsEntry, IsGap, IsPart, IsTaken, Part, piece, gap, skipped, Passed, PassesFront, PassesGap, PassesNext, PassesOne, MayPassFront, WritesNothing, bytes_of_part, bytes_of_parts, made_of_part, made_of_parts, forms_of_part, forms_of_parts, lines_of_part, fields_of_part, fields_of_parts, repeats_of_part, count_entry, count_part, findings_in, findings_of, work_behind}
 use Rattle.dump_runs.specs.Endings.{ending_line}
-use Rattle.dump_runs.specs.Unique.{Firsts, Made, firsts_behind, firsts_of, placed_at, repeat_at, repeats_of}
+use Rattle.dump_commands.specs.Unique.{Firsts, Made, firsts_behind, firsts_of, placed_at, repeat_at, repeats_of}
 use Rattle.dump_lines.specs.Origins.{Origin, origin_at}
 use Rattle.dump_input.specs.declared.ending.Ending.{Ending}
 use Rattle.dump_runs.specs.declared.rest.Rest.TheVariants as rest
 use Rattle.dump_runs.specs.declared.run.Outcome.{Outcome}
-use Rattle.dump_runs.specs.declared.command.Command.{Command}
-use Rattle.dump_runs.specs.declared.counts.Counts.{Counts}
-use Rattle.dump_runs.specs.declared.kept.Kept.{Kept}
+use Rattle.dump_commands.specs.declared.command.Command.{Command}
+use Rattle.dump_commands.specs.declared.counts.Counts.{Counts}
+use Rattle.dump_commands.specs.declared.kept.Kept.{Kept}
 use Rattle.dump_input.specs.declared.resync.Skip.{Skip}
 use Rattle.dump_lines.specs.declared.style.Style.{Style}
 use Rattle.dump_input.specs.declared.window.Next.{Next}

@@ -6,11 +6,11 @@ use Rattle.std.specs.Io.KnownBytes.{Consumes, IsAtEnd}
 use Rattle.dump_input.specs.Cut.{EndsWith, IsPiece, said_len}
 use Rattle.dump_runs.specs.Portion.{BeginsNone, HasPassedFront, IsAllInFront, IsInFront, IsOther, PassesBytes, PassesDocuments}
 use Rattle.dump_input.specs.Reading.{GoesAhead, IsNextPiece, IsWindow, ReadsAhead, ahead_of}
-use Rattle.dump_input.specs.Failing.{IsReading}
-use Rattle.dump_runs.specs.Unique.{joined}
+use Rattle.dump_lines.specs.Failing.{IsReading}
+use Rattle.dump_commands.specs.Unique.{joined}
 use Rattle.dump_input.specs.declared.ending.Ending.{Ending}
 use Rattle.dump_input.specs.declared.ending.Ending.TheVariants as ending
-use Rattle.dump_input.specs.declared.failure.Failure.{Failure}
+use Rattle.dump_lines.specs.declared.failure.Failure.{Failure}
 use Rattle.dump_runs.specs.declared.portion.Portion.{Portion}
 use Rattle.dump_input.specs.declared.window.Next.{Next}
 use Rattle.dump_input.specs.declared.window.Next.TheVariants as next

@@ -4,40 +4,19 @@ use Rattle.std.proofs.KnownBytes.{Appends-trans}
 use Rattle.std.proofs.lemmas.Grind.{fold-append}
 use Rattle.std.specs.Io.KnownBytes.{Appends}
 use Rattle.std.specs.Option.{option_map}
-use Rattle.dump_input.specs.Fronts.{AppendsFront}
+use Rattle.dump_lines.specs.Fronts.{AppendsFront}
 use Rattle.dump_lines.specs.Find.{Account}
 use Rattle.dump_runs.specs.Halting.{HaltsInside}
-use Rattle.dump_runs.specs.Run.{Emits, Reports, lines_of_repeats}
-use Rattle.dump_runs.specs.Unique.{Firsts, Placed, first_at, firsts_behind, repeat_at, repeats, repeats_of, with_first}
+use Rattle.dump_commands.specs.Making.{Emits}
+use Rattle.dump_commands.specs.Reporting.{Reports, lines_of_repeats}
+use Rattle.dump_commands.specs.Unique.{Firsts, Placed, first_at, firsts_behind, repeat_at, repeats, repeats_of, with_first}
 use Rattle.dump_lines.specs.Origins.{origin_of}
-use Rattle.dump_runs.specs.declared.command.Command.{Command}
-use Rattle.dump_runs.specs.declared.command.Command.TheVariants as command
+use Rattle.dump_commands.specs.declared.command.Command.{Command}
+use Rattle.dump_commands.specs.declared.command.Command.TheVariants as command
 use Rattle.dump_lines.specs.declared.find.Finding.{Finding}
-use Rattle.dump_runs.specs.declared.kept.Kept.{Kept}
+use Rattle.dump_commands.specs.declared.kept.Kept.{Kept}
 use Rattle.dump_lines.specs.declared.origin.Origin.{Origin}
 use Rattle.dump_lines.specs.declared.style.Style.{Style}
-
-pub firsts_none : (c : Command) (f : Firsts) → firsts_behind c f [] ≡ f
-firsts_none command.Check f = refl
-firsts_none command.List f = refl
-firsts_none command.Count f = refl
-firsts_none command.Canon f = refl
-firsts_none command.Sound f = refl
-firsts_none command.Fields f = refl
-firsts_none (command.Unique spelling) f = refl
-firsts_none (command.Json style) f = refl
-firsts_none (command.Pick picking) f = refl
-
-pub repeats_none : (c : Command) (f : Firsts) → repeats_of c f [] ≡ []
-repeats_none command.Check f = refl
-repeats_none command.List f = refl
-repeats_none command.Count f = refl
-repeats_none command.Canon f = refl
-repeats_none command.Sound f = refl
-repeats_none command.Fields f = refl
-repeats_none (command.Unique spelling) f = refl
-repeats_none (command.Json style) f = refl
-repeats_none (command.Pick picking) f = refl
 
 pub firsts_more : (c : Command) (f : Firsts) (xs ys : List Placed) → firsts_behind c f (xs ++ ys) ≡ firsts_behind c (firsts_behind c f xs) ys
 firsts_more command.Check f xs ys = refl

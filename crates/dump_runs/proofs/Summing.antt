@@ -2,23 +2,23 @@
 use Rattle.std.proofs.Common.{◌≡◌, ◌+◌, ◌<◌, ◌≤◌, ℕ, List, [], ◌∷◌, ◌++◌, IsSomeAnd, MatchOption, None, Option, Some, option_map, Result, Ok, Err, IfOk, OnErr, add-zero, drop, get_or, inl, inr, is_none, length, map, refl, sym, subst, ap, ◌∙◌, take}
 use Rattle.std.proofs.lemmas.List.{drop_all, drop_more, map-append, map_more, take-append-drop, take_all}
 use Rattle.std.specs.Io.KnownBytes.{Keeps}
-use Rattle.dump_input.specs.Fronts.{AppendsFront}
+use Rattle.dump_lines.specs.Fronts.{AppendsFront}
 use Rattle.dump_runs.specs.Batch.{CountsAnother, CountsMore, EndsAll, RunsAll, RunsFront, RunsOver, State, HaltsBefore, HaltsWithin, all_line, start_of, state_of, style_behind}
 use Rattle.dump_input.specs.Done.{cut_of}
 use Rattle.dump_runs.specs.Portion.{EndsPortion, HaltsPortion}
-use Rattle.dump_runs.specs.Run.{no_counts, plus}
+use Rattle.dump_commands.specs.Counting.{no_counts, plus}
 use Rattle.dump_runs.specs.Status.{IsFailureStatus, IsStatus}
 use Rattle.dump_input.specs.declared.done.Cut.{Cut}
 use Rattle.dump_runs.specs.declared.batch.Job.{Job}
 use Rattle.dump_input.specs.declared.done.Lack.{Lack}
 use Rattle.dump_input.specs.declared.done.Lack.TheVariants as lack
 use Rattle.dump_runs.specs.declared.batch.Totals.{Totals}
-use Rattle.dump_runs.specs.declared.counts.Counts.{Counts}
-use Rattle.dump_input.specs.declared.failure.Failure.{Failure}
-use Rattle.dump_input.specs.declared.failure.ReadFailure.{ReadFailure}
-use Rattle.dump_runs.specs.declared.kept.Kept.{Kept}
+use Rattle.dump_commands.specs.declared.counts.Counts.{Counts}
+use Rattle.dump_lines.specs.declared.failure.Failure.{Failure}
+use Rattle.dump_lines.specs.declared.failure.ReadFailure.{ReadFailure}
+use Rattle.dump_commands.specs.declared.kept.Kept.{Kept}
 use Rattle.dump_input.specs.declared.status.Status.{Status}
-use Rattle.dump_input.proofs.Face.{front_none}
+use Rattle.dump_lines.proofs.Face.{front_none}
 use Rattle.dump_runs.proofs.Choosing.{halts_first}
 
 module _ (job : Job) (bytes_of : List ℕ → Option (List ℕ)) where

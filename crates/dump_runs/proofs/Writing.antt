@@ -1,34 +1,18 @@
 -- How what was written grows by more documents.
-use Rattle.std.proofs.Common.{◌≡◌, ◌+◌, ◌⊎◌, ℕ, List, [], ◌∷◌, ◌++◌, Bool, Option, None, arith, codes, flat_map, fold, inl, inr, length, length-append, sym, ap, ◌∙◌, subst, refl, append_assoc, append-nil}
+use Rattle.std.proofs.Common.{◌≡◌, ◌+◌, ℕ, List, [], ◌∷◌, ◌++◌, Bool, Option, arith, flat_map, fold, length, length-append, sym, ap, ◌∙◌, subst, refl, append_assoc}
 use Rattle.std.specs.Io.KnownBytes.{Appends}
-use Rattle.std.proofs.KnownBytes.{Appends-nil, Appends-trans}
+use Rattle.std.proofs.KnownBytes.{Appends-trans}
 use Rattle.std.proofs.lemmas.Grind.{flat_map-append, fold-append}
-use Rattle.bson_json.specs.Errors.{TellsWriteError}
-use Rattle.bson_json.specs.Json.{IsJson}
-use Rattle.bson_json.specs.Written.{WroteFront}
-use Rattle.bson_json.specs.declared.error.WriteJsonError.{WriteJsonError}
-use Rattle.bson_json.specs.declared.error.WriteJsonError.TheVariants as error
-use Rattle.bson_json.specs.declared.style.Style as json
-use Rattle.raw_tree.specs.CanonicalForm.{IsCanonicalForm}
 use Rattle.raw_tree.specs.declared.reader.limits.Limits.{Limits}
-use Rattle.dump_runs.specs.Fields.{CountsFields, KeepsWritten, table_of, with_document}
-use Rattle.dump_input.specs.Fronts.{AppendsFront, WritesFront}
-use Rattle.dump_runs.specs.Halting.{IsMade}
-use Rattle.dump_input.proofs.Face.{front_behind, front_first}
-use Rattle.dump_runs.specs.Pick.{IsPicked, IsPickedAs, IsPrinted}
-use Rattle.dump_runs.specs.Run.{Emits, Makes, MakesJson, MakesPicked, Writes, spelled}
-use Rattle.dump_runs.specs.Unique.{CountsOne, Made, first_made, firsts_of, has_digest, if_new, kept_of, known_behind, knows, made_as, origins_of, placed, plain, with_made, written_of}
+use Rattle.dump_commands.specs.Fields.{CountsFields, table_of, with_document}
+use Rattle.dump_commands.specs.Making.{Writes}
+use Rattle.dump_commands.specs.Unique.{Made, first_made, if_new, kept_of, known_behind, knows, with_made, written_of}
 use Rattle.dump_lines.specs.Origins as says
-use Rattle.dump_runs.specs.declared.command.Command.{Command}
-use Rattle.dump_runs.specs.declared.command.Command.TheVariants as command
-use Rattle.dump_runs.specs.declared.command.Spelling.{Spelling}
-use Rattle.dump_runs.specs.declared.kept.Kept.{Kept}
+use Rattle.dump_commands.specs.declared.command.Command.{Command}
+use Rattle.dump_commands.specs.declared.kept.Kept.{Kept}
 use Rattle.dump_lines.specs.declared.origin.Origin.{Origin}
-use Rattle.dump_runs.specs.declared.pick.Picking.{Picking}
-use Rattle.dump_runs.specs.declared.paths.Paths.{Paths}
-use Rattle.dump_runs.proofs.Repeating.{firsts_none, repeats_none}
+use Rattle.dump_commands.specs.declared.paths.Paths.{Paths}
 use Rattle.dump_lines.specs.declared.find.Finding.{Finding}
-use Rattle.dump_lines.specs.declared.find.Finding.TheVariants as finding
 
 -- the bytes of what is made
 abbrev written : Made → List ℕ
@@ -54,20 +38,6 @@ fold_made known xs ys = fold-append with_made known xs ys
 known_behind-append : (c : Command) (known : List ℕ → Bool) (xs ys : List Made) → known_behind c known (xs ++ ys) ≡ known_behind c (known_behind c known xs) ys
 known_behind-append c known xs ys = grind (arith, fold_made)
 
-nothing_kept : (c : Command) (known : List ℕ → Bool) → kept_of c known [] ≡ []
-nothing_kept c known = grind arith
-
-nothing_known : (c : Command) (known : List ℕ → Bool) (d : List ℕ) → known d ≡ known_behind c known [] d
-nothing_known c known d = grind arith
-
--- nothing is made
-pub writes_none : (c : Command) (out : Option (List ℕ)) (k : Kept) → Writes c [] out out k k
-writes_none c out k = record {
-  is_written = subst (λ l. Appends out out (flat_map written l)) (sym (nothing_kept c (knows k))) (Appends-nil out);
-  is_known = nothing_known c (knows k);
-  is_counted = let none : length (kept_of c (knows k) []) ≡ 0 = ap length (nothing_kept c (knows k)) in omega arith;
-}
-
 pub writes_more : (c : Command) (xs ys : List Made) (d d' d'' : Option (List ℕ)) (k k' k'' : Kept) → Writes c xs d d' k k' → Writes c ys d' d'' k' k'' → Writes c (xs ++ ys) d d'' k k''
 writes_more c xs ys d d' d'' k k' k'' first second =
     let behind = known_behind c (knows k) xs in
@@ -85,128 +55,7 @@ writes_more c xs ys d d' d'' k k' k'' first second =
           omega arith;
     }
 
-known_same : (k k' : Kept) (d : List ℕ) → k'.forms ≡ k.forms → knows k' d ≡ knows k d
-known_same k k' d same = ap (λ forms. has_digest forms d) same
-
--- the same is written and known where no more is counted
-pub writes_kept : (c : Command) (made : List Made) (d d' : Option (List ℕ)) (k k' k'' : Kept) → Writes c made d d' k k' → KeepsWritten k' k'' → Writes c made d d' k k''
-writes_kept c made d d' k k' k'' writes (count, digests) = record {
-  is_written = writes.is_written;
-  is_known = λ x. known_same k' k'' x digests ∙ writes.is_known x;
-  is_counted = count ∙ writes.is_counted;
-}
-
 -- the elements are counted that were counted before it was written
 pub counts_kept : (limits : Limits) (c : Command) (place : says.Origin) (b : List ℕ) (f : Finding) (k k' k'' : Kept) → k'.paths ≡ k.paths → CountsFields limits c place b f k' k''
     → CountsFields limits c place b f k k''
 counts_kept limits c place b f k k' k'' same (ds, has, added) = (ds, has, added ∙ ap (λ (p : Paths). fold with_document (table_of p) ds) same)
-
-line_written : (style : json.Style) (line : List ℕ) (d d' : Option (List ℕ)) (k k' : Kept) → Appends d d' line → CountsOne k k' → Writes (command.Json style) (plain line ∷ []) d d' k k'
-line_written style line d d' k k' put (counted, same) = record {
-  is_written = subst (Appends d d') (sym (append-nil line)) put;
-  is_known = λ x. known_same k k' x same;
-  is_counted = counted;
-}
-
--- nothing is made of a document
-pub nothing_emitted : (c : Command) (at : Origin) (b : List ℕ) (f : Finding) (out : Option (List ℕ)) (k : Kept) → Makes c b f [] → Emits c at b f out out k k None
-nothing_emitted c at b f out k nothing =
-    ([], nothing, (writes_none c out k, record { placed = sym (firsts_none c (firsts_of k)); repeats = sym (repeats_none c (firsts_of k)) }))
-
-makes_json : (style : json.Style) (b : List ℕ) (f : Finding) (text : List ℕ) → (f ≡ finding.Canonical) ⊎ (f ≡ finding.Breached) → IsJson style b text
-    → MakesJson style b f (plain (text ++ codes "\n") ∷ [])
-makes_json style b f text (inl canonical) is = rw canonical (text, is, refl)
-makes_json style b f text (inr breached) is = rw breached (text, is, refl)
-
--- a document without damage is written as Extended JSON
-pub json_emitted : (style : json.Style) (at : Origin) (b : List ℕ) (f : Finding) (d d' : Option (List ℕ)) (k k' : Kept) → (f ≡ finding.Canonical) ⊎ (f ≡ finding.Breached)
-    → (text : List ℕ) × IsJson style b text × Appends d d' (text ++ codes "\n") × CountsOne k k' → Emits (command.Json style) at b f d d' k k' None
-json_emitted style at b f d d' k k' sound (text, is, put, counted) =
-    let line = text ++ codes "\n" in
-    (plain line ∷ [], makes_json style b f text sound is, (line_written style line d d' k k' put counted, record { placed = ap origins_of counted.1; repeats = refl }))
-
--- these are the texts of a document with a line feed
-abbrev pub IsJsonLine : json.Style → List ℕ → List ℕ → Type 0
-IsJsonLine style b line = (text : List ℕ) × IsJson style b text × (line ≡ text ++ codes "\n")
-
-json_front : (style : json.Style) (b : List ℕ) (d d' : Option (List ℕ)) → WroteFront style b d d' → WritesFront (IsJsonLine style b) d d'
-json_front style b d d' (text, is, front) =
-    let same : AppendsFront d d' text = record { front = front.front; behind = front.behind; whole = front.whole; put = front.put } in
-    inr (text ++ codes "\n", (text, is, refl), front_first d d' text (codes "\n") same)
-
--- the writer of Extended JSON failed
-pub json_failed : (limits : Limits) (style : json.Style) (b : List ℕ) (d d' : Option (List ℕ)) (e : WriteJsonError) → TellsWriteError limits style b d d' e
-    → WritesFront (IsJsonLine style b) d d'
-json_failed limits style b d d' (error.Barrier barrier) (tells, same) = inl same
-json_failed limits style b d d' error.OutOfMemory (within, inl same) = inl same
-json_failed limits style b d d' error.OutOfMemory (within, inr wrote) = json_front style b d d' wrote
-json_failed limits style b d d' (error.Writing e) (t, reads, wrote) = json_front style b d d' wrote
-
--- its line feed isn't written
-pub json_unended : (style : json.Style) (b : List ℕ) (d d' d'' : Option (List ℕ)) → (text : List ℕ) × IsJson style b text × Appends d d' text → AppendsFront d' d'' (codes "\n")
-    → WritesFront (IsJsonLine style b) d d''
-json_unended style b d d' d'' (text, is, put) front = inr (text ++ codes "\n", (text, is, refl), front_behind d d' d'' text (codes "\n") put front)
-
--- of a document without damage a front of its line is written
-pub json_made : (style : json.Style) (b : List ℕ) (f : Finding) (k : Kept) (d d' : Option (List ℕ)) → (f ≡ finding.Canonical) ⊎ (f ≡ finding.Breached)
-    → WritesFront (IsJsonLine style b) d d' → WritesFront (IsMade (command.Json style) b f k) d d'
-json_made style b f k d d' sound (inl same) = inl same
-json_made style b f k d d' sound (inr (line, (text, is, it), front)) =
-    inr (line, (plain line ∷ [], rw it (makes_json style b f text sound is), sym (append-nil line)), front)
-
--- the document of what is picked is printed in this way
-pub is_picked_as : (picking : Picking) (style : Option json.Style) (b document made : List ℕ) → picking.style ≡ style → IsPicked b picking.paths.now document
-    → IsPrinted style document made → IsPickedAs picking b made
-is_picked_as picking style b document made same is printed = (document, is, subst (λ (s : Option json.Style). IsPrinted s document made) (sym same) printed)
-
--- or a front of it is written
-pub front_picked : (picking : Picking) (style : Option json.Style) (b document : List ℕ) (d d' : Option (List ℕ)) → picking.style ≡ style → IsPicked b picking.paths.now document
-    → WritesFront (IsPrinted style document) d d' → WritesFront (IsPickedAs picking b) d d'
-front_picked picking style b document d d' same is (inl none) = inl none
-front_picked picking style b document d d' same is (inr (made, printed, front)) = inr (made, is_picked_as picking style b document made same is printed, front)
-
--- a document that is picked is written
-picked_written : (picking : Picking) (made : List ℕ) (d d' : Option (List ℕ)) (k k' : Kept) → Appends d d' made → CountsOne k k' → Writes (command.Pick picking) (plain made ∷ []) d d' k k'
-picked_written picking made d d' k k' put (counted, same) = record {
-  is_written = subst (Appends d d') (sym (append-nil made)) put;
-  is_known = λ x. known_same k k' x same;
-  is_counted = counted;
-}
-
-makes_picked : (picking : Picking) (b : List ℕ) (f : Finding) (made : List ℕ) → (f ≡ finding.Canonical) ⊎ (f ≡ finding.Breached) → IsPickedAs picking b made
-    → MakesPicked picking b f (plain made ∷ [])
-makes_picked picking b f made (inl canonical) is = subst (λ x. MakesPicked picking b x (plain made ∷ [])) (sym canonical) (made, is, refl)
-makes_picked picking b f made (inr breached) is = subst (λ x. MakesPicked picking b x (plain made ∷ [])) (sym breached) (made, is, refl)
-
--- of a document without damage that is what comes of it
-pub picked_emitted : (picking : Picking) (at : Origin) (b : List ℕ) (f : Finding) (d d' : Option (List ℕ)) (k k' : Kept) → (f ≡ finding.Canonical) ⊎ (f ≡ finding.Breached)
-    → (made : List ℕ) × IsPickedAs picking b made × Appends d d' made × CountsOne k k' → Emits (command.Pick picking) at b f d d' k k' None
-picked_emitted picking at b f d d' k k' sound (made, is, put, counted) =
-    (plain made ∷ [], makes_picked picking b f made sound is, (picked_written picking made d d' k k' put counted, record { placed = ap origins_of counted.1; repeats = refl }))
-
--- or a front of it is written
-pub picked_made : (picking : Picking) (b : List ℕ) (f : Finding) (k : Kept) (d d' : Option (List ℕ)) → (f ≡ finding.Canonical) ⊎ (f ≡ finding.Breached)
-    → WritesFront (IsPickedAs picking b) d d' → WritesFront (IsMade (command.Pick picking) b f k) d d'
-picked_made picking b f k d d' sound (inl same) = inl same
-picked_made picking b f k d d' sound (inr (made, is, front)) = inr (made, (plain made ∷ [], makes_picked picking b f made sound is, sym (append-nil made)), front)
-
--- what is made of a document with this canonical form, and this is written of it
-abbrev pub form_made : Command → (b form : List ℕ) → List Made
-form_made c b form = made_as (spelled c b form) form ∷ []
-
-abbrev pub IsFormWritten : Command → List ℕ → Kept → List ℕ → Type 0
-IsFormWritten c b k text = (form : List ℕ) × IsCanonicalForm b form × (text ≡ written_of c (knows k) (form_made c b form))
-
-pub spelled_made : (c : Command) (b form text : List ℕ) (k : Kept) → text ≡ spelled c b form → written_of c (knows k) (made_as text form ∷ []) ≡ written_of c (knows k) (form_made c b form)
-spelled_made c b form text k same = ap (λ (x : List ℕ). written_of c (knows k) (made_as x form ∷ [])) same
-
--- of a document that isn't canonical a front of that is written
-pub form_made_canon : (b : List ℕ) (k : Kept) (d d' : Option (List ℕ)) → WritesFront (IsFormWritten command.Canon b k) d d'
-    → WritesFront (IsMade command.Canon b finding.Breached k) d d'
-form_made_canon b k d d' (inl same) = inl same
-form_made_canon b k d d' (inr (text, (form, is, it), front)) = inr (text, (form_made command.Canon b form, (form, is, refl), it), front)
-
-pub form_made_unique : (spelling : Spelling) (b : List ℕ) (k : Kept) (d d' : Option (List ℕ)) → WritesFront (IsFormWritten (command.Unique spelling) b k) d d'
-    → WritesFront (IsMade (command.Unique spelling) b finding.Breached k) d d'
-form_made_unique spelling b k d d' (inl same) = inl same
-form_made_unique spelling b k d d' (inr (text, (form, is, it), front)) = inr (text, (form_made (command.Unique spelling) b form, (form, is, refl), it), front)

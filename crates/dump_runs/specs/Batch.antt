@@ -1,26 +1,27 @@
 -- What a run over several inputs reads, writes and counts, and how it ends.
-use Rattle.std.specs.Prelude.{◌≡◌, ◌⊎◌, ◌++◌, ◌∷◌, ◌<◌, ◌-◌, ◌^◌, ℕ, List, [], Bool, false, Option, None, Some, cond, is_none, nat_lt}
+use Rattle.std.specs.Prelude.{◌≡◌, ◌⊎◌, ◌++◌, ◌∷◌, ◌-◌, ℕ, List, [], Bool, false, Option, None, Some, cond, is_none, nat_lt}
 use Rattle.std.specs.Option.{option_map}
 use Rattle.std.specs.Io.KnownBytes.{Appends, Keeps}
-use Rattle.dump_input.specs.Fronts.{AppendsFront}
-use Rattle.dump_runs.specs.Fields.{no_table, table_text, tabled}
+use Rattle.dump_lines.specs.Fronts.{AppendsFront}
+use Rattle.dump_commands.specs.Fields.{no_table, table_text, tabled}
 use Rattle.dump_runs.specs.Portion.{EndsPortion, HaltsPortion}
-use Rattle.dump_runs.specs.Run.{count_left, no_counts, plus, style_at}
+use Rattle.dump_commands.specs.Counting.{count_left, no_counts, plus, AreInRange}
+use Rattle.dump_runs.specs.Run.{style_at}
 use Rattle.dump_runs.specs.Status.{IsFailureStatus, IsStatus}
-use Rattle.dump_runs.specs.Summary.{summary_line}
-use Rattle.dump_runs.specs.Unique.{firsts_of, knows, no_firsts}
+use Rattle.dump_commands.specs.Summary.{summary_line}
+use Rattle.dump_commands.specs.Unique.{firsts_of, knows, no_firsts}
 use Rattle.dump_input.specs.declared.done.Cut.{Cut}
 use Rattle.dump_input.specs.declared.done.Done.{Done}
 use Rattle.dump_runs.specs.declared.batch.Job.{Job}
 use Rattle.dump_input.specs.declared.done.Lack.{Lack}
 use Rattle.dump_input.specs.declared.done.Lack.TheVariants as lack
 use Rattle.dump_runs.specs.declared.batch.Totals.{Totals}
-use Rattle.dump_runs.specs.declared.command.Command.{Command}
-use Rattle.dump_runs.specs.declared.command.Command.TheVariants as command
-use Rattle.dump_runs.specs.declared.counts.Counts.{Counts}
+use Rattle.dump_commands.specs.declared.command.Command.{Command}
+use Rattle.dump_commands.specs.declared.command.Command.TheVariants as command
+use Rattle.dump_commands.specs.declared.counts.Counts.{Counts}
 use Rattle.dump_lines.specs.declared.style.Style.{Style}
-use Rattle.dump_input.specs.declared.failure.ReadFailure.{ReadFailure}
-use Rattle.dump_runs.specs.declared.kept.Kept.{Kept}
+use Rattle.dump_lines.specs.declared.failure.ReadFailure.{ReadFailure}
+use Rattle.dump_commands.specs.declared.kept.Kept.{Kept}
 use Rattle.dump_input.specs.declared.status.Status.{Status}
 use Rattle.dump_input.specs.Done.{CutInput, cut_of, input_of}
 
@@ -119,18 +120,6 @@ pub record RunsAll (job : Job) (bytes_of : List ℕ → Option (List ℕ)) (name
   pub runs : RunsOver job bytes_of names first last
   pub out : Keeps last.out out_new
   pub report : Appends last.report report_new (all_line job job.command last.counts last.kept)
-
--- each of these is in the range of a count
-pub record AreInRange (n : Counts) : Type 0 where
-  pub documents : n.documents < 2 ^ 64
-  pub bytes : n.bytes < 2 ^ 64
-  pub breached : n.breached < 2 ^ 64
-  pub damaged : n.damaged < 2 ^ 64
-  pub too_deep : n.too_deep < 2 ^ 64
-  pub passed_over : n.passed_over < 2 ^ 64
-  pub not_read : n.not_read < 2 ^ 64
-  pub files : n.files < 2 ^ 64
-  pub findings : n.findings < 2 ^ 64
 
 -- so much more is counted; nothing where a sum would be over the range of a count
 abbrev pub CountsMore : (counts_old counts counts_new : Counts) → Type 0

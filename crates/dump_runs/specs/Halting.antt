@@ -6,41 +6,26 @@ use Rattle.raw_resync.specs.declared.work.Work.{Work}
 use Rattle.raw_tree.specs.declared.reader.limits.Limits.{Limits}
 use Rattle.dump_input.specs.Cut.{EndsWith, IsPiece}
 use Rattle.dump_lines.specs.Find.{Account, MayBeDamaged}
-use Rattle.dump_runs.specs.Findings.{FindsFor}
-use Rattle.dump_runs.specs.Fields.{tabled, with_document}
-use Rattle.dump_input.specs.Fronts.{AppendsFront, HasFront, WritesFront}
-use Rattle.dump_runs.specs.Listing.{HasListingFront}
+use Rattle.dump_commands.specs.Findings.{FindsFor}
+use Rattle.dump_commands.specs.Fields.{tabled, with_document}
+use Rattle.dump_lines.specs.Fronts.{AppendsFront, HasFront, WritesFront}
 use Rattle.dump_input.specs.Reading.{ahead_of}
 use Rattle.dump_input.specs.Resync.{IsBelieved, SkipsTo, Spends}
-use Rattle.dump_runs.specs.Run.{AreParts, Gap, IsGap, Makes, Part, Reports, Writes, bytes_of_parts, count_part, fields_of_parts, forms_of_parts, lines_of_parts, lines_of_repeats, made_of_parts, repeats_of_parts, work_behind}
-use Rattle.dump_lines.specs.Told.{head_text, line}
+use Rattle.dump_commands.specs.Making.{Makes, Writes, IsMade}
+use Rattle.dump_commands.specs.Reporting.{Reports, lines_of_repeats, ReportsFront}
+use Rattle.dump_runs.specs.Run.{AreParts, Gap, IsGap, Part, bytes_of_parts, count_part, fields_of_parts, forms_of_parts, lines_of_parts, made_of_parts, repeats_of_parts, work_behind}
 use Rattle.dump_runs.specs.Endings.{ending_line, last_line}
-use Rattle.dump_runs.specs.Unique.{Made, firsts_behind, firsts_of, knows, placed_at, repeats_of, written_of}
+use Rattle.dump_commands.specs.Unique.{Made, firsts_behind, firsts_of, knows, placed_at, repeats_of, written_of}
 use Rattle.dump_lines.specs.Origins.{origin_at}
-use Rattle.dump_runs.specs.declared.command.Command.{Command}
-use Rattle.dump_runs.specs.declared.command.Command.TheVariants as command
-use Rattle.dump_runs.specs.declared.counts.Counts.{Counts}
+use Rattle.dump_commands.specs.declared.command.Command.{Command}
+use Rattle.dump_commands.specs.declared.counts.Counts.{Counts}
 use Rattle.dump_input.specs.declared.ending.Ending.{Ending}
 use Rattle.dump_runs.specs.declared.rest.Rest.TheVariants as rest
 use Rattle.dump_lines.specs.declared.find.Finding.{Finding}
-use Rattle.dump_runs.specs.declared.kept.Kept.{Kept}
+use Rattle.dump_commands.specs.declared.kept.Kept.{Kept}
 use Rattle.dump_input.specs.declared.resync.Skip.{Skip}
 use Rattle.dump_lines.specs.declared.style.Style.{Style}
 use Rattle.dump_input.specs.declared.window.Window.{Window}
-
--- a front of the first line of a piece b at this offset, of which this is told; or that line, and a front of its listing
-abbrev pub ListsFront : List ℕ → ℕ → List ℕ → Option Account → List ℕ → Type 0
-ListsFront name offset b told text =
-    HasFront (line name offset (head_text b told)) text ⊎ ((front : List ℕ) × HasListingFront b front × (text ≡ line name offset (head_text b told) ++ front))
-
--- a front of what a command reports of a piece b at this offset, in which this is found
-abbrev pub ReportsFront : Command → Style → List ℕ → ℕ → List ℕ → Finding → Option Account → List ℕ → Type 0
-ReportsFront command.List style name offset b found told text = ListsFront name offset b told text
-ReportsFront c style name offset b found told text = (lines : List ℕ) × Reports c style name offset b found told lines × HasFront lines text
-
--- this is written of the documents that a command makes of a piece b in which this is found
-abbrev pub IsMade : Command → List ℕ → Finding → Kept → List ℕ → Type 0
-IsMade c b found kept text = (made : List Made) × Makes c b found made × (text ≡ written_of c (knows kept) made)
 
 -- Of a piece b, in which this is found, a front is reported, and nothing is written. Or all is reported, and a front is written, or nothing.
 -- Or all is written, and a front of the line of a repeat is reported.

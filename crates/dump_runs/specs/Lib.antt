@@ -1,13 +1,6 @@
-pub mod Findings
 pub mod Endings
-pub mod Summary
-pub mod Unique
-pub mod Fields
-pub mod Pick
-pub mod Listing
 pub mod Run
 pub mod Halting
 pub mod Portion
 pub mod Status
 pub mod Batch
-pub mod Binary

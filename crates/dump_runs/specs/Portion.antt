@@ -4,15 +4,15 @@ use Rattle.std.specs.List.{AllByRecursion}
 use Rattle.std.specs.Io.KnownBytes.{Consumes, IsAtEnd}
 use Rattle.raw_tree.specs.declared.reader.limits.Limits.{Limits}
 use Rattle.dump_input.specs.Cut.{IsPiece}
-use Rattle.dump_input.specs.Fronts.{HasFront}
+use Rattle.dump_lines.specs.Fronts.{HasFront}
 use Rattle.dump_runs.specs.Halting.{Halts}
 use Rattle.dump_input.specs.Reading.{GoesAhead, IsNextPiece, IsWindow, ahead_of}
 use Rattle.dump_runs.specs.Run.{EndsRun, Part, PassesAll, piece, gap, skipped}
-use Rattle.dump_runs.specs.Unique.{joined}
-use Rattle.dump_runs.specs.declared.command.Command.{Command}
-use Rattle.dump_runs.specs.declared.counts.Counts.{Counts}
-use Rattle.dump_input.specs.declared.failure.ReadFailure.{ReadFailure}
-use Rattle.dump_runs.specs.declared.kept.Kept.{Kept}
+use Rattle.dump_commands.specs.Unique.{joined}
+use Rattle.dump_commands.specs.declared.command.Command.{Command}
+use Rattle.dump_commands.specs.declared.counts.Counts.{Counts}
+use Rattle.dump_lines.specs.declared.failure.ReadFailure.{ReadFailure}
+use Rattle.dump_commands.specs.declared.kept.Kept.{Kept}
 use Rattle.dump_runs.specs.declared.portion.Portion.{Portion}
 use Rattle.dump_runs.specs.declared.run.Stop.{Stop}
 use Rattle.dump_runs.specs.declared.run.Stop.TheVariants as stop

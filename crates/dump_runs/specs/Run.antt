@@ -1,10 +1,6 @@
 -- What a run over an input reads, writes and counts.
-use Rattle.std.specs.Prelude.{◌≡◌, ℕ, ◌+◌, ◌-◌, suc, zero, List, [], ◌∷◌, ◌++◌, Bool, true, false, Option, None, Some, IfSome, IsNone, codes, cond, drop, flat_map, fold, is_some, length, take}
+use Rattle.std.specs.Prelude.{◌≡◌, ℕ, ◌+◌, ◌-◌, List, [], ◌∷◌, ◌++◌, Bool, true, false, Option, None, Some, IfSome, IsNone, cond, drop, flat_map, fold, is_some, length, take}
 use Rattle.std.specs.Io.KnownBytes.{Appends, Consumes, IsAtEnd}
-use Rattle.std.specs.Option.{option_map}
-use Rattle.raw_tree.specs.CanonicalForm.{IsCanonicalForm}
-use Rattle.bson_json.specs.Json.{IsJson}
-use Rattle.bson_json.specs.declared.style.Style as json
 use Rattle.raw_tree.specs.declared.reader.limits.Limits.{Limits}
 use Rattle.dump_input.specs.Cut.{IsPiece, EndsWith}
 use Rattle.dump_input.specs.Reading.{IsReadBehind, IsWindow, ahead_of}
@@ -15,23 +11,17 @@ use Rattle.dump_input.specs.declared.window.Next.{Next}
 use Rattle.dump_input.specs.declared.window.Next.TheVariants as next
 use Rattle.dump_input.specs.declared.window.Window.{Window}
 use Rattle.dump_lines.specs.Find.{Account, MayBeDamaged}
-use Rattle.dump_runs.specs.Findings.{FindsFor}
-use Rattle.dump_runs.specs.Fields.{CountsFields, Document, HasFields, tabled, with_document}
-use Rattle.dump_runs.specs.Listing.{ListsDocument}
-use Rattle.dump_runs.specs.Pick.{IsPickedAs}
-use Rattle.dump_runs.specs.declared.pick.Picking.{Picking}
+use Rattle.dump_commands.specs.Findings.{FindsFor}
+use Rattle.dump_commands.specs.Fields.{CountsFields, Document, HasFields, tabled, with_document}
 use Rattle.dump_runs.specs.Endings.{ending_line, last_line}
-use Rattle.dump_lines.specs.Told.{line, repeat_line, report_line, head_text, with_left}
-use Rattle.dump_runs.specs.Unique.{Made, Placed, firsts_behind, firsts_of, kept_of, known_behind, knows, made_as, placed_at, plain, repeat_at, repeats_of, written_of}
-use Rattle.dump_lines.specs.Origins.{Origin, Repeat, origin_at, origin_of}
-use Rattle.dump_input.specs.declared.failure.ReadFailure.{ReadFailure}
-use Rattle.dump_input.specs.declared.failure.Failure.TheVariants as failure
-use Rattle.dump_runs.specs.declared.command.Command.{Command}
-use Rattle.dump_runs.specs.declared.command.Command.TheVariants as command
-use Rattle.dump_runs.specs.declared.command.Spelling.TheVariants as spelling
-use Rattle.dump_runs.specs.declared.counts.Counts.{Counts}
-use Rattle.dump_runs.specs.declared.kept.Kept.{Kept}
-use Rattle.dump_lines.specs.declared.origin.Origin as origin
+use Rattle.dump_lines.specs.Told.{with_left}
+use Rattle.dump_commands.specs.Unique.{Made, Placed, firsts_behind, firsts_of, placed_at, repeat_at, repeats_of}
+use Rattle.dump_lines.specs.Origins.{Origin, Repeat, origin_at}
+use Rattle.dump_lines.specs.declared.failure.ReadFailure.{ReadFailure}
+use Rattle.dump_commands.specs.declared.command.Command.{Command}
+use Rattle.dump_commands.specs.declared.command.Command.TheVariants as command
+use Rattle.dump_commands.specs.declared.counts.Counts.{Counts}
+use Rattle.dump_commands.specs.declared.kept.Kept.{Kept}
 use Rattle.dump_input.specs.declared.ending.Ending.{Ending}
 use Rattle.dump_runs.specs.declared.rest.Rest.TheVariants as rest
 use Rattle.dump_input.specs.declared.resync.Skip.{Skip}
@@ -42,12 +32,9 @@ use Rattle.dump_runs.specs.declared.run.Outcome.{Outcome}
 use Rattle.dump_runs.specs.declared.run.Stop.{Stop}
 use Rattle.dump_runs.specs.declared.run.Stop.TheVariants as stop
 use Rattle.dump_lines.specs.declared.style.Style.{Style}
-use Rattle.dump_lines.specs.declared.style.Style.TheVariants as style
-
--- the line of a piece of which this is told; none of nothing
-abbrev pub told_line : Style → List ℕ → ℕ → Option Account → List ℕ
-told_line style name offset None = []
-told_line style name offset (Some told) = report_line style name offset told
+use Rattle.dump_commands.specs.Counting.{count_gap, count_left, count_rest, count_document}
+use Rattle.dump_commands.specs.Making.{Makes, Writes, Places}
+use Rattle.dump_commands.specs.Reporting.{Reports, lines_of_repeats}
 
 -- a piece of an input, what is found in it and what is told of that, the document that is made of it, if there is one, its form with
 -- its place, what it repeats, how many findings that is, what is reported of it, its elements, if they are counted, and what the searches
@@ -64,56 +51,6 @@ pub record Entry : Type 0 where
   pub fields : List Document
   pub work : Work
 
--- what is written of a piece b with this canonical form: the form, or the piece as it is
-abbrev pub spelled : Command → (b form : List ℕ) → List ℕ
-spelled (command.Unique spelling.Original) b form = b
-spelled c b form = form
-
--- what is made of a piece b in which this is found: what is written of it, and its form; nothing if it is damaged or too deep, or isn't judged
-abbrev pub MakesForm : Command → List ℕ → Finding → List Made → Type 0
-MakesForm c b finding.Canonical made = made ≡ plain b ∷ []
-MakesForm c b finding.Breached made = (form : List ℕ) × IsCanonicalForm b form × (made ≡ made_as (spelled c b form) form ∷ [])
-MakesForm c b _ made = made ≡ []
-
--- the line of a piece b in which this is found, unless it is damaged or too deep, or isn't judged: its text as Extended JSON, and a line feed
-abbrev pub MakesJson : json.Style → List ℕ → Finding → List Made → Type 0
-MakesJson style b finding.Damaged made = made ≡ []
-MakesJson style b finding.TooDeep made = made ≡ []
-MakesJson style b finding.Unvalidated made = made ≡ []
-MakesJson style b _ made = (text : List ℕ) × IsJson style b text × (made ≡ plain (text ++ codes "\n") ∷ [])
-
--- the document that is picked of a piece b in which this is found, unless it is damaged or too deep, or isn't judged; or its line
-abbrev pub MakesPicked : Picking → List ℕ → Finding → List Made → Type 0
-MakesPicked picking b finding.Damaged made = made ≡ []
-MakesPicked picking b finding.TooDeep made = made ≡ []
-MakesPicked picking b finding.Unvalidated made = made ≡ []
-MakesPicked picking b _ made = (picked : List ℕ) × IsPickedAs picking b picked × (made ≡ plain picked ∷ [])
-
--- what a command makes of a piece b in which this is found: check, list, count and fields nothing; sound the piece itself, unless it is damaged or too deep; canon
--- and unique its canonical form, or unique the piece itself, where it is asked for; json its line; pick the document of some of its elements
-abbrev pub Makes : Command → List ℕ → Finding → List Made → Type 0
-Makes command.Check b found made = made ≡ []
-Makes command.List b found made = made ≡ []
-Makes command.Count b found made = made ≡ []
-Makes command.Fields b found made = made ≡ []
-Makes command.Sound b finding.Damaged made = made ≡ []
-Makes command.Sound b finding.TooDeep made = made ≡ []
-Makes command.Sound b finding.Unvalidated made = made ≡ []
-Makes command.Sound b _ made = made ≡ plain b ∷ []
-Makes command.Canon b found made = MakesForm command.Canon b found made
-Makes (command.Unique spelling) b found made = MakesForm (command.Unique spelling) b found made
-Makes (command.Json style) b found made = MakesJson style b found made
-Makes (command.Pick picking) b found made = MakesPicked picking b found made
-
--- what a command reports of a piece b at this offset, in which this is found: list its length, what is found and its elements;
--- check what isn't canonical; the others what they leave out
-abbrev pub Reports : Command → Style → List ℕ → ℕ → List ℕ → Finding → Option Account → List ℕ → Type 0
-Reports command.List style name offset b found told lines = (listing : List ℕ) × ListsDocument b listing × (lines ≡ line name offset (head_text b told) ++ listing)
-Reports c style name offset b finding.Damaged told lines = lines ≡ told_line style name offset told
-Reports c style name offset b finding.TooDeep told lines = lines ≡ told_line style name offset told
-Reports command.Check style name offset b finding.Breached told lines = lines ≡ told_line style name offset told
-Reports c style name offset b found told lines = lines ≡ []
-
 -- how many findings a command has of a piece in which this is found
 abbrev pub findings_in : Command → Finding → ℕ
 findings_in c finding.Damaged = 1
@@ -124,10 +61,6 @@ findings_in c found = 0
 -- the same of what came of it: one more if it is a repeat
 abbrev pub findings_of : Command → Outcome → ℕ
 findings_of c outcome = findings_in c outcome.finding + cond outcome.repeats 1 0
-
--- the lines of repeats
-abbrev pub lines_of_repeats : Style → List Repeat → List ℕ
-lines_of_repeats style repeats = flat_map (repeat_line style) repeats
 
 -- What is so of a piece at this offset. Behind what is reported of it is the line of a repeat, if it is one.
 pub record IsEntry (limits : Limits) (c : Command) (style : Style) (name : List ℕ) (offset : ℕ) (e : Entry) : Type 0 where
@@ -216,23 +149,6 @@ IsPart limits c style resync name input offset work (piece e) = IsEntry limits c
 IsPart limits c style resync name input offset work (gap g) = IsGap limits style resync name input offset work g
 IsPart limits c style resync name input offset work (skipped b) = Unit {0}
 
--- these documents are written and counted, or of unique those whose forms are new, and the digests of their forms are known then
-pub record Writes (c : Command) (made : List Made) (out_old out_new : Option (List ℕ)) (kept_old kept_new : Kept) : Type 0 where
-  pub is_written : Appends out_old out_new (written_of c (knows kept_old) made)
-  pub is_known : (d : List ℕ) → knows kept_new d ≡ known_behind c (knows kept_old) made d
-  pub is_counted : kept_new.count ≡ kept_old.count + length (kept_of c (knows kept_old) made)
-
--- These documents are made of the one at this place, which is kept where the digest of their form has none; and it repeats the first
--- with that digest, if one came before.
-pub record Places (c : Command) (place : Origin) (made : List Made) (kept_old kept_new : Kept) (first : Option Origin) : Type 0 where
-  pub placed : firsts_of kept_new ≡ firsts_behind c (firsts_of kept_old) (placed_at place made)
-  pub repeats : repeat_at place first ≡ repeats_of c (firsts_of kept_old) (placed_at place made)
-
--- the same of the code, and they are written
-abbrev pub Puts : Command → origin.Origin → List Made → (out_old out_new : Option (List ℕ)) → (kept_old kept_new : Kept) → Option origin.Origin → Type 0
-Puts c place made out_old out_new kept_old kept_new first =
-    Writes c made out_old out_new kept_old kept_new × Places c (origin_of place) made kept_old kept_new (option_map origin_of first)
-
 -- what is written of a piece at this offset, and what is reported, with the line of a repeat
 abbrev pub WritesOne : Limits → Command → Style → List ℕ → ℕ → List ℕ → (out_old out_new report_old report_new : Option (List ℕ)) → (kept_old kept_new : Kept) → Outcome → Type 0
 WritesOne limits c style name offset b out_old out_new report_old report_new kept_old kept_new outcome =
@@ -274,25 +190,9 @@ repeats_of_parts ps = flat_map repeats_of_part ps
 abbrev pub fields_of_parts : List Part → List Document
 fields_of_parts ps = flat_map fields_of_part ps
 
--- nothing was read
-abbrev pub no_counts : Counts
-no_counts = record { documents = 0; bytes = 0; breached = 0; damaged = 0; too_deep = 0; passed_over = 0; not_read = 0; files = 0; findings = 0 }
-
--- one more of what is found
-abbrev pub count_finding : Finding → Counts → Counts
-count_finding finding.Canonical n = n
-count_finding finding.Breached n = record n { breached = n.breached + 1 }
-count_finding finding.Damaged n = record n { damaged = n.damaged + 1 }
-count_finding finding.TooDeep n = record n { too_deep = n.too_deep + 1 }
-count_finding finding.Unvalidated n = n
-
 -- one more document
 abbrev pub count_entry : Counts → Entry → Counts
-count_entry n e = count_finding e.finding (record n { documents = n.documents + 1; bytes = n.bytes + length e.bytes; findings = n.findings + e.findings })
-
--- so many bytes more that are passed over, of which a line tells
-abbrev pub count_gap : Counts → ℕ → Counts
-count_gap n count = record n { passed_over = n.passed_over + count; findings = n.findings + 1 }
+count_entry n e = count_document n (length e.bytes) e.finding e.findings
 
 -- one more part
 abbrev pub count_part : Counts → Part → Counts
@@ -300,33 +200,11 @@ count_part n (piece e) = count_entry n e
 count_part n (gap g) = count_gap n g.skip.count
 count_part n (skipped b) = n
 
--- one more file that isn't read to its end, with so many bytes of which no part is made
-abbrev pub count_left : Counts → ℕ → Counts
-count_left n count = record n { not_read = n.not_read + count; files = n.files + 1 }
-
--- the same, and a line tells of it
-abbrev pub count_rest : Counts → ℕ → Counts
-count_rest n count = count_left (record n { findings = n.findings + 1 }) count
-
 -- the same of a file, unless it is read to its end: bytes are left, of which a line tells, or reading fails
 abbrev pub count_end : Option Ending → Option ReadFailure → Counts → ℕ → Counts
 count_end None None n count = n
 count_end None (Some failed) n count = count_left n count
 count_end (Some end) _ n count = count_rest n count
-
--- both together
-abbrev pub plus : Counts → Counts → Counts
-plus n m = record {
-  documents = n.documents + m.documents;
-  bytes = n.bytes + m.bytes;
-  breached = n.breached + m.breached;
-  damaged = n.damaged + m.damaged;
-  too_deep = n.too_deep + m.too_deep;
-  passed_over = n.passed_over + m.passed_over;
-  not_read = n.not_read + m.not_read;
-  files = n.files + m.files;
-  findings = n.findings + m.findings;
-}
 
 abbrev pub style_at : Style → Option ℕ → Counts → Style
 style_at shown None n = shown
@@ -462,8 +340,3 @@ pub record Leaves (limits : Limits) (style : Style) (name : List ℕ) (end : End
   pub fails : IfSome failed (λ failure. failure.at ≡ window_old.offset + length (ahead_of window_old ++ more))
   pub told : Appends report_old report_new (ending_line style name window_old.offset end (rest.NotRead (length (ahead_of window_old ++ more))))
   pub is_counted : counts_new ≡ count_rest counts_old (length (ahead_of window_old ++ more))
-
--- Of this piece at this place, in which this is found, a document is made and written, which repeats the one at that place, if there is one.
-abbrev pub Emits : Command → origin.Origin → List ℕ → Finding → (out_old out_new : Option (List ℕ)) → (kept_old kept_new : Kept) → Option origin.Origin → Type 0
-Emits c place b found out_old out_new kept_old kept_new first =
-    (made : List Made) × Makes c b found made × Puts c place made out_old out_new kept_old kept_new first

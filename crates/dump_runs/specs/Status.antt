@@ -3,11 +3,11 @@ use Rattle.std.specs.Prelude.{◌≡◌, ◌≢◌, ◌⊎◌, ◌<◌}
 use Rattle.std.specs.IoError.{error_kind}
 use Rattle.std.specs.declared.io.Error.{Error}
 use Rattle.std.specs.declared.io.ErrorKind.TheVariants.{BrokenPipe}
-use Rattle.dump_runs.specs.declared.command.Command.{Command}
-use Rattle.dump_runs.specs.declared.command.Command.TheVariants as command
-use Rattle.dump_runs.specs.declared.counts.Counts.{Counts}
-use Rattle.dump_input.specs.declared.failure.Failure.{Failure}
-use Rattle.dump_input.specs.declared.failure.Failure.TheVariants as failure
+use Rattle.dump_commands.specs.declared.command.Command.{Command}
+use Rattle.dump_commands.specs.declared.command.Command.TheVariants as command
+use Rattle.dump_commands.specs.declared.counts.Counts.{Counts}
+use Rattle.dump_lines.specs.declared.failure.Failure.{Failure}
+use Rattle.dump_lines.specs.declared.failure.Failure.TheVariants as failure
 use Rattle.dump_input.specs.declared.status.Status.{Status}
 use Rattle.dump_input.specs.declared.status.Status.TheVariants as status
 

@@ -2,20 +2,11 @@
 #![tactic(auto)]
 
 mod batch;
-mod command;
-mod counts;
-mod fields;
-mod finding;
-mod kept;
-mod listing;
-mod paths;
-mod pick;
 mod portion;
 mod rest;
 mod run;
-mod summary;
 
 pub use batch::{Job, run_all};
-pub use command::{Command, Spelling};
-pub use pick::Picking;
+pub use dump_commands::command::{Command, Spelling};
+pub use dump_commands::pick::Picking;
 pub use portion::Portion;

@@ -4,10 +4,10 @@
 ghost use Rattle.std.specs.Prelude.{◌≡◌, ◌≢◌, ℕ, List, Some, [], IfErr, MatchBool, OnOk};
 ghost use Rattle.dump_runs.specs.Portion.{GoesUpTo, HasPassedFront, IsAllInFront, IsInFront, PassesAllDocuments, PassesBytes, PassesDocuments};
 ghost use Rattle.dump_input.specs.Reading.{IsWindow, ahead_of};
-ghost use Rattle.dump_input.specs.Failing.{IsReading};
+ghost use Rattle.dump_lines.specs.Failing.{IsReading};
 
-use dump_input::failure::Failure;
 use dump_input::window::{Next, Window, look_ahead};
+use dump_lines::failure::Failure;
 use std::io::Read;
 
 /// Which documents of an input are asked for.

@@ -1,59 +1,37 @@
 //! Runs a command over an input.
 #![tactic(auto)]
 
-ghost use Rattle.std.specs.Prelude.{◌≡◌, ℕ, List, Option, [], ◌∷◌, ◌++◌, ◌<◌, ◌≤◌, codes, IfOk, IfErr, IfSome, IsNone, MatchBool, OnErr, OnOk, length, take};
-ghost use Rattle.std.specs.Option.{option_copied, option_map};
+ghost use Rattle.std.specs.Prelude.{◌≡◌, ℕ, [], ◌<◌, ◌≤◌, IfOk, IfErr, IfSome, IsNone, OnErr, OnOk, length, take};
 ghost use Rattle.std.specs.Io.KnownBytes.{Appends, Keeps};
 ghost use Rattle.dump_input.specs.Cut.{EndsWith, IsPiece};
-ghost use Rattle.dump_runs.specs.Findings.{FindsFor};
 ghost use Rattle.dump_input.specs.Reading.{GoesAhead, IsReadBehind, IsWindow, Stays, ahead_of};
 ghost use Rattle.raw_resync.specs.Seeking.{IsWork};
-ghost use Rattle.dump_input.specs.Fronts.{AppendsFront, WritesFront};
-ghost use Rattle.dump_runs.specs.Halting.{IsMade, ListsFront, ReportsFront, HaltsInGap, HaltsLeaving, HaltsNext, HaltsOne};
-ghost use Rattle.dump_runs.specs.Pick.{IsPickedAs};
+ghost use Rattle.dump_lines.specs.Fronts.{AppendsFront};
+ghost use Rattle.dump_runs.specs.Halting.{HaltsInGap, HaltsLeaving, HaltsNext, HaltsOne};
 ghost use Rattle.dump_runs.specs.Portion.{EndsPortion, HaltsPortion, PassesPortion};
-ghost use Rattle.dump_runs.specs.Listing.{ListsDocument};
-ghost use Rattle.dump_runs.specs.Fields.{CountsFields, IsCounted, KeepsWritten};
-ghost use Rattle.dump_lines.specs.Find.{Account, account_of};
-ghost use Rattle.dump_runs.specs.Unique.{CountsOne, knows, made_as, repeat_at, written_of};
-ghost use Rattle.dump_lines.specs.Origins.{origin_of};
 ghost use Rattle.dump_runs.specs.Endings.{ending_line};
-ghost use Rattle.dump_lines.specs.Told.{line, head_text};
-ghost use Rattle.dump_runs.specs.Summary.{summary_line};
-ghost use Rattle.dump_runs.specs.Run.{Emits, FailsAt, IsLeft, Leaves, MayPassFront, MayPassOne, PassesGap, PassesNext, Puts, Reports, WritesNothing, findings_of, lines_of_repeats, style_at};
-ghost use Rattle.dump_input.specs.Failing.{IsReading};
-ghost use Rattle.dump_runs.specs.Run as says;
-ghost use Rattle.raw_tree.specs.CanonicalForm.{IsCanonicalForm};
-ghost use Rattle.raw_view.specs.Frame.Envelope.{IsEnvelope};
-ghost use Rattle.bson_json.specs.Json.{IsJson};
-ghost use Rattle.dump_runs.specs.declared.command.Command.TheVariants.{Unique};
-ghost use Rattle.dump_runs.specs.declared.command.Spelling as spells;
+ghost use Rattle.dump_runs.specs.Run.{FailsAt, IsLeft, Leaves, MayPassFront, MayPassOne, PassesGap, PassesNext, WritesNothing, findings_of, style_at};
+ghost use Rattle.dump_lines.specs.Failing.{IsReading};
 
-use crate::command::{Command, Spelling};
-use crate::counts::Counts;
-use crate::fields::tokens_of;
-use crate::finding::found_in;
-use crate::kept::{Added, Kept};
-use crate::listing::list_levels;
-use crate::pick::{Picking, picked};
 use crate::portion::Portion;
 use crate::rest::{Rest, ending_object, ending_words};
-use crate::summary::{summary, summary_object};
-use bson_json::{Style as JsonStyle, WriteJsonError, write_json};
+use dump_commands::command::Command;
+use dump_commands::counts::Counts;
+use dump_commands::finding::found_in;
+use dump_commands::kept::Kept;
+use dump_commands::making::{count_fields, emit};
+use dump_commands::reporting::{put_repeat, report_found};
 use dump_input::ending::Ending;
-use dump_input::failure::{Failure, ReadFailure, in_range};
 use dump_input::resync::{is_doubted, pass_over};
 use dump_input::window::{Drained, Next, Window, look_ahead};
-use dump_input::write::put;
-use dump_lines::find::{Finding, Found, Told};
-use dump_lines::object::{repeat_object, told_object};
+use dump_lines::failure::{Failure, ReadFailure, in_range};
+use dump_lines::find::Finding;
 use dump_lines::origin::Origin;
 use dump_lines::style::Style;
-use dump_lines::text::{line_of, repeat_line, sized, told_line};
-use raw_form::canonical_within;
+use dump_lines::text::line_of;
+use dump_lines::write::put;
 use raw_resync::Work;
 use raw_tree::Limits;
-use raw_view::RawDocument;
 use std::alloc::{AllocError, Global};
 use std::io;
 use std::io::{Read, Write};
@@ -431,142 +409,6 @@ fn pass<'a, D: Write, W: Write>(
     }))
 }
 
-/// Counts the elements of a document in which this was found, where the command counts them.
-fn count_fields<'a>(
-    alloc: Global,
-    command: Command<'_>,
-    limits: Limits,
-    finding: Finding,
-    origin: Origin<'a>,
-    bytes: &[u8],
-    kept: &mut Kept<'a>,
-) -> Result<(), Failure>
-    ensures counted { OnOk result (CountsFields limits command.entry (origin_of origin.entry) bytes.now finding kept.old kept.new) }
-    ensures written { KeepsWritten kept.old kept.new }
-    ensures failed { IfErr result (λ failure. ¬ IsReading failure) }
-{
-    if !counts_elements(command, finding) {
-        return Ok(());
-    }
-    let tokens = tokens_of(alloc, bytes, limits)?;
-    kept.add_document(alloc, origin, bytes, &tokens)
-}
-
-/// Whether a command counts the elements of a document in which this was found.
-fn counts_elements(command: Command<'_>, finding: Finding) -> bool
-    ensures { MatchBool result (IsCounted command.entry finding) (¬ IsCounted command.entry finding) }
-{
-    matches!(
-        (command, finding),
-        (Command::Fields, Finding::Canonical | Finding::Breached)
-    )
-}
-
-/// Reports what the command tells of a document in which this was found.
-fn report_found<W: Write>(
-    alloc: Global,
-    command: Command<'_>,
-    style: Style,
-    name: &str,
-    offset: u64,
-    bytes: &[u8],
-    found: &Found<'_>,
-    report: &mut W,
-) -> Result<(), Failure>
-    ensures reported { OnOk result ((lines : List ℕ)
-        × Reports command.entry style name.now offset bytes.now found.now.finding (option_map account_of found.now.told) lines
-        × Appends (W.contents report.old) (W.contents report.new) lines) }
-    ensures front { OnErr result ((lines : List ℕ)
-        × ReportsFront command.entry style name.now offset bytes.now found.now.finding (option_map account_of found.now.told) lines
-        × Appends (W.contents report.old) (W.contents report.new) lines) }
-    ensures failed { IfErr result (λ failure. ¬ IsReading failure) }
-{
-    match (command, found.finding) {
-        (Command::List, _) => put_listing(alloc, name, offset, bytes, &found.told, report),
-        (_, Finding::Damaged | Finding::TooDeep) | (Command::Check, Finding::Breached) => {
-            put_told(alloc, style, name, offset, &found.told, report)
-        }
-        (Command::Check, Finding::Canonical | Finding::Unvalidated)
-        | (
-            Command::Canon
-            | Command::Sound
-            | Command::Unique(_)
-            | Command::Json(_)
-            | Command::Pick(_)
-            | Command::Count
-            | Command::Fields,
-            Finding::Canonical | Finding::Breached | Finding::Unvalidated,
-        ) => Ok(()),
-    }
-}
-
-/// Writes how many bytes a document has and what is found in it, and lists its elements.
-fn put_listing<W: Write>(
-    alloc: Global,
-    name: &str,
-    offset: u64,
-    bytes: &[u8],
-    told: &Option<Told<'_>>,
-    report: &mut W,
-) -> Result<(), Failure>
-    ensures listed { OnOk result ((listing : List ℕ) × ListsDocument bytes.now listing
-        × Appends (W.contents report.old) (W.contents report.new) (line name.now offset (head_text bytes.now (option_map account_of told.now)) ++ listing)) }
-    ensures front { OnErr result ((lines : List ℕ)
-        × ListsFront name.now offset bytes.now (option_map account_of told.now) lines
-        × Appends (W.contents report.old) (W.contents report.new) lines) }
-    ensures failed { IfErr result (λ failure. ¬ IsReading failure) }
-{
-    let head = sized(alloc, bytes.len(), told)?;
-    put_line(alloc, name, offset, &head, report)?;
-    match RawDocument::from_bytes(bytes) {
-        Ok(document) => list_levels(alloc, document, report),
-        Err(_) => Ok(()),
-    }
-}
-
-fn put_line<W: Write>(
-    alloc: Global,
-    name: &str,
-    offset: u64,
-    words: &[u8],
-    report: &mut W,
-) -> Result<(), Failure>
-    ensures written { OnOk result
-        (Appends (W.contents report.old) (W.contents report.new) (line name.now offset words.now)) }
-    ensures front { OnErr result
-        (AppendsFront (W.contents report.old) (W.contents report.new) (line name.now offset words.now)) }
-    ensures failed { IfErr result (λ failure. ¬ IsReading failure) }
-{
-    let text = line_of(alloc, name, offset, words)?;
-    put(report, &text)
-}
-
-/// Writes the line of a document of which this is told.
-fn put_told<W: Write>(
-    alloc: Global,
-    style: Style,
-    name: &str,
-    offset: u64,
-    told: &Option<Told<'_>>,
-    report: &mut W,
-) -> Result<(), Failure>
-    ensures written { OnOk result (Appends (W.contents report.old) (W.contents report.new)
-        (says.told_line style name.now offset (option_map account_of told.now))) }
-    ensures front { OnErr result (AppendsFront (W.contents report.old) (W.contents report.new)
-        (says.told_line style name.now offset (option_map account_of told.now))) }
-    ensures failed { IfErr result (λ failure. ¬ IsReading failure) }
-{
-    let Some(told) = told else {
-        return Ok(());
-    };
-    let text = match style {
-        Style::Words => told_line(alloc, name, offset, told)?,
-        Style::Json => told_object(alloc, name, offset, told)?,
-        Style::Quiet => Vec::new(alloc),
-    };
-    put(report, &text)
-}
-
 /// The line of a place at which no document begins.
 fn ending_text(
     alloc: Global,
@@ -604,274 +446,4 @@ fn put_ending<W: Write>(
 {
     let text = ending_text(alloc, asked.style, asked.name, offset, ending, rest)?;
     put(report, &text)
-}
-
-/// Writes the line that tells what was counted of an input, or of all.
-pub fn put_summary<W: Write>(
-    alloc: Global,
-    style: Style,
-    name: Option<&str>,
-    limit: Option<u64>,
-    command: Command<'_>,
-    counts: &Counts,
-    kept: u64,
-    report: &mut W,
-) -> Result<(), Failure>
-    ensures written { OnOk result (Appends (W.contents report.old) (W.contents report.new)
-        (summary_line style (option_copied name.entry) limit command.entry counts.now kept)) }
-    ensures front { OnErr result (AppendsFront (W.contents report.old) (W.contents report.new)
-        (summary_line style (option_copied name.entry) limit command.entry counts.now kept)) }
-    ensures failed { IfErr result (λ failure. ¬ IsReading failure) }
-{
-    let text = match style {
-        Style::Words => summary(alloc, name, limit, command, counts, kept)?,
-        Style::Json => summary_object(alloc, name, limit, command, counts, kept)?,
-        Style::Quiet => Vec::new(alloc),
-    };
-    put(report, &text)
-}
-
-/// Writes the line of a document whose form came before, where there is a first one of that form.
-fn put_repeat<W: Write>(
-    alloc: Global,
-    style: Style,
-    origin: Origin<'_>,
-    first: Option<Origin<'_>>,
-    report: &mut W,
-) -> Result<(), Failure>
-    ensures written { OnOk result (Appends (W.contents report.old) (W.contents report.new)
-        (lines_of_repeats style (repeat_at (origin_of origin.entry) (option_map origin_of first.entry)))) }
-    ensures front { OnErr result (AppendsFront (W.contents report.old) (W.contents report.new)
-        (lines_of_repeats style (repeat_at (origin_of origin.entry) (option_map origin_of first.entry)))) }
-    ensures failed { IfErr result (λ failure. ¬ IsReading failure) }
-{
-    let Some(first) = first else {
-        return Ok(());
-    };
-    let text = match style {
-        Style::Words => repeat_line(alloc, origin, first)?,
-        Style::Json => repeat_object(alloc, origin, first)?,
-        Style::Quiet => Vec::new(alloc),
-    };
-    put(report, &text)
-}
-
-/// Makes the command's document of one at this place in which this was found, and writes it. Returns the place of the first document
-/// of its form, if one came before.
-fn emit<'a, D: Write>(
-    alloc: Global,
-    command: Command<'_>,
-    limits: Limits,
-    origin: Origin<'a>,
-    finding: Finding,
-    bytes: &[u8],
-    out: &mut D,
-    kept: &mut Kept<'a>,
-) -> Result<Option<Origin<'a>>, Failure>
-    requires { (told : Option Account) × FindsFor limits command bytes.now finding told }
-    ensures written { IfOk result
-        (Emits command.entry origin.entry bytes.now finding (D.contents out.old) (D.contents out.new) kept.old kept.new) }
-    ensures front { OnErr result (WritesFront (IsMade command.entry bytes.now finding kept.old) (D.contents out.old) (D.contents out.new)) }
-    ensures paths { kept.new.paths ≡ kept.old.paths }
-    ensures failed { IfErr result (λ failure. ¬ IsReading failure) }
-{
-    match (command, finding) {
-        (Command::Check | Command::List | Command::Count | Command::Fields, _)
-        | (_, Finding::Damaged | Finding::TooDeep | Finding::Unvalidated) => Ok(None),
-        (Command::Sound, Finding::Canonical | Finding::Breached) => {
-            put_document(command, origin, bytes, bytes, out, kept)
-        }
-        (Command::Canon | Command::Unique(_), Finding::Canonical) => {
-            put_document(command, origin, bytes, bytes, out, kept)
-        }
-        (Command::Canon, Finding::Breached) => {
-            put_form(alloc, Command::Canon, limits, origin, bytes, out, kept)
-        }
-        (Command::Unique(spelling), Finding::Breached) => {
-            let command = Command::Unique(spelling);
-            put_form(alloc, command, limits, origin, bytes, out, kept)
-        }
-        (Command::Json(style), Finding::Canonical | Finding::Breached) => {
-            put_json(alloc, style, limits, bytes, out, kept)?;
-            Ok(None)
-        }
-        (Command::Pick(picking), Finding::Canonical | Finding::Breached) => {
-            put_picked(alloc, picking, limits, bytes, out, kept)?;
-            Ok(None)
-        }
-    }
-}
-
-/// Writes the canonical form of a document, or of `unique` the document as it is, where that is asked for. A form that is over the range
-/// of lengths counts as one without memory.
-fn put_form<'a, D: Write>(
-    alloc: Global,
-    command: Command<'_>,
-    limits: Limits,
-    origin: Origin<'a>,
-    bytes: &[u8],
-    out: &mut D,
-    kept: &mut Kept<'a>,
-) -> Result<Option<Origin<'a>>, Failure>
-    ensures written { IfOk result (λ first. (form : List ℕ) × IsCanonicalForm bytes.now form
-        × Puts command.entry origin.entry (made_as (says.spelled command.entry bytes.now form) form ∷ []) (D.contents out.old) (D.contents out.new) kept.old kept.new first) }
-    ensures front { OnErr result (WritesFront
-        (λ text. (form : List ℕ) × IsCanonicalForm bytes.now form
-        × (text ≡ written_of command.entry (knows kept.old) (made_as (says.spelled command.entry bytes.now form) form ∷ [])))
-        (D.contents out.old) (D.contents out.new)) }
-    ensures paths { kept.new.paths ≡ kept.old.paths }
-    ensures failed { IfErr result (λ failure. ¬ IsReading failure) }
-{
-    match canonical_within(alloc, bytes, limits) {
-        Ok(form) => {
-            let form = form.as_slice();
-            let document = spelled(command, bytes, form);
-            put_document(command, origin, document, form, out, kept)
-        }
-        Err(_) => Err(Failure::Memory),
-    }
-}
-
-/// What is written of a document with this canonical form.
-fn spelled<'a>(command: Command<'_>, bytes: &'a [u8], form: &'a [u8]) -> &'a [u8]
-    ensures { result.now ≡ says.spelled command.entry bytes.now form.now }
-{
-    match command {
-        Command::Unique(Spelling::Original) => bytes,
-        Command::Unique(Spelling::Canonical)
-        | Command::Check
-        | Command::List
-        | Command::Count
-        | Command::Canon
-        | Command::Sound
-        | Command::Fields
-        | Command::Json(_)
-        | Command::Pick(_) => form,
-    }
-}
-
-/// Writes a document as Extended JSON, and a line feed. What would be over the limits counts as out of memory.
-fn put_json<D: Write>(
-    alloc: Global,
-    style: JsonStyle,
-    limits: Limits,
-    bytes: &[u8],
-    out: &mut D,
-    kept: &mut Kept<'_>,
-) -> Result<(), Failure>
-    requires { IsEnvelope bytes.now }
-    ensures written { OnOk result ((text : List ℕ) × IsJson style bytes.now text
-        × Appends (D.contents out.old) (D.contents out.new) (text ++ codes "\n") × CountsOne kept.old kept.new) }
-    ensures front { OnErr result (WritesFront
-        (λ line. (text : List ℕ) × IsJson style bytes.now text × (line ≡ text ++ codes "\n")) (D.contents out.old) (D.contents out.new)) }
-    ensures paths { kept.new.paths ≡ kept.old.paths }
-    ensures failed { IfErr result (λ failure. ¬ IsReading failure) }
-{
-    let Ok(document) = RawDocument::from_bytes(bytes) else {
-        unreachable!()
-    };
-    match write_json(alloc, document, style, limits, out) {
-        Ok(()) => put_one(b"\n", out, kept),
-        Err(WriteJsonError::Writing(error)) => Err(Failure::Writing(error)),
-        Err(_) => Err(Failure::Memory),
-    }
-}
-
-/// Writes the document of some elements of a document, which may be longer than that. What would be over the limits counts as out of
-/// memory.
-fn put_picked<D: Write>(
-    alloc: Global,
-    picking: Picking<'_>,
-    limits: Limits,
-    bytes: &[u8],
-    out: &mut D,
-    kept: &mut Kept<'_>,
-) -> Result<(), Failure>
-    requires { IsEnvelope bytes.now }
-    ensures written { OnOk result ((made : List ℕ) × IsPickedAs picking.entry bytes.now made
-        × Appends (D.contents out.old) (D.contents out.new) made × CountsOne kept.old kept.new) }
-    ensures front { OnErr result (WritesFront (IsPickedAs picking.entry bytes.now) (D.contents out.old) (D.contents out.new)) }
-    ensures paths { kept.new.paths ≡ kept.old.paths }
-    ensures failed { IfErr result (λ failure. ¬ IsReading failure) }
-{
-    let Ok(document) = RawDocument::from_bytes(bytes) else {
-        unreachable!()
-    };
-    let picked = picked(alloc, document, picking.paths)?;
-    let limits = Limits {
-        bytes: picked.len(),
-        depth: limits.depth,
-    };
-    match picking.style {
-        None => put_one(&picked, out, kept),
-        Some(style) => put_json(alloc, style, limits, &picked, out, kept),
-    }
-}
-
-/// Writes a document that the command makes of one at this place: of `unique` where the digest of its form is new. Returns the place of
-/// the first document with that digest, if one came before.
-fn put_document<'a, D: Write>(
-    command: Command<'_>,
-    origin: Origin<'a>,
-    document: &[u8],
-    form: &[u8],
-    out: &mut D,
-    kept: &mut Kept<'a>,
-) -> Result<Option<Origin<'a>>, Failure>
-    ensures written { IfOk result
-        (Puts command.entry origin.entry (made_as document.now form.now ∷ []) (D.contents out.old) (D.contents out.new) kept.old kept.new) }
-    ensures front { OnErr result (AppendsFront (D.contents out.old) (D.contents out.new) (written_of command.entry (knows kept.old) (made_as document.now form.now ∷ []))) }
-    ensures paths { kept.new.paths ≡ kept.old.paths }
-    ensures failed { IfErr result (λ failure. ¬ IsReading failure) }
-{
-    match command {
-        Command::Unique(_) => put_new(origin, document, form, out, kept),
-        Command::Check
-        | Command::List
-        | Command::Count
-        | Command::Canon
-        | Command::Sound
-        | Command::Fields
-        | Command::Json(_)
-        | Command::Pick(_) => {
-            put_one(document, out, kept)?;
-            Ok(None)
-        }
-    }
-}
-
-/// Writes these bytes, with which a document more is written.
-fn put_one<D: Write>(bytes: &[u8], out: &mut D, kept: &mut Kept<'_>) -> Result<(), Failure>
-    ensures written { OnOk result
-        (Appends (D.contents out.old) (D.contents out.new) bytes.now × CountsOne kept.old kept.new) }
-    ensures front { OnErr result (AppendsFront (D.contents out.old) (D.contents out.new) bytes.now) }
-    ensures paths { kept.new.paths ≡ kept.old.paths }
-    ensures failed { IfErr result (λ failure. ¬ IsReading failure) }
-{
-    put(out, bytes)?;
-    kept.count_one()
-}
-
-/// Writes a document whose form has a new digest, which is known then. Of another it returns the place of the first with its digest.
-fn put_new<'a, D: Write>(
-    origin: Origin<'a>,
-    document: &[u8],
-    form: &[u8],
-    out: &mut D,
-    kept: &mut Kept<'a>,
-) -> Result<Option<Origin<'a>>, Failure>
-    ensures written { IfOk result (λ first. (spelling : spells.Spelling)
-        → Puts (Unique spelling) origin.entry (made_as document.now form.now ∷ []) (D.contents out.old) (D.contents out.new) kept.old kept.new first) }
-    ensures front { OnErr result ((spelling : spells.Spelling)
-        → AppendsFront (D.contents out.old) (D.contents out.new) (written_of (Unique spelling) (knows kept.old) (made_as document.now form.now ∷ []))) }
-    ensures paths { kept.new.paths ≡ kept.old.paths }
-    ensures failed { IfErr result (λ failure. ¬ IsReading failure) }
-{
-    match kept.add(origin, form)? {
-        Added::New => {
-            put_one(document, out, kept)?;
-            Ok(None)
-        }
-        Added::Repeat(first) => Ok(first),
-    }
 }

@@ -3,7 +3,7 @@ use Rattle.std.proofs.Common.{◌≡◌, ◌≤◌, ◌+◌, ℕ, suc, zero, Lis
 use Rattle.std.proofs.lemmas.List.{take-append-drop, take-take}
 use Rattle.std.specs.Io.KnownBytes.{Appends}
 use Rattle.std.proofs.KnownBytes.{Appends-nil}
-use Rattle.dump_input.specs.Fronts.{AppendsFront, HasFront}
+use Rattle.dump_lines.specs.Fronts.{AppendsFront, HasFront}
 use Rattle.dump_input.specs.Reading.{ahead_of}
 use Rattle.text_runs.specs.TextFaults.{fault_line}
 use Rattle.text_runs.specs.TextReading.{PassesAhead}
@@ -18,7 +18,7 @@ use Rattle.text_runs.specs.declared.text_counts.TextCounts.{TextCounts}
 use Rattle.text_runs.specs.declared.text_fault.TextReason.{TextReason}
 use Rattle.text_runs.specs.declared.texts.Went.TheVariants as went
 use Rattle.dump_input.specs.declared.turn.Turn.{Turn}
-use Rattle.dump_input.proofs.Face.{front_none}
+use Rattle.dump_lines.proofs.Face.{front_none}
 
 -- the line of a fault so many bytes behind a place, in the front of what is ahead
 abbrev tells_fault : (style : Style) (name ahead : List ℕ) (place : Position) (len at : ℕ) (reason : TextReason) → len ≤ length ahead → at ≤ len

@@ -3,7 +3,7 @@ use Rattle.std.proofs.Common.{◌≡◌, ◌+◌, ◌≤◌, ◌<◌, ◌∙◌,
 use Rattle.std.proofs.lemmas.List.{drop_all, drop_more, map-append, map_more, take-append-drop, take_all}
 use Rattle.std.specs.Io.KnownBytes.{Keeps}
 use Rattle.std.proofs.KnownBytes.{Appends-nil}
-use Rattle.dump_input.specs.Fronts.{AppendsFront, HasFront}
+use Rattle.dump_lines.specs.Fronts.{AppendsFront, HasFront}
 use Rattle.text_runs.specs.TextBatch.{HaltsReading, ReadsFront, ReadsInput, ReadsOver, TextState, text_summary}
 use Rattle.text_runs.specs.TextRun.{EndsAs, HaltsTexts, ReadsTexts, TextPart, bytes_of_texts, style_of_fault}
 use Rattle.dump_lines.specs.declared.style.Style.{Style}

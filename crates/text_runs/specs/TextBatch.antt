@@ -6,15 +6,15 @@ use Rattle.std.specs.Io.KnownBytes.{Appends, Keeps}
 use Rattle.std.specs.declared.io.Error.{Error}
 use Rattle.std.specs.declared.io.ErrorKind.TheVariants.{BrokenPipe}
 use Rattle.json.specs.Token.{key, number}
-use Rattle.dump_input.specs.Fronts.{AppendsFront}
+use Rattle.dump_lines.specs.Fronts.{AppendsFront}
 use Rattle.dump_input.specs.Done.{CutInput, cut_of, input_of}
 use Rattle.text_runs.specs.TextRun.{HaltsTexts, ReadsTexts, count_file, no_texts, style_of_fault}
 use Rattle.dump_lines.specs.Told.{number_member, object_line}
 use Rattle.dump_input.specs.declared.done.Done.{Done}
 use Rattle.dump_input.specs.declared.done.Lack.{Lack}
 use Rattle.dump_input.specs.declared.done.Lack.TheVariants as lack
-use Rattle.dump_input.specs.declared.failure.Failure.{Failure}
-use Rattle.dump_input.specs.declared.failure.Failure.TheVariants as failure
+use Rattle.dump_lines.specs.declared.failure.Failure.{Failure}
+use Rattle.dump_lines.specs.declared.failure.Failure.TheVariants as failure
 use Rattle.dump_input.specs.declared.status.Status.{Status}
 use Rattle.dump_input.specs.declared.status.Status.TheVariants as status
 use Rattle.dump_lines.specs.declared.style.Style.{Style}

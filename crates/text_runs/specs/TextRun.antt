@@ -7,9 +7,9 @@ use Rattle.raw_tree.specs.WithinLimits.{ReadsWithin}
 use Rattle.bson_from_json.specs.Texts.{IsWritten, LeavesOpen, SaysNone}
 use Rattle.bson_from_json.specs.JsonReason.TheVariants as json
 use Rattle.dump_lines.specs.Find.{usual}
-use Rattle.dump_input.specs.Fronts.{AppendsFront, HasFront}
+use Rattle.dump_lines.specs.Fronts.{AppendsFront, HasFront}
 use Rattle.dump_input.specs.Reading.{IsWindow, ahead_of}
-use Rattle.dump_input.specs.Failing.{IsReading}
+use Rattle.dump_lines.specs.Failing.{IsReading}
 use Rattle.dump_lines.specs.Told.{with_left}
 use Rattle.text_runs.specs.TextFaults.{fault_line}
 use Rattle.dump_input.specs.Texts.{CantBe, EndsGap, HasBegun, HasBrace, HasNoLine, IsOpen, IsTextOf, IsOneText, first_position, may_begin, may_end, position_over, scanned, turn_behind_document, turn_behind_gap, turn_over, ScansAhead}
@@ -17,7 +17,7 @@ use Rattle.text_runs.specs.TextReading.{reason_between, PassesGap}
 use Rattle.text_runs.specs.declared.cursor.Cursor.{Cursor}
 use Rattle.text_runs.specs.declared.cursor.NextText.{NextText}
 use Rattle.text_runs.specs.declared.cursor.NextText.TheVariants as next
-use Rattle.dump_input.specs.declared.failure.Failure.{Failure}
+use Rattle.dump_lines.specs.declared.failure.Failure.{Failure}
 use Rattle.dump_input.specs.declared.position.Position.{Position}
 use Rattle.dump_lines.specs.declared.style.Style.{Style}
 use Rattle.text_runs.specs.declared.text_counts.TextCounts.{TextCounts}

@@ -3,18 +3,18 @@
 
 ghost use Rattle.std.specs.Prelude.{◌≡◌, ◌+◌, ◌≤◌, ◌<◌, ◌^◌, ◌⊎◌, [], length, IfErr, IfOk, OnErr, OnOk};
 ghost use Rattle.dump_input.specs.Reading.{IsWindow, ahead_of};
-ghost use Rattle.dump_input.specs.Failing.{IsReading};
+ghost use Rattle.dump_lines.specs.Failing.{IsReading};
 ghost use Rattle.text_runs.specs.TextReading.{FindsText, GoesOnTo, IsAhead, IsScanned, LooksFar, LooksOn, PassesAhead, PassesBetween, PassesGap, reason_between};
 ghost use Rattle.dump_input.specs.Texts.{IsFar, first_position};
 ghost use Rattle.text_runs.specs.declared.text_fault.TextReason.TheVariants.{Json};
 
 use crate::text_fault::TextReason;
 use bson_from_json::JsonReason;
-use dump_input::failure::Failure;
 use dump_input::position::{Position, begins_line};
 use dump_input::scan::{MOST_TEXT, Scan, Scanned};
 use dump_input::turn::Turn;
 use dump_input::window::Window;
+use dump_lines::failure::Failure;
 use std::alloc::Global;
 use std::io;
 use std::io::Read;

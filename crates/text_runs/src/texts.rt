@@ -3,9 +3,9 @@
 
 ghost use Rattle.std.specs.Prelude.{◌≡◌, ◌≢◌, ◌⊎◌, ◌+◌, ◌^◌, ◌≤◌, ℕ, List, Option, [], length, take, IfErr, IfOk, MatchBool, OnErr, OnOk, true, false};
 ghost use Rattle.std.specs.Io.KnownBytes.{Appends};
-ghost use Rattle.dump_input.specs.Fronts.{AppendsFront};
+ghost use Rattle.dump_lines.specs.Fronts.{AppendsFront};
 ghost use Rattle.dump_input.specs.Reading.{IsWindow, ahead_of};
-ghost use Rattle.dump_input.specs.Failing.{IsReading};
+ghost use Rattle.dump_lines.specs.Failing.{IsReading};
 ghost use Rattle.text_runs.specs.TextFaults.{fault_line};
 ghost use Rattle.text_runs.specs.TextReading.{GoesOnTo, PassesAhead};
 ghost use Rattle.dump_input.specs.Texts.{ScansAhead, HasBrace, IsOpen, IsOneText, may_begin, position_over, scanned};
@@ -18,12 +18,12 @@ use crate::cursor::{Cursor, NextText};
 use crate::text_counts::TextCounts;
 use crate::text_fault::{TextReason, line_of_fault};
 use bson_from_json::{JsonReason, from_json};
-use dump_input::failure::{Failure, ReadFailure, in_range};
 use dump_input::scan::{MOST_TEXT, Scanned};
 use dump_input::turn::Turn;
-use dump_input::write::put;
+use dump_lines::failure::{Failure, ReadFailure, in_range};
 use dump_lines::find::most_allowed;
 use dump_lines::style::Style;
+use dump_lines::write::put;
 use raw_bson::RawDocumentBuf;
 use std::alloc::Global;
 use std::io::{Read, Write};

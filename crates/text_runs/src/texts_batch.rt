@@ -4,9 +4,9 @@
 ghost use Rattle.std.specs.Prelude.{◌≡◌, ◌++◌, None, false, map, IfErr, IfOk, OnErr, OnOk};
 ghost use Rattle.std.specs.Io.KnownBytes.{Appends};
 ghost use Rattle.std.specs.Option.{option_map};
-ghost use Rattle.dump_input.specs.Fronts.{AppendsFront};
+ghost use Rattle.dump_lines.specs.Fronts.{AppendsFront};
 ghost use Rattle.dump_input.specs.Done.{cut_of, input_of};
-ghost use Rattle.dump_input.specs.Failing.{IsReading};
+ghost use Rattle.dump_lines.specs.Failing.{IsReading};
 ghost use Rattle.text_runs.specs.TextBatch.{EndsInput, IsTextFailureStatus, IsTextStatus, IsTextsDone, ReadsAll, ReadsFront, ReadsInput, ReadsOpen, first_text_cut, hidden_faults, hidden_text, text_state, text_summary};
 ghost use Rattle.text_runs.specs.TextRun.{AreTextsInRange, HaltsTexts, count_file, no_texts, style_of_fault};
 ghost use Rattle.dump_lines.specs.declared.style.Style.TheVariants.{Json, Words};
@@ -14,13 +14,13 @@ ghost use Rattle.dump_lines.specs.declared.style.Style.TheVariants.{Json, Words}
 use crate::text_counts::TextCounts;
 use crate::texts::{AskedTexts, TextEnd, read_texts};
 use dump_input::done::{Cut, Done, Lack, flush};
-use dump_input::failure::{Failure, in_range};
 use dump_input::inputs::Inputs;
 use dump_input::status::Status;
-use dump_input::write::put;
+use dump_lines::failure::{Failure, in_range};
 use dump_lines::object::{begun, ended, put_number, put_some};
 use dump_lines::style::Style;
 use dump_lines::text::{push_number, push_words};
+use dump_lines::write::put;
 use std::alloc::{AllocError, Global};
 use std::io::{ErrorKind, Write};
 

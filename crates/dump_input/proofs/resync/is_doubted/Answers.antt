@@ -1,7 +1,7 @@
 use Rattle.std.proofs.Common.{subst}
 use Rattle.dump_input.specs.Resync.{SeesBehind}
 use Rattle.dump_input.proofs.Deciding.{doubts_damaged, doubts_sound, if_err_on, stays_on}
-use Rattle.dump_input.proofs.Cases.{if_ok}
+use Rattle.dump_lines.proofs.Face.{if_ok}
 use Rattle.dump_input.proofs.resync.is_doubted.Goals as goal
 
 pub returns-then-branch-clause-doubts : goal.returns-then-branch-clause-doubts

@@ -1,6 +1,6 @@
 use Rattle.std.proofs.Common.{inl, refl, subst}
 use Rattle.dump_runs.specs.Batch.{CountsInput, HaltsWithin, IsRun}
-use Rattle.dump_input.proofs.Face.{if_ok, on_any, on_err}
+use Rattle.dump_lines.proofs.Face.{if_ok, on_any, on_err}
 use Rattle.dump_runs.proofs.Summing.{halts_unread}
 use Rattle.dump_runs.proofs.batch.count_one.Goals as goal
 

@@ -1,13 +1,12 @@
 use Rattle.std.proofs.Common.{◌≡◌, ◌∙◌, List, None, ap, subst, ℕ}
 use Rattle.std.proofs.KnownBytes.{Appends-trans}
 use Rattle.std.specs.Io.KnownBytes.{Appends}
-use Rattle.dump_input.specs.Fronts.{AppendsFront}
-use Rattle.dump_runs.specs.Fields.{table_of, table_text, tabled}
-use Rattle.dump_runs.specs.Summary.{summary_line}
-use Rattle.dump_runs.specs.declared.command.Command.TheVariants as command
-use Rattle.dump_runs.specs.declared.paths.Paths.{Paths}
-use Rattle.dump_input.proofs.Face.{front_behind, front_first, on_any, on_err}
-use Rattle.dump_lines.proofs.Face.{on_ok}
+use Rattle.dump_lines.specs.Fronts.{AppendsFront}
+use Rattle.dump_commands.specs.Fields.{table_of, table_text, tabled}
+use Rattle.dump_commands.specs.Summary.{summary_line}
+use Rattle.dump_commands.specs.declared.command.Command.TheVariants as command
+use Rattle.dump_commands.specs.declared.paths.Paths.{Paths}
+use Rattle.dump_lines.proofs.Face.{front_behind, front_first, on_any, on_err, on_ok}
 use Rattle.dump_runs.proofs.batch.put_fields.Goals as goal
 
 pub returns-in_err-put-clause-front : goal.returns-in_err-put-clause-front

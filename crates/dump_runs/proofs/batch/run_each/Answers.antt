@@ -1,7 +1,7 @@
 use Rattle.std.proofs.Common.{List, ℕ, Bor, refl}
 use Rattle.std.proofs.KnownBytes.{Appends-kept}
 use Rattle.dump_runs.specs.Batch.{state_of}
-use Rattle.dump_input.proofs.Face.{front_none, front_whole, on_any, in_ok}
+use Rattle.dump_lines.proofs.Face.{front_none, front_whole, in_ok, on_any}
 use Rattle.dump_runs.proofs.Summing.{runs_front, runs_next, runs_whole, halts_behind, halts_next}
 use Rattle.dump_runs.proofs.batch.run_each.Goals as goal
 

@@ -1,9 +1,8 @@
 use Rattle.std.proofs.Common.{inl, inr}
 use Rattle.std.specs.Io.KnownBytes.{Appends}
-use Rattle.dump_input.specs.Fronts.{AppendsFront}
+use Rattle.dump_lines.specs.Fronts.{AppendsFront}
 use Rattle.dump_runs.specs.Batch.{CountsAnother, HaltsWithin, input_line, state_of}
-use Rattle.dump_input.proofs.Face.{on_err}
-use Rattle.dump_lines.proofs.Face.{on_ok}
+use Rattle.dump_lines.proofs.Face.{on_err, on_ok}
 use Rattle.dump_runs.proofs.batch.run_one.Goals as goal
 
 pub returns-clause-comes : goal.returns-clause-comes

@@ -2,9 +2,9 @@ use Rattle.std.proofs.Common.{◌≡◌, ℕ, IfOk, OnErr, Option, inl, inr, is_
 use Rattle.dump_runs.specs.Batch.{IsRun, left_limit}
 use Rattle.dump_runs.specs.Portion.{EndsPortion, HaltsPortion}
 use Rattle.dump_runs.specs.Run.{style_at}
-use Rattle.dump_runs.specs.declared.counts.Counts.{Counts}
-use Rattle.dump_runs.specs.declared.kept.Kept.{Kept}
-use Rattle.dump_input.proofs.Face.{on_any}
+use Rattle.dump_commands.specs.declared.counts.Counts.{Counts}
+use Rattle.dump_commands.specs.declared.kept.Kept.{Kept}
+use Rattle.dump_lines.proofs.Face.{on_any}
 use Rattle.dump_runs.proofs.Summing.{Ran, halts_run}
 use Rattle.dump_runs.proofs.batch.run_open.Goals as goal
 

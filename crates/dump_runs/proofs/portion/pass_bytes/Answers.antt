@@ -1,6 +1,7 @@
 use Rattle.std.proofs.Common.{rules, ◌≡◌, ◌≤◌, ap, arith, false, length, true}
 use Rattle.dump_input.specs.Reading.{ahead_of}
-use Rattle.dump_input.proofs.Face.{nil_of_none, if_err_reading}
+use Rattle.dump_input.proofs.Face.{nil_of_none}
+use Rattle.dump_lines.proofs.Face.{if_err_reading}
 use Rattle.dump_runs.proofs.Portioning.{goes_none, goes_on, goes_past}
 use Rattle.dump_runs.proofs.portion.pass_bytes.Goals as goal
 

@@ -1,6 +1,6 @@
 use Rattle.std.proofs.Common.{arith, subst}
 use Rattle.dump_input.specs.Reading.{TellsNext}
-use Rattle.dump_input.proofs.Face.{if_err_reading}
+use Rattle.dump_lines.proofs.Face.{if_err_reading}
 use Rattle.dump_runs.proofs.Portioning.{documents_none, documents_on, documents_past, other_next}
 use Rattle.dump_runs.proofs.portion.pass_documents.Goals as goal
 

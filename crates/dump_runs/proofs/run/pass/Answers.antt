@@ -3,11 +3,13 @@ use Rattle.std.proofs.KnownBytes.{Appends-trans}
 use Rattle.std.specs.Option.{option_map}
 use Rattle.dump_lines.specs.Find.{account_of}
 use Rattle.dump_lines.specs.declared.origin.Origin.{Origin}
-use Rattle.dump_runs.specs.Run.{Places, lines_of_repeats}
+use Rattle.dump_commands.specs.Making.{Places}
+use Rattle.dump_commands.specs.Reporting.{lines_of_repeats}
 use Rattle.dump_lines.specs.Origins.{origin_at, origin_of}
-use Rattle.dump_runs.specs.Unique.{origins_of, repeat_at}
-use Rattle.dump_runs.proofs.Writing.{counts_kept, writes_kept}
-use Rattle.dump_input.proofs.Face.{front_whole, on_any}
+use Rattle.dump_commands.specs.Unique.{origins_of, repeat_at}
+use Rattle.dump_commands.proofs.Face.{writes_kept}
+use Rattle.dump_runs.proofs.Writing.{counts_kept}
+use Rattle.dump_lines.proofs.Face.{front_whole, on_any}
 use Rattle.dump_runs.proofs.Repeating.{halts_repeat, some_mapped}
 use Rattle.dump_runs.proofs.run.pass.Goals as goal
 

@@ -3,14 +3,15 @@ use Rattle.dump_input.specs.Reading.{ahead_of}
 use Rattle.dump_runs.specs.Portion.{documents_of_parts}
 use Rattle.dump_runs.specs.Halting.{HaltsInGap, HaltsNext}
 use Rattle.dump_runs.specs.Run.{PassesGap, PassesNext, style_at}
-use Rattle.dump_runs.specs.declared.counts.Counts.{Counts}
+use Rattle.dump_commands.specs.declared.counts.Counts.{Counts}
 use Rattle.dump_runs.specs.declared.run.Asked.{Asked}
 use Rattle.dump_input.specs.declared.window.Next.{Next}
 use Rattle.raw_resync.specs.Seeking.{IsWork, no_work}
 use Rattle.dump_runs.proofs.Portioning.{goes_none}
 use Rattle.dump_input.specs.declared.window.Next.TheVariants as next
 use Rattle.dump_runs.proofs.Choosing.{chosen_front, chosen_gap, chosen_piece, documents_between, halts_first, halts_portion, has_failed, stops_enough, stops_portion, where_false, where_true}
-use Rattle.dump_input.proofs.Face.{on_any, goes_ahead, passes_none, if_ok}
+use Rattle.dump_input.proofs.Face.{goes_ahead, passes_none}
+use Rattle.dump_lines.proofs.Face.{if_ok, on_any}
 use Rattle.dump_runs.proofs.Halting.{halts_gap, halts_here, halts_next}
 use Rattle.dump_runs.proofs.Passing.{has_passed_ahead, has_passed_front, has_passed_gap, has_passed_same, has_passed_none}
 use Rattle.dump_runs.proofs.Stopping.{keeps_same, stops_end, stops_failed, stops_left}

@@ -1,6 +1,6 @@
 use Rattle.std.proofs.Common.{take}
 use Rattle.dump_input.specs.Reading.{ahead_of}
-use Rattle.dump_input.proofs.Face.{on_any}
+use Rattle.dump_lines.proofs.Face.{on_any}
 use Rattle.dump_runs.proofs.Halting.{halts_passed}
 use Rattle.dump_runs.proofs.run.pass_front.Goals as goal
 

@@ -2,7 +2,8 @@ use Rattle.std.proofs.Common.{Bool, true, false, ◌∙◌, inl, refl, sym, subs
 use Rattle.dump_input.specs.Resync.{TellsPart}
 use Rattle.dump_input.specs.declared.ending.Ending.TheVariants as ending
 use Rattle.dump_input.specs.declared.window.Next.TheVariants as next
-use Rattle.dump_input.proofs.Face.{tells_doubted, tells_taken, on_any, not_false}
+use Rattle.dump_input.proofs.Face.{tells_doubted, tells_taken, not_false}
+use Rattle.dump_lines.proofs.Face.{on_any}
 use Rattle.dump_runs.proofs.Halting.{halts_clean, halts_taken}
 use Rattle.dump_runs.proofs.Passing.{front_passed, next_other, next_passed}
 use Rattle.dump_runs.proofs.run.pass_next.Goals as goal

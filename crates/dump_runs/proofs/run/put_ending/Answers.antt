@@ -1,4 +1,4 @@
-use Rattle.dump_input.proofs.Face.{front_none, on_any}
+use Rattle.dump_lines.proofs.Face.{front_none, on_any}
 use Rattle.dump_runs.proofs.run.put_ending.Goals as goal
 
 pub returns-in_err-text-clause-front : goal.returns-in_err-text-clause-front

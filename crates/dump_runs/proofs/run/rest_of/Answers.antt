@@ -2,7 +2,7 @@ use Rattle.std.proofs.Common.{None, subst, sym}
 use Rattle.dump_input.specs.Cut.{EndsWith}
 use Rattle.dump_input.specs.Reading.{IsReadBehind, ReadsRest, ahead_of}
 use Rattle.dump_runs.specs.Run.{IsLeft}
-use Rattle.dump_input.proofs.Face.{if_ok}
+use Rattle.dump_lines.proofs.Face.{if_ok}
 use Rattle.dump_runs.proofs.Stopping.{left_cut, left_unsound}
 use Rattle.dump_runs.proofs.run.rest_of.Goals as goal
 

@@ -1,8 +1,8 @@
 use Rattle.std.proofs.Common.{ap, refl, ◌∙◌}
-use Rattle.dump_runs.specs.Run.{count_left}
+use Rattle.dump_commands.specs.Counting.{count_left}
 use Rattle.dump_runs.specs.declared.run.Stop.TheVariants as stop
 use Rattle.dump_runs.proofs.Choosing.{ends_early, ends_failed, ends_portion, halts_portion, left_front, not_early}
-use Rattle.dump_input.proofs.Face.{on_any, on_errs, if_ok}
+use Rattle.dump_lines.proofs.Face.{if_ok, on_any, on_errs}
 use Rattle.dump_runs.proofs.Halting.{halts_here, halts_left}
 use Rattle.dump_runs.proofs.Stopping.{ends_left}
 use Rattle.dump_runs.proofs.run.run.Goals as goal

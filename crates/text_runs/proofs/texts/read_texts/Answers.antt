@@ -3,7 +3,7 @@ use Rattle.dump_input.specs.Reading.{ahead_of}
 use Rattle.text_runs.specs.TextReading.{FindsText}
 use Rattle.text_runs.specs.TextRun.{HaltsText, PassesText, ReadsTexts}
 use Rattle.text_runs.specs.declared.texts.AskedTexts.{AskedTexts}
-use Rattle.dump_input.proofs.Face.{on_any, if_ok}
+use Rattle.dump_lines.proofs.Face.{if_ok, on_any}
 use Rattle.text_runs.proofs.TextPassing.{fails_behind, fails_here, goes_next, halts_here, halts_next, halts_passed, nothing_passed, stops_end, stops_fault, window_behind}
 use Rattle.text_runs.proofs.texts.read_texts.Goals as goal
 

@@ -1,4 +1,4 @@
-use Rattle.dump_input.proofs.Face.{front_none, on_any}
+use Rattle.dump_lines.proofs.Face.{front_none, on_any}
 use Rattle.text_runs.proofs.texts.tell_fault.Goals as goal
 
 pub returns-in_err-line-clause-front : goal.returns-in_err-line-clause-front

@@ -1,7 +1,7 @@
 use Rattle.std.proofs.Common.{List, ℕ, Bor, refl}
 use Rattle.std.proofs.KnownBytes.{Appends-kept}
 use Rattle.text_runs.specs.TextBatch.{text_state, text_summary}
-use Rattle.dump_input.proofs.Face.{front_none, front_whole, on_any, in_ok}
+use Rattle.dump_lines.proofs.Face.{front_none, front_whole, in_ok, on_any}
 use Rattle.text_runs.proofs.TextSumming.{halts_behind, halts_next, reads_all, reads_front, reads_next}
 use Rattle.text_runs.proofs.texts_batch.read_each.Goals as goal
 

@@ -1,8 +1,7 @@
 use Rattle.std.proofs.Common.{◌≡◌, inl, subst}
 use Rattle.text_runs.specs.TextBatch.{ReadsInput, ReadsOpen, text_state}
 use Rattle.text_runs.specs.TextRun.{HaltsTexts, style_of_fault}
-use Rattle.dump_input.proofs.Face.{on_err}
-use Rattle.dump_lines.proofs.Face.{on_ok}
+use Rattle.dump_lines.proofs.Face.{on_err, on_ok}
 use Rattle.text_runs.proofs.TextSumming.{halts_unread}
 use Rattle.text_runs.proofs.texts_batch.read_one.Goals as goal
 

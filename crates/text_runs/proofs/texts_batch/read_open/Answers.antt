@@ -1,6 +1,6 @@
 use Rattle.std.proofs.Common.{◌≡◌}
 use Rattle.text_runs.specs.TextRun.{HaltsTexts, style_of_fault}
-use Rattle.dump_input.proofs.Face.{on_err}
+use Rattle.dump_lines.proofs.Face.{on_err}
 use Rattle.text_runs.proofs.TextSumming.{halts_read}
 use Rattle.text_runs.proofs.texts_batch.read_open.Goals as goal
 

@@ -1,6 +1,6 @@
 use Rattle.std.proofs.Common.{subst}
 use Rattle.std.proofs.lemmas.Result.{err_from_is_err_and}
-use Rattle.dump_input.specs.Failing.{IsReading}
+use Rattle.dump_lines.specs.Failing.{IsReading}
 use Rattle.dump_lines.proofs.Face.{on_ok}
 use Rattle.dump_runs.proofs.Portioning.{all_in_front, bytes_passed, fails_on, in_front_of, passed_front_of}
 use Rattle.dump_runs.proofs.portion.Portion.pass_front.Goals as goal

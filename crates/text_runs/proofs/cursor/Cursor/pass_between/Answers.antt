@@ -1,6 +1,6 @@
 use Rattle.std.proofs.Common.{rules, sym}
 use Rattle.text_runs.proofs.Advancing.{between_ends, between_fails, between_more, between_none}
-use Rattle.dump_input.proofs.Face.{if_err_reading}
+use Rattle.dump_lines.proofs.Face.{if_err_reading}
 use Rattle.text_runs.proofs.cursor.Cursor.pass_between.Goals as goal
 
 pub loop-init : goal.loop-init

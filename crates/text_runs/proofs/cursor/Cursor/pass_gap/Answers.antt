@@ -1,6 +1,6 @@
 use Rattle.std.proofs.Common.{◌∙◌, refl, sym}
 use Rattle.text_runs.proofs.Advancing.{gap_ends, gap_fails, gap_goes_on, gap_more, gap_none}
-use Rattle.dump_input.proofs.Face.{if_err_reading}
+use Rattle.dump_lines.proofs.Face.{if_err_reading}
 use Rattle.text_runs.proofs.cursor.Cursor.pass_gap.Goals as goal
 
 pub loop-init : goal.loop-init

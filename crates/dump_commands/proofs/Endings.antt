@@ -1,0 +1,112 @@
+-- What a command makes of a canonical document ends with a 0, or with the end of a line.
+use Rattle.std.proofs.Common.{◌≡◌, ℕ, pos, suc, ◌+◌, ◌⊎◌, List, [], ◌∷◌, ◌++◌, Bool, Option, Some, None, true, false, MatchBool, inl, inr, is_none, is_some, not, ap, append_assoc, arith, drop, get_or, length, length-append, refl, subst, sym, ◌∙◌}
+use Rattle.std.proofs.lemmas.Bool.{false≢true}
+use Rattle.raw_view.specs.Frame.Envelope.{IsEnvelope}
+use Rattle.raw_view.specs.Frame.Format.{framed, inside_of}
+use Rattle.raw_view.specs.Frame.Number.{le32}
+use Rattle.raw_view.proofs.Face.{document_framed}
+use Rattle.bson_json.specs.declared.style.Style as json
+use Rattle.dump_commands.specs.Binary.{MakesBson, MakesNoBson}
+use Rattle.dump_commands.specs.Pick.{IsPicked, IsPrinted}
+use Rattle.dump_commands.specs.Unique.{Made, plain}
+use Rattle.dump_commands.specs.declared.command.Command.{Command}
+use Rattle.dump_commands.specs.declared.command.Command.TheVariants as command
+use Rattle.dump_commands.specs.declared.command.Spelling.{Spelling}
+use Rattle.dump_commands.specs.declared.pick.Picking.{Picking}
+
+-- no bytes end both ways
+both_ends : (x y : List ℕ) → x ++ 10 ∷ [] ≡ y ++ 0 ∷ [] → ⊥
+both_ends [] [] e = let ten : 10 ≡ 0 = ap (λ l. get_or l 0 0) e in omega (arith, ten)
+both_ends [] (b ∷ y) e = let n : 1 ≡ suc (length (y ++ 0 ∷ [])) = ap length e in omega (arith, n, length-append y (0 ∷ []))
+both_ends (a ∷ x) [] e = let n : suc (length (x ++ 10 ∷ [])) ≡ 1 = ap length e in omega (arith, n, length-append x (10 ∷ []))
+both_ends (a ∷ x) (b ∷ y) e = both_ends x y (ap (drop 1) e)
+
+framed_ends : (x : List ℕ) → framed x ≡ (le32 (pos (4 + length (x ++ 0 ∷ []))) ++ x) ++ 0 ∷ []
+framed_ends x = sym (append_assoc (le32 (pos (4 + length (x ++ 0 ∷ [])))) x (0 ∷ []))
+
+abbrev front_of_framed : List ℕ → List ℕ
+front_of_framed x = le32 (pos (4 + length (x ++ 0 ∷ []))) ++ x
+
+abbrev one : List ℕ → List Made
+one x = plain x ∷ []
+
+abbrev bytes_first : List Made → List ℕ
+bytes_first made = (get_or made 0 (plain [])).bytes
+
+keeps_bson : (made : List Made) (b : List ℕ) → IsEnvelope b → made ≡ plain b ∷ [] → (d : List ℕ) × (made ≡ plain (d ++ 0 ∷ []) ∷ [])
+keeps_bson made b is same = (front_of_framed (inside_of b), same ∙ ap one (document_framed b is ∙ framed_ends (inside_of b)))
+
+sound_makes : MakesBson command.Sound
+sound_makes b made is makes = keeps_bson made b is makes
+
+canon_makes : MakesBson command.Canon
+canon_makes b made is makes = keeps_bson made b is makes
+
+unique_makes : (spelling : Spelling) → MakesBson (command.Unique spelling)
+unique_makes spelling b made is makes = keeps_bson made b is makes
+
+check_makes_none : MakesNoBson command.Check
+check_makes_none b d form e = let n : 1 ≡ 0 = ap length e in omega (arith, n)
+
+list_makes_none : MakesNoBson command.List
+list_makes_none b d form e = let n : 1 ≡ 0 = ap length e in omega (arith, n)
+
+count_makes_none : MakesNoBson command.Count
+count_makes_none b d form e = let n : 1 ≡ 0 = ap length e in omega (arith, n)
+
+fields_makes_none : MakesNoBson command.Fields
+fields_makes_none b d form e = let n : 1 ≡ 0 = ap length e in omega (arith, n)
+
+json_makes_none : (style : json.Style) → MakesNoBson (command.Json style)
+json_makes_none style b d form (text, is, e) = both_ends text d (sym (ap bytes_first e))
+
+-- what is picked is a document, or its line
+printed : (style : Option json.Style) (paths b picked : List ℕ) → ((document : List ℕ) × IsPicked b paths document × IsPrinted style document picked)
+    → MatchBool (is_none style) ((d : List ℕ) × (picked ≡ d ++ 0 ∷ [])) ((d : List ℕ) → ¬ (picked ≡ d ++ 0 ∷ []))
+printed None paths b picked (document, (elements, each, is), same) = (front_of_framed elements, same ∙ is ∙ framed_ends elements)
+printed (Some style) paths b picked (document, is, (text, json, same)) = λ d e. both_ends text d (sym same ∙ e)
+
+-- what that says where it is one
+bson_printed : (style : Option json.Style) (paths b picked : List ℕ) → is_none style ≡ true
+    → ((document : List ℕ) × IsPicked b paths document × IsPrinted style document picked) → (d : List ℕ) × (picked ≡ d ++ 0 ∷ [])
+bson_printed None paths b picked e is = printed None paths b picked is
+bson_printed (Some style) paths b picked e is = absurd (false≢true e)
+
+line_printed : (style : Option json.Style) (paths b picked d : List ℕ) → is_none style ≡ false
+    → ((document : List ℕ) × IsPicked b paths document × IsPrinted style document picked) → ¬ (picked ≡ d ++ 0 ∷ [])
+line_printed None paths b picked d e is same = absurd (false≢true (sym e))
+line_printed (Some style) paths b picked d e is same = printed (Some style) paths b picked is d same
+
+pick_makes : (picking : Picking) → is_none picking.style ≡ true → MakesBson (command.Pick picking)
+pick_makes picking e b made env (picked, is, same) =
+    let (d, ends) = bson_printed picking.style picking.paths.now b picked e is in
+    (d, same ∙ ap one ends)
+
+pick_makes_none : (picking : Picking) → is_none picking.style ≡ false → MakesNoBson (command.Pick picking)
+pick_makes_none picking e b d form (picked, is, same) = line_printed picking.style picking.paths.now b picked d e is (sym (ap bytes_first same))
+
+pub bson_made : (c : Command) → (c ≡ command.Canon) ⊎ (c ≡ command.Sound) ⊎ ((spelling : Spelling) × (c ≡ command.Unique spelling)) → MakesBson c
+bson_made c (inl e) = subst MakesBson (sym e) canon_makes
+bson_made c (inr (inl e)) = subst MakesBson (sym e) sound_makes
+bson_made c (inr (inr (spelling, e))) = subst MakesBson (sym e) (unique_makes spelling)
+
+pub none_made : (c : Command) → (c ≡ command.Check) ⊎ (c ≡ command.List) ⊎ (c ≡ command.Count) ⊎ (c ≡ command.Fields) ⊎ ((style : json.Style) × (c ≡ command.Json style)) → MakesNoBson c
+none_made c (inl e) = subst MakesNoBson (sym e) check_makes_none
+none_made c (inr (inl e)) = subst MakesNoBson (sym e) list_makes_none
+none_made c (inr (inr (inl e))) = subst MakesNoBson (sym e) count_makes_none
+none_made c (inr (inr (inr (inl e)))) = subst MakesNoBson (sym e) fields_makes_none
+none_made c (inr (inr (inr (inr (style, e))))) = subst MakesNoBson (sym e) (json_makes_none style)
+
+is_none_is : (style : Option json.Style) (r : Bool) → is_some style ≡ not r → is_none style ≡ r
+is_none_is None true e = refl
+is_none_is None false e = absurd (false≢true e)
+is_none_is (Some style) true e = absurd (false≢true (sym e))
+is_none_is (Some style) false e = refl
+
+pick_either : (picking : Picking) (r : Bool) → is_none picking.style ≡ r → MatchBool r (MakesBson (command.Pick picking)) (MakesNoBson (command.Pick picking))
+pick_either picking true e = pick_makes picking e
+pick_either picking false e = pick_makes_none picking e
+
+pub pick_made : (c : Command) (picking : Picking) (r : Bool) → c ≡ command.Pick picking → is_some picking.style ≡ not r → MatchBool r (MakesBson c) (MakesNoBson c)
+pick_made c picking r e none =
+    subst (λ x. MatchBool r (MakesBson x) (MakesNoBson x)) (sym e) (pick_either picking r (is_none_is picking.style r none))

@@ -1,0 +1,27 @@
+-- That nothing repeats where nothing is made.
+use Rattle.std.proofs.Common.{◌≡◌, List, [], refl}
+use Rattle.dump_commands.specs.Unique.{Firsts, firsts_behind, repeats_of}
+use Rattle.dump_commands.specs.declared.command.Command.{Command}
+use Rattle.dump_commands.specs.declared.command.Command.TheVariants as command
+
+pub firsts_none : (c : Command) (f : Firsts) → firsts_behind c f [] ≡ f
+firsts_none command.Check f = refl
+firsts_none command.List f = refl
+firsts_none command.Count f = refl
+firsts_none command.Canon f = refl
+firsts_none command.Sound f = refl
+firsts_none command.Fields f = refl
+firsts_none (command.Unique spelling) f = refl
+firsts_none (command.Json style) f = refl
+firsts_none (command.Pick picking) f = refl
+
+pub repeats_none : (c : Command) (f : Firsts) → repeats_of c f [] ≡ []
+repeats_none command.Check f = refl
+repeats_none command.List f = refl
+repeats_none command.Count f = refl
+repeats_none command.Canon f = refl
+repeats_none command.Sound f = refl
+repeats_none command.Fields f = refl
+repeats_none (command.Unique spelling) f = refl
+repeats_none (command.Json style) f = refl
+repeats_none (command.Pick picking) f = refl

@@ -1,0 +1,14 @@
+use Rattle.std.proofs.Common.{rules, ◌≡◌, [], ◌∷◌, ◌++◌, ◌∙◌, ap, append_assoc, codes, map, sym}
+use Rattle.dump_commands.specs.Summary.{Count, count_of, damaged_counts}
+use Rattle.dump_lines.proofs.Face.{on_ok}
+use Rattle.dump_commands.proofs.summary.push_damaged.Goals as goal
+
+pub returns-in_ok-push-in-Check : goal.returns-in_ok-push-in-Check
+returns-in_ok-push-in-Check c =
+    let n = c.args.counts.now in
+    let l = map count_of c.args.all.now.items in
+    let a : Count = (codes "damaged", n.damaged) in
+    let b : Count = (codes "too deep", n.too_deep) in
+    let both : damaged_counts c.args.command n ≡ a ∷ b ∷ [] = search rules in
+    on_ok c.push-in-Check.result _ (map count_of c.push-in-Check.new.counts.items ≡ l ++ damaged_counts c.args.command n)
+    (λ last. last ∙ ap (λ x. x ++ b ∷ []) c.in_ok-push-in-Check.ensures ∙ append_assoc l (a ∷ []) (b ∷ []) ∙ ap (λ x. l ++ x) (sym both)) c.push-in-Check.ensures

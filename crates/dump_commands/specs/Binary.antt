@@ -1,0 +1,15 @@
+-- Whether a command makes BSON, which is no text.
+use Rattle.std.specs.Prelude.{◌≡◌, ℕ, List, [], ◌∷◌, ◌++◌}
+use Rattle.raw_view.specs.Frame.Envelope.{IsEnvelope}
+use Rattle.dump_commands.specs.Making.{Makes}
+use Rattle.dump_commands.specs.Unique.{Made, made_as, plain}
+use Rattle.dump_commands.specs.declared.command.Command.{Command}
+use Rattle.dump_lines.specs.declared.find.Finding.TheVariants as finding
+
+-- of each canonical document a command makes one with a 0 at its end, as BSON has
+abbrev pub MakesBson : Command → Type 0
+MakesBson c = (b : List ℕ) (made : List Made) → IsEnvelope b → Makes c b finding.Canonical made → (d : List ℕ) × (made ≡ plain (d ++ 0 ∷ []) ∷ [])
+
+-- of none it does
+abbrev pub MakesNoBson : Command → Type 0
+MakesNoBson c = (b d form : List ℕ) → ¬ Makes c b finding.Canonical (made_as (d ++ 0 ∷ []) form ∷ [])

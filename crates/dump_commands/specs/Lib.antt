@@ -1,0 +1,10 @@
+pub mod Findings
+pub mod Summary
+pub mod Counting
+pub mod Unique
+pub mod Fields
+pub mod Pick
+pub mod Listing
+pub mod Making
+pub mod Reporting
+pub mod Binary

@@ -1,0 +1,54 @@
+//! What is asked of the documents of an input.
+#![tactic(auto)]
+
+ghost use Rattle.std.specs.Prelude.{MatchBool};
+ghost use Rattle.dump_commands.specs.Binary.{MakesBson, MakesNoBson};
+
+use crate::pick::Picking;
+use bson_json::Style;
+
+/// What `unique` writes of a document.
+#[derive(Clone, Copy)]
+pub enum Spelling {
+    /// its canonical form
+    Canonical,
+    /// its bytes, as they are
+    Original,
+}
+
+/// What is asked of the documents of an input.
+#[derive(Clone, Copy)]
+pub enum Command<'a> {
+    /// a line for each that isn't canonical
+    Check,
+    /// the elements of each, at every level
+    List,
+    /// how many there are, and of how many bytes, by their lengths alone
+    Count,
+    /// the canonical form of each without damage
+    Canon,
+    /// each without damage, unchanged
+    Sound,
+    /// of each without damage the canonical form, or the bytes as they are, where its form is the first with its digest
+    Unique(Spelling),
+    /// what the elements of all have under each path
+    Fields,
+    /// each without damage as Extended JSON, with a line feed behind it
+    Json(Style),
+    /// a document of some elements of each without damage
+    Pick(Picking<'a>),
+}
+
+impl Command<'_> {
+    /// Whether what it writes is BSON, which is no text.
+    pub fn writes_documents(self) -> bool
+        ensures { MatchBool result (MakesBson self.entry) (MakesNoBson self.entry) }
+    {
+        match self {
+            Command::Canon | Command::Sound | Command::Unique(_) => true,
+            Command::Pick(picking) => picking.style.is_none(),
+            Command::Check | Command::List | Command::Count | Command::Fields | Command::Json(_) =>
+                false,
+        }
+    }
+}

@@ -1,0 +1,228 @@
+//! The lines that tell what was counted.
+#![tactic(auto)]
+
+ghost use Rattle.std.specs.Prelude.{◌≡◌, ◌++◌, ◌∷◌, [], IfOk, OnOk, flat_map, map};
+ghost use Rattle.std.specs.Option.{option_copied};
+ghost use Rattle.dump_lines.specs.Told.{Grows};
+ghost use Rattle.dump_commands.specs.Summary.{breached_counts, count_members, count_of, count_text, counts_of, damaged_counts, hidden_counts, kept_counts, left_counts, name_members, name_text, next_text, summary_line};
+ghost use Rattle.dump_lines.specs.declared.style.Style.TheVariants.{Json, Words};
+
+use crate::command::Command;
+use crate::counts::Counts;
+use dump_lines::object::{begun, ended, put_number, put_text};
+use dump_lines::text::{push_number, push_words, quotation};
+use json::Writer;
+use std::alloc::{AllocError, Global};
+
+/// A number that is counted.
+#[derive(Clone, Copy)]
+pub struct Count {
+    /// what is counted
+    pub name: &'static str,
+    /// how many
+    pub number: u64,
+}
+
+fn push(counts: &mut Vec<Count>, name: &'static str, number: u64) -> Result<(), AllocError>
+    ensures { OnOk result (map count_of counts.new.items ≡ map count_of counts.old.items ++ (name.now, number) ∷ []) }
+{
+    counts.push(Count { name, number })?;
+    Ok(())
+}
+
+/// How many documents were kept and left out, where the command keeps any.
+fn push_kept(
+    all: &mut Vec<Count>,
+    command: Command<'_>,
+    counts: &Counts,
+    kept: u64,
+) -> Result<(), AllocError>
+    ensures { OnOk result (map count_of all.new.items ≡ map count_of all.old.items ++ kept_counts command.entry counts.now kept) }
+{
+    match command {
+        Command::Check | Command::List | Command::Count | Command::Fields => Ok(()),
+        Command::Canon
+        | Command::Sound
+        | Command::Unique(_)
+        | Command::Json(_)
+        | Command::Pick(_) => {
+            push(all, "kept", kept)?;
+            push(all, "left out", counts.documents.saturating_sub(kept))
+        }
+    }
+}
+
+/// How many documents aren't canonical, where that changes what the command does.
+fn push_breached(
+    all: &mut Vec<Count>,
+    command: Command<'_>,
+    counts: &Counts,
+) -> Result<(), AllocError>
+    ensures { OnOk result (map count_of all.new.items ≡ map count_of all.old.items ++ breached_counts command.entry counts.now) }
+{
+    match command {
+        Command::Check | Command::Canon => push(all, "not canonical", counts.breached),
+        Command::List
+        | Command::Count
+        | Command::Sound
+        | Command::Unique(_)
+        | Command::Fields
+        | Command::Json(_)
+        | Command::Pick(_) => Ok(()),
+    }
+}
+
+/// How many documents are damaged or too deep, where the command knows.
+fn push_damaged(
+    all: &mut Vec<Count>,
+    command: Command<'_>,
+    counts: &Counts,
+) -> Result<(), AllocError>
+    ensures { OnOk result (map count_of all.new.items ≡ map count_of all.old.items ++ damaged_counts command.entry counts.now) }
+{
+    match command {
+        Command::Count => Ok(()),
+        Command::Check
+        | Command::List
+        | Command::Canon
+        | Command::Sound
+        | Command::Unique(_)
+        | Command::Fields
+        | Command::Json(_)
+        | Command::Pick(_) => {
+            push(all, "damaged", counts.damaged)?;
+            push(all, "too deep", counts.too_deep)
+        }
+    }
+}
+
+/// Of what no document was made.
+fn push_left(all: &mut Vec<Count>, counts: &Counts) -> Result<(), AllocError>
+    ensures { OnOk result (map count_of all.new.items ≡ map count_of all.old.items ++ left_counts counts.now) }
+{
+    push(all, "bytes passed over", counts.passed_over)?;
+    push(all, "bytes not read", counts.not_read)?;
+    push(all, "files not read to the end", counts.files)
+}
+
+/// The findings that weren't printed, where at most so many are.
+fn push_hidden(all: &mut Vec<Count>, limit: Option<u64>, counts: &Counts) -> Result<(), AllocError>
+    ensures { OnOk result (map count_of all.new.items ≡ map count_of all.old.items ++ hidden_counts limit counts.now) }
+{
+    match limit {
+        Some(most) => push(
+            all,
+            "findings not printed",
+            counts.findings.saturating_sub(most),
+        ),
+        None => Ok(()),
+    }
+}
+
+/// All that was counted beside the documents.
+fn counted(
+    alloc: Global,
+    limit: Option<u64>,
+    command: Command<'_>,
+    counts: &Counts,
+    kept: u64,
+) -> Result<Vec<Count>, AllocError>
+    ensures { IfOk result (λ all. map count_of all.items ≡ counts_of limit command.entry counts.now kept) }
+{
+    let mut all = Vec::new(alloc);
+    push(&mut all, "bytes", counts.bytes)?;
+    push_kept(&mut all, command, counts, kept)?;
+    push_breached(&mut all, command, counts)?;
+    push_damaged(&mut all, command, counts)?;
+    push_left(&mut all, counts)?;
+    push_hidden(&mut all, limit, counts)?;
+    Ok(all)
+}
+
+/// Behind the text, a number behind its name.
+fn push_count(text: &mut Vec<u8>, name: &str, number: u64) -> Result<(), AllocError>
+    ensures { OnOk result (text.new.items ≡ text.old.items ++ count_text (name.now, number)) }
+{
+    push_words(text, name)?;
+    push_words(text, ": ")?;
+    push_number(text, number)
+}
+
+fn push_counts(text: &mut Vec<u8>, counts: &[Count]) -> Result<(), AllocError>
+    ensures { OnOk result (text.new.items ≡ text.old.items ++ flat_map next_text (map count_of counts.now)) }
+{
+    for count in counts {
+        push_words(text, ", ")?;
+        push_count(text, count.name, count.number)?;
+    }
+    Ok(())
+}
+
+fn push_name(alloc: Global, text: &mut Vec<u8>, name: Option<&str>) -> Result<(), AllocError>
+    ensures { OnOk result
+        (text.new.items ≡ text.old.items ++ name_text (option_copied name.entry)) }
+{
+    match name {
+        Some(name) => {
+            text.extend_from_slice(&quotation(alloc, name)?)?;
+            push_words(text, ": ")
+        }
+        None => Ok(()),
+    }
+}
+
+/// The line that tells what was counted of an input, or of all.
+pub fn summary(
+    alloc: Global,
+    name: Option<&str>,
+    limit: Option<u64>,
+    command: Command<'_>,
+    counts: &Counts,
+    kept: u64,
+) -> Result<Vec<u8>, AllocError>
+    ensures { IfOk result (λ text. text.items ≡ summary_line Words (option_copied name.entry) limit command.entry counts.now kept) }
+{
+    let mut text = Vec::new(alloc);
+    push_name(alloc, &mut text, name)?;
+    push_count(&mut text, "documents", counts.documents)?;
+    push_counts(&mut text, &counted(alloc, limit, command, counts, kept)?)?;
+    push_words(&mut text, "\n")?;
+    Ok(text)
+}
+
+fn put_counts(object: &mut Writer, counts: &[Count]) -> Result<(), AllocError>
+    ensures { OnOk result
+        (Grows object.old object.new (flat_map count_members (map count_of counts.now))) }
+{
+    for count in counts {
+        put_number(object, count.name, count.number)?;
+    }
+    Ok(())
+}
+
+fn put_name(object: &mut Writer, name: Option<&str>) -> Result<(), AllocError>
+    ensures { OnOk result (Grows object.old object.new (name_members (option_copied name.entry))) }
+{
+    match name {
+        Some(name) => put_text(object, "file", name),
+        None => Ok(()),
+    }
+}
+
+/// The same as an object of JSON.
+pub fn summary_object(
+    alloc: Global,
+    name: Option<&str>,
+    limit: Option<u64>,
+    command: Command<'_>,
+    counts: &Counts,
+    kept: u64,
+) -> Result<Vec<u8>, AllocError>
+    ensures { IfOk result (λ text. text.items ≡ summary_line Json (option_copied name.entry) limit command.entry counts.now kept) }
+{
+    let mut object = begun(alloc)?;
+    put_name(&mut object, name)?;
+    put_number(&mut object, "documents", counts.documents)?;
+    put_counts(&mut object, &counted(alloc, limit, command, counts, kept)?)?;
+    ended(object)
+}
