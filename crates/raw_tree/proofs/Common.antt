@@ -56,7 +56,7 @@ pub use Rattle.raw_tree.specs.declared.writer.members.Members.{Members}
 pub use Rattle.raw_tree.specs.put.Payload.{element_bytes, payload_of, unset}
 pub use Rattle.raw_tree.specs.reader.FrameCount.{AllAreCountedOneWay, AllHaveOneFrameCount, CountsFrames, CountsIn, CountsToFaultAt, HasFrameCount, HasFrameCountUpTo}
 pub use Rattle.raw_tree.specs.reader.FrameCount.{HasFramesToFault, HasFramesToFaultUpTo, HasFramesUntilFault, TellsFrames}
-pub use Rattle.raw_tree.specs.reader.Levels.{AreDrafted, AreRead, ClosesAs, DraftsTree, Finishes, IsOneMore, IsPairMore, IsSameDraft, IsUnread, KeepsKeys, TellsFramesWithin, TellsReading}
+pub use Rattle.raw_tree.specs.reader.Levels.{AreDrafted, AreRead, ClosesAs, DraftsTree, Finishes, IsOneMore, IsPairMore, IsSameDraft, IsUnread, KeepsKeys, PutsLevel, PutsValue, TellsFramesWithin, TellsReading}
 pub use Rattle.raw_tree.specs.reader.Levels.{sort_of, texts_of, tree_of_contents}
 pub use Rattle.raw_tree.specs.reader.Reading.{AllAreReadOneWay, AreReadOneWay, FailsInFrame, FirstFault, FirstFaultOfFrame, FirstFaultOfValue, FirstFaultUpTo, FrameStandsFor, Holds, IsFrameReadOneWay}
 pub use Rattle.raw_tree.specs.reader.Reading.{IsValueReadOneWay, Reads, ReadsAs, ReadsUpTo, Sort, StandForEach, StandsFor, TellsFirstFault, as_array, as_document, leaf_in_order, tree_of_pairs}

@@ -15,10 +15,12 @@ pub(crate) mod levels;
 pub(crate) mod limits;
 pub(crate) mod steps;
 
-use crate::reader::levels::{Contents, Draft, Waiting, begin, close, copied, end, finish, put};
+use crate::reader::levels::{
+    Contents, Draft, Waiting, begin, close, copied, finish, put_copied, put_ended,
+};
 use crate::reader::steps::Steps;
 use crate::walk::depth::MostWaiting;
-use crate::walk::level::{Next, look};
+use crate::walk::level::Next;
 use bson_model::{Bson, Document};
 use raw_view::{
     Error, Holder, RawArray, RawBsonRef, RawDocument, RawElement, RawLevel, Reason, Result,
@@ -43,23 +45,16 @@ pub(crate) fn read<'a>(
     let mut spare = Draft::new(alloc);
     let mut level = begin(alloc, nested);
     'levels: loop {
-        match look(&mut level.elements) {
-            Next::Fault(None, stop) => return Err(stop.into_error(alloc)),
-            Next::Fault(Some(_), fault) => {
-                steps.add();
-                return Err(fault.into_error(alloc));
-            }
+        match steps.look(&mut level.elements) {
+            Next::Fault(_, fault) => return Err(fault.into_error(alloc)),
             Next::End => {
                 let Some(mut outer) = waiting.pop() else {
                     return finish(alloc, level.holder, &mut level.draft);
                 };
-                let ended = end(alloc, level, &mut spare)?;
-                let key = outer.key;
-                put(&mut outer.level, &mut spare, key, ended)?;
+                put_ended(alloc, level, &mut outer, &mut spare)?;
                 level = outer.level;
             }
             Next::Inside(element, inner) => {
-                steps.add();
                 if most_waiting.is_reached(waiting.len()) {
                     return Err(Error::malformed(Reason::TooDeep));
                 }
@@ -68,9 +63,7 @@ pub(crate) fn read<'a>(
                 level = begin(alloc, inner);
             }
             Next::Whole(element, value) => {
-                steps.add();
-                let whole = copied(alloc, value)?;
-                put(&mut level, &mut spare, element.key(), whole)?;
+                put_copied(alloc, &mut level, element.key(), value, &mut spare)?;
             }
         }
     }

@@ -3,9 +3,9 @@
 use Rattle.std.proofs.Common.{◌≡◌, inl, inr, ◌<◌, ◌≤◌, ◌+◌, ◌-◌, ◌/◌, take, length-take, ◌++◌, ◌∷◌, [], ℕ, suc, List, Option, None, Some, Result, Ok, Err, IfOk, IfErr, length, drop, arith, ap, refl, ◌∙◌, subst, length-drop, length-append, sum_by, reverse, Bor}
 use Rattle.std.proofs.lemmas.List.{length-reverse, reverse-append}
 use Rattle.raw_tree.proofs.Common.{sum_by_push, Tree, tree_of, Bson, IsEnvelope, bytes_of, frame_of, IsOutOfMemory, Frame, RawValue, KeyedFault, BorrowedError, Barrier, max_length, value_of}
-use Rattle.raw_tree.proofs.Common.{RawBsonRef, RawElement, Error, HasFrameCount, TellsFrames, sort_of, held_value, holding, tree_of_contents, IsOneMore, IsUnread, IsSingle, Finishes, DraftsTree}
-use Rattle.raw_tree.proofs.Common.{TellsReading, fault_of, too_deep, SaysBarrier, Sort, tree_of_pairs, StandsFor, ReadsUpTo, ReadsAs, FirstFault, Contents, Holder, Level, Nested, Waiting, left_of}
-use Rattle.raw_tree.proofs.walk.Common.{HasValue, Sees, option_copied}
+use Rattle.raw_tree.proofs.Common.{RawBsonRef, RawElement, Error, HasFrameCount, TellsFrames, sort_of, held_value, holding, tree_of_contents, IsOneMore, IsUnread, IsSingle, Finishes, DraftsTree, PutsLevel, PutsValue}
+use Rattle.raw_tree.proofs.Common.{TellsReading, fault_of, too_deep, SaysBarrier, Sort, tree_of_pairs, StandsFor, ReadsUpTo, FirstFault, Contents, Holder, Level, Nested, Waiting, left_of}
+use Rattle.raw_tree.proofs.walk.Common.{HasValue, Sees, frames_in, option_copied}
 use Rattle.raw_view.specs.Errors.{HasKeyCopy}
 use Rattle.raw_view.proofs.Face.{IsFrame-shorter, told_fault}
 use Rattle.raw_tree.specs.declared.walk.level.Next.TheVariants as seen
@@ -124,14 +124,12 @@ module _ {depth n : ℕ} {u : Nested} {ws : List Waiting} {level : Level} (are :
 
   -- a look tells a stop, or the fault that an element means
   module _ (new : Option (List ℕ)) (e : BorrowedError) (answer : Error) (copy : HasKeyCopy e.kind (option_copied e.key) answer) where
-    pub stopped : Sees level.elements new (seen.Fault None e) → TellsReading depth u (Err answer) n
-    stopped sees =
+    pub failed : (key : Option (Bor (List ℕ))) → Sees level.elements new (seen.Fault key e) → TellsReading depth u (Err answer) (n + frames_in (seen.Fault key e))
+    failed None sees =
         let (fault, at, says) = rw are.reading.left at sees in
         barrier_told depth u answer (fault_of fault) (told_fault e fault answer says copy)
-        (told (Some (fault_of fault)) n (are.reading.here, are.reading.total, stops are.reading.passed sort fault at))
-
-    pub failed : (key : Bor (List ℕ)) → Sees level.elements new (seen.Fault (Some key) e) → TellsReading depth u (Err answer) (n + 1)
-    failed key sees =
+        (told (Some (fault_of fault)) (n + 0) (are.reading.here, omega (arith, are.reading.total), stops are.reading.passed sort fault at))
+    failed (Some key) sees =
         let (fault, f, says) = rw are.reading.left at sees in
         barrier_told depth u answer (fault_of fault) (told_fault e fault answer says copy)
         (told (Some (fault_of fault)) (n + 1) (are.reading.here + 1, omega (arith, are.reading.total), means_fault are.reading.passed sort fault f.0 f.1 f.2 f.3))
@@ -151,9 +149,8 @@ module _ {depth n : ℕ} {u : Nested} {ws : List Waiting} {level : Level} (are :
         rw (← levels) (level_finished is (rw is.left at sees) c fin)
 
     -- or of one inside, and the level that waits for it goes on
-    pub popped : {less : List Waiting} {on : Level} (w : Waiting) (t : Bson) → ws ≡ less ++ w ∷ [] → DraftsTree level.holder level.draft t → IsOneMore w.level w.key.now (tree_of t) on
-        → AreReading depth u less on n
-    popped {less} {on} w t e drafts more =
+    pub popped : {less : List Waiting} (w on : Waiting) → ws ≡ less ++ w ∷ [] → PutsLevel level w on → AreReading depth u less on.level n
+    popped {less} w on e (t, drafts, more) =
         let (outer, waits, linked) = rw (e, reverse-append less (w ∷ [])) at are.waiting in
         let holder = are.inner.0.holder in
         let d = bytes_of are.inner.0.document in
@@ -163,7 +160,7 @@ module _ {depth n : ℕ} {u : Nested} {ws : List Waiting} {level : Level} (are :
           inside = suc are.inside;
           inner = outer;
           waiting = linked;
-          reading = level_put w.level on waits.reading (held_value are.inner.0) (tree_of t) is.here waits.front stands (rw waits.key_is at more) (omega (arith, is.total, waits.total));
+          reading = level_put w.level on.level waits.reading (held_value are.inner.0) (tree_of t) is.here waits.front stands (rw waits.key_is at more) (omega (arith, is.total, waits.total));
           levels = omega (arith, are.levels, ap length e, length-append less (w ∷ []));
         }
 
@@ -175,8 +172,8 @@ module _ {depth n : ℕ} {u : Nested} {ws : List Waiting} {level : Level} (are :
         memory_told depth u e memory (told None (n + 1) (are.reading.here + 1, omega (arith, are.reading.total), outcome_behind sort are.reading.passed f front.0 front.1.frame))
 
     -- it holds no nested bytes, and is put
-    pub put_whole : (t : Tree) (on : Level) → IsSingle v → StandsFor ReadsAs v t → IsOneMore (with_left level new) f.key t on → AreReading depth u ws on (n + 1)
-    put_whole t on single stands more =
+    pub put_whole : (on : Level) → IsSingle v → PutsValue v (with_left level new) f.key on → AreReading depth u ws on (n + 1)
+    put_whole on single (t, stands, more) =
         let put = level_put {left = level.elements} (with_left level new) on are.reading v t 0 front (single_stands front.1 t single stands) more (omega arith) in
         record { inside = are.inside; inner = are.inner; waiting = are.waiting; reading = put; levels = are.levels }
 

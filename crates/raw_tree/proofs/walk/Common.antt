@@ -12,13 +12,13 @@ pub use Rattle.raw_tree.specs.declared.walk.level.Level.{Level}
 pub use Rattle.raw_tree.specs.declared.walk.level.Waiting.{Waiting}
 pub use Rattle.raw_tree.specs.declared.walk.place.PathStep.{PathStep}
 pub use Rattle.raw_tree.specs.declared.walk.place.Place.{Place}
-pub use Rattle.raw_tree.specs.validator.ValidationSteps.{BreachesHere, BreachesItself, EndsTooDeep, HoldsAsTold, IsSingleWith, Validates, TellsFound, TellsValidated, TellsOutermost, array_sort, first_number}
+pub use Rattle.raw_tree.specs.validator.ValidationSteps.{BreachesHere, BreachesItself, EndsTooDeep, HoldsAsTold, IsSingleWith, Validates, TellsFound, TellsValidated, TellsOutermost, TellsValue, array_sort, first_number}
 pub use Rattle.raw_tree.specs.validator.ValidationSteps.{violation_of}
 pub use Rattle.raw_tree.specs.validator.OpenKeys.{AreOpenKeys, HasKeysSoFar, LeavesOpenKeys, TellsOpenKey}
 pub use Rattle.raw_tree.specs.validator.Violations.{AllAreValidatedOneWayWithin, FirstViolation, FirstViolationTo, IsCanonicalWithin, ValidatesFrameAt, ValidatesFrontAt, ValidatesMeaningAt, ValidatesNestedAt}
 pub use Rattle.raw_tree.specs.validator.Violations.{TellsViolation, Violation, breach_of}
 pub use Rattle.raw_tree.specs.walk.Barriers.{IsBarrier, TellsBarrier, TellsBarrierWithin, step_of, steps_of}
-pub use Rattle.raw_tree.specs.walk.Looking.{AreReadBefore, FailsAt, HasLooked, HasNoneBefore, HasValue, HoldsNone, Looks, Sees, TakesFrame, size_of}
+pub use Rattle.raw_tree.specs.walk.Looking.{AreReadBefore, FailsAt, HasLooked, HasNoneBefore, HasValue, HoldsNone, Looks, Sees, TakesFrame, frames_in, size_of}
 pub use Rattle.raw_tree.specs.walk.Places.{AllAreBarredAtOnePlace, BarsFrameAt, BarsFrontAt, BeginsAt, FirstBarrierAt, FirstFaultAt, IsLastStep, IsOffsetOf, Step, last_key}
 pub use Rattle.raw_tree.specs.walk.Rooms.{filled_from}
 pub use Rattle.raw_tree.specs.walk.Visits.{HasVisits, Visit, VisitsEach, VisitsLevel, VisitsValue, end_of, enter, leave, whole}

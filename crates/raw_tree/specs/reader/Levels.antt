@@ -5,6 +5,7 @@ use denote.Ref.{Bor}
 use Rattle.bson_model.specs.Tree.{Tree, tree_of, tree_of_document, tree_of_list}
 use Rattle.bson_model.specs.declared.bson.Bson.{Bson}
 use Rattle.raw_view.specs.Document.{bytes_of}
+use Rattle.raw_view.specs.Meaning.{RawValue}
 use Rattle.raw_view.specs.Meaning.Value.{holding}
 use Rattle.raw_view.specs.declared.error.Error.{Error}
 use Rattle.raw_view.specs.declared.level.Holder.{Holder}
@@ -17,6 +18,7 @@ use Rattle.raw_tree.specs.declared.reader.levels.Contents.{Contents}
 use Rattle.raw_tree.specs.declared.reader.levels.Contents.TheVariants as contents
 use Rattle.raw_tree.specs.declared.reader.levels.Draft.{Draft}
 use Rattle.raw_tree.specs.declared.reader.levels.Level.{Level}
+use Rattle.raw_tree.specs.declared.reader.levels.Waiting.{Waiting}
 
 -- nested bytes are read as a document or as an array
 abbrev pub sort_of : Holder → Sort
@@ -67,6 +69,10 @@ IsOneMore old key t new =
     (new.elements ≡ old.elements) × (new.holder ≡ old.holder)
     × ((pairs : List (List ℕ × Tree)) → AreDrafted old.holder old.draft pairs → AreDrafted old.holder new.draft (pairs ++ (key, t) ∷ []))
 
+-- new is the level old with a pair more, of this key and a tree for which the value stands
+abbrev pub PutsValue : RawValue → Level → List ℕ → Level → Type 0
+PutsValue v old key new = (t : Tree) × StandsFor ReadsAs v t × IsOneMore old key t new
+
 -- the tree is that of the value which holds bytes that are read as the contents, with as many levels
 abbrev pub ClosesAs : Contents → Bson → Type 0
 ClosesAs c t = (levels : ℕ) (d : List ℕ) → ReadsUpTo levels (sort_of (holder_of c)) d (tree_of_contents c) → StandsFor (ReadsUpTo levels) (holding (holder_of c) d) (tree_of t)
@@ -80,6 +86,10 @@ abbrev pub DraftsTree : Holder → Draft → Bson → Type 0
 DraftsTree h d t =
     (pairs : List (List ℕ × Tree)) (levels : ℕ) (b : List ℕ) → AreDrafted h d pairs → ReadsUpTo levels (sort_of h) b (tree_of_pairs (sort_of h) pairs)
     → StandsFor (ReadsUpTo levels) (holding h b) (tree_of t)
+
+-- and the level that waits for the value has it under its key
+abbrev pub PutsLevel : Level → Waiting → Waiting → Type 0
+PutsLevel inner old new = (t : Bson) × DraftsTree inner.holder inner.draft t × IsOneMore old.level old.key.now (tree_of t) new.level
 
 -- the bytes that this holds are read as the contents
 abbrev pub AreRead : Holder → List ℕ → Contents → Type 0

@@ -8,6 +8,7 @@ use Rattle.raw_view.specs.Frame.ElementSteps.{frame_of}
 use Rattle.raw_view.specs.Frame.{Frame, Fault, IsFrame, IsStop}
 use Rattle.raw_view.specs.Meaning.{RawValue, Meaning, Means, value, faulty}
 use Rattle.raw_view.specs.Meaning as raw
+use Rattle.raw_view.specs.declared.element.RawElement.{RawElement}
 use Rattle.raw_tree.specs.validator.Breaches.{BreachesKeys}
 use Rattle.raw_tree.specs.Canonical.{AreKeysCanonical, IsCanonicalUpTo}
 use Rattle.raw_tree.specs.validator.OpenKeys.{HasKeysSoFar}
@@ -51,6 +52,13 @@ BreachesItself (value (raw.single l)) why = (¬ DoLeafOptionsAscend l) × (why �
 BreachesItself (value (raw.document d)) why = ⊥
 BreachesItself (value (raw.array d)) why = ⊥
 BreachesItself (value (raw.scoped code d)) why = ⊥
+
+-- how a level goes on behind the key of an element, which is canonical, is told by what the element means
+abbrev pub TellsValue : RawElement → Validated → Type 0
+TellsValue e validated.End = ⊥
+TellsValue e (validated.Whole same) = (same ≡ e) × (v : RawValue) × Means (frame_of e) (value v) × IsSingleWith (λ A. A) v
+TellsValue e (validated.Inside same inner is_array) = (same ≡ e) × (v : RawValue) × Means (frame_of e) (value v) × HoldsAs v (array_sort is_array) (bytes_of inner)
+TellsValue e (validated.Breach key why) = (option_copied key ≡ Some (frame_of e).key) × (m : Meaning) × Means (frame_of e) m × BreachesItself m why
 
 -- behind elements with these keys s stops; or the frame in front of it has this key, and breaches by it or by what it
 -- means, and not by what is inside

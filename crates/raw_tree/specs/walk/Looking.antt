@@ -50,6 +50,14 @@ without_value (seen.Fault key e) = next.Fault key e
 abbrev pub Sees : Option (List ℕ) → Option (List ℕ) → Next → Type 0
 Sees old new x = Looks old new (without_value x)
 
+-- so many frames a look takes: one, also where it means a fault; none for the final 0 or a stop
+abbrev pub frames_in : Next → ℕ
+frames_in seen.End = 0
+frames_in (seen.Whole e v) = 1
+frames_in (seen.Inside e inner) = 1
+frames_in (seen.Fault None e) = 0
+frames_in (seen.Fault (Some key) e) = 1
+
 -- the value is that of the element
 abbrev pub IsValueOf : RawBsonRef → RawElement → Type 0
 IsValueOf v e = Means (frame_of e) (value (value_of v))

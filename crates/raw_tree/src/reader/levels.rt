@@ -5,7 +5,7 @@ ghost use Rattle.std.specs.Prelude.{◌≡◌, [], ◌∷◌, ◌++◌, map, IfO
 ghost use Rattle.std.specs.String.{string_bytes};
 ghost use Rattle.bson_model.specs.Scalars.{bytes_of_object_id};
 ghost use Rattle.bson_model.specs.Tree.{tree_of};
-ghost use Rattle.raw_tree.specs.reader.Levels.{ClosesAs, DraftsTree, Finishes, IsOneMore, IsPairMore, IsSameDraft, IsUnread};
+ghost use Rattle.raw_tree.specs.reader.Levels.{ClosesAs, DraftsTree, Finishes, IsOneMore, IsPairMore, IsSameDraft, IsUnread, PutsLevel, PutsValue};
 ghost use Rattle.raw_tree.specs.reader.Reading.{ReadsAs, StandsFor};
 ghost use Rattle.raw_view.specs.Errors.{IsOutOfMemory};
 ghost use Rattle.raw_view.specs.Meaning.Value.{IsSingle, id_of, namespace_of, value_of};
@@ -183,12 +183,7 @@ pub(crate) fn begin<'a>(alloc: Global, nested: RawLevel<'a>) -> Level<'a>
 /// first takes the room that another level left.
 #[tactic(auto, using(std::proofs::lemmas::Grind::common_steps, bson_model::proofs::Face::tree_laws, std::proofs::lemmas::List::map_push))]
 #[inline(always)]
-pub(crate) fn put<'a>(
-    level: &mut Level<'a>,
-    spare: &mut Draft<'a>,
-    key: &'a str,
-    value: Bson,
-) -> Result<()>
+fn put<'a>(level: &mut Level<'a>, spare: &mut Draft<'a>, key: &'a str, value: Bson) -> Result<()>
     ensures put { OnOk result (IsOneMore level.old key.now (tree_of value) level.new) }
     ensures err { IfErr result IsOutOfMemory }
 {
@@ -197,6 +192,24 @@ pub(crate) fn put<'a>(
         Holder::Document | Holder::Code(_) => level.draft.put_pair(key, value),
         Holder::Array => level.draft.put_value(value),
     }
+}
+
+/// Puts a copy of a value that holds no level last, under this key unless the level is an array; the only error is out of
+/// memory.
+#[inline(always)]
+pub(crate) fn put_copied<'a>(
+    alloc: Global,
+    level: &mut Level<'a>,
+    key: &'a str,
+    value: RawBsonRef<'_>,
+    spare: &mut Draft<'a>,
+) -> Result<()>
+    requires { IsSingle (value_of value) }
+    ensures put { OnOk result (PutsValue (value_of value.entry) level.old key.now level.new) }
+    ensures err { IfErr result IsOutOfMemory }
+{
+    let copy = copied(alloc, value)?;
+    put(level, spare, key, copy)
 }
 
 /// What the bytes of a level are read as, once all are. It takes the values with the room that they are in; the
@@ -227,7 +240,7 @@ pub(crate) fn finish<'a>(
 /// The value that holds the bytes of a level, once all are read; the only error is out of memory. Its
 /// room goes to a later level.
 #[inline(always)]
-pub(crate) fn end<'a>(alloc: Global, level: Level<'a>, spare: &mut Draft<'a>) -> Result<Bson>
+fn end<'a>(alloc: Global, level: Level<'a>, spare: &mut Draft<'a>) -> Result<Bson>
     ensures ended { IfOk result (DraftsTree level.entry.holder level.entry.draft) }
     ensures err { IfErr result IsOutOfMemory }
 {
@@ -237,6 +250,22 @@ pub(crate) fn end<'a>(alloc: Global, level: Level<'a>, spare: &mut Draft<'a>) ->
     draft.values = room;
     draft.leave_room(spare);
     close(alloc, contents)
+}
+
+/// Puts the value that holds the bytes of a level, once all are read, into the level that waits for it; the only error is out
+/// of memory.
+#[inline(always)]
+pub(crate) fn put_ended<'a>(
+    alloc: Global,
+    level: Level<'a>,
+    outer: &mut Waiting<'a>,
+    spare: &mut Draft<'a>,
+) -> Result<()>
+    ensures put { OnOk result (PutsLevel level.entry outer.old outer.new) }
+    ensures err { IfErr result IsOutOfMemory }
+{
+    let ended = end(alloc, level, spare)?;
+    put(&mut outer.level, spare, outer.key, ended)
 }
 
 /// The value that holds these contents; the only error is out of memory, for the copy of a code.

@@ -1,8 +1,11 @@
 //! How many elements a conversion frames.
 
 ghost use Rattle.std.specs.Prelude.{◌≡◌, ◌<◌, ◌+◌};
+ghost use Rattle.raw_tree.specs.walk.Looking.{HasLooked, frames_in};
 ghost use Rattle.raw_view.specs.Frame.Number.{max_length};
 
+use crate::walk::level::{Next, look};
+use raw_view::Elements;
 use std::marker::Model;
 
 /// How many elements a conversion has framed, at all levels. A clause sees the number.
@@ -33,12 +36,26 @@ impl Steps {
         self.count
     }
 
-    /// Counts an element.
+    /// Looks at what is next in a level, and counts the element that is framed for it. No other call counts.
     #[inline(always)]
-    pub(crate) fn add(&mut self)
+    pub(crate) fn look<'a>(&mut self, elements: &mut Elements<'a>) -> Next<'a>
         requires { self.old < max_length }
-        ensures { self.new ≡ self.old + 1 }
+        ensures looked { HasLooked elements.old elements.new result }
+        ensures counted { self.new ≡ self.old + frames_in result }
     {
-        self.count += 1;
+        let next = look(elements);
+        self.count += framed_for(&next);
+        next
+    }
+}
+
+/// How many elements are framed for a look: one, also where it means a fault; none for the final 0 or a stop.
+#[inline(always)]
+fn framed_for(next: &Next<'_>) -> usize
+    ensures { result ≡ frames_in next.now }
+{
+    match next {
+        Next::End | Next::Fault(None, _) => 0,
+        Next::Whole(..) | Next::Inside(..) | Next::Fault(Some(_), _) => 1,
     }
 }

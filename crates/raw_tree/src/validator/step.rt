@@ -2,7 +2,7 @@
 #![tactic(auto)]
 
 ghost use Rattle.std.specs.Prelude.{[], IfOk, IfErr};
-ghost use Rattle.raw_tree.specs.validator.ValidationSteps.{HoldsAsTold, Validates, array_sort};
+ghost use Rattle.raw_tree.specs.validator.ValidationSteps.{HoldsAsTold, TellsValue, Validates, array_sort};
 ghost use Rattle.raw_tree.specs.validator.OpenKeys.{AreOpenKeys, HasKeysSoFar};
 ghost use Rattle.raw_tree.specs.validator.References.{texts};
 ghost use Rattle.raw_view.specs.Errors.{IsOutOfMemory};
@@ -85,15 +85,23 @@ pub(crate) fn validate_next<'a>(
         Some(Ok(element)) => element,
     };
     let key = element.key();
-    if let Some(cause) = keys.add(alloc, listed, number, key)? {
-        return Ok(Validated::Breach(Some(key), cause));
+    match keys.add(alloc, listed, number, key)? {
+        Some(cause) => Ok(Validated::Breach(Some(key), cause)),
+        None => Ok(validate_value(element)),
     }
+}
+
+/// Validates the value of an element whose key is canonical.
+#[inline(always)]
+fn validate_value(element: RawElement<'_>) -> Validated<'_>
+    ensures { TellsValue element.entry result }
+{
     let Ok(value) = element.resolve() else {
-        return Ok(Validated::Breach(Some(key), Cause::Value));
+        return Validated::Breach(Some(element.key()), Cause::Value);
     };
     match held_by(value) {
-        Held::Nothing => Ok(Validated::Whole(element)),
-        Held::Descending => Ok(Validated::Breach(Some(key), Cause::Options)),
-        Held::Level(inner, is_array) => Ok(Validated::Inside(element, inner, is_array)),
+        Held::Nothing => Validated::Whole(element),
+        Held::Descending => Validated::Breach(Some(element.key()), Cause::Options),
+        Held::Level(inner, is_array) => Validated::Inside(element, inner, is_array),
     }
 }

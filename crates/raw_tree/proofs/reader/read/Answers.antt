@@ -1,6 +1,6 @@
-use Rattle.std.proofs.Common.{rules, arith, refl, vec_len}
-use Rattle.raw_tree.proofs.Common.{err_from_is_err_and, tree_of, frame_of, held_value, value_of, Waiting}
-use Rattle.raw_tree.proofs.reader.LevelSteps.{front_inside, front_whole, levels_begin, few_frames, stopped, failed, ran_out, finished, popped, ran_out_behind, too_deep_inside, put_whole, went_in, no_more, step_smaller, inward_smaller, outward_smaller}
+use Rattle.std.proofs.Common.{◌≡◌, ◌≤◌, suc, length, rules, arith, refl, vec_len}
+use Rattle.raw_tree.proofs.Common.{err_from_is_err_and, frame_of, held_value, value_of, Waiting}
+use Rattle.raw_tree.proofs.reader.LevelSteps.{front_inside, front_whole, levels_begin, few_frames, failed, ran_out, finished, popped, ran_out_behind, too_deep_inside, put_whole, went_in, no_more, step_smaller, inward_smaller, outward_smaller}
 use Rattle.raw_tree.proofs.reader.Stacks.{Front, with_left}
 use Rattle.raw_tree.proofs.reader.read.Goals as goal
 use Rattle.raw_tree.proofs.reader.read.Goals.{In-Inside, In-Whole}
@@ -9,60 +9,58 @@ pub levels-init : goal.levels-init
 levels-init c =
     rw c.requires.fresh (levels_begin c.in-Some.ensures.some c.new-waiting.ensures.items c.begin-level.ensures)
 
--- a fault
+pub look-requires : goal.look-requires
+look-requires c = few_frames c.levels.invariant
 
-pub returns-in-Fault-None-default : goal.returns-in-Fault-None-default
-returns-in-Fault-None-default c =
-    stopped c.levels.invariant c.look.new.elements c.in-Fault-None-default.stop c.into_error.result c.into_error.ensures
-    (rw (c.in-Fault-None-default.is, c.in-Fault-None-default.field-0-is) at c.look.ensures.sees)
-
-pub add-requires : goal.add-requires
-add-requires c = few_frames c.levels.invariant
-
-pub returns-in-Fault-Some-default : goal.returns-in-Fault-Some-default
-returns-in-Fault-Some-default c =
-    let at = c.in-Fault-Some-default in
-    rw c.add.ensures (failed c.levels.invariant c.look.new.elements at.fault c.into_error-in-Fault-Some-default.result c.into_error-in-Fault-Some-default.ensures _
-    (rw (at.is, at.field-0-is) at c.look.ensures.sees))
+pub returns-in-Fault : goal.returns-in-Fault
+returns-in-Fault c =
+    let at = c.in-Fault in
+    rw (rw at.is at c.look.ensures.counted) (failed c.levels.invariant c.look.new.elements at.fault c.into_error.result c.into_error.ensures at.field-0
+    (rw at.is at c.look.ensures.looked.sees))
 
 -- the end of a level
 
 pub returns-in_default-pop : goal.returns-in_default-pop
 returns-in_default-pop c =
+    let same : c.look.new.self ≡ c.levels.steps = omega (arith, rw c.in-End.is at c.look.ensures.counted) in
     let none = no_more (vec_len c.levels.waiting) c.levels.waiting.items c.pop.new.self.items (omega (arith, c.levels.waiting.ok.0)) c.in_default-pop.ensures.items c.in_default-pop.ensures.rest in
-    finished c.levels.invariant c.look.new.elements (rw c.in-End.is at c.look.ensures.sees) c.finish.result none c.finish.ensures.finished c.finish.ensures.err
+    rw same (finished c.levels.invariant c.look.new.elements (rw c.in-End.is at c.look.ensures.looked.sees) c.finish.result none c.finish.ensures.finished c.finish.ensures.err)
 
-pub returns-in_err-ended-in-End : goal.returns-in_err-ended-in-End
-returns-in_err-ended-in-End c = grind (arith, err_from_is_err_and c.from_residual.result c.from_residual.ensures.1, ran_out c.levels.invariant)
-
-pub returns-in_err-put-in-End : goal.returns-in_err-put-in-End
-returns-in_err-put-in-End c = grind (arith, err_from_is_err_and c.from_residual-in_err-put-in-End.result c.from_residual-in_err-put-in-End.ensures.1, ran_out c.levels.invariant)
+pub returns-in_err-put_ended-in-End : goal.returns-in_err-put_ended-in-End
+returns-in_err-put_ended-in-End c =
+    let same : c.look.new.self ≡ c.levels.steps = omega (arith, rw c.in-End.is at c.look.ensures.counted) in
+    let p = err_from_is_err_and c.from_residual.result c.from_residual.ensures.1 in
+    rw (p.1, p.2, same) (ran_out c.levels.invariant _ c.in_err-put_ended-in-End.ensures.err)
 
 pub levels-smaller-in-End : goal.levels-smaller-in-End
 levels-smaller-in-End c =
-    rw (c.in_ok-put-in-End.ensures.put.0) (outward_smaller _ c.levels.waiting.items c.pop.new.self.items c.in-Some-pop.outer c.in-Some-pop.ensures.items)
+    rw (c.in_ok-put_ended-in-End.ensures.put.2.0) (outward_smaller _ c.levels.waiting.items c.pop.new.self.items c.in-Some-pop.outer c.in-Some-pop.ensures.items)
 
 pub levels-preserved-in-End : goal.levels-preserved-in-End
 levels-preserved-in-End c =
-    popped c.levels.invariant c.look.new.elements (rw c.in-End.is at c.look.ensures.sees) c.in-Some-pop.outer c.in_ok-ended-in-End.ended c.in-Some-pop.ensures.items
-    c.in_ok-ended-in-End.ensures.ended c.in_ok-put-in-End.ensures.put
+    let same : c.look.new.self ≡ c.levels.steps = omega (arith, rw c.in-End.is at c.look.ensures.counted) in
+    rw same (popped c.levels.invariant c.look.new.elements (rw c.in-End.is at c.look.ensures.looked.sees) c.in-Some-pop.outer c.put_ended.new.outer c.in-Some-pop.ensures.items
+    c.in_ok-put_ended-in-End.ensures.put)
 
 -- an element that holds a level
 
 inside : (c : In-Inside) → Front c.levels.invariant.reading.rest (frame_of c.in-Inside.element) (held_value c.in-Inside.inner) c.look.new.elements
-inside c = front_inside c.levels.invariant.reading.left c.look.new.elements c.in-Inside.element c.in-Inside.inner (rw c.in-Inside.is at c.look.ensures.sees) (rw c.in-Inside.is at c.look.ensures.value)
-
-pub add-requires-in-Inside : goal.add-requires-in-Inside
-add-requires-in-Inside c = few_frames c.levels.invariant
+inside c =
+    front_inside c.levels.invariant.reading.left c.look.new.elements c.in-Inside.element c.in-Inside.inner (rw c.in-Inside.is at c.look.ensures.looked.sees)
+    (rw c.in-Inside.is at c.look.ensures.looked.value)
 
 pub returns-then-is_reached : goal.returns-then-is_reached
 returns-then-is_reached c =
-    grind (arith, too_deep_inside c.levels.invariant c.in-Inside.inner (inside (goal.at.returns-then-is_reached c).In-Inside) c.malformed-then-is_reached.result)
+    let many : c.args.depth ≤ suc (length c.levels.waiting.items) = omega (arith, c.in-Some.ensures.some, c.if-is_reached.ensures.yes refl, c.len.ensures, c.levels.waiting.ok.0) in
+    rw (rw c.in-Inside.is at c.look.ensures.counted)
+    (too_deep_inside c.levels.invariant c.in-Inside.inner (inside (goal.at.returns-then-is_reached c).In-Inside) c.malformed-then-is_reached.result many
+    (c.malformed-then-is_reached.ensures.kind, c.malformed-then-is_reached.ensures.no_key))
 
 pub returns-in_err-push-in-Inside : goal.returns-in_err-push-in-Inside
 returns-in_err-push-in-Inside c =
     let p = err_from_is_err_and c.from_residual-in_err-push-in-Inside.result c.from_residual-in_err-push-in-Inside.ensures.1 in
-    rw (p.1, c.add-in-Inside.ensures) (ran_out_behind c.levels.invariant (held_value c.in-Inside.inner) (inside (goal.at.returns-in_err-push-in-Inside c).In-Inside) _ p.2)
+    rw (p.1, rw c.in-Inside.is at c.look.ensures.counted)
+    (ran_out_behind c.levels.invariant (held_value c.in-Inside.inner) (inside (goal.at.returns-in_err-push-in-Inside c).In-Inside) _ p.2)
 
 pub levels-smaller-in-Inside : goal.levels-smaller-in-Inside
 levels-smaller-in-Inside c =
@@ -72,36 +70,33 @@ levels-smaller-in-Inside c =
 
 pub levels-preserved-in-Inside : goal.levels-preserved-in-Inside
 levels-preserved-in-Inside c =
-    rw c.add-in-Inside.ensures (went_in c.levels.invariant c.in-Inside.inner (inside (goal.at.levels-preserved-in-Inside c).In-Inside) c.key-key.result c.key-key.ensures
+    rw (rw c.in-Inside.is at c.look.ensures.counted)
+    (went_in c.levels.invariant c.in-Inside.inner (inside (goal.at.levels-preserved-in-Inside c).In-Inside) c.key-key.result c.key-key.ensures
     (omega (arith, c.in-Some.ensures.some, c.if-is_reached.ensures.no refl, c.len.ensures, c.levels.waiting.ok.0)) (search rules) c.begin-level-in-Inside.ensures)
 
 -- one that holds none
 
 whole : (c : In-Whole) → Front c.levels.invariant.reading.rest (frame_of c.in-Whole.element) (value_of c.in-Whole.value) c.look.new.elements
-whole c = front_whole c.levels.invariant.reading.left c.look.new.elements c.in-Whole.element c.in-Whole.value (rw c.in-Whole.is at c.look.ensures.sees) (rw c.in-Whole.is at c.look.ensures.value)
+whole c =
+    front_whole c.levels.invariant.reading.left c.look.new.elements c.in-Whole.element c.in-Whole.value (rw c.in-Whole.is at c.look.ensures.looked.sees)
+    (rw c.in-Whole.is at c.look.ensures.looked.value)
 
-pub add-requires-in-Whole : goal.add-requires-in-Whole
-add-requires-in-Whole c = few_frames c.levels.invariant
+pub put_copied-requires : goal.put_copied-requires
+put_copied-requires c = (rw c.in-Whole.is at c.look.ensures.looked.value).1
 
-pub copied-requires : goal.copied-requires
-copied-requires c = (rw c.in-Whole.is at c.look.ensures.value).1
-
-pub returns-in_err-whole-in-Whole : goal.returns-in_err-whole-in-Whole
-returns-in_err-whole-in-Whole c =
-    let behind = ran_out_behind c.levels.invariant (value_of c.in-Whole.value) (whole (goal.at.returns-in_err-whole-in-Whole c).In-Whole) in
-    grind (arith, err_from_is_err_and c.from_residual-in_err-whole-in-Whole.result c.from_residual-in_err-whole-in-Whole.ensures.1, behind)
-
-pub returns-in_err-put-in-Whole : goal.returns-in_err-put-in-Whole
-returns-in_err-put-in-Whole c =
-    let behind = ran_out_behind c.levels.invariant (value_of c.in-Whole.value) (whole (goal.at.returns-in_err-put-in-Whole c).In-Whole) in
-    grind (arith, err_from_is_err_and c.from_residual-in_err-put-in-Whole.result c.from_residual-in_err-put-in-Whole.ensures.1, behind)
+pub returns-in_err-put_copied-in-Whole : goal.returns-in_err-put_copied-in-Whole
+returns-in_err-put_copied-in-Whole c =
+    let p = err_from_is_err_and c.from_residual-in_err-put_copied-in-Whole.result c.from_residual-in_err-put_copied-in-Whole.ensures.1 in
+    rw (p.1, p.2, rw c.in-Whole.is at c.look.ensures.counted)
+    (ran_out_behind c.levels.invariant (value_of c.in-Whole.value) (whole (goal.at.returns-in_err-put_copied-in-Whole c).In-Whole) _ c.in_err-put_copied-in-Whole.ensures.err)
 
 pub levels-smaller : goal.levels-smaller
 levels-smaller c =
-    rw c.in_ok-put-in-Whole.ensures.put.0
+    rw c.in_ok-put_copied-in-Whole.ensures.put.2.0
     (step_smaller (value_of c.in-Whole.value) c.levels.level.elements c.look.new.elements _ c.levels.invariant.reading.left (whole (goal.at.levels-smaller c).In-Whole))
 
 pub levels-preserved : goal.levels-preserved
 levels-preserved c =
-    rw c.add-in-Whole.ensures (put_whole c.levels.invariant (value_of c.in-Whole.value) (whole (goal.at.levels-preserved c).In-Whole) (tree_of c.in_ok-whole-in-Whole.whole)
-    c.put-in-Whole.new.level (rw c.in-Whole.is at c.look.ensures.value).1 c.in_ok-whole-in-Whole.ensures.copied (rw c.key.ensures at c.in_ok-put-in-Whole.ensures.put))
+    rw (rw c.in-Whole.is at c.look.ensures.counted)
+    (put_whole c.levels.invariant (value_of c.in-Whole.value) (whole (goal.at.levels-preserved c).In-Whole) c.put_copied.new.level
+    (rw c.in-Whole.is at c.look.ensures.looked.value).1 (rw c.key.ensures at c.in_ok-put_copied-in-Whole.ensures.put))
