@@ -1,8 +1,8 @@
 #!/bin/sh
 # bin/test refuses a name that is no crate's, and words that it doesn't know, before it tries anything: it prints the
 # usage line on standard error, nothing on standard output, and ends with status 2. In a folder where scripts that do nothing take the
-# place of its parts, it passes; where one of them fails, it fails, and doesn't wait for `rt ci` if it is one that runs beside that; and
-# where it is ended, all that it started ends.
+# place of its parts, it passes; where one of them fails, it fails, and doesn't wait for `rt ci` if it is one that runs beside that, nor
+# runs one again that it keeps; and where it is ended, all that it started ends.
 set -u
 cd "$(dirname "$(realpath "$0")")/.." || exit 1
 work=$(mktemp -d) || exit 1
@@ -35,18 +35,26 @@ refuses raw_view --anew
 refuses --anew --anew
 refuses --other
 
-# put FILE: a script in its place that fails if it is the one that $work/failing names, and goes on for long if $work/slow names it
+# put FILE: a script in its place that fails if it is the one that $work/failing names, and goes on for long if $work/slow names it; but
+# for `rt version`
 put() {
     mkdir -p "$(dirname "$work/copy/$1")" && cat >"$work/copy/$1" <<END && chmod +x "$work/copy/$1"
 #!/bin/sh
+[ "\${1-}" != version ] || exit 0
 ! grep -qsxF "$1" "$work/slow" || sleep 100
 ! grep -qsxF "$1" "$work/failing"
 END
 }
 
-# tried: bin/test there, on the whole
+# tried_again WORD..: bin/test there, on the whole, over what it kept before
+tried_again() {
+    (cd "$work/copy" && HOME=$work/home PATH=$work/tools:$PATH bin/test "$@") >"$work/output" 2>&1
+}
+
+# tried: the same, over nothing that it kept
 tried() {
-    (cd "$work/copy" && PATH=$work/tools:$PATH bin/test) >"$work/output" 2>&1
+    rm -rf "$work/home"
+    tried_again
 }
 
 for file in checks/*.sh bin/install rt; do put "$file" || exit 1; done
@@ -60,14 +68,17 @@ for part in $(grep / "$work/parts") checks/edits.sh rt; do
     echo "$part" >"$work/failing"
     ! tried || fails "bin/test passes though $part fails"
 done
-echo checks/edits_test.sh >"$work/failing"
+rm "$work/failing" && tried && echo checks/edits_test.sh >"$work/failing"
+tried_again || fails "bin/test runs checks/edits_test.sh again over the same files"
+! tried_again --anew || fails "bin/test --anew passes though checks/edits_test.sh fails"
 echo rt >"$work/slow"
 begun=$(date +%s)
 ! tried && [ $(($(date +%s) - begun)) -lt 60 ] || fails "bin/test goes on with rt ci though checks/edits_test.sh failed beside it"
 rm "$work/failing"
 for part in checks/edits_test.sh checks/edits.sh rt checks/c.sh checks/recovery.sh; do
     echo "$part" >"$work/slow"
-    (cd "$work/copy" && PATH=$work/tools:$PATH exec setsid bin/test) >"$work/output" 2>&1 &
+    rm -rf "$work/home"
+    (cd "$work/copy" && HOME=$work/home PATH=$work/tools:$PATH exec setsid bin/test) >"$work/output" 2>&1 &
     group=$!
     for _ in $(seq 100); do
         sleep 0.1
