@@ -1553,7 +1553,7 @@ struct bsonraw_buffer {
 };
 
 /* Begins a document, in memory of malloc, or of the caller's function; or once more in the memory that the buffer has. Free gives the
- * memory back; a buffer that is all 0 has none. */
+ * memory back, and leaves a buffer that is all 0, as no call has begun it: other calls refuse that with BSONRAW_BAD_OFFSET. */
 int32_t bsonraw_buffer_init(struct bsonraw_buffer *buffer);
 int32_t bsonraw_buffer_init_with(struct bsonraw_buffer *buffer, void *(*resize)(void *context, void *memory, size_t size), void *context);
 int32_t bsonraw_buffer_reset(struct bsonraw_buffer *buffer);

@@ -894,6 +894,7 @@ static int reserve(struct bsonraw_buffer *buffer, size_t more) {
     size_t len = buffer->level.len, wanted = more < LONGEST - len ? len + more : LONGEST, room;
     uint8_t *bytes;
     if (wanted <= buffer->room) return 1;
+    if (buffer->resize == NULL) return take(buffer, BSONRAW_BAD_OFFSET), 0; /* no call has begun it */
     room = buffer->room < LONGEST / 2 ? 2 * buffer->room : LONGEST;
     if (room < wanted) room = wanted;
     if (room < 256) room = 256;
@@ -920,7 +921,8 @@ int32_t bsonraw_buffer_init(struct bsonraw_buffer *buffer) {
 }
 
 int32_t bsonraw_buffer_reset(struct bsonraw_buffer *buffer) {
-    if (buffer == NULL || buffer->resize == NULL) return BSONRAW_NULL;
+    if (buffer == NULL) return BSONRAW_NULL;
+    if (buffer->resize == NULL) return buffer->status == BSONRAW_OK ? take(buffer, BSONRAW_BAD_OFFSET) : buffer->status;
     buffer->len = buffer->depth = buffer->is_ended = 0;
     buffer->status = BSONRAW_OK;
     memset(&buffer->level, 0, sizeof buffer->level);
@@ -940,6 +942,7 @@ static int reserve_level(struct bsonraw_buffer *buffer) {
     struct bsonraw_builder *levels;
     size_t room = buffer->levels_room < 8 ? 16 : 2 * buffer->levels_room;
     if (buffer->depth < buffer->levels_room) return 1;
+    if (buffer->resize == NULL) return take(buffer, BSONRAW_BAD_OFFSET), 0;
     levels = buffer->resize(buffer->context, buffer->levels, room * sizeof *levels);
     if (levels == NULL) {
         take(buffer, BSONRAW_NO_MEMORY);

@@ -372,6 +372,28 @@ static void look_at_buffers(void) {
     bsonraw_buffer_free(&b);
 }
 
+/* A buffer that is all 0, or was freed, refuses each call. */
+static void look_at_no_buffer(void) {
+    static const struct bsonraw_buffer none;
+    struct bsonraw_buffer b;
+    int call;
+    for (call = 0; call < 8; call++) {
+        b = none;
+        if (call % 2) bsonraw_buffer_init(&b), bsonraw_buffer_free(&b);
+        switch (call / 2) {
+        case 0: bsonraw_buffer_int32(&b, "a", 1); break;
+        case 1: bsonraw_buffer_begin_array(&b, "a"); break;
+        case 2: bsonraw_buffer_concat(&b, SAMPLE); break;
+        default: bsonraw_buffer_reset(&b); break;
+        }
+        is(b.status, BSONRAW_BAD_OFFSET, "no buffer");
+        is(bsonraw_buffer_end(&b), BSONRAW_BAD_OFFSET, "no buffer");
+        bsonraw_buffer_free(&b);
+        is(bsonraw_buffer_init(&b), BSONRAW_OK, "one that begins");
+        bsonraw_buffer_free(&b);
+    }
+}
+
 #define TEXT 24
 
 /* A text of some bytes, which may not be UTF-8. */
@@ -583,6 +605,7 @@ int main(void) {
     look_at_many(&all);
     look_at_edges();
     look_at_buffers();
+    look_at_no_buffer();
     look_at_kinds();
     look_at_any();
     look_at_copies();
