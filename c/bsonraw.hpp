@@ -7,7 +7,10 @@
 #include <bsonraw.h>
 
 #include <array>
+#include <cstddef>
 #include <cstring>
+#include <iterator>
+#include <limits>
 #include <string>
 #include <string_view>
 #include <type_traits>
@@ -24,7 +27,9 @@ public:
     explicit operator bool() const noexcept { return status_ == BSONRAW_OK; }
     int32_t status() const noexcept { return status_; }
     const char *text() const noexcept { return bsonraw_status_text(status_); }
-    const T &operator*() const noexcept { return value_; }
+    // A result that is kept shows its value; one that isn't gives it away, as to a loop over what a call returns.
+    const T &operator*() const & noexcept { return value_; }
+    T operator*() && { return std::move(value_); }
     const T *operator->() const noexcept { return &value_; }
     T value_or(T other) const { return *this ? value_ : other; }
 
@@ -62,10 +67,10 @@ public:
         bsonraw_report report = {};
         int32_t status = BSONRAW_SMALL_BUFFER;
         for (int turn = 0; turn < 2 && status == BSONRAW_SMALL_BUFFER; turn++) {
-            text.resize(text.size() + static_cast<size_t>(report.count));
+            text.resize(text.size() + report.count);
             status = bsonraw_iter_json(&it_, bytes_, len_, max_depth, canonical, indented, text.data(), text.size(), &report);
         }
-        text.resize(status == BSONRAW_OK ? static_cast<size_t>(report.count) : 0);
+        text.resize(status == BSONRAW_OK ? report.count : 0);
         return {status, std::move(text)};
     }
     // The value where it is of the kind of T: int32_t, int64_t (an int32 too), double (an int32 or an int64 too), bool, std::string_view,
@@ -80,11 +85,18 @@ private:
     int32_t status_ = BSONRAW_NONE;
 };
 
-// The bytes of a document, whatever they are, which somebody else owns.
+// The bytes of a document, or of an array that was taken from one, whatever they are, which somebody else owns. json prints an array's
+// elements as those of a document; that of its element prints an array.
 class view {
 public:
     class iterator {
     public:
+        using iterator_category = std::input_iterator_tag;
+        using value_type = element;
+        using difference_type = std::ptrdiff_t;
+        using pointer = void;
+        using reference = element;
+
         iterator() = default;
         iterator(const uint8_t *bytes, size_t len) : bytes_(bytes), len_(len), status_(bsonraw_iter_init(&it_, bytes, len)) {
             if (status_ == BSONRAW_OK) step();
@@ -95,7 +107,17 @@ public:
             else status_ = BSONRAW_NONE;
             return *this;
         }
-        bool operator!=(const iterator &other) const noexcept { return status_ != other.status_; } // that of the end is BSONRAW_NONE
+        iterator operator++(int) noexcept {
+            iterator before = *this;
+            ++*this;
+            return before;
+        }
+        bool operator==(const iterator &other) const noexcept {
+            if (status_ == BSONRAW_NONE || other.status_ == BSONRAW_NONE) return status_ == other.status_; // the end
+            return bytes_ == other.bytes_ && it_.next == other.it_.next && status_ == other.status_;
+        }
+        bool operator!=(const iterator &other) const noexcept { return !(*this == other); }
+
     private:
         void step() noexcept { status_ = bsonraw_iter_next(&it_, bytes_, len_); }
         const uint8_t *bytes_ = nullptr;
@@ -105,11 +127,12 @@ public:
     };
 
     view() = default;
-    view(const uint8_t *data, size_t size) noexcept : data_(data), size_(size) {}
+    view(const uint8_t *data, size_t size, uint32_t tag = BSONRAW_TAG_DOCUMENT) noexcept : data_(data), size_(size), tag_(tag) {}
     view(const std::vector<uint8_t> &bytes) noexcept : view(bytes.data(), bytes.size()) {}
     explicit view(std::string_view bytes) noexcept : view(reinterpret_cast<const uint8_t *>(bytes.data()), bytes.size()) {}
     const uint8_t *data() const noexcept { return data_; }
     size_t size() const noexcept { return size_; }
+    uint32_t tag() const noexcept { return tag_; } // BSONRAW_TAG_DOCUMENT or BSONRAW_TAG_ARRAY
 
     // The elements; of a stop, or where the bytes are no document, the last one has its status.
     iterator begin() const noexcept { return {data_, size_}; }
@@ -155,14 +178,15 @@ private:
         bsonraw_report report = {};
         int32_t status = call(reinterpret_cast<uint8_t *>(room.data()), room.size(), &report);
         if (status == BSONRAW_SMALL_BUFFER) {
-            room.resize(static_cast<size_t>(report.count) + behind);
+            room.resize(report.count + behind);
             status = call(reinterpret_cast<uint8_t *>(room.data()), room.size(), &report);
         }
-        room.resize(status == BSONRAW_OK ? static_cast<size_t>(report.count) : 0);
+        room.resize(status == BSONRAW_OK ? report.count : 0);
         return {status, std::move(room)};
     }
     const uint8_t *data_ = nullptr;
     size_t size_ = 0;
+    uint32_t tag_ = BSONRAW_TAG_DOCUMENT;
 };
 
 template <class T>
@@ -201,14 +225,26 @@ result<T> element::as() const {
         size_t size;
         status = bsonraw_iter_document(&it_, bytes_, len_, &part, &size);
         if (status == BSONRAW_OTHER_KIND) status = bsonraw_iter_array(&it_, bytes_, len_, &part, &size);
-        return {status, view(part, size)};
+        return {status, view(part, size, it_.tag == BSONRAW_TAG_ARRAY ? BSONRAW_TAG_ARRAY : BSONRAW_TAG_DOCUMENT)};
     }
 }
 
-// A document that is built, and its memory. A status sticks: one look at the end is enough. A key is nullptr in an array.
+// A key, which a 0 ends: nullptr in an array. A text with a 0 in it is none, and stands for one that is refused with BSONRAW_FAULT.
+class key_text {
+public:
+    key_text(const char *text) noexcept : text_(text) {}
+    key_text(const std::string &text) noexcept : text_(text.find('\0') == std::string::npos ? text.c_str() : "\xff") {}
+    const char *text() const noexcept { return text_; }
+
+private:
+    const char *text_;
+};
+
+// A document that is built, and its memory. A status sticks: one look at the end is enough. A key is nullptr in an array. A buffer that was
+// moved from refuses what is appended with BSONRAW_BAD_OFFSET, up to reset.
 class buffer {
 public:
-    buffer() noexcept { (void)bsonraw_buffer_init(&buffer_); }
+    buffer() noexcept : buffer_() { (void)bsonraw_buffer_init(&buffer_); }
     ~buffer() { bsonraw_buffer_free(&buffer_); }
     buffer(buffer &&other) noexcept : buffer_(std::exchange(other.buffer_, bsonraw_buffer())) {}
     buffer &operator=(buffer &&other) noexcept {
@@ -218,30 +254,46 @@ public:
     buffer(const buffer &) = delete;
     buffer &operator=(const buffer &) = delete;
 
-    buffer &append(const char *key, int32_t number) noexcept { return said(bsonraw_buffer_int32(&buffer_, key, number)); }
-    buffer &append(const char *key, int64_t number) noexcept { return said(bsonraw_buffer_int64(&buffer_, key, number)); }
-    buffer &append(const char *key, double number) noexcept { return said(bsonraw_buffer_double(&buffer_, key, number)); }
-    buffer &append(const char *key, bool is_true) noexcept { return said(bsonraw_buffer_bool(&buffer_, key, is_true)); }
-    buffer &append(const char *key, std::nullptr_t) noexcept { return said(bsonraw_buffer_null(&buffer_, key)); }
-    buffer &append(const char *key, const char *text) noexcept { return said(bsonraw_buffer_utf8(&buffer_, key, text)); }
-    buffer &append(const char *key, std::string_view text) noexcept {
-        return said(bsonraw_buffer_text(&buffer_, key, text.data(), text.size()));
+    // An integer is an int32 where its type has at most 32 bits with a sign, and else an int64; one that no int64 is, is refused with
+    // BSONRAW_OTHER_KIND. Of pointers only a text is taken.
+    buffer &append(key_text key, int32_t number) noexcept { return said(bsonraw_buffer_int32(&buffer_, key.text(), number)); }
+    buffer &append(key_text key, int64_t number) noexcept { return said(bsonraw_buffer_int64(&buffer_, key.text(), number)); }
+    template <class T, std::enable_if_t<std::is_integral_v<T> && !std::is_same_v<T, bool>, int> = 0>
+    buffer &append(key_text key, T number) noexcept {
+        using kind = std::conditional_t<std::numeric_limits<T>::digits <= 31, int32_t, int64_t>;
+        if constexpr (std::numeric_limits<T>::digits > 63)
+            if (number > static_cast<T>(std::numeric_limits<int64_t>::max()))
+                return said(bsonraw_buffer_append(&buffer_, BSONRAW_TAG_INT64, key.text(), nullptr, 0, nullptr, 0));
+        return append(key, static_cast<kind>(number));
     }
-    buffer &append(const char *key, const oid &id) noexcept { return said(bsonraw_buffer_oid(&buffer_, key, id.data())); }
-    buffer &append(const char *key, view document) noexcept {
-        return said(bsonraw_buffer_document(&buffer_, key, document.data(), document.size()));
+    template <class T, std::enable_if_t<std::is_same_v<T, bool>, int> = 0>
+    buffer &append(key_text key, T is_true) noexcept { return said(bsonraw_buffer_bool(&buffer_, key.text(), is_true)); }
+    buffer &append(key_text key, double number) noexcept { return said(bsonraw_buffer_double(&buffer_, key.text(), number)); }
+    buffer &append(key_text key, std::nullptr_t) noexcept { return said(bsonraw_buffer_null(&buffer_, key.text())); }
+    buffer &append(key_text key, const char *text) noexcept { return said(bsonraw_buffer_utf8(&buffer_, key.text(), text)); }
+    buffer &append(key_text key, std::string_view text) noexcept {
+        return said(bsonraw_buffer_text(&buffer_, key.text(), text.data(), text.size()));
+    }
+    buffer &append(key_text key, const oid &id) noexcept { return said(bsonraw_buffer_oid(&buffer_, key.text(), id.data())); }
+    // A document; or an array, as the view has it.
+    buffer &append(key_text key, view part) noexcept {
+        if (part.tag() == BSONRAW_TAG_ARRAY) return said(bsonraw_buffer_array(&buffer_, key.text(), part.data(), part.size()));
+        return said(bsonraw_buffer_document(&buffer_, key.text(), part.data(), part.size()));
     }
     buffer &append(const element &e) noexcept { return said(bsonraw_buffer_iter(&buffer_, &e.iter(), e.bytes(), e.len())); }
-    buffer &append_date_time(const char *key, int64_t millis) noexcept { return said(bsonraw_buffer_date_time(&buffer_, key, millis)); }
-    buffer &append_binary(const char *key, uint8_t subtype, const void *data, size_t size) noexcept {
-        return said(bsonraw_buffer_binary(&buffer_, key, subtype, data, size));
+    buffer &append_date_time(key_text key, int64_t millis) noexcept { return said(bsonraw_buffer_date_time(&buffer_, key.text(), millis)); }
+    buffer &append_binary(key_text key, uint8_t subtype, const void *data, size_t size) noexcept {
+        return said(bsonraw_buffer_binary(&buffer_, key.text(), subtype, data, size));
     }
     buffer &concat(view document) noexcept { return said(bsonraw_buffer_concat(&buffer_, document.data(), document.size())); }
-    buffer &begin_document(const char *key) noexcept { return said(bsonraw_buffer_begin_document(&buffer_, key)); }
-    buffer &begin_array(const char *key) noexcept { return said(bsonraw_buffer_begin_array(&buffer_, key)); }
+    buffer &begin_document(key_text key) noexcept { return said(bsonraw_buffer_begin_document(&buffer_, key.text())); }
+    buffer &begin_array(key_text key) noexcept { return said(bsonraw_buffer_begin_array(&buffer_, key.text())); }
     // Ends the innermost level, or the document.
     buffer &end() noexcept { return said(bsonraw_buffer_end(&buffer_)); }
-    buffer &reset() noexcept { return said(bsonraw_buffer_reset(&buffer_)); }
+    // Begins another document, in the same memory if there is some.
+    buffer &reset() noexcept {
+        return said(buffer_.resize == nullptr ? bsonraw_buffer_init(&buffer_) : bsonraw_buffer_reset(&buffer_));
+    }
 
     int32_t status() const noexcept { return buffer_.status; }
     // The document, once it is ended.

@@ -546,7 +546,7 @@ use_machine() {
     [ "$("$work/machine" <"$work/greeting")" = "02 hi" ] || fails "the greeting's elements aren't printed from C++"
     for standard in c++17 c++20; do
         # shellcheck disable=SC2086
-        c++ -std=$standard -Wall -Wextra -Wconversion -Wold-style-cast -Werror -O1 -o "$work/machine" c/tests/hpp.cpp $flags &&
+        c++ -std=$standard -Wall -Wextra -Wconversion -Wold-style-cast -Weffc++ -Werror -O1 -o "$work/machine" c/tests/hpp.cpp $flags &&
             "$work/machine" || fails "bsonraw.hpp: its test doesn't pass as $standard"
     done
 }

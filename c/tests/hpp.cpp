@@ -1,13 +1,25 @@
 // bsonraw.hpp: views, elements, results and the buffer, beside a document written by hand.
 #include <bsonraw.hpp>
 
+#include <algorithm>
 #include <cstdio>
+#include <limits>
 
 static int wrong;
 
 static void expect(bool is_so, const char *what) {
     if (!is_so) wrong++, std::fprintf(stderr, "hpp: %s\n", what);
 }
+
+// Whether a buffer takes a value of this type.
+template <class T, class = void>
+struct takes : std::false_type {};
+template <class T>
+struct takes<T, std::void_t<decltype(std::declval<bsonraw::buffer &>().append("k", std::declval<T>()))>> : std::true_type {};
+
+static_assert(takes<bool>::value && takes<const char *>::value && takes<char *>::value && takes<std::string>::value && takes<std::nullptr_t>::value);
+static_assert(takes<char>::value && takes<unsigned short>::value && takes<unsigned long>::value && takes<long long>::value && takes<float>::value);
+static_assert(!takes<const unsigned char *>::value && !takes<void *>::value && !takes<int *>::value && !takes<std::vector<bool>>::value);
 
 // {"a": 7, "l": [true, "x"], "n": {"i": an ObjectId}}
 static const unsigned char sample[] = "\70\0\0\0\20a\0\7\0\0\0\4l\0\22\0\0\0\0100\0\1\0021\0\2\0\0\0x\0\0\3n\0\24\0\0\0\7i\0abcdefghijkl\0";
@@ -41,6 +53,16 @@ int main() {
     expect(*(*doc.find("l")).json() == "[true,\"x\"]" && *(*doc.find("l.0")).json() == "true", "the text of l");
     expect(*(*doc.find("n")).json(true, true) == "{\n  \"i\": {\"$oid\":\"6162636465666768696a6b6c\"}\n}", "the text of n");
     expect(*doc.canonical() == std::vector<uint8_t>(sample, sample + sizeof sample), "a form");
+    keys.clear();
+    for (auto e : *doc.get<bsonraw::view>("l")) keys += e.key();
+    for (const auto &e : *b.document()) keys += e.key();
+    expect(keys == "01aln", "the keys of what a call returns");
+    const std::string &kept = *doc.json();
+    expect(kept == doc.json().value_or("") && kept.size() > 60, "a text that a call returns");
+    expect(std::distance(doc.begin(), doc.end()) == 3 && std::distance(list->begin(), list->end()) == 2, "how many there are");
+    expect(std::find_if(doc.begin(), doc.end(), [](const bsonraw::element &e) { return e.key() == "n"; }) != doc.end(), "an element by its key");
+    auto here = doc.begin(), before = here++;
+    expect(before == doc.begin() && here != before && (*before).key() == "a" && (*here).key() == "l" && ++before == here, "two places");
     int stops = 0, steps = 0;
     for (auto e : bsonraw::view(reinterpret_cast<const uint8_t *>("\11\0\0\0\12x\0\5"), 9))
         steps++, stops += e.status() == BSONRAW_FAULT && e.error().kind == BSONRAW_MALFORMED && e.error().offset == 7;
@@ -64,7 +86,21 @@ int main() {
     copy.end();
     bsonraw::buffer moved(std::move(copy));
     expect(moved.document() && moved.document()->size() == sizeof sample && copy.document().status() == BSONRAW_MISUSE, "a copy that was moved");
+    copy.append("x", 1).begin_document("y").end();
+    expect(copy.status() == BSONRAW_BAD_OFFSET && copy.reset().end().document(), "a buffer that was moved from");
+    copy.reset().append("d", doc).append("l", *list).append("e", *doc.get<bsonraw::view>("n")).end();
+    expect(list->tag() == BSONRAW_TAG_ARRAY && doc.tag() == BSONRAW_TAG_DOCUMENT && copy.document()->get<bsonraw::view>("l")->tag() == BSONRAW_TAG_ARRAY &&
+               copy.document()->get<bsonraw::view>("e")->tag() == BSONRAW_TAG_DOCUMENT && copy.document()->json()->find("\"l\":[true,\"x\"],\"e\":{\"i\"") != std::string::npos,
+           "an array");
+    copy.reset().append(std::string("i"), short{-1}).append("u", 4000000000u).append("z", sizeof sample).append("n", -5LL).append("f", 2.5f).end();
+    expect(copy.document()->json(true)->find("{\"i\":{\"$numberInt\":\"-1\"},\"u\":{\"$numberLong\":\"4000000000\"},\"z\":{\"$numberLong\":\"56\"},"
+                                             "\"n\":{\"$numberLong\":\"-5\"},\"f\":{\"$numberDouble\":\"2.5\"}") == 0,
+           "numbers of each type");
+    expect(copy.reset().append("m", std::numeric_limits<uint64_t>::max() / 2).status() == BSONRAW_OK, "the greatest int64");
+    expect(copy.append("m", std::numeric_limits<uint64_t>::max() / 2 + 1).status() == BSONRAW_OTHER_KIND, "a number that no int64 is");
+    expect(copy.reset().append(std::string("a\0b", 3), 1).status() == BSONRAW_FAULT, "a key with a 0");
     copy = std::move(moved);
+    expect(copy.document() && copy.document()->size() == sizeof sample, "a buffer that was moved to");
     copy.reset().append("x", std::string_view("\xff")).end();
     expect(copy.status() == BSONRAW_FAULT && std::string_view(copy.document().text()) == "a fault", "a text that isn't UTF-8");
     std::printf("hpp: %d wrong\n", wrong);
