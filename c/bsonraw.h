@@ -657,7 +657,8 @@ BSONRAW_USE BSONRAW_INLINE int32_t bsonraw_iter_regex(const struct bsonraw_iter 
  * own, which grows. A call returns builder->status, and bsonraw_append_begin level->status, which the builder takes over:
  *   - BSONRAW_OK: what was appended so far is in the room.
  *   - BSONRAW_SMALL_BUFFER: the room is too small. Later calls go on to count, so that in the end len says how many bytes
- *     are wanted. They do so with no room at all, too.
+ *     are wanted. They do so with no room at all, too. What bsonraw_append_cancel takes back isn't wanted: it returns BSONRAW_OK,
+ *     whether the rest fits or not, and the next call says that.
  *   - Anything else: the first call that was refused, and why. Later calls change nothing, and count is the number of the element
  *     that was refused, from 0, in its level.
  * So one look at the end is enough. Refused are, in this order: NULL with a length (BSONRAW_NULL); an append to a builder in which a
@@ -696,8 +697,8 @@ BSONRAW_USE int32_t bsonraw_builder_end(struct bsonraw_builder *builder, uint8_t
 
 /* Begins a document or an array in another one, and ends it. Between the two its elements are appended to a builder of its
  * own, and none to the builder around it. bsonraw_append_cancel takes back a level that is open, with all that is in it: the builder
- * around it goes on as if it had never been begun, but for a status that the level has. bsonraw_append_document_begin and
- * bsonraw_append_array_begin give the tag.
+ * around it goes on as if it had never been begun, unless the level was refused something, which the builder takes over.
+ * bsonraw_append_document_begin and bsonraw_append_array_begin give the tag. Each of these calls writes to both builders.
  *
  *     uint8_t room[64];
  *     struct bsonraw_builder b, list;
@@ -708,10 +709,9 @@ BSONRAW_USE int32_t bsonraw_builder_end(struct bsonraw_builder *builder, uint8_t
  *     bsonraw_append_end(&b, room, sizeof room, &list);
  *     if (bsonraw_builder_end(&b, room, sizeof room) == BSONRAW_OK) fwrite(room, 1, b.len, stdout);
  */
-int32_t bsonraw_append_begin(const struct bsonraw_builder *builder, uint8_t *room, size_t room_len, uint32_t tag,
+int32_t bsonraw_append_begin(struct bsonraw_builder *builder, uint8_t *room, size_t room_len, uint32_t tag,
                              const uint8_t *key, size_t key_len, struct bsonraw_builder *level);
-int32_t bsonraw_append_end(struct bsonraw_builder *builder, uint8_t *room, size_t room_len,
-                           const struct bsonraw_builder *level);
+int32_t bsonraw_append_end(struct bsonraw_builder *builder, uint8_t *room, size_t room_len, struct bsonraw_builder *level);
 
 /* Appends the element that a cursor is at, as it is: its value isn't looked at. So a code with scope that says it has under
  * 4 bytes is copied, too: it takes in bytes of what is appended behind it, and may be read as something else there.
@@ -759,7 +759,7 @@ BSONRAW_INLINE int32_t bsonraw_append_cancel(struct bsonraw_builder *builder, st
     if (!builder) return BSONRAW_NULL;
     if (!level) return bsonraw_refuse(builder, BSONRAW_NULL);
     if (level->status < 0 || !bsonraw_is_open(builder, level)) return bsonraw_refuse(builder, BSONRAW_MISUSE);
-    builder->status = level->status;
+    builder->status = level->status == BSONRAW_SMALL_BUFFER ? BSONRAW_OK : level->status;
     level->begins = level->len;
     return builder->status;
 }

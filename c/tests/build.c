@@ -109,14 +109,12 @@ static void long_array(uint8_t *to, size_t len) {
     said(bsonraw_append_end(&b, to, len, &list));
 }
 
-/* {"a": 1}, and a level that is taken back; what it wants of a room sticks, so that it is begun in ample ones alone */
+/* {"a": 1}, and a level that is taken back, whether it fits or not */
 static void left_level(uint8_t *to, size_t len) {
     struct bsonraw_builder lost;
-    if (len == LARGE) {
-        bsonraw_append_document_begin(&b, to, len, BSONRAW_KEY("lost"), &lost);
-        bsonraw_append_null(&lost, to, len, BSONRAW_KEY("x"));
-        bsonraw_append_cancel(&b, &lost);
-    }
+    bsonraw_append_document_begin(&b, to, len, BSONRAW_KEY("lost"), &lost);
+    bsonraw_append_null(&lost, to, len, BSONRAW_KEY("x"));
+    said(bsonraw_append_cancel(&b, &lost));
     said(bsonraw_append_int32(&b, to, len, BSONRAW_KEY("a"), 1));
 }
 

@@ -188,10 +188,9 @@ int32_t right_append(struct bsonraw_builder *builder, uint8_t *room, size_t room
                      size_t key_len, const uint8_t *one, size_t one_len, const uint8_t *two, size_t two_len);
 int32_t right_append_iter(struct bsonraw_builder *builder, uint8_t *room, size_t room_len, const struct bsonraw_iter *iter,
                           const uint8_t *bytes, size_t len);
-int32_t right_append_begin(const struct bsonraw_builder *builder, uint8_t *room, size_t room_len, uint32_t tag,
+int32_t right_append_begin(struct bsonraw_builder *builder, uint8_t *room, size_t room_len, uint32_t tag,
                            const uint8_t *key, size_t key_len, struct bsonraw_builder *level);
-int32_t right_append_end(struct bsonraw_builder *builder, uint8_t *room, size_t room_len,
-                         const struct bsonraw_builder *level);
+int32_t right_append_end(struct bsonraw_builder *builder, uint8_t *room, size_t room_len, struct bsonraw_builder *level);
 
 /* 29: no document is begun where there is no room for its length. */
 int32_t bsonraw_builder_begin(struct bsonraw_builder *builder, uint8_t *room, size_t room_len) {
@@ -224,7 +223,7 @@ int32_t bsonraw_append_iter(struct bsonraw_builder *builder, uint8_t *room, size
 }
 
 /* 17: an array is begun as a document. */
-int32_t bsonraw_append_begin(const struct bsonraw_builder *builder, uint8_t *room, size_t room_len, uint32_t tag,
+int32_t bsonraw_append_begin(struct bsonraw_builder *builder, uint8_t *room, size_t room_len, uint32_t tag,
                              const uint8_t *key, size_t key_len, struct bsonraw_builder *level) {
     int32_t status = right_append_begin(builder, room, room_len, tag, key, key_len, level);
     if (MISTAKE == 17 && tag == BSONRAW_TAG_ARRAY) level->tag = BSONRAW_TAG_DOCUMENT;
@@ -232,8 +231,7 @@ int32_t bsonraw_append_begin(const struct bsonraw_builder *builder, uint8_t *roo
 }
 
 /* 31: a level that didn't fit isn't counted. */
-int32_t bsonraw_append_end(struct bsonraw_builder *builder, uint8_t *room, size_t room_len,
-                           const struct bsonraw_builder *level) {
+int32_t bsonraw_append_end(struct bsonraw_builder *builder, uint8_t *room, size_t room_len, struct bsonraw_builder *level) {
     struct bsonraw_builder before = *builder;
     int32_t status = right_append_end(builder, room, room_len, level);
     if (MISTAKE == 31 && status == BSONRAW_SMALL_BUFFER) before.status = status, *builder = before;
