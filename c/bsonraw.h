@@ -44,7 +44,8 @@ enum bsonraw_status {
     BSONRAW_NO_MEMORY = 10,     /* memory was refused */
     BSONRAW_OTHER_KIND = 11,    /* the element is of another kind. Of a builder: the parts aren't those of the kind */
     BSONRAW_NULL = 12,          /* NULL with a length, or for what is needed */
-    BSONRAW_MISUSE = 13,        /* of a builder: a level is open in it, or the level that is ended isn't the one that is open in it */
+    BSONRAW_MISUSE = 13,        /* a call out of turn. Of a builder: a level is open in it, or the level that is ended isn't the one that is
+                                   open in it. Of a buffer: the document has been ended */
     BSONRAW_CUT = 14,           /* a file ends within a document */
     BSONRAW_NOT_READ = 15       /* a file couldn't be read, and errno says why */
 };
@@ -1453,7 +1454,7 @@ BSONRAW_USE int32_t bsonraw_get_document(const uint8_t *bytes, size_t len, const
 BSONRAW_USE int32_t bsonraw_get_array(const uint8_t *bytes, size_t len, const char *path, const uint8_t **array, size_t *array_len);
 
 /* Several paths in one walk: each field gets the value and the status that bsonraw_get_value gives of its path. BSONRAW_OK where each
- * has a value; else the status of the first that has none. BSONRAW_FIELD makes a field of a path; the same fields do for each
+ * has a value; else the status of the first that has none. With NULL for the bytes each gets BSONRAW_NULL. BSONRAW_FIELD makes a field of a path; the same fields do for each
  * document. A walk takes 16 fields.
  *
  *     struct bsonraw_field f[] = {BSONRAW_FIELD("name"), BSONRAW_FIELD("born")};
@@ -1470,11 +1471,11 @@ struct bsonraw_field {
     uint64_t mark;     /* its first eight bytes */
 };
 
-#define BSONRAW_FIELD(path) {path, {0, 0, 0, 0, 0, 0, 0, 0, 0, 0, {0, 0, 0, 0, 0}}, 0, 0, 0, 0, 0}
+#define BSONRAW_FIELD(path) {path, {0, 0, 0, 0, 0, 0, 0, 0, 0, 0, {0, 0, 0, 0, 0}}, BSONRAW_NONE, 0, 0, 0, 0}
 
-int32_t bsonraw_find_many(const uint8_t *bytes, size_t len, struct bsonraw_field *fields, size_t count);
+BSONRAW_USE int32_t bsonraw_find_many(const uint8_t *bytes, size_t len, struct bsonraw_field *fields, size_t count);
 
-/* Whether a path leads to an element: BSONRAW_OK or BSONRAW_NONE; the others as bsonraw_get. */
+/* Whether a path leads to an element: 1, or 0. Why it doesn't, bsonraw_get says. */
 BSONRAW_USE int32_t bsonraw_has_key(const uint8_t *bytes, size_t len, const char *path);
 
 /* How many elements a document has at its own level; with BSONRAW_FAULT those before the stop. */
@@ -1583,7 +1584,7 @@ int32_t bsonraw_buffer_document(struct bsonraw_buffer *buffer, const char *key, 
 int32_t bsonraw_buffer_array(struct bsonraw_buffer *buffer, const char *key, const uint8_t *array, size_t array_len);
 int32_t bsonraw_buffer_iter(struct bsonraw_buffer *buffer, const struct bsonraw_iter *iter, const uint8_t *bytes, size_t len);
 
-/* Append the elements of a document, as they are: all; all but those with these keys; or all with another document laid over them: a
+/* Append the elements of a document, as they are: all; all but those with these keys, of which none is NULL; or all with another document laid over them: a
  * key that is there gets the other's value in its place, and the other's new keys follow. A stop, or bytes that are no document, are
  * BSONRAW_FAULT or BSONRAW_NO_DOCUMENT, and stick. The last one takes as many steps as there are pairs of elements. */
 int32_t bsonraw_buffer_concat(struct bsonraw_buffer *buffer, const uint8_t *bytes, size_t len);
@@ -1594,12 +1595,13 @@ int32_t bsonraw_buffer_copy_with(struct bsonraw_buffer *buffer, const uint8_t *b
 /* ---- documents from a file ---- */
 
 /* Documents one behind the other from a file descriptor or a FILE, of which one is in memory at a time. With BSONRAW_OK it is len
- * bytes at bytes, up to the next call; offset is where it begins in the file. BSONRAW_NONE at the end. BSONRAW_NO_DOCUMENT, and error
- * says why: where the last byte isn't 0 (BSONRAW_NOT_TERMINATED), the bytes are there, and the next call goes on behind them; where
+ * bytes at bytes, up to the next call; offset is where it begins, as error.offset from where the stream began to read, which needn't be
+ * the file's first byte. BSONRAW_NONE at the end. BSONRAW_NO_DOCUMENT, and error says why: where the last byte isn't 0 (BSONRAW_NOT_TERMINATED), the bytes are there, and the next call goes on behind them; where
  * the length is under 5 or negative (BSONRAW_LENGTH_INCORRECT), nothing says where the next one begins. BSONRAW_CUT where the file
  * ends within a document, of which len bytes are there; BSONRAW_TOO_MANY_BYTES where the length is over max_bytes, which is
- * 2147483647 unless it is set; BSONRAW_NO_MEMORY; BSONRAW_NOT_READ. After any of these but the first two the next call returns the
- * same. Others who read the file don't see what was read ahead of a document. The file isn't closed.
+ * 2147483647 unless it is set; BSONRAW_NO_MEMORY; BSONRAW_NOT_READ. The next call goes on after
+ * BSONRAW_OK and BSONRAW_NOT_TERMINATED. After BSONRAW_NOT_READ it reads on from where that stopped, as where errno was EAGAIN; of a FILE
+ * once clearerr was called. After any other status it returns the same. Others who read the file don't see what was read ahead of a document. The file isn't closed.
  *
  *     struct bsonraw_stream s;
  *     int32_t status = bsonraw_stream_from_file(&s, stdin);

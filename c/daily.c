@@ -19,7 +19,7 @@ const char *bsonraw_status_text(int32_t status) {
     static const char *const texts[] = {
         "done", "no more", "a fault", "not canonical", "no document", "too many bytes", "too deep",
         "a document would be too long", "the room is too small", "no place in the bytes", "not enough memory", "another kind",
-        "NULL", "another level is open", "cut off", "the file can't be read",
+        "NULL", "a call out of turn", "cut off", "the file can't be read",
     };
     if (status < 0) return "a level is open";
     return (size_t)status < sizeof texts / sizeof *texts ? texts[status] : "no status";
@@ -187,7 +187,7 @@ int32_t bsonraw_get_value(const uint8_t *bytes, size_t len, const char *path, st
 
 int32_t bsonraw_has_key(const uint8_t *bytes, size_t len, const char *path) {
     struct bsonraw_iter it;
-    return bsonraw_get(bytes, len, path, &it);
+    return bsonraw_get(bytes, len, path, &it) == BSONRAW_OK;
 }
 
 /* ---- several paths in one walk ---- */
@@ -453,7 +453,11 @@ static void find_group(const struct search *s) {
 int32_t bsonraw_find_many(const uint8_t *bytes, size_t len, struct bsonraw_field *fields, size_t count) {
     struct search s;
     size_t at;
-    if (BSONRAW_LACKS(bytes, len) || BSONRAW_LACKS(fields, count)) return BSONRAW_NULL;
+    if (BSONRAW_LACKS(fields, count)) return BSONRAW_NULL;
+    if (BSONRAW_LACKS(bytes, len)) {
+        for (at = 0; at < count; at++) memset(&fields[at].value, 0, sizeof fields[at].value), end_field(&fields[at], BSONRAW_NULL);
+        return BSONRAW_NULL;
+    }
     s.bytes = bsonraw_some_bytes(bytes), s.len = len;
     for (at = 0; at < count; at += s.count) {
         s.fields = fields + at, s.count = count - at < GROUP ? count - at : GROUP;
@@ -1135,7 +1139,13 @@ struct copied {
 static int has_any(const char *const *keys, size_t count, const uint8_t *key, size_t key_len) {
     size_t at;
     for (at = 0; at < count; at++)
-        if (bsonraw_str_len(keys[at]) == key_len && memcmp(bsonraw_str_bytes(keys[at]), key, key_len) == 0) return 1;
+        if (strlen(keys[at]) == key_len && memcmp(keys[at], key, key_len) == 0) return 1;
+    return 0;
+}
+
+static int has_null(const char *const *keys, size_t count) {
+    while (keys != NULL && count > 0)
+        if (keys[--count] == NULL) return 1;
     return 0;
 }
 
@@ -1155,7 +1165,8 @@ static int32_t copy(struct bsonraw_buffer *buffer, const uint8_t *bytes, size_t 
     int32_t status;
     if (buffer == NULL) return BSONRAW_NULL;
     if (!goes_on(buffer)) return buffer->status;
-    if (BSONRAW_LACKS(bytes, len) || BSONRAW_LACKS(of->without, of->count)) return take(buffer, BSONRAW_NULL);
+    if (BSONRAW_LACKS(bytes, len) || BSONRAW_LACKS(of->without, of->count) || has_null(of->without, of->count))
+        return take(buffer, BSONRAW_NULL);
     status = bsonraw_iter_init(&it, bsonraw_some_bytes(bytes), len);
     while (status == BSONRAW_OK && buffer->status == BSONRAW_OK) {
         status = bsonraw_iter_next(&it, bytes, len);
@@ -1289,7 +1300,8 @@ static int32_t next_document(struct bsonraw_stream *stream) {
 int32_t bsonraw_stream_read(struct bsonraw_stream *stream) {
     static const struct bsonraw_error none;
     if (stream == NULL) return BSONRAW_NULL;
-    if (stream->status != BSONRAW_OK && (stream->status != BSONRAW_NO_DOCUMENT || stream->error.reason != BSONRAW_NOT_TERMINATED))
+    if (stream->status != BSONRAW_OK && stream->status != BSONRAW_NOT_READ &&
+        (stream->status != BSONRAW_NO_DOCUMENT || stream->error.reason != BSONRAW_NOT_TERMINATED))
         return stream->status;
     stream->begins += stream->len;
     stream->offset += stream->len;

@@ -5,6 +5,11 @@
 #include <stdio.h>
 #include <stdlib.h>
 #include <string.h>
+#include <unistd.h>
+
+#define NOT_BLOCKING 2048 /* O_NONBLOCK */
+
+int pipe2(int ends[2], int flags);
 
 /* {"a": 7, "n": {"s": "text", "l": [true, {"d": 1.5}]}, "t": the time 5, "w": 2^40, "i": an ObjectId} */
 static const uint8_t sample[] = "\144\0\0\0\20a\0\7\0\0\0"
@@ -47,6 +52,7 @@ static void look_at_texts(void) {
     char text[64];
     struct bsonraw_report r;
     is_text(bsonraw_status_text(BSONRAW_NONE), "no more");
+    is_text(bsonraw_status_text(BSONRAW_MISUSE), "a call out of turn");
     is_text(bsonraw_status_text(BSONRAW_NOT_READ), "the file can't be read");
     is_text(bsonraw_status_text(16), "no status");
     is_text(bsonraw_status_text(-9), "a level is open");
@@ -117,8 +123,9 @@ static void look_at_values(void) {
     expect(len == 28, "n.l", "another part");
     is(bsonraw_get_value(SAMPLE, "n.l.1.d", &v), BSONRAW_OK, "n.l.1.d");
     expect(v.tag == BSONRAW_TAG_DOUBLE && v.bits == 0x3ff8000000000000, "n.l.1.d", "another value");
-    is(bsonraw_has_key(SAMPLE, "n.l.1"), BSONRAW_OK, "n.l.1");
-    is(bsonraw_has_key(SAMPLE, "n.l.2"), BSONRAW_NONE, "n.l.2");
+    is(bsonraw_has_key(SAMPLE, "n.l.1"), 1, "n.l.1");
+    is(bsonraw_has_key(SAMPLE, "n.l.2") + bsonraw_has_key(SAMPLE, "a.b") + bsonraw_has_key(sample, 4, "a"), 0, "keys that aren't there");
+    is(bsonraw_has_key(NULL, 1, "a") + bsonraw_has_key(SAMPLE, NULL), 0, "NULL");
     is(bsonraw_count(SAMPLE, &count), BSONRAW_OK, "the count");
     is((int64_t)count, 5, "the count");
     is(bsonraw_count((const uint8_t *)"\11\0\0\0\12x\0\5\0", 9, &count), BSONRAW_FAULT, "a count up to a stop");
@@ -251,11 +258,14 @@ static void look_at_edges(void) {
     struct bsonraw_field many[40];
     struct bsonraw_buffer b;
     int32_t i;
+    is(fields[0].status, BSONRAW_NONE, "a field that wasn't looked for");
     is(bsonraw_find_many(SAMPLE, fields, 4), BSONRAW_OK, "four fields");
     expect(fields[0].value.integer == 7 && fields[1].value.integer == 7 && fields[3].value.text_len == 4, "four fields", "another value");
     is(bsonraw_find_many(SAMPLE, fields, 5), BSONRAW_NONE, "five fields");
     is(bsonraw_find_many(SAMPLE, NULL, 0), BSONRAW_OK, "no fields");
     is(bsonraw_find_many(SAMPLE, NULL, 1), BSONRAW_NULL, "fields");
+    is(bsonraw_find_many(NULL, 5, fields, 5), BSONRAW_NULL, "no bytes");
+    for (i = 0; i < 5; i++) expect(fields[i].status == BSONRAW_NULL && fields[i].value.tag == 0, "no bytes", "a field has another status");
     fields[0].path = NULL;
     is(bsonraw_find_many(SAMPLE, fields, 5), BSONRAW_NULL, "a path");
     for (i = 0; i < 40; i++) many[i].path = i % 3 ? "a" : "n.s";
@@ -469,7 +479,7 @@ static void look_at_copies(void) {
     static const uint8_t one[] = "\23\0\0\0\20a\0\1\0\0\0\20b\0\2\0\0\0", two[] = "\20\0\0\0\10b\0\1\20c\0\3\0\0\0";
     static const uint8_t both[] = "\36\0\0\0\20a\0\1\0\0\0\20b\0\2\0\0\0\10b\0\1\20c\0\3\0\0\0";
     static const uint8_t laid[] = "\27\0\0\0\20a\0\1\0\0\0\10b\0\1\20c\0\3\0\0\0";
-    static const char *const keys[] = {"c", "a", "bb", ""};
+    static const char *const keys[] = {"c", "a", "bb", ""}, *const no_keys[] = {"a", NULL};
     struct bsonraw_buffer b;
     bsonraw_buffer_init(&b);
     bsonraw_buffer_concat(&b, one, sizeof one);
@@ -493,6 +503,9 @@ static void look_at_copies(void) {
     bsonraw_buffer_reset(&b);
     bsonraw_buffer_copy_with(&b, one, sizeof one, NULL, 5);
     is(bsonraw_buffer_end(&b), BSONRAW_NULL, "a document of NULL");
+    bsonraw_buffer_reset(&b);
+    bsonraw_buffer_copy_without(&b, both, sizeof both, no_keys, 2);
+    is(bsonraw_buffer_end(&b), BSONRAW_NULL, "a key of NULL");
     bsonraw_buffer_free(&b);
 }
 
@@ -541,6 +554,26 @@ static void ends(const uint8_t *end, size_t len, int32_t status, size_t there, s
         is(bsonraw_stream_read(&s), BSONRAW_NONE, "a stream that was freed");
         fclose(file);
     }
+}
+
+/* A file that has no bytes yet, and is read where it has some. */
+static void look_at_waiting(void) {
+    struct bsonraw_stream s;
+    int ends[2];
+    size_t at;
+    is(pipe2(ends, NOT_BLOCKING), 0, "a pipe");
+    is(bsonraw_stream_from_fd(&s, ends[0]), BSONRAW_OK, "a pipe");
+    for (at = 0; at < sizeof sample; at++) {
+        is(bsonraw_stream_read(&s), BSONRAW_NOT_READ, "a document that isn't there yet");
+        is(write(ends[1], sample + at, 1), 1, "a byte");
+    }
+    is(bsonraw_stream_read(&s), BSONRAW_OK, "a document that came byte by byte");
+    expect(s.len == sizeof sample && memcmp(s.bytes, sample, s.len) == 0 && s.offset == 0, "a document that came byte by byte", "another");
+    is(bsonraw_stream_read(&s), BSONRAW_NOT_READ, "the next one");
+    close(ends[1]);
+    is(bsonraw_stream_read(&s), BSONRAW_NONE, "the end");
+    bsonraw_stream_free(&s);
+    close(ends[0]);
 }
 
 static void look_at_streams(void) {
@@ -610,6 +643,7 @@ int main(void) {
     look_at_any();
     look_at_copies();
     look_at_streams();
+    look_at_waiting();
     look_at_cuts();
     return result("daily");
 }

@@ -6,5 +6,7 @@
 typedef long ssize_t;
 
 ssize_t read(int fd, void *to, size_t len);
+ssize_t write(int fd, const void *from, size_t len);
+int close(int fd);
 
 #endif
