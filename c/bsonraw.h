@@ -121,6 +121,24 @@ enum bsonraw_cause {
 #define BSONRAW_USE
 #endif
 
+/* And GCC, where memory is shorter than the length that is passed with it: of these arguments by their numbers. */
+#if defined(__GNUC__) && !defined(__clang__) && __GNUC__ >= 10
+#define BSONRAW_READS(memory, len) __attribute__((access(read_only, memory, len)))
+#define BSONRAW_WRITES(memory, len) __attribute__((access(write_only, memory, len)))
+#define BSONRAW_CHANGES(memory, len) __attribute__((access(read_write, memory, len)))
+#else
+#define BSONRAW_READS(memory, len)
+#define BSONRAW_WRITES(memory, len)
+#define BSONRAW_CHANGES(memory, len)
+#endif
+
+/* What this points to overlaps nothing else that is passed. */
+#if defined(__GNUC__)
+#define BSONRAW_RESTRICT __restrict
+#else
+#define BSONRAW_RESTRICT
+#endif
+
 #if defined(__cplusplus) || (defined(__STDC_VERSION__) && __STDC_VERSION__ >= 199901L)
 #define BSONRAW_LOCAL static inline
 #elif defined(__GNUC__)
@@ -162,7 +180,7 @@ enum bsonraw_cause {
 #endif
 
 /* A literal as two arguments: a key, a path or a text, and its length. A pointer doesn't compile here: BSONRAW_STR has those. */
-#define BSONRAW_KEY(literal) BSONRAW_BYTES("" literal), sizeof("" literal) - 1
+#define BSONRAW_KEY(literal) BSONRAW_BYTES("" literal ""), sizeof("" literal "") - 1
 
 /* A text that a 0 ends as two arguments; it is looked at twice, and NULL is an empty text. */
 #define BSONRAW_STR(text) bsonraw_str_bytes(text), bsonraw_str_len(text)
@@ -176,9 +194,9 @@ BSONRAW_LOCAL size_t bsonraw_str_len(const char *text) {
 }
 
 /* The version of the library: 20000 for 2.0.0. The last four digits are raised with what is added, the others with what is
- * changed.
+ * changed: a program takes the library that it was compiled for, and later ones that differ in the last four.
  *
- *     if (bsonraw_version() / 10000 != BSONRAW_VERSION / 10000) abort();
+ *     if (bsonraw_version() < BSONRAW_VERSION || bsonraw_version() / 10000 != BSONRAW_VERSION / 10000) abort();
  */
 uint32_t bsonraw_version(void);
 
@@ -254,7 +272,7 @@ BSONRAW_USE int32_t bsonraw_iter_next(struct bsonraw_iter *iter, const uint8_t *
  *             printf("%02x %.*s\n", scope.tag, BSONRAW_TEXT(bytes, scope.key_at, scope.key_len));
  */
 BSONRAW_USE int32_t bsonraw_iter_recurse(const struct bsonraw_iter *iter, const uint8_t *bytes, size_t len,
-                                         struct bsonraw_iter *child);
+                                         struct bsonraw_iter *BSONRAW_RESTRICT child);
 BSONRAW_USE int32_t bsonraw_iter_init_at(struct bsonraw_iter *iter, const uint8_t *bytes, size_t len, uint32_t document_at,
                                          uint32_t document_len);
 
@@ -309,14 +327,14 @@ struct bsonraw_entry {
  *     }
  */
 BSONRAW_USE int32_t bsonraw_iter_next_many(struct bsonraw_iter *iter, const uint8_t *bytes, size_t len,
-                                           struct bsonraw_entry *entries, size_t room, uint64_t *count);
+                                           struct bsonraw_entry *BSONRAW_RESTRICT entries, size_t room, uint64_t *count);
 
 /* ---- NULL ------------------------------------------------------------------------------------------------------------
  *
  * Each call that the library exports has another one here, which goes by its name: it puts some memory in the place of NULL with a
  * length of 0, and returns BSONRAW_NULL for NULL with a length, or in place of a struct or a number, which is then as it was. With
- * BSONRAW_UNCHECKED defined, before the header is included, a name is that of the exported call. With BSONRAW_DEBUG they read the
- * first and the last byte of what they are given, so that a wrong length ends in the caller.
+ * BSONRAW_UNCHECKED defined, before the header is included, a name is that of the exported call, but where a text is given without its
+ * length. With BSONRAW_DEBUG they read the first and the last byte of what they are given, so that a wrong length ends in the caller.
  */
 #ifdef BSONRAW_DEBUG
 #define BSONRAW_LACKS(pointer, len) ((pointer) ? bsonraw_touch(pointer, (len) * sizeof *(pointer)) : (len) != 0)
@@ -345,25 +363,29 @@ BSONRAW_LOCAL uint64_t *bsonraw_some_path(uint64_t *path) {
 }
 
 #ifndef BSONRAW_UNCHECKED
+BSONRAW_READS(2, 3)
 BSONRAW_USE BSONRAW_INLINE int32_t bsonraw_checked_iter_init(struct bsonraw_iter *iter, const uint8_t *bytes, size_t len) {
     if (!iter || BSONRAW_LACKS(bytes, len)) return BSONRAW_NULL;
     return bsonraw_iter_init(iter, bsonraw_some_bytes(bytes), len);
 }
 #define bsonraw_iter_init bsonraw_checked_iter_init
 
+BSONRAW_READS(2, 3)
 BSONRAW_USE BSONRAW_INLINE int32_t bsonraw_checked_iter_next(struct bsonraw_iter *iter, const uint8_t *bytes, size_t len) {
     if (!iter || BSONRAW_LACKS(bytes, len)) return BSONRAW_NULL;
     return bsonraw_iter_next(iter, bsonraw_some_bytes(bytes), len);
 }
 #define bsonraw_iter_next bsonraw_checked_iter_next
 
+BSONRAW_READS(2, 3)
 BSONRAW_USE BSONRAW_INLINE int32_t bsonraw_checked_iter_recurse(const struct bsonraw_iter *iter, const uint8_t *bytes, size_t len,
-                                                                struct bsonraw_iter *child) {
+                                                                struct bsonraw_iter *BSONRAW_RESTRICT child) {
     if (!iter || BSONRAW_LACKS(bytes, len) || !child) return BSONRAW_NULL;
     return bsonraw_iter_recurse(iter, bsonraw_some_bytes(bytes), len, child);
 }
 #define bsonraw_iter_recurse bsonraw_checked_iter_recurse
 
+BSONRAW_READS(2, 3)
 BSONRAW_USE BSONRAW_INLINE int32_t bsonraw_checked_iter_init_at(struct bsonraw_iter *iter, const uint8_t *bytes, size_t len,
                                                                 uint32_t document_at, uint32_t document_len) {
     if (!iter || BSONRAW_LACKS(bytes, len)) return BSONRAW_NULL;
@@ -371,6 +393,7 @@ BSONRAW_USE BSONRAW_INLINE int32_t bsonraw_checked_iter_init_at(struct bsonraw_i
 }
 #define bsonraw_iter_init_at bsonraw_checked_iter_init_at
 
+BSONRAW_READS(2, 3) BSONRAW_READS(4, 5)
 BSONRAW_USE BSONRAW_INLINE int32_t bsonraw_checked_iter_find(struct bsonraw_iter *iter, const uint8_t *bytes, size_t len,
                                                              const uint8_t *key, size_t key_len) {
     if (!iter || BSONRAW_LACKS(bytes, len) || BSONRAW_LACKS(key, key_len)) return BSONRAW_NULL;
@@ -378,6 +401,7 @@ BSONRAW_USE BSONRAW_INLINE int32_t bsonraw_checked_iter_find(struct bsonraw_iter
 }
 #define bsonraw_iter_find bsonraw_checked_iter_find
 
+BSONRAW_READS(2, 3) BSONRAW_READS(4, 5)
 BSONRAW_USE BSONRAW_INLINE int32_t bsonraw_checked_iter_init_find(struct bsonraw_iter *iter, const uint8_t *bytes, size_t len,
                                                                   const uint8_t *key, size_t key_len) {
     if (!iter || BSONRAW_LACKS(bytes, len) || BSONRAW_LACKS(key, key_len)) return BSONRAW_NULL;
@@ -385,6 +409,7 @@ BSONRAW_USE BSONRAW_INLINE int32_t bsonraw_checked_iter_init_find(struct bsonraw
 }
 #define bsonraw_iter_init_find bsonraw_checked_iter_init_find
 
+BSONRAW_READS(2, 3) BSONRAW_READS(4, 5)
 BSONRAW_USE BSONRAW_INLINE int32_t bsonraw_checked_iter_find_descendant(struct bsonraw_iter *iter, const uint8_t *bytes, size_t len,
                                                                         const uint8_t *path, size_t path_len, uint8_t separator) {
     if (!iter || BSONRAW_LACKS(bytes, len) || BSONRAW_LACKS(path, path_len)) return BSONRAW_NULL;
@@ -392,8 +417,9 @@ BSONRAW_USE BSONRAW_INLINE int32_t bsonraw_checked_iter_find_descendant(struct b
 }
 #define bsonraw_iter_find_descendant bsonraw_checked_iter_find_descendant
 
+BSONRAW_READS(2, 3) BSONRAW_WRITES(4, 5)
 BSONRAW_USE BSONRAW_INLINE int32_t bsonraw_checked_iter_next_many(struct bsonraw_iter *iter, const uint8_t *bytes, size_t len,
-                                                                  struct bsonraw_entry *entries, size_t room, uint64_t *count) {
+                                                                  struct bsonraw_entry *BSONRAW_RESTRICT entries, size_t room, uint64_t *count) {
     static struct bsonraw_entry none;
     if (!iter || BSONRAW_LACKS(bytes, len) || BSONRAW_LACKS(entries, room) || !count) return BSONRAW_NULL;
     return bsonraw_iter_next_many(iter, bsonraw_some_bytes(bytes), len, entries ? entries : &none, room, count);
@@ -435,6 +461,7 @@ BSONRAW_USE int32_t bsonraw_iter_value(const struct bsonraw_iter *iter, const ui
                                        struct bsonraw_value *value);
 
 #ifndef BSONRAW_UNCHECKED
+BSONRAW_READS(2, 3)
 BSONRAW_USE BSONRAW_INLINE int32_t bsonraw_checked_iter_value(const struct bsonraw_iter *iter, const uint8_t *bytes, size_t len,
                                                               struct bsonraw_value *value) {
     if (!iter || BSONRAW_LACKS(bytes, len) || !value) return BSONRAW_NULL;
@@ -453,6 +480,7 @@ BSONRAW_USE BSONRAW_INLINE int32_t bsonraw_checked_iter_value(const struct bsonr
  *         bsonraw_iter_int32(&it, bytes, len, &born) == BSONRAW_OK)
  *         printf("%d\n", born);
  */
+BSONRAW_READS(2, 3)
 BSONRAW_USE BSONRAW_INLINE int32_t bsonraw_iter_value_of(const struct bsonraw_iter *iter, const uint8_t *bytes, size_t len,
                                                          uint32_t tag, struct bsonraw_value *value) {
     static const struct bsonraw_value nothing = {0, 0, 0, 0, 0, 0, 0, 0, 0, 0, {0, 0, 0, 0, 0}};
@@ -470,6 +498,7 @@ BSONRAW_USE BSONRAW_INLINE int32_t bsonraw_iter_value_of(const struct bsonraw_it
     return BSONRAW_OTHER_KIND;
 }
 
+BSONRAW_READS(2, 3)
 BSONRAW_USE BSONRAW_INLINE int32_t bsonraw_iter_int32(const struct bsonraw_iter *iter, const uint8_t *bytes, size_t len,
                                                       int32_t *number) {
     struct bsonraw_value value;
@@ -479,6 +508,7 @@ BSONRAW_USE BSONRAW_INLINE int32_t bsonraw_iter_int32(const struct bsonraw_iter 
     return status;
 }
 
+BSONRAW_READS(2, 3)
 BSONRAW_USE BSONRAW_INLINE int32_t bsonraw_iter_int64(const struct bsonraw_iter *iter, const uint8_t *bytes, size_t len,
                                                       int64_t *number) {
     struct bsonraw_value value;
@@ -489,6 +519,7 @@ BSONRAW_USE BSONRAW_INLINE int32_t bsonraw_iter_int64(const struct bsonraw_iter 
 }
 
 /* Milliseconds from 1970 on. */
+BSONRAW_READS(2, 3)
 BSONRAW_USE BSONRAW_INLINE int32_t bsonraw_iter_date_time(const struct bsonraw_iter *iter, const uint8_t *bytes, size_t len,
                                                           int64_t *millis) {
     struct bsonraw_value value;
@@ -499,6 +530,7 @@ BSONRAW_USE BSONRAW_INLINE int32_t bsonraw_iter_date_time(const struct bsonraw_i
 }
 
 /* 0 or 1. */
+BSONRAW_READS(2, 3)
 BSONRAW_USE BSONRAW_INLINE int32_t bsonraw_iter_bool(const struct bsonraw_iter *iter, const uint8_t *bytes, size_t len,
                                                      int32_t *is_true) {
     struct bsonraw_value value;
@@ -508,6 +540,7 @@ BSONRAW_USE BSONRAW_INLINE int32_t bsonraw_iter_bool(const struct bsonraw_iter *
     return status;
 }
 
+BSONRAW_READS(2, 3)
 BSONRAW_USE BSONRAW_INLINE int32_t bsonraw_iter_double(const struct bsonraw_iter *iter, const uint8_t *bytes, size_t len,
                                                        double *number) {
     struct bsonraw_value value;
@@ -522,6 +555,7 @@ BSONRAW_USE BSONRAW_INLINE int32_t bsonraw_iter_double(const struct bsonraw_iter
     return status;
 }
 
+BSONRAW_READS(2, 3)
 BSONRAW_USE BSONRAW_INLINE int32_t bsonraw_iter_timestamp(const struct bsonraw_iter *iter, const uint8_t *bytes, size_t len,
                                                           uint32_t *time, uint32_t *increment) {
     struct bsonraw_value value;
@@ -533,6 +567,7 @@ BSONRAW_USE BSONRAW_INLINE int32_t bsonraw_iter_timestamp(const struct bsonraw_i
 }
 
 /* An int32 or an int64, but no double: where it isn't whole is for the caller to see. */
+BSONRAW_READS(2, 3)
 BSONRAW_USE BSONRAW_INLINE int32_t bsonraw_iter_as_int64(const struct bsonraw_iter *iter, const uint8_t *bytes, size_t len,
                                                          int64_t *number) {
     struct bsonraw_value value;
@@ -544,6 +579,7 @@ BSONRAW_USE BSONRAW_INLINE int32_t bsonraw_iter_as_int64(const struct bsonraw_it
 }
 
 /* A double, an int32 or an int64, which is the nearest double. */
+BSONRAW_READS(2, 3)
 BSONRAW_USE BSONRAW_INLINE int32_t bsonraw_iter_as_double(const struct bsonraw_iter *iter, const uint8_t *bytes, size_t len,
                                                           double *number) {
     int64_t whole;
@@ -555,6 +591,7 @@ BSONRAW_USE BSONRAW_INLINE int32_t bsonraw_iter_as_double(const struct bsonraw_i
 }
 
 /* The text or the bytes of a value of this kind, as text_at and text_len have them. */
+BSONRAW_READS(2, 3)
 BSONRAW_USE BSONRAW_INLINE int32_t bsonraw_iter_text_of(const struct bsonraw_iter *iter, const uint8_t *bytes, size_t len,
                                                         uint32_t tag, uint32_t *text_at, uint32_t *text_len) {
     struct bsonraw_value value;
@@ -566,6 +603,7 @@ BSONRAW_USE BSONRAW_INLINE int32_t bsonraw_iter_text_of(const struct bsonraw_ite
 }
 
 /* The same as a pointer into the bytes, and a length; with any status but BSONRAW_OK NULL and 0. */
+BSONRAW_READS(2, 3)
 BSONRAW_USE BSONRAW_INLINE int32_t bsonraw_iter_bytes_of(const struct bsonraw_iter *iter, const uint8_t *bytes, size_t len,
                                                          uint32_t tag, const uint8_t **part, size_t *part_len) {
     struct bsonraw_value value;
@@ -577,6 +615,7 @@ BSONRAW_USE BSONRAW_INLINE int32_t bsonraw_iter_bytes_of(const struct bsonraw_it
 }
 
 /* A 0 is behind the text, and may be in it. */
+BSONRAW_READS(2, 3)
 BSONRAW_USE BSONRAW_INLINE int32_t bsonraw_iter_utf8(const struct bsonraw_iter *iter, const uint8_t *bytes, size_t len,
                                                      const char **text, size_t *text_len) {
     const uint8_t *part = BSONRAW_NIL;
@@ -586,6 +625,7 @@ BSONRAW_USE BSONRAW_INLINE int32_t bsonraw_iter_utf8(const struct bsonraw_iter *
     return status;
 }
 
+BSONRAW_READS(2, 3)
 BSONRAW_USE BSONRAW_INLINE int32_t bsonraw_iter_code(const struct bsonraw_iter *iter, const uint8_t *bytes, size_t len,
                                                      const char **code, size_t *code_len) {
     const uint8_t *part = BSONRAW_NIL;
@@ -595,6 +635,7 @@ BSONRAW_USE BSONRAW_INLINE int32_t bsonraw_iter_code(const struct bsonraw_iter *
     return status;
 }
 
+BSONRAW_READS(2, 3)
 BSONRAW_USE BSONRAW_INLINE int32_t bsonraw_iter_symbol(const struct bsonraw_iter *iter, const uint8_t *bytes, size_t len,
                                                        const char **symbol, size_t *symbol_len) {
     const uint8_t *part = BSONRAW_NIL;
@@ -604,17 +645,20 @@ BSONRAW_USE BSONRAW_INLINE int32_t bsonraw_iter_symbol(const struct bsonraw_iter
     return status;
 }
 
+BSONRAW_READS(2, 3)
 BSONRAW_USE BSONRAW_INLINE int32_t bsonraw_iter_document(const struct bsonraw_iter *iter, const uint8_t *bytes, size_t len,
                                                          const uint8_t **document, size_t *document_len) {
     return bsonraw_iter_bytes_of(iter, bytes, len, BSONRAW_TAG_DOCUMENT, document, document_len);
 }
 
+BSONRAW_READS(2, 3)
 BSONRAW_USE BSONRAW_INLINE int32_t bsonraw_iter_array(const struct bsonraw_iter *iter, const uint8_t *bytes, size_t len,
                                                       const uint8_t **array, size_t *array_len) {
     return bsonraw_iter_bytes_of(iter, bytes, len, BSONRAW_TAG_ARRAY, array, array_len);
 }
 
 /* The twelve bytes of an ObjectId. */
+BSONRAW_READS(2, 3)
 BSONRAW_USE BSONRAW_INLINE int32_t bsonraw_iter_oid(const struct bsonraw_iter *iter, const uint8_t *bytes, size_t len,
                                                     const uint8_t **id) {
     size_t id_len;
@@ -622,12 +666,14 @@ BSONRAW_USE BSONRAW_INLINE int32_t bsonraw_iter_oid(const struct bsonraw_iter *i
 }
 
 /* The sixteen bytes of a Decimal128. */
+BSONRAW_READS(2, 3)
 BSONRAW_USE BSONRAW_INLINE int32_t bsonraw_iter_decimal128(const struct bsonraw_iter *iter, const uint8_t *bytes, size_t len,
                                                            const uint8_t **decimal) {
     size_t decimal_len;
     return bsonraw_iter_bytes_of(iter, bytes, len, BSONRAW_TAG_DECIMAL128, decimal, &decimal_len);
 }
 
+BSONRAW_READS(2, 3)
 BSONRAW_USE BSONRAW_INLINE int32_t bsonraw_iter_binary(const struct bsonraw_iter *iter, const uint8_t *bytes, size_t len,
                                                        uint32_t *subtype, const uint8_t **data, size_t *data_len) {
     struct bsonraw_value value;
@@ -640,6 +686,7 @@ BSONRAW_USE BSONRAW_INLINE int32_t bsonraw_iter_binary(const struct bsonraw_iter
 }
 
 /* A 0 is behind both, and in none. */
+BSONRAW_READS(2, 3)
 BSONRAW_USE BSONRAW_INLINE int32_t bsonraw_iter_regex(const struct bsonraw_iter *iter, const uint8_t *bytes, size_t len,
                                                       const char **pattern, const char **options) {
     struct bsonraw_value value;
@@ -693,8 +740,8 @@ struct bsonraw_builder {
  *     bsonraw_append_int32(&b, room, sizeof room, BSONRAW_KEY("born"), 1882);
  *     if (bsonraw_builder_end(&b, room, sizeof room) == BSONRAW_OK) fwrite(room, 1, b.len, stdout);
  */
-int32_t bsonraw_builder_begin(struct bsonraw_builder *builder, uint8_t *room, size_t room_len);
-BSONRAW_USE int32_t bsonraw_builder_end(struct bsonraw_builder *builder, uint8_t *room, size_t room_len);
+int32_t bsonraw_builder_begin(struct bsonraw_builder *builder, uint8_t *BSONRAW_RESTRICT room, size_t room_len);
+BSONRAW_USE int32_t bsonraw_builder_end(struct bsonraw_builder *builder, uint8_t *BSONRAW_RESTRICT room, size_t room_len);
 
 /* Begins a document or an array in another one, and ends it. Between the two its elements are appended to a builder of its
  * own, and none to the builder around it. bsonraw_append_cancel takes back a level that is open, with all that is in it: the builder
@@ -710,9 +757,10 @@ BSONRAW_USE int32_t bsonraw_builder_end(struct bsonraw_builder *builder, uint8_t
  *     bsonraw_append_end(&b, room, sizeof room, &list);
  *     if (bsonraw_builder_end(&b, room, sizeof room) == BSONRAW_OK) fwrite(room, 1, b.len, stdout);
  */
-int32_t bsonraw_append_begin(struct bsonraw_builder *builder, uint8_t *room, size_t room_len, uint32_t tag,
-                             const uint8_t *key, size_t key_len, struct bsonraw_builder *level);
-int32_t bsonraw_append_end(struct bsonraw_builder *builder, uint8_t *room, size_t room_len, struct bsonraw_builder *level);
+int32_t bsonraw_append_begin(struct bsonraw_builder *builder, uint8_t *BSONRAW_RESTRICT room, size_t room_len, uint32_t tag,
+                             const uint8_t *key, size_t key_len, struct bsonraw_builder *BSONRAW_RESTRICT level);
+int32_t bsonraw_append_end(struct bsonraw_builder *builder, uint8_t *BSONRAW_RESTRICT room, size_t room_len,
+                           struct bsonraw_builder *BSONRAW_RESTRICT level);
 
 /* Appends the element that a cursor is at, as it is: its value isn't looked at. So a code with scope that says it has under
  * 4 bytes is copied, too: it takes in bytes of what is appended behind it, and may be read as something else there.
@@ -725,7 +773,7 @@ int32_t bsonraw_append_end(struct bsonraw_builder *builder, uint8_t *room, size_
  *         bsonraw_append_iter(&b, room, sizeof room, &it, bytes, len);
  *     if (bsonraw_builder_end(&b, room, sizeof room) == BSONRAW_OK) fwrite(room, 1, b.len, stdout);
  */
-int32_t bsonraw_append_iter(struct bsonraw_builder *builder, uint8_t *room, size_t room_len, const struct bsonraw_iter *iter,
+int32_t bsonraw_append_iter(struct bsonraw_builder *builder, uint8_t *BSONRAW_RESTRICT room, size_t room_len, const struct bsonraw_iter *iter,
                             const uint8_t *bytes, size_t len);
 
 /* Appends an element of any kind, by its parts. One is the text of a string, a code or a symbol; a document or an array; the
@@ -741,7 +789,7 @@ int32_t bsonraw_append_iter(struct bsonraw_builder *builder, uint8_t *room, size
  *                    BSONRAW_KEY(""));
  *     if (bsonraw_builder_end(&b, room, sizeof room) == BSONRAW_OK) fwrite(room, 1, b.len, stdout);
  */
-int32_t bsonraw_append(struct bsonraw_builder *builder, uint8_t *room, size_t room_len, uint32_t tag, const uint8_t *key,
+int32_t bsonraw_append(struct bsonraw_builder *builder, uint8_t *BSONRAW_RESTRICT room, size_t room_len, uint32_t tag, const uint8_t *key,
                        size_t key_len, const uint8_t *one, size_t one_len, const uint8_t *two, size_t two_len);
 
 /* The builder takes no more, for this reason, where it took more before. */
@@ -756,7 +804,7 @@ BSONRAW_LOCAL int bsonraw_is_open(const struct bsonraw_builder *builder, const s
 }
 
 /* Takes back a level: see bsonraw_append_begin. */
-BSONRAW_INLINE int32_t bsonraw_append_cancel(struct bsonraw_builder *builder, struct bsonraw_builder *level) {
+BSONRAW_INLINE int32_t bsonraw_append_cancel(struct bsonraw_builder *builder, struct bsonraw_builder *BSONRAW_RESTRICT level) {
     if (!builder) return BSONRAW_NULL;
     if (!level) return bsonraw_refuse(builder, BSONRAW_NULL);
     if (level->status < 0 || !bsonraw_is_open(builder, level)) return bsonraw_refuse(builder, BSONRAW_MISUSE);
@@ -766,7 +814,8 @@ BSONRAW_INLINE int32_t bsonraw_append_cancel(struct bsonraw_builder *builder, st
 }
 
 #ifndef BSONRAW_UNCHECKED
-BSONRAW_INLINE int32_t bsonraw_checked_builder_begin(struct bsonraw_builder *builder, uint8_t *room, size_t room_len) {
+BSONRAW_WRITES(2, 3)
+BSONRAW_INLINE int32_t bsonraw_checked_builder_begin(struct bsonraw_builder *builder, uint8_t *BSONRAW_RESTRICT room, size_t room_len) {
     if (!builder) return BSONRAW_NULL;
     (void)bsonraw_builder_begin(builder, bsonraw_some_room(room), room ? room_len : 0);
     return BSONRAW_LACKS(room, room_len) ? bsonraw_refuse(builder, BSONRAW_NULL) : builder->status;
@@ -774,7 +823,8 @@ BSONRAW_INLINE int32_t bsonraw_checked_builder_begin(struct bsonraw_builder *bui
 #define bsonraw_builder_begin bsonraw_checked_builder_begin
 
 /* A builder that is ended has no four bytes for its length, so that each later call is refused. */
-BSONRAW_USE BSONRAW_INLINE int32_t bsonraw_checked_builder_end(struct bsonraw_builder *builder, uint8_t *room, size_t room_len) {
+BSONRAW_WRITES(2, 3)
+BSONRAW_USE BSONRAW_INLINE int32_t bsonraw_checked_builder_end(struct bsonraw_builder *builder, uint8_t *BSONRAW_RESTRICT room, size_t room_len) {
     int32_t status;
     if (!builder) return BSONRAW_NULL;
     if (BSONRAW_LACKS(room, room_len)) return bsonraw_refuse(builder, BSONRAW_NULL);
@@ -785,8 +835,9 @@ BSONRAW_USE BSONRAW_INLINE int32_t bsonraw_checked_builder_end(struct bsonraw_bu
 }
 #define bsonraw_builder_end bsonraw_checked_builder_end
 
-BSONRAW_INLINE int32_t bsonraw_checked_append_begin(struct bsonraw_builder *builder, uint8_t *room, size_t room_len, uint32_t tag,
-                                                    const uint8_t *key, size_t key_len, struct bsonraw_builder *level) {
+BSONRAW_WRITES(2, 3) BSONRAW_READS(5, 6)
+BSONRAW_INLINE int32_t bsonraw_checked_append_begin(struct bsonraw_builder *builder, uint8_t *BSONRAW_RESTRICT room, size_t room_len, uint32_t tag,
+                                                    const uint8_t *key, size_t key_len, struct bsonraw_builder *BSONRAW_RESTRICT level) {
     int32_t status;
     if (!builder) return BSONRAW_NULL;
     if (!level) return bsonraw_refuse(builder, BSONRAW_NULL);
@@ -800,8 +851,9 @@ BSONRAW_INLINE int32_t bsonraw_checked_append_begin(struct bsonraw_builder *buil
 #define bsonraw_append_begin bsonraw_checked_append_begin
 
 /* A level that is open in another one has no open level of its own. What it refused, its own builder says, too. */
-BSONRAW_INLINE int32_t bsonraw_checked_append_end(struct bsonraw_builder *builder, uint8_t *room, size_t room_len,
-                                                  struct bsonraw_builder *level) {
+BSONRAW_WRITES(2, 3)
+BSONRAW_INLINE int32_t bsonraw_checked_append_end(struct bsonraw_builder *builder, uint8_t *BSONRAW_RESTRICT room, size_t room_len,
+                                                  struct bsonraw_builder *BSONRAW_RESTRICT level) {
     int32_t status;
     if (!builder) return BSONRAW_NULL;
     if (!level || BSONRAW_LACKS(room, room_len)) return bsonraw_refuse(builder, BSONRAW_NULL);
@@ -813,7 +865,8 @@ BSONRAW_INLINE int32_t bsonraw_checked_append_end(struct bsonraw_builder *builde
 }
 #define bsonraw_append_end bsonraw_checked_append_end
 
-BSONRAW_INLINE int32_t bsonraw_checked_append_iter(struct bsonraw_builder *builder, uint8_t *room, size_t room_len,
+BSONRAW_WRITES(2, 3) BSONRAW_READS(5, 6)
+BSONRAW_INLINE int32_t bsonraw_checked_append_iter(struct bsonraw_builder *builder, uint8_t *BSONRAW_RESTRICT room, size_t room_len,
                                                    const struct bsonraw_iter *iter, const uint8_t *bytes, size_t len) {
     if (!builder) return BSONRAW_NULL;
     if (!iter || BSONRAW_LACKS(room, room_len) || BSONRAW_LACKS(bytes, len)) return bsonraw_refuse(builder, BSONRAW_NULL);
@@ -822,7 +875,8 @@ BSONRAW_INLINE int32_t bsonraw_checked_append_iter(struct bsonraw_builder *build
 }
 #define bsonraw_append_iter bsonraw_checked_append_iter
 
-BSONRAW_INLINE int32_t bsonraw_checked_append(struct bsonraw_builder *builder, uint8_t *room, size_t room_len, uint32_t tag,
+BSONRAW_WRITES(2, 3) BSONRAW_READS(5, 6) BSONRAW_READS(7, 8) BSONRAW_READS(9, 10)
+BSONRAW_INLINE int32_t bsonraw_checked_append(struct bsonraw_builder *builder, uint8_t *BSONRAW_RESTRICT room, size_t room_len, uint32_t tag,
                                               const uint8_t *key, size_t key_len, const uint8_t *one, size_t one_len,
                                               const uint8_t *two, size_t two_len) {
     if (!builder) return BSONRAW_NULL;
@@ -853,26 +907,30 @@ BSONRAW_LOCAL struct bsonraw_number bsonraw_number_of(uint64_t number) {
     return n;
 }
 
-BSONRAW_INLINE int32_t bsonraw_append_int32(struct bsonraw_builder *builder, uint8_t *room, size_t room_len,
+BSONRAW_WRITES(2, 3) BSONRAW_READS(4, 5)
+BSONRAW_INLINE int32_t bsonraw_append_int32(struct bsonraw_builder *builder, uint8_t *BSONRAW_RESTRICT room, size_t room_len,
                                             const uint8_t *key, size_t key_len, int32_t number) {
     const struct bsonraw_number one = bsonraw_number_of(BSONRAW_UINT32(number));
     return bsonraw_append(builder, room, room_len, BSONRAW_TAG_INT32, key, key_len, one.bytes, 4, key, 0);
 }
 
-BSONRAW_INLINE int32_t bsonraw_append_int64(struct bsonraw_builder *builder, uint8_t *room, size_t room_len,
+BSONRAW_WRITES(2, 3) BSONRAW_READS(4, 5)
+BSONRAW_INLINE int32_t bsonraw_append_int64(struct bsonraw_builder *builder, uint8_t *BSONRAW_RESTRICT room, size_t room_len,
                                             const uint8_t *key, size_t key_len, int64_t number) {
     const struct bsonraw_number one = bsonraw_number_of(BSONRAW_UINT64(number));
     return bsonraw_append(builder, room, room_len, BSONRAW_TAG_INT64, key, key_len, one.bytes, 8, key, 0);
 }
 
 /* Milliseconds from 1970 on. */
-BSONRAW_INLINE int32_t bsonraw_append_date_time(struct bsonraw_builder *builder, uint8_t *room, size_t room_len,
+BSONRAW_WRITES(2, 3) BSONRAW_READS(4, 5)
+BSONRAW_INLINE int32_t bsonraw_append_date_time(struct bsonraw_builder *builder, uint8_t *BSONRAW_RESTRICT room, size_t room_len,
                                                 const uint8_t *key, size_t key_len, int64_t millis) {
     const struct bsonraw_number one = bsonraw_number_of(BSONRAW_UINT64(millis));
     return bsonraw_append(builder, room, room_len, BSONRAW_TAG_DATETIME, key, key_len, one.bytes, 8, key, 0);
 }
 
-BSONRAW_INLINE int32_t bsonraw_append_double(struct bsonraw_builder *builder, uint8_t *room, size_t room_len,
+BSONRAW_WRITES(2, 3) BSONRAW_READS(4, 5)
+BSONRAW_INLINE int32_t bsonraw_append_double(struct bsonraw_builder *builder, uint8_t *BSONRAW_RESTRICT room, size_t room_len,
                                              const uint8_t *key, size_t key_len, double number) {
     struct bsonraw_number one;
     union {
@@ -884,111 +942,130 @@ BSONRAW_INLINE int32_t bsonraw_append_double(struct bsonraw_builder *builder, ui
     return bsonraw_append(builder, room, room_len, BSONRAW_TAG_DOUBLE, key, key_len, one.bytes, 8, key, 0);
 }
 
-BSONRAW_INLINE int32_t bsonraw_append_timestamp(struct bsonraw_builder *builder, uint8_t *room, size_t room_len,
+BSONRAW_WRITES(2, 3) BSONRAW_READS(4, 5)
+BSONRAW_INLINE int32_t bsonraw_append_timestamp(struct bsonraw_builder *builder, uint8_t *BSONRAW_RESTRICT room, size_t room_len,
                                                 const uint8_t *key, size_t key_len, uint32_t time, uint32_t increment) {
     const struct bsonraw_number one = bsonraw_number_of(BSONRAW_UINT64(time) << 32 | increment);
     return bsonraw_append(builder, room, room_len, BSONRAW_TAG_TIMESTAMP, key, key_len, one.bytes, 8, key, 0);
 }
 
 /* True unless it is 0. */
-BSONRAW_INLINE int32_t bsonraw_append_bool(struct bsonraw_builder *builder, uint8_t *room, size_t room_len,
+BSONRAW_WRITES(2, 3) BSONRAW_READS(4, 5)
+BSONRAW_INLINE int32_t bsonraw_append_bool(struct bsonraw_builder *builder, uint8_t *BSONRAW_RESTRICT room, size_t room_len,
                                            const uint8_t *key, size_t key_len, int32_t is_true) {
     uint8_t one[1];
     one[0] = is_true != 0;
     return bsonraw_append(builder, room, room_len, BSONRAW_TAG_BOOLEAN, key, key_len, one, 1, key, 0);
 }
 
-BSONRAW_INLINE int32_t bsonraw_append_null(struct bsonraw_builder *builder, uint8_t *room, size_t room_len,
+BSONRAW_WRITES(2, 3) BSONRAW_READS(4, 5)
+BSONRAW_INLINE int32_t bsonraw_append_null(struct bsonraw_builder *builder, uint8_t *BSONRAW_RESTRICT room, size_t room_len,
                                            const uint8_t *key, size_t key_len) {
     return bsonraw_append(builder, room, room_len, BSONRAW_TAG_NULL, key, key_len, key, 0, key, 0);
 }
 
-BSONRAW_INLINE int32_t bsonraw_append_undefined(struct bsonraw_builder *builder, uint8_t *room, size_t room_len,
+BSONRAW_WRITES(2, 3) BSONRAW_READS(4, 5)
+BSONRAW_INLINE int32_t bsonraw_append_undefined(struct bsonraw_builder *builder, uint8_t *BSONRAW_RESTRICT room, size_t room_len,
                                                 const uint8_t *key, size_t key_len) {
     return bsonraw_append(builder, room, room_len, BSONRAW_TAG_UNDEFINED, key, key_len, key, 0, key, 0);
 }
 
-BSONRAW_INLINE int32_t bsonraw_append_minkey(struct bsonraw_builder *builder, uint8_t *room, size_t room_len,
+BSONRAW_WRITES(2, 3) BSONRAW_READS(4, 5)
+BSONRAW_INLINE int32_t bsonraw_append_minkey(struct bsonraw_builder *builder, uint8_t *BSONRAW_RESTRICT room, size_t room_len,
                                              const uint8_t *key, size_t key_len) {
     return bsonraw_append(builder, room, room_len, BSONRAW_TAG_MIN_KEY, key, key_len, key, 0, key, 0);
 }
 
-BSONRAW_INLINE int32_t bsonraw_append_maxkey(struct bsonraw_builder *builder, uint8_t *room, size_t room_len,
+BSONRAW_WRITES(2, 3) BSONRAW_READS(4, 5)
+BSONRAW_INLINE int32_t bsonraw_append_maxkey(struct bsonraw_builder *builder, uint8_t *BSONRAW_RESTRICT room, size_t room_len,
                                              const uint8_t *key, size_t key_len) {
     return bsonraw_append(builder, room, room_len, BSONRAW_TAG_MAX_KEY, key, key_len, key, 0, key, 0);
 }
 
-BSONRAW_INLINE int32_t bsonraw_append_utf8(struct bsonraw_builder *builder, uint8_t *room, size_t room_len,
+BSONRAW_WRITES(2, 3) BSONRAW_READS(4, 5) BSONRAW_READS(6, 7)
+BSONRAW_INLINE int32_t bsonraw_append_utf8(struct bsonraw_builder *builder, uint8_t *BSONRAW_RESTRICT room, size_t room_len,
                                            const uint8_t *key, size_t key_len, const uint8_t *text, size_t text_len) {
     return bsonraw_append(builder, room, room_len, BSONRAW_TAG_STRING, key, key_len, text, text_len, key, 0);
 }
 
-BSONRAW_INLINE int32_t bsonraw_append_code(struct bsonraw_builder *builder, uint8_t *room, size_t room_len,
+BSONRAW_WRITES(2, 3) BSONRAW_READS(4, 5) BSONRAW_READS(6, 7)
+BSONRAW_INLINE int32_t bsonraw_append_code(struct bsonraw_builder *builder, uint8_t *BSONRAW_RESTRICT room, size_t room_len,
                                            const uint8_t *key, size_t key_len, const uint8_t *code, size_t code_len) {
     return bsonraw_append(builder, room, room_len, BSONRAW_TAG_JAVASCRIPT, key, key_len, code, code_len, key, 0);
 }
 
-BSONRAW_INLINE int32_t bsonraw_append_symbol(struct bsonraw_builder *builder, uint8_t *room, size_t room_len,
+BSONRAW_WRITES(2, 3) BSONRAW_READS(4, 5) BSONRAW_READS(6, 7)
+BSONRAW_INLINE int32_t bsonraw_append_symbol(struct bsonraw_builder *builder, uint8_t *BSONRAW_RESTRICT room, size_t room_len,
                                              const uint8_t *key, size_t key_len, const uint8_t *text, size_t text_len) {
     return bsonraw_append(builder, room, room_len, BSONRAW_TAG_SYMBOL, key, key_len, text, text_len, key, 0);
 }
 
-BSONRAW_INLINE int32_t bsonraw_append_document(struct bsonraw_builder *builder, uint8_t *room, size_t room_len,
+BSONRAW_WRITES(2, 3) BSONRAW_READS(4, 5) BSONRAW_READS(6, 7)
+BSONRAW_INLINE int32_t bsonraw_append_document(struct bsonraw_builder *builder, uint8_t *BSONRAW_RESTRICT room, size_t room_len,
                                                const uint8_t *key, size_t key_len, const uint8_t *document,
                                                size_t document_len) {
     return bsonraw_append(builder, room, room_len, BSONRAW_TAG_DOCUMENT, key, key_len, document, document_len, key, 0);
 }
 
-BSONRAW_INLINE int32_t bsonraw_append_array(struct bsonraw_builder *builder, uint8_t *room, size_t room_len,
+BSONRAW_WRITES(2, 3) BSONRAW_READS(4, 5) BSONRAW_READS(6, 7)
+BSONRAW_INLINE int32_t bsonraw_append_array(struct bsonraw_builder *builder, uint8_t *BSONRAW_RESTRICT room, size_t room_len,
                                             const uint8_t *key, size_t key_len, const uint8_t *array, size_t array_len) {
     return bsonraw_append(builder, room, room_len, BSONRAW_TAG_ARRAY, key, key_len, array, array_len, key, 0);
 }
 
 /* The twelve bytes of an ObjectId. */
-BSONRAW_INLINE int32_t bsonraw_append_oid(struct bsonraw_builder *builder, uint8_t *room, size_t room_len,
-                                          const uint8_t *key, size_t key_len, const uint8_t *id) {
+BSONRAW_WRITES(2, 3) BSONRAW_READS(4, 5)
+BSONRAW_INLINE int32_t bsonraw_append_oid(struct bsonraw_builder *builder, uint8_t *BSONRAW_RESTRICT room, size_t room_len,
+                                          const uint8_t *key, size_t key_len, const uint8_t id[12]) {
     return bsonraw_append(builder, room, room_len, BSONRAW_TAG_OBJECT_ID, key, key_len, id, 12, key, 0);
 }
 
 /* The sixteen bytes of a Decimal128. */
-BSONRAW_INLINE int32_t bsonraw_append_decimal128(struct bsonraw_builder *builder, uint8_t *room, size_t room_len,
-                                                 const uint8_t *key, size_t key_len, const uint8_t *decimal) {
+BSONRAW_WRITES(2, 3) BSONRAW_READS(4, 5)
+BSONRAW_INLINE int32_t bsonraw_append_decimal128(struct bsonraw_builder *builder, uint8_t *BSONRAW_RESTRICT room, size_t room_len,
+                                                 const uint8_t *key, size_t key_len, const uint8_t decimal[16]) {
     return bsonraw_append(builder, room, room_len, BSONRAW_TAG_DECIMAL128, key, key_len, decimal, 16, key, 0);
 }
 
-BSONRAW_INLINE int32_t bsonraw_append_binary(struct bsonraw_builder *builder, uint8_t *room, size_t room_len,
+BSONRAW_WRITES(2, 3) BSONRAW_READS(4, 5) BSONRAW_READS(7, 8)
+BSONRAW_INLINE int32_t bsonraw_append_binary(struct bsonraw_builder *builder, uint8_t *BSONRAW_RESTRICT room, size_t room_len,
                                              const uint8_t *key, size_t key_len, uint8_t subtype, const uint8_t *data,
                                              size_t data_len) {
     return bsonraw_append(builder, room, room_len, BSONRAW_TAG_BINARY, key, key_len, data, data_len, &subtype, 1);
 }
 
-BSONRAW_INLINE int32_t bsonraw_append_regex(struct bsonraw_builder *builder, uint8_t *room, size_t room_len,
+BSONRAW_WRITES(2, 3) BSONRAW_READS(4, 5) BSONRAW_READS(6, 7) BSONRAW_READS(8, 9)
+BSONRAW_INLINE int32_t bsonraw_append_regex(struct bsonraw_builder *builder, uint8_t *BSONRAW_RESTRICT room, size_t room_len,
                                             const uint8_t *key, size_t key_len, const uint8_t *pattern, size_t pattern_len,
                                             const uint8_t *options, size_t options_len) {
     return bsonraw_append(builder, room, room_len, BSONRAW_TAG_REGEX, key, key_len,
                           pattern, pattern_len, options, options_len);
 }
 
-BSONRAW_INLINE int32_t bsonraw_append_dbpointer(struct bsonraw_builder *builder, uint8_t *room, size_t room_len,
+BSONRAW_WRITES(2, 3) BSONRAW_READS(4, 5) BSONRAW_READS(6, 7)
+BSONRAW_INLINE int32_t bsonraw_append_dbpointer(struct bsonraw_builder *builder, uint8_t *BSONRAW_RESTRICT room, size_t room_len,
                                                 const uint8_t *key, size_t key_len, const uint8_t *name, size_t name_len,
-                                                const uint8_t *id) {
+                                                const uint8_t id[12]) {
     return bsonraw_append(builder, room, room_len, BSONRAW_TAG_DB_POINTER, key, key_len, name, name_len, id, 12);
 }
 
-BSONRAW_INLINE int32_t bsonraw_append_code_with_scope(struct bsonraw_builder *builder, uint8_t *room, size_t room_len,
+BSONRAW_WRITES(2, 3) BSONRAW_READS(4, 5) BSONRAW_READS(6, 7) BSONRAW_READS(8, 9)
+BSONRAW_INLINE int32_t bsonraw_append_code_with_scope(struct bsonraw_builder *builder, uint8_t *BSONRAW_RESTRICT room, size_t room_len,
                                                       const uint8_t *key, size_t key_len, const uint8_t *code,
                                                       size_t code_len, const uint8_t *scope, size_t scope_len) {
     return bsonraw_append(builder, room, room_len, BSONRAW_TAG_JAVASCRIPT_WITH_SCOPE, key, key_len,
                           code, code_len, scope, scope_len);
 }
 
-BSONRAW_INLINE int32_t bsonraw_append_document_begin(struct bsonraw_builder *builder, uint8_t *room, size_t room_len,
-                                                     const uint8_t *key, size_t key_len, struct bsonraw_builder *level) {
+BSONRAW_WRITES(2, 3) BSONRAW_READS(4, 5)
+BSONRAW_INLINE int32_t bsonraw_append_document_begin(struct bsonraw_builder *builder, uint8_t *BSONRAW_RESTRICT room, size_t room_len,
+                                                     const uint8_t *key, size_t key_len, struct bsonraw_builder *BSONRAW_RESTRICT level) {
     return bsonraw_append_begin(builder, room, room_len, BSONRAW_TAG_DOCUMENT, key, key_len, level);
 }
 
-BSONRAW_INLINE int32_t bsonraw_append_array_begin(struct bsonraw_builder *builder, uint8_t *room, size_t room_len,
-                                                  const uint8_t *key, size_t key_len, struct bsonraw_builder *level) {
+BSONRAW_WRITES(2, 3) BSONRAW_READS(4, 5)
+BSONRAW_INLINE int32_t bsonraw_append_array_begin(struct bsonraw_builder *builder, uint8_t *BSONRAW_RESTRICT room, size_t room_len,
+                                                  const uint8_t *key, size_t key_len, struct bsonraw_builder *BSONRAW_RESTRICT level) {
     return bsonraw_append_begin(builder, room, room_len, BSONRAW_TAG_ARRAY, key, key_len, level);
 }
 
@@ -1018,6 +1095,7 @@ struct bsonraw_reader {
 BSONRAW_USE int32_t bsonraw_reader_read(struct bsonraw_reader *reader, const uint8_t *bytes, size_t len);
 
 #ifndef BSONRAW_UNCHECKED
+BSONRAW_READS(2, 3)
 BSONRAW_USE BSONRAW_INLINE int32_t bsonraw_checked_reader_read(struct bsonraw_reader *reader, const uint8_t *bytes, size_t len) {
     if (!reader || BSONRAW_LACKS(bytes, len)) return BSONRAW_NULL;
     return bsonraw_reader_read(reader, bsonraw_some_bytes(bytes), len);
@@ -1063,6 +1141,7 @@ BSONRAW_USE int32_t bsonraw_reader_resync(struct bsonraw_reader *reader, const u
                                           size_t max_depth, struct bsonraw_resync *resync);
 
 #ifndef BSONRAW_UNCHECKED
+BSONRAW_READS(2, 3)
 BSONRAW_USE BSONRAW_INLINE int32_t bsonraw_checked_reader_resync(struct bsonraw_reader *reader, const uint8_t *bytes, size_t len,
                                                                  size_t max_bytes, size_t max_depth, struct bsonraw_resync *resync) {
     if (!reader || !resync || BSONRAW_LACKS(bytes, len)) return BSONRAW_NULL;
@@ -1120,7 +1199,7 @@ struct bsonraw_token {
  *             printf("%*s%.*s\n", BSONRAW_INT32(tokens[i].depth), "", BSONRAW_TEXT(bytes, tokens[i].key_at, tokens[i].key_len));
  */
 BSONRAW_USE int32_t bsonraw_flatten(const uint8_t *bytes, size_t len, size_t max_bytes, size_t max_depth,
-                                    struct bsonraw_token *tokens, size_t room, struct bsonraw_report *report, uint64_t *path,
+                                    struct bsonraw_token *BSONRAW_RESTRICT tokens, size_t room, struct bsonraw_report *report, uint64_t *path,
                                     size_t path_room);
 
 /* The first fault at any level, and its place: BSONRAW_FAULT; or BSONRAW_OK where there is none.
@@ -1167,18 +1246,18 @@ BSONRAW_USE int32_t bsonraw_check(const uint8_t *bytes, size_t len, size_t max_b
  *         fwrite(form, 1, r.count, stdout);
  *     free(form);
  */
-BSONRAW_USE int32_t bsonraw_canonical(const uint8_t *bytes, size_t len, size_t max_bytes, size_t max_depth, uint8_t *form,
+BSONRAW_USE int32_t bsonraw_canonical(const uint8_t *bytes, size_t len, size_t max_bytes, size_t max_depth, uint8_t *BSONRAW_RESTRICT form,
                                       size_t form_len, struct bsonraw_report *report, uint64_t *path, size_t path_room);
 
-/* The document as MongoDB's Extended JSON v2, relaxed or, where canonical isn't 0, canonical; on one line or, where indented isn't
- * 0, with a line for each member, indented by two spaces a level, but none within a wrapper, as {"$oid": ..}. Each element is printed as it is: repeated keys in order, an
- * array without its keys. BSONRAW_OK, and the text is at the front of text, with a 0 behind it; count is its bytes without that 0.
- * BSONRAW_SMALL_BUFFER where text_len is less than 1 + count. With any status but BSONRAW_OK nothing is written to text.
- * It takes memory for the text of the largest value that isn't a document or an array, and for as much of the whole text as fits into
- * text_len bytes, which is none where that is 0; of each at most twice as much. Indented, each line has two bytes for each level that it is
- * in, so that max_depth bounds the text as well. bsonraw_json_write prints in little memory.
- * A canonical text says all of a canonical document but for the bits of a NaN, a Decimal128 that isn't canonical, and a nested
- * document with a key as $oid or $date, which is printed as such a value is.
+/* The document as MongoDB's Extended JSON v2, relaxed or, where canonical isn't 0, canonical; on one line or, where indented isn't 0,
+ * with a line for each member, indented by two spaces a level, but none within a wrapper, as {"$oid": ..}. Each element is printed as it
+ * is: repeated keys in order, an array without its keys. BSONRAW_OK, and the text is at the front of text, with a 0 behind it; count is
+ * its bytes without that 0. BSONRAW_SMALL_BUFFER where text_len is less than 1 + count. With any status but BSONRAW_OK nothing is
+ * written to text. It takes memory for the text of the largest value that isn't a document or an array, and for as much of the whole
+ * text as fits into text_len bytes, which is none where that is 0; of each at most twice as much. Indented, each line has two bytes for
+ * each level that it is in, so that max_depth bounds the text as well. bsonraw_json_write prints in little memory. A canonical text says
+ * all of a canonical document but for the bits of a NaN, a Decimal128 that isn't canonical, and a nested document with a key as $oid or
+ * $date, which is printed as such a value is.
  *
  *     uint8_t text[4096];
  *     struct bsonraw_report r;
@@ -1187,12 +1266,13 @@ BSONRAW_USE int32_t bsonraw_canonical(const uint8_t *bytes, size_t len, size_t m
  *         fwrite(text, 1, r.count, stdout);
  */
 BSONRAW_USE int32_t bsonraw_json(const uint8_t *bytes, size_t len, size_t max_bytes, size_t max_depth, uint32_t canonical,
-                                 uint32_t indented, uint8_t *text, size_t text_len, struct bsonraw_report *report,
+                                 uint32_t indented, uint8_t *BSONRAW_RESTRICT text, size_t text_len, struct bsonraw_report *report,
                                  uint64_t *path, size_t path_room);
 
 #ifndef BSONRAW_UNCHECKED
+BSONRAW_READS(1, 2) BSONRAW_WRITES(5, 6) BSONRAW_WRITES(8, 9)
 BSONRAW_USE BSONRAW_INLINE int32_t bsonraw_checked_flatten(const uint8_t *bytes, size_t len, size_t max_bytes, size_t max_depth,
-                                                           struct bsonraw_token *tokens, size_t room, struct bsonraw_report *report,
+                                                           struct bsonraw_token *BSONRAW_RESTRICT tokens, size_t room, struct bsonraw_report *report,
                                                            uint64_t *path, size_t path_room) {
     static struct bsonraw_token none;
     if (BSONRAW_LACKS(bytes, len) || BSONRAW_LACKS(tokens, room) || !report || BSONRAW_LACKS(path, path_room)) return BSONRAW_NULL;
@@ -1201,6 +1281,7 @@ BSONRAW_USE BSONRAW_INLINE int32_t bsonraw_checked_flatten(const uint8_t *bytes,
 }
 #define bsonraw_flatten bsonraw_checked_flatten
 
+BSONRAW_READS(1, 2) BSONRAW_WRITES(6, 7)
 BSONRAW_USE BSONRAW_INLINE int32_t bsonraw_checked_first_fault(const uint8_t *bytes, size_t len, size_t max_bytes, size_t max_depth,
                                                                struct bsonraw_report *report, uint64_t *path, size_t path_room) {
     if (BSONRAW_LACKS(bytes, len) || !report || BSONRAW_LACKS(path, path_room)) return BSONRAW_NULL;
@@ -1208,6 +1289,7 @@ BSONRAW_USE BSONRAW_INLINE int32_t bsonraw_checked_first_fault(const uint8_t *by
 }
 #define bsonraw_first_fault bsonraw_checked_first_fault
 
+BSONRAW_READS(1, 2) BSONRAW_WRITES(6, 7)
 BSONRAW_USE BSONRAW_INLINE int32_t bsonraw_checked_check(const uint8_t *bytes, size_t len, size_t max_bytes, size_t max_depth,
                                                          struct bsonraw_report *report, uint64_t *path, size_t path_room) {
     if (BSONRAW_LACKS(bytes, len) || !report || BSONRAW_LACKS(path, path_room)) return BSONRAW_NULL;
@@ -1215,8 +1297,9 @@ BSONRAW_USE BSONRAW_INLINE int32_t bsonraw_checked_check(const uint8_t *bytes, s
 }
 #define bsonraw_check bsonraw_checked_check
 
+BSONRAW_READS(1, 2) BSONRAW_WRITES(5, 6) BSONRAW_WRITES(8, 9)
 BSONRAW_USE BSONRAW_INLINE int32_t bsonraw_checked_canonical(const uint8_t *bytes, size_t len, size_t max_bytes, size_t max_depth,
-                                                             uint8_t *form, size_t form_len, struct bsonraw_report *report,
+                                                             uint8_t *BSONRAW_RESTRICT form, size_t form_len, struct bsonraw_report *report,
                                                              uint64_t *path, size_t path_room) {
     if (BSONRAW_LACKS(bytes, len) || BSONRAW_LACKS(form, form_len) || !report || BSONRAW_LACKS(path, path_room)) return BSONRAW_NULL;
     return bsonraw_canonical(bsonraw_some_bytes(bytes), len, max_bytes, max_depth, bsonraw_some_room(form), form_len, report,
@@ -1224,8 +1307,9 @@ BSONRAW_USE BSONRAW_INLINE int32_t bsonraw_checked_canonical(const uint8_t *byte
 }
 #define bsonraw_canonical bsonraw_checked_canonical
 
+BSONRAW_READS(1, 2) BSONRAW_WRITES(7, 8) BSONRAW_WRITES(10, 11)
 BSONRAW_USE BSONRAW_INLINE int32_t bsonraw_checked_json(const uint8_t *bytes, size_t len, size_t max_bytes, size_t max_depth,
-                                                        uint32_t canonical, uint32_t indented, uint8_t *text, size_t text_len,
+                                                        uint32_t canonical, uint32_t indented, uint8_t *BSONRAW_RESTRICT text, size_t text_len,
                                                         struct bsonraw_report *report, uint64_t *path, size_t path_room) {
     if (BSONRAW_LACKS(bytes, len) || BSONRAW_LACKS(text, text_len) || !report || BSONRAW_LACKS(path, path_room)) return BSONRAW_NULL;
     return bsonraw_json(bsonraw_some_bytes(bytes), len, max_bytes, max_depth, canonical, indented, bsonraw_some_room(text), text_len,
@@ -1306,12 +1390,13 @@ struct bsonraw_json_report {
  *     else if (status == BSONRAW_FAULT)
  *         printf("line %lu, column %lu: reason %u\n", r.line, r.column, r.reason);
  */
-BSONRAW_USE int32_t bsonraw_from_json(const uint8_t *text, size_t len, size_t max_bytes, size_t max_depth, uint8_t *document,
+BSONRAW_USE int32_t bsonraw_from_json(const uint8_t *text, size_t len, size_t max_bytes, size_t max_depth, uint8_t *BSONRAW_RESTRICT document,
                                       size_t document_len, struct bsonraw_json_report *report);
 
 #ifndef BSONRAW_UNCHECKED
+BSONRAW_READS(1, 2) BSONRAW_WRITES(5, 6)
 BSONRAW_USE BSONRAW_INLINE int32_t bsonraw_checked_from_json(const uint8_t *text, size_t len, size_t max_bytes, size_t max_depth,
-                                                             uint8_t *document, size_t document_len,
+                                                             uint8_t *BSONRAW_RESTRICT document, size_t document_len,
                                                              struct bsonraw_json_report *report) {
     if (BSONRAW_LACKS(text, len) || BSONRAW_LACKS(document, document_len) || !report) return BSONRAW_NULL;
     return bsonraw_from_json(bsonraw_some_bytes(text), len, max_bytes, max_depth, bsonraw_some_room(document), document_len, report);
@@ -1319,9 +1404,23 @@ BSONRAW_USE BSONRAW_INLINE int32_t bsonraw_checked_from_json(const uint8_t *text
 #define bsonraw_from_json bsonraw_checked_from_json
 #endif
 
+/* How many bytes an array has; a pointer doesn't compile here. */
+#if defined(__cplusplus)
+extern "C++" {
+template <size_t len>
+char (&bsonraw_array(uint8_t (&array)[len]))[len];
+}
+#define BSONRAW_ARRAY_LEN(array) sizeof(bsonraw_array(array))
+#elif defined(__GNUC__)
+#define BSONRAW_ARRAY_LEN(array) \
+    (sizeof(array) + 0 * sizeof(char[1 - 2 * __builtin_types_compatible_p(__typeof__(array), __typeof__(&(array)[0]))]))
+#else
+#define BSONRAW_ARRAY_LEN(array) sizeof(array)
+#endif
+
 /* Of a literal, into an array: BSONRAW_FROM_JSON("{\"a\": 1}", document, &r). */
 #define BSONRAW_FROM_JSON(literal, array, report) \
-    bsonraw_from_json(BSONRAW_KEY(literal), 2147483647, 500, array, sizeof(array), report)
+    bsonraw_from_json(BSONRAW_KEY(literal), 2147483647, 500, array, BSONRAW_ARRAY_LEN(array), report)
 
 /* ---- values as text --------------------------------------------------------------------------------------------------
  *
@@ -1329,11 +1428,13 @@ BSONRAW_USE BSONRAW_INLINE int32_t bsonraw_checked_from_json(const uint8_t *text
  * what was to be written is as it was.
  */
 
+#define BSONRAW_OID_TEXT 25 /* bytes of an ObjectId as text, with its 0 */
+
 /* The twelve bytes of an ObjectId as 24 hex digits and a 0, BSONRAW_OK; from 24 hex digits, else BSONRAW_FAULT; and the seconds from
  * 1970 on that it says. */
-int32_t bsonraw_oid_to_hex(const uint8_t *id, char *hex);
-BSONRAW_USE int32_t bsonraw_oid_from_hex(const uint8_t *hex, size_t hex_len, uint8_t *id);
-uint32_t bsonraw_oid_time(const uint8_t *id);
+int32_t bsonraw_oid_to_hex(const uint8_t id[12], char hex[BSONRAW_OID_TEXT]);
+BSONRAW_USE int32_t bsonraw_oid_from_hex(const uint8_t *hex, size_t hex_len, uint8_t id[12]);
+uint32_t bsonraw_oid_time(const uint8_t id[12]);
 
 /* The sixteen bytes of a Decimal128 as text, as 1.50, 1.5E+20, NaN or -Infinity, and a 0; and the bytes that such a text writes:
  * BSONRAW_FAULT where it is none, or where no Decimal128 is exactly that number. Milliseconds from 1970 on as ISO 8601 has them, as
@@ -1347,50 +1448,46 @@ uint32_t bsonraw_oid_time(const uint8_t *id);
 #define BSONRAW_DECIMAL128_TEXT 43 /* bytes of the longest one, with its 0 */
 #define BSONRAW_DATE_TIME_TEXT 25
 
-BSONRAW_USE int32_t bsonraw_decimal128_to_text(const uint8_t *decimal, char *text);
-BSONRAW_USE int32_t bsonraw_decimal128_from_text(const uint8_t *text, size_t text_len, uint8_t *decimal);
-BSONRAW_USE int32_t bsonraw_date_time_to_text(int64_t millis, char *text);
+BSONRAW_USE int32_t bsonraw_decimal128_to_text(const uint8_t decimal[16], char text[BSONRAW_DECIMAL128_TEXT]);
+BSONRAW_USE int32_t bsonraw_decimal128_from_text(const uint8_t *text, size_t text_len, uint8_t decimal[16]);
+BSONRAW_USE int32_t bsonraw_date_time_to_text(int64_t millis, char text[BSONRAW_DATE_TIME_TEXT]);
 BSONRAW_USE int32_t bsonraw_date_time_from_text(const uint8_t *text, size_t text_len, int64_t *millis);
 
-#ifdef BSONRAW_UNCHECKED
-#define bsonraw_oid_from_hex(hex, id) bsonraw_oid_from_hex(BSONRAW_STR(hex), id)
-#define bsonraw_decimal128_from_text(text, decimal) bsonraw_decimal128_from_text(BSONRAW_STR(text), decimal)
-#define bsonraw_date_time_from_text(text, millis) bsonraw_date_time_from_text(BSONRAW_STR(text), millis)
-#else
-BSONRAW_INLINE int32_t bsonraw_checked_oid_to_hex(const uint8_t *id, char *hex) {
-    return id && hex ? bsonraw_oid_to_hex(id, hex) : BSONRAW_NULL;
-}
-#define bsonraw_oid_to_hex bsonraw_checked_oid_to_hex
-
-BSONRAW_USE BSONRAW_INLINE int32_t bsonraw_checked_oid_from_hex(const char *hex, uint8_t *id) {
+BSONRAW_USE BSONRAW_INLINE int32_t bsonraw_checked_oid_from_hex(const char *hex, uint8_t id[12]) {
     return hex && id ? bsonraw_oid_from_hex(BSONRAW_STR(hex), id) : BSONRAW_NULL;
 }
 #define bsonraw_oid_from_hex bsonraw_checked_oid_from_hex
 
-BSONRAW_INLINE uint32_t bsonraw_checked_oid_time(const uint8_t *id) {
-    return id ? bsonraw_oid_time(id) : 0;
-}
-#define bsonraw_oid_time bsonraw_checked_oid_time
-
-BSONRAW_USE BSONRAW_INLINE int32_t bsonraw_checked_decimal128_to_text(const uint8_t *decimal, char *text) {
-    return decimal && text ? bsonraw_decimal128_to_text(decimal, text) : BSONRAW_NULL;
-}
-#define bsonraw_decimal128_to_text bsonraw_checked_decimal128_to_text
-
-BSONRAW_USE BSONRAW_INLINE int32_t bsonraw_checked_decimal128_from_text(const char *text, uint8_t *decimal) {
+BSONRAW_USE BSONRAW_INLINE int32_t bsonraw_checked_decimal128_from_text(const char *text, uint8_t decimal[16]) {
     return text && decimal ? bsonraw_decimal128_from_text(BSONRAW_STR(text), decimal) : BSONRAW_NULL;
 }
 #define bsonraw_decimal128_from_text bsonraw_checked_decimal128_from_text
-
-BSONRAW_USE BSONRAW_INLINE int32_t bsonraw_checked_date_time_to_text(int64_t millis, char *text) {
-    return text ? bsonraw_date_time_to_text(millis, text) : BSONRAW_NULL;
-}
-#define bsonraw_date_time_to_text bsonraw_checked_date_time_to_text
 
 BSONRAW_USE BSONRAW_INLINE int32_t bsonraw_checked_date_time_from_text(const char *text, int64_t *millis) {
     return text && millis ? bsonraw_date_time_from_text(BSONRAW_STR(text), millis) : BSONRAW_NULL;
 }
 #define bsonraw_date_time_from_text bsonraw_checked_date_time_from_text
+
+#ifndef BSONRAW_UNCHECKED
+BSONRAW_INLINE int32_t bsonraw_checked_oid_to_hex(const uint8_t id[12], char hex[BSONRAW_OID_TEXT]) {
+    return id && hex ? bsonraw_oid_to_hex(id, hex) : BSONRAW_NULL;
+}
+#define bsonraw_oid_to_hex bsonraw_checked_oid_to_hex
+
+BSONRAW_INLINE uint32_t bsonraw_checked_oid_time(const uint8_t id[12]) {
+    return id ? bsonraw_oid_time(id) : 0;
+}
+#define bsonraw_oid_time bsonraw_checked_oid_time
+
+BSONRAW_USE BSONRAW_INLINE int32_t bsonraw_checked_decimal128_to_text(const uint8_t decimal[16], char text[BSONRAW_DECIMAL128_TEXT]) {
+    return decimal && text ? bsonraw_decimal128_to_text(decimal, text) : BSONRAW_NULL;
+}
+#define bsonraw_decimal128_to_text bsonraw_checked_decimal128_to_text
+
+BSONRAW_USE BSONRAW_INLINE int32_t bsonraw_checked_date_time_to_text(int64_t millis, char text[BSONRAW_DATE_TIME_TEXT]) {
+    return text ? bsonraw_date_time_to_text(millis, text) : BSONRAW_NULL;
+}
+#define bsonraw_date_time_to_text bsonraw_checked_date_time_to_text
 #endif
 
 /* ---- daily use -------------------------------------------------------------------------------------------------------
@@ -1411,7 +1508,7 @@ const char *bsonraw_error_text(const struct bsonraw_error *error);
 
 /* The same with its numbers, as "a value is longer than what is left: 4157 where 62 are left". As snprintf it puts as much as there is
  * room for, and a 0 behind it, and returns how many bytes the text has without that 0; 150 are always enough. */
-size_t bsonraw_fault_text(const struct bsonraw_error *error, char *text, size_t room);
+size_t bsonraw_fault_text(const struct bsonraw_error *error, char *BSONRAW_RESTRICT text, size_t room) BSONRAW_WRITES(2, 3);
 
 /* The path of a report as a text, as bsonraw-dump prints it: for each level a slash, the number, and where there is a key a colon and
  * the key in quotes, as in JSON: /1:"authors"/0:"0". As snprintf it puts as much as there is room for, and a 0 behind it, and returns
@@ -1426,7 +1523,8 @@ size_t bsonraw_fault_text(const struct bsonraw_error *error, char *text, size_t 
  *         printf("at %s, byte %lu: %s\n", text, r.error.offset, why);
  *     }
  */
-size_t bsonraw_path_text(const uint8_t *bytes, size_t len, const uint64_t *path, size_t path_len, char *text, size_t room);
+size_t bsonraw_path_text(const uint8_t *bytes, size_t len, const uint64_t *path, size_t path_len, char *BSONRAW_RESTRICT text, size_t room)
+                         BSONRAW_READS(1, 2) BSONRAW_READS(3, 4) BSONRAW_WRITES(5, 6);
 
 /* The element at a path, and its value where it is of the kind that is asked for: BSONRAW_OK; BSONRAW_NO_DOCUMENT, BSONRAW_NONE,
  * BSONRAW_FAULT and BSONRAW_OTHER_KIND as the calls of a cursor. What is written is then 0, and a pointer NULL. Pointers are into the
@@ -1438,24 +1536,26 @@ size_t bsonraw_path_text(const uint8_t *bytes, size_t len, const uint64_t *path,
  *     if (bsonraw_get_int32(bytes, len, "born", &born) == BSONRAW_OK) printf("%d\n", born);
  *     if (bsonraw_get_utf8(bytes, len, "authors.0.name", &name, &name_len) == BSONRAW_OK) puts(name);
  */
-BSONRAW_USE int32_t bsonraw_get(const uint8_t *bytes, size_t len, const char *path, struct bsonraw_iter *iter);
-BSONRAW_USE int32_t bsonraw_get_value(const uint8_t *bytes, size_t len, const char *path, struct bsonraw_value *value);
-BSONRAW_USE int32_t bsonraw_get_int32(const uint8_t *bytes, size_t len, const char *path, int32_t *number);
-BSONRAW_USE int32_t bsonraw_get_int64(const uint8_t *bytes, size_t len, const char *path, int64_t *number);
-BSONRAW_USE int32_t bsonraw_get_double(const uint8_t *bytes, size_t len, const char *path, double *number);
-BSONRAW_USE int32_t bsonraw_get_as_int64(const uint8_t *bytes, size_t len, const char *path, int64_t *number);
-BSONRAW_USE int32_t bsonraw_get_as_double(const uint8_t *bytes, size_t len, const char *path, double *number);
-BSONRAW_USE int32_t bsonraw_get_bool(const uint8_t *bytes, size_t len, const char *path, int32_t *is_true);
-BSONRAW_USE int32_t bsonraw_get_date_time(const uint8_t *bytes, size_t len, const char *path, int64_t *millis);
-BSONRAW_USE int32_t bsonraw_get_utf8(const uint8_t *bytes, size_t len, const char *path, const char **text, size_t *text_len);
-BSONRAW_USE int32_t bsonraw_get_oid(const uint8_t *bytes, size_t len, const char *path, const uint8_t **id);
+BSONRAW_USE int32_t bsonraw_get(const uint8_t *bytes, size_t len, const char *path, struct bsonraw_iter *iter) BSONRAW_READS(1, 2);
+BSONRAW_USE int32_t bsonraw_get_value(const uint8_t *bytes, size_t len, const char *path, struct bsonraw_value *value) BSONRAW_READS(1, 2);
+BSONRAW_USE int32_t bsonraw_get_int32(const uint8_t *bytes, size_t len, const char *path, int32_t *number) BSONRAW_READS(1, 2);
+BSONRAW_USE int32_t bsonraw_get_int64(const uint8_t *bytes, size_t len, const char *path, int64_t *number) BSONRAW_READS(1, 2);
+BSONRAW_USE int32_t bsonraw_get_double(const uint8_t *bytes, size_t len, const char *path, double *number) BSONRAW_READS(1, 2);
+BSONRAW_USE int32_t bsonraw_get_as_int64(const uint8_t *bytes, size_t len, const char *path, int64_t *number) BSONRAW_READS(1, 2);
+BSONRAW_USE int32_t bsonraw_get_as_double(const uint8_t *bytes, size_t len, const char *path, double *number) BSONRAW_READS(1, 2);
+BSONRAW_USE int32_t bsonraw_get_bool(const uint8_t *bytes, size_t len, const char *path, int32_t *is_true) BSONRAW_READS(1, 2);
+BSONRAW_USE int32_t bsonraw_get_date_time(const uint8_t *bytes, size_t len, const char *path, int64_t *millis) BSONRAW_READS(1, 2);
+BSONRAW_USE int32_t bsonraw_get_utf8(const uint8_t *bytes, size_t len, const char *path, const char **text, size_t *text_len)
+                                     BSONRAW_READS(1, 2);
+BSONRAW_USE int32_t bsonraw_get_oid(const uint8_t *bytes, size_t len, const char *path, const uint8_t **id) BSONRAW_READS(1, 2);
 BSONRAW_USE int32_t bsonraw_get_document(const uint8_t *bytes, size_t len, const char *path, const uint8_t **document,
-                                         size_t *document_len);
-BSONRAW_USE int32_t bsonraw_get_array(const uint8_t *bytes, size_t len, const char *path, const uint8_t **array, size_t *array_len);
+                                         size_t *document_len) BSONRAW_READS(1, 2);
+BSONRAW_USE int32_t bsonraw_get_array(const uint8_t *bytes, size_t len, const char *path, const uint8_t **array, size_t *array_len)
+                                      BSONRAW_READS(1, 2);
 
 /* Several paths in one walk: each field gets the value and the status that bsonraw_get_value gives of its path. BSONRAW_OK where each
- * has a value; else the status of the first that has none. With NULL for the bytes each gets BSONRAW_NULL. BSONRAW_FIELD makes a field of a path; the same fields do for each
- * document. A walk takes 16 fields.
+ * has a value; else the status of the first that has none. With NULL for the bytes each gets BSONRAW_NULL. BSONRAW_FIELD makes a field
+ * of a path; the same fields do for each document. A walk takes 16 fields.
  *
  *     struct bsonraw_field f[] = {BSONRAW_FIELD("name"), BSONRAW_FIELD("born")};
  *     if (bsonraw_find_many(bytes, len, f, 2) == BSONRAW_OK)
@@ -1473,29 +1573,33 @@ struct bsonraw_field {
 
 #define BSONRAW_FIELD(path) {path, {0, 0, 0, 0, 0, 0, 0, 0, 0, 0, {0, 0, 0, 0, 0}}, BSONRAW_NONE, 0, 0, 0, 0}
 
-BSONRAW_USE int32_t bsonraw_find_many(const uint8_t *bytes, size_t len, struct bsonraw_field *fields, size_t count);
+BSONRAW_USE int32_t bsonraw_find_many(const uint8_t *bytes, size_t len, struct bsonraw_field *fields, size_t count)
+                                      BSONRAW_READS(1, 2) BSONRAW_CHANGES(3, 4);
 
 /* Whether a path leads to an element: 1, or 0. Why it doesn't, bsonraw_get says. */
-BSONRAW_USE int32_t bsonraw_has_key(const uint8_t *bytes, size_t len, const char *path);
+BSONRAW_USE int32_t bsonraw_has_key(const uint8_t *bytes, size_t len, const char *path) BSONRAW_READS(1, 2);
 
 /* How many elements a document has at its own level; with BSONRAW_FAULT those before the stop. */
-BSONRAW_USE int32_t bsonraw_count(const uint8_t *bytes, size_t len, uint64_t *count);
+BSONRAW_USE int32_t bsonraw_count(const uint8_t *bytes, size_t len, uint64_t *count) BSONRAW_READS(1, 2);
 
-/* The order of two documents by the bytes of their canonical forms, as memcmp has it: under 0, 0 or over 0. It is 0 where both have one form, whatever their bytes are. BSONRAW_OK; else the status of bsonraw_canonical with
- * the first one that has no form, with as many levels as there are, and order is 0. It takes memory for both forms. */
-BSONRAW_USE int32_t bsonraw_compare(const uint8_t *one, size_t one_len, const uint8_t *other, size_t other_len, int32_t *order);
+/* The order of two documents by the bytes of their canonical forms, as memcmp has it: under 0, 0 or over 0. It is 0 where both have one
+ * form, whatever their bytes are. BSONRAW_OK; else the status of bsonraw_canonical with the first one that has no form, with as many
+ * levels as there are, and order is 0. It takes memory for both forms. */
+BSONRAW_USE int32_t bsonraw_compare(const uint8_t *one, size_t one_len, const uint8_t *other, size_t other_len, int32_t *order)
+                                    BSONRAW_READS(1, 2) BSONRAW_READS(3, 4);
 
 /* Whether two documents have one canonical form: BSONRAW_OK, and is_equal is 1 or 0; else as bsonraw_compare. */
-BSONRAW_USE int32_t bsonraw_equal(const uint8_t *one, size_t one_len, const uint8_t *other, size_t other_len, int32_t *is_equal);
+BSONRAW_USE int32_t bsonraw_equal(const uint8_t *one, size_t one_len, const uint8_t *other, size_t other_len, int32_t *is_equal)
+                                  BSONRAW_READS(1, 2) BSONRAW_READS(3, 4);
 
 /* Overwrites a value of fixed size at a path, where it is of this kind already: the document keeps its length. The others as
  * bsonraw_get, and nothing is written. */
-BSONRAW_USE int32_t bsonraw_set_int32(uint8_t *bytes, size_t len, const char *path, int32_t number);
-BSONRAW_USE int32_t bsonraw_set_int64(uint8_t *bytes, size_t len, const char *path, int64_t number);
-BSONRAW_USE int32_t bsonraw_set_double(uint8_t *bytes, size_t len, const char *path, double number);
-BSONRAW_USE int32_t bsonraw_set_bool(uint8_t *bytes, size_t len, const char *path, int32_t is_true);
-BSONRAW_USE int32_t bsonraw_set_date_time(uint8_t *bytes, size_t len, const char *path, int64_t millis);
-BSONRAW_USE int32_t bsonraw_set_oid(uint8_t *bytes, size_t len, const char *path, const uint8_t *id);
+BSONRAW_USE int32_t bsonraw_set_int32(uint8_t *bytes, size_t len, const char *path, int32_t number) BSONRAW_CHANGES(1, 2);
+BSONRAW_USE int32_t bsonraw_set_int64(uint8_t *bytes, size_t len, const char *path, int64_t number) BSONRAW_CHANGES(1, 2);
+BSONRAW_USE int32_t bsonraw_set_double(uint8_t *bytes, size_t len, const char *path, double number) BSONRAW_CHANGES(1, 2);
+BSONRAW_USE int32_t bsonraw_set_bool(uint8_t *bytes, size_t len, const char *path, int32_t is_true) BSONRAW_CHANGES(1, 2);
+BSONRAW_USE int32_t bsonraw_set_date_time(uint8_t *bytes, size_t len, const char *path, int64_t millis) BSONRAW_CHANGES(1, 2);
+BSONRAW_USE int32_t bsonraw_set_oid(uint8_t *bytes, size_t len, const char *path, const uint8_t id[12]) BSONRAW_CHANGES(1, 2);
 
 /* ---- Extended JSON in pieces ---- */
 
@@ -1505,7 +1609,8 @@ BSONRAW_USE int32_t bsonraw_set_oid(uint8_t *bytes, size_t len, const char *path
  * largest value that isn't a document or an array, with its text. */
 BSONRAW_USE int32_t bsonraw_json_write(const uint8_t *bytes, size_t len, size_t max_bytes, size_t max_depth, uint32_t canonical,
                                        uint32_t indented, int32_t (*write)(void *context, const char *text, size_t text_len),
-                                       void *context, struct bsonraw_report *report, uint64_t *path, size_t path_room);
+                                       void *context, struct bsonraw_report *report, uint64_t *path, size_t path_room)
+                                       BSONRAW_READS(1, 2) BSONRAW_WRITES(10, 11);
 
 /* The value of the element that a cursor is at as bsonraw_json prints it; its document or array is the first of max_depth levels.
  * BSONRAW_OK, and the text is at the front of text, with a 0 behind it; report->count is its bytes without that 0. BSONRAW_SMALL_BUFFER
@@ -1520,7 +1625,8 @@ BSONRAW_USE int32_t bsonraw_json_write(const uint8_t *bytes, size_t len, size_t 
  *         puts(text);
  */
 BSONRAW_USE int32_t bsonraw_iter_json(const struct bsonraw_iter *iter, const uint8_t *bytes, size_t len, size_t max_depth,
-                                      uint32_t canonical, uint32_t indented, char *text, size_t room, struct bsonraw_report *report);
+                                      uint32_t canonical, uint32_t indented, char *BSONRAW_RESTRICT text, size_t room, struct bsonraw_report *report)
+                                      BSONRAW_READS(2, 3) BSONRAW_WRITES(7, 8);
 
 /* ---- a builder that grows ---- */
 
@@ -1567,7 +1673,7 @@ int32_t bsonraw_buffer_end(struct bsonraw_buffer *buffer);
 
 /* Append an element, as the calls of a builder do; bsonraw_buffer_append takes its parts, as bsonraw_append. */
 int32_t bsonraw_buffer_append(struct bsonraw_buffer *buffer, uint32_t tag, const char *key, const void *one, size_t one_len,
-                              const void *two, size_t two_len);
+                              const void *two, size_t two_len) BSONRAW_READS(4, 5) BSONRAW_READS(6, 7);
 int32_t bsonraw_buffer_int32(struct bsonraw_buffer *buffer, const char *key, int32_t number);
 int32_t bsonraw_buffer_int64(struct bsonraw_buffer *buffer, const char *key, int64_t number);
 int32_t bsonraw_buffer_double(struct bsonraw_buffer *buffer, const char *key, double number);
@@ -1576,32 +1682,38 @@ int32_t bsonraw_buffer_date_time(struct bsonraw_buffer *buffer, const char *key,
 int32_t bsonraw_buffer_timestamp(struct bsonraw_buffer *buffer, const char *key, uint32_t time, uint32_t increment);
 int32_t bsonraw_buffer_null(struct bsonraw_buffer *buffer, const char *key);
 int32_t bsonraw_buffer_utf8(struct bsonraw_buffer *buffer, const char *key, const char *text);
-int32_t bsonraw_buffer_text(struct bsonraw_buffer *buffer, const char *key, const char *text, size_t text_len);
-int32_t bsonraw_buffer_oid(struct bsonraw_buffer *buffer, const char *key, const uint8_t *id);
-int32_t bsonraw_buffer_decimal128(struct bsonraw_buffer *buffer, const char *key, const uint8_t *decimal);
-int32_t bsonraw_buffer_binary(struct bsonraw_buffer *buffer, const char *key, uint8_t subtype, const void *data, size_t data_len);
-int32_t bsonraw_buffer_document(struct bsonraw_buffer *buffer, const char *key, const uint8_t *document, size_t document_len);
-int32_t bsonraw_buffer_array(struct bsonraw_buffer *buffer, const char *key, const uint8_t *array, size_t array_len);
-int32_t bsonraw_buffer_iter(struct bsonraw_buffer *buffer, const struct bsonraw_iter *iter, const uint8_t *bytes, size_t len);
+int32_t bsonraw_buffer_text(struct bsonraw_buffer *buffer, const char *key, const char *text, size_t text_len) BSONRAW_READS(3, 4);
+int32_t bsonraw_buffer_oid(struct bsonraw_buffer *buffer, const char *key, const uint8_t id[12]);
+int32_t bsonraw_buffer_decimal128(struct bsonraw_buffer *buffer, const char *key, const uint8_t decimal[16]);
+int32_t bsonraw_buffer_binary(struct bsonraw_buffer *buffer, const char *key, uint8_t subtype, const void *data, size_t data_len)
+                              BSONRAW_READS(4, 5);
+int32_t bsonraw_buffer_document(struct bsonraw_buffer *buffer, const char *key, const uint8_t *document, size_t document_len)
+                                BSONRAW_READS(3, 4);
+int32_t bsonraw_buffer_array(struct bsonraw_buffer *buffer, const char *key, const uint8_t *array, size_t array_len) BSONRAW_READS(3, 4);
+int32_t bsonraw_buffer_iter(struct bsonraw_buffer *buffer, const struct bsonraw_iter *iter, const uint8_t *bytes, size_t len)
+                            BSONRAW_READS(3, 4);
 
-/* Append the elements of a document, as they are: all; all but those with these keys, of which none is NULL; or all with another document laid over them: a
- * key that is there gets the other's value in its place, and the other's new keys follow. A stop, or bytes that are no document, are
- * BSONRAW_FAULT or BSONRAW_NO_DOCUMENT, and stick. The last one takes as many steps as there are pairs of elements. */
-int32_t bsonraw_buffer_concat(struct bsonraw_buffer *buffer, const uint8_t *bytes, size_t len);
+/* Append the elements of a document, as they are: all; all but those with these keys, of which none is NULL; or all with another
+ * document laid over them: a key that is there gets the other's value in its place, and the other's new keys follow. A stop, or bytes
+ * that are no document, are BSONRAW_FAULT or BSONRAW_NO_DOCUMENT, and stick. The last one takes as many steps as there are pairs of
+ * elements. */
+int32_t bsonraw_buffer_concat(struct bsonraw_buffer *buffer, const uint8_t *bytes, size_t len) BSONRAW_READS(2, 3);
 int32_t bsonraw_buffer_copy_without(struct bsonraw_buffer *buffer, const uint8_t *bytes, size_t len, const char *const *keys,
-                                    size_t count);
-int32_t bsonraw_buffer_copy_with(struct bsonraw_buffer *buffer, const uint8_t *bytes, size_t len, const uint8_t *over, size_t over_len);
+                                    size_t count) BSONRAW_READS(2, 3) BSONRAW_READS(4, 5);
+int32_t bsonraw_buffer_copy_with(struct bsonraw_buffer *buffer, const uint8_t *bytes, size_t len, const uint8_t *over, size_t over_len)
+                                 BSONRAW_READS(2, 3) BSONRAW_READS(4, 5);
 
 /* ---- documents from a file ---- */
 
-/* Documents one behind the other from a file descriptor or a FILE, of which one is in memory at a time. With BSONRAW_OK it is len
- * bytes at bytes, up to the next call; offset is where it begins, as error.offset from where the stream began to read, which needn't be
- * the file's first byte. BSONRAW_NONE at the end. BSONRAW_NO_DOCUMENT, and error says why: where the last byte isn't 0 (BSONRAW_NOT_TERMINATED), the bytes are there, and the next call goes on behind them; where
- * the length is under 5 or negative (BSONRAW_LENGTH_INCORRECT), nothing says where the next one begins. BSONRAW_CUT where the file
- * ends within a document, of which len bytes are there; BSONRAW_TOO_MANY_BYTES where the length is over max_bytes, which is
- * 2147483647 unless it is set; BSONRAW_NO_MEMORY; BSONRAW_NOT_READ. The next call goes on after
- * BSONRAW_OK and BSONRAW_NOT_TERMINATED. After BSONRAW_NOT_READ it reads on from where that stopped, as where errno was EAGAIN; of a FILE
- * once clearerr was called. After any other status it returns the same. Others who read the file don't see what was read ahead of a document. The file isn't closed.
+/* Documents one behind the other from a file descriptor or a FILE, of which one is in memory at a time. With BSONRAW_OK it is len bytes
+ * at bytes, up to the next call; offset is where it begins, as error.offset from where the stream began to read, which needn't be the
+ * file's first byte. BSONRAW_NONE at the end. BSONRAW_NO_DOCUMENT, and error says why: where the last byte isn't 0
+ * (BSONRAW_NOT_TERMINATED), the bytes are there, and the next call goes on behind them; where the length is under 5 or negative
+ * (BSONRAW_LENGTH_INCORRECT), nothing says where the next one begins. BSONRAW_CUT where the file ends within a document, of which len
+ * bytes are there; BSONRAW_TOO_MANY_BYTES where the length is over max_bytes, which is 2147483647 unless it is set; BSONRAW_NO_MEMORY;
+ * BSONRAW_NOT_READ. The next call goes on after BSONRAW_OK and BSONRAW_NOT_TERMINATED. After BSONRAW_NOT_READ it reads on from where
+ * that stopped, as where errno was EAGAIN; of a FILE once clearerr was called. After any other status it returns the same. Others who
+ * read the file don't see what was read ahead of a document. The file isn't closed.
  *
  *     struct bsonraw_stream s;
  *     int32_t status = bsonraw_stream_from_file(&s, stdin);
@@ -1629,7 +1741,7 @@ void bsonraw_stream_free(struct bsonraw_stream *stream);
 
 /* Whether a reader that returned BSONRAW_NO_DOCUMENT found a document that is cut off, rather than a length that can't be: the bytes end
  * before the four of its length, or before the length that they say. */
-BSONRAW_USE int32_t bsonraw_reader_is_cut(const struct bsonraw_reader *reader, const uint8_t *bytes, size_t len);
+BSONRAW_USE int32_t bsonraw_reader_is_cut(const struct bsonraw_reader *reader, const uint8_t *bytes, size_t len) BSONRAW_READS(2, 3);
 
 #ifdef __cplusplus
 }

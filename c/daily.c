@@ -574,7 +574,7 @@ int32_t bsonraw_set_bool(uint8_t *bytes, size_t len, const char *path, int32_t i
     return overwrite(bytes, len, path, BSONRAW_TAG_BOOLEAN, &payload, 1);
 }
 
-int32_t bsonraw_set_oid(uint8_t *bytes, size_t len, const char *path, const uint8_t *id) {
+int32_t bsonraw_set_oid(uint8_t *bytes, size_t len, const char *path, const uint8_t id[12]) {
     return id == NULL ? BSONRAW_NULL : overwrite(bytes, len, path, BSONRAW_TAG_OBJECT_ID, id, 12);
 }
 
@@ -1099,11 +1099,11 @@ int32_t bsonraw_buffer_utf8(struct bsonraw_buffer *buffer, const char *key, cons
     return bsonraw_buffer_text(buffer, key, text, text == NULL ? 1 : strlen(text));
 }
 
-int32_t bsonraw_buffer_oid(struct bsonraw_buffer *buffer, const char *key, const uint8_t *id) {
+int32_t bsonraw_buffer_oid(struct bsonraw_buffer *buffer, const char *key, const uint8_t id[12]) {
     return add_fixed(buffer, BSONRAW_TAG_OBJECT_ID, key, id, 12);
 }
 
-int32_t bsonraw_buffer_decimal128(struct bsonraw_buffer *buffer, const char *key, const uint8_t *decimal) {
+int32_t bsonraw_buffer_decimal128(struct bsonraw_buffer *buffer, const char *key, const uint8_t decimal[16]) {
     return add_fixed(buffer, BSONRAW_TAG_DECIMAL128, key, decimal, 16);
 }
 

@@ -9,6 +9,7 @@
 #   - the header compiles as each C and C++ with all warnings on, and so do its examples and the blocks `c` of the pages;
 #     the examples are run on two documents, and print c/tests/examples.txt; a block with a `main` is run on the greeting, and
 #     the page says what it prints;
+#   - the machine's GCC warns of each line of c/tests/warned.txt;
 #   - c/tests/print.c prints what is beside each example, and what bsonraw prints of each document of the tests;
 #   - the programs of c/tests: every buffer at its edges, each request for memory refused in turn, threads, reasons, the header's
 #     numbers beside those that the library returns; and
@@ -268,7 +269,7 @@ build() {
         # shellcheck disable=SC2086
         compile -std=c99 $warnings -O1 -fPIE -c -o "$work/$name.o" "c/tests/$name.c" || return 1
     done
-    for name in agree buffers build daily from_json large memory numbers pieces reasons resync slips texts threads touch; do
+    for name in agree buffers build daily from_json large memory numbers pieces reasons resync slips texts threads touch unchecked; do
         link libbsonraw.a "$work/$name" "$work/$name.o" "$work/documents.o" || return 1
         link libbsonraw.so "$work/$name.shared" "$work/$name.o" "$work/documents.o" || return 1
     done
@@ -376,7 +377,7 @@ look_at_words() {
 }
 
 run_tests() {
-    for name in agree buffers build daily from_json large memory numbers pieces reasons resync slips texts threads touch; do
+    for name in agree buffers build daily from_json large memory numbers pieces reasons resync slips texts threads touch unchecked; do
         for program in "$name" "$name.shared"; do
             "$work/$program" <"$work/documents" >"$work/said" || fails "$program ends with status $?"
             cat "$work/said"
@@ -534,6 +535,7 @@ use_machine() {
         skip pkg-config
     fi
     try_examples
+    warns_of_slips
     try_others
     run_sanitized
     # shellcheck disable=SC2086
@@ -585,6 +587,34 @@ try_examples() {
         $compiler -std=c++17 "-I$prefix/include" -fsyntax-only "$work/key.cpp" 2>/dev/null && fails "BSONRAW_KEY takes a pointer by $compiler"
         sed 's/BSONRAW_KEY/BSONRAW_STR/' "$work/key.cpp" >"$work/str.cpp"
         $compiler -std=c++17 "-I$prefix/include" -Wall -Wextra -Wold-style-cast -Werror -fsyntax-only "$work/str.cpp" || fails "BSONRAW_STR takes no pointer by $compiler"
+    done
+}
+
+# GCC warns of each line of c/tests/warned.txt, and of nothing else around it.
+warns_of_slips() {
+    if ! command -v gcc >/dev/null || [ "$(gcc -dumpversion | cut -d . -f 1)" -lt 10 ]; then
+        skip "warnings of GCC 10"
+        return
+    fi
+    echo '(void)!bsonraw_iter_init(&it, eight, 8);' >"$work/right"
+    for level in 0 2; do
+        while read -r line; do
+            gcc -O$level "-I$prefix/include" -Wall -Wextra -Werror "-DLINE=$line" -c -o "$work/example.o" c/tests/warned.c || fails "gcc warns of this: $line"
+        done <"$work/right"
+        while read -r line; do
+            gcc -O$level "-I$prefix/include" -Wall -Wextra -Werror "-DLINE=$line" -c -o "$work/example.o" c/tests/warned.c 2>/dev/null &&
+                fails "gcc doesn't warn of this: $line"
+        done <c/tests/warned.txt
+    done
+    for compiler in gcc clang g++ clang++; do
+        command -v $compiler >/dev/null || continue
+        case $compiler in *++) language=c++ ;; *) language=c ;; esac
+        for line in 'BSONRAW_FROM_JSON("{}", pointer, \&told)' 'bsonraw_iter_find(\&it, bytes, len, BSONRAW_KEY("ab" + 1))'; do
+            sed "s/LINE/return (void)($line);/" c/tests/warned.c >"$work/slip.c"
+            $compiler -x $language "-I$prefix/include" -fsyntax-only "$work/slip.c" 2>/dev/null && fails "$compiler compiles this: $line"
+        done
+        sed 's/LINE/return (void)bsonraw_oid_to_hex(room, hex);/' c/tests/warned.c >"$work/slip.c"
+        $compiler -x $language "-I$prefix/include" -Wall -Wextra -Werror -fsyntax-only "$work/slip.c" || fails "$compiler doesn't compile c/tests/warned.c"
     done
 }
 
@@ -664,7 +694,7 @@ look_at_libraries
 look_at_header
 look_at_examples
 run_programs || fails "the programs of examples/c don't compile"
-if build documents agree buffers build daily from_json large memory numbers pieces reasons resync slips texts threads touch print; then
+if build documents agree buffers build daily from_json large memory numbers pieces reasons resync slips texts threads touch unchecked print; then
     look_at_output
     notices_mistakes || fails "the tests don't compile with a mistake"
     notices_edits || fails "the tests don't compile with an edit"

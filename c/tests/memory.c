@@ -274,7 +274,7 @@ static void look_at_form(void) {
     d.bytes[7] = (uint8_t)inner, d.bytes[8] = (uint8_t)(inner >> 8), d.bytes[9] = (uint8_t)(inner >> 16), d.bytes[10] = 0;
     d.bytes[len - 2] = d.bytes[len - 1] = 0;
     before = peak = in_use;
-    expect(bsonraw_canonical(d.bytes, len, SIZE_MAX, 1, d.bytes, 0, &r, path, 1) == BSONRAW_SMALL_BUFFER && r.count == len, d.name, "another length");
+    expect(bsonraw_canonical(d.bytes, len, SIZE_MAX, 1, NULL, 0, &r, path, 1) == BSONRAW_SMALL_BUFFER && r.count == len, d.name, "another length");
     took(before, 1 << 10, d.name);
     free(d.bytes);
 }
