@@ -1743,6 +1743,154 @@ void bsonraw_stream_free(struct bsonraw_stream *stream);
  * before the four of its length, or before the length that they say. */
 BSONRAW_USE int32_t bsonraw_reader_is_cut(const struct bsonraw_reader *reader, const uint8_t *bytes, size_t len) BSONRAW_READS(2, 3);
 
+/* ---- with BSONRAW_DEBUG ----
+ *
+ * The calls for daily use, too, read the first and the last byte of what they are given, in a function of the caller's.
+ */
+#if defined(BSONRAW_DEBUG) && !defined(BSONRAW_UNCHECKED)
+#define BSONRAW_TOUCHING(returns, name, parameters, touches, arguments) \
+    BSONRAW_LOCAL returns bsonraw_touching_##name parameters { \
+        (void)(touches); \
+        return bsonraw_##name arguments; \
+    }
+
+BSONRAW_TOUCHING(size_t, fault_text, (const struct bsonraw_error *error, char *BSONRAW_RESTRICT text, size_t room),
+                 BSONRAW_LACKS(text, room), (error, text, room))
+#define bsonraw_fault_text bsonraw_touching_fault_text
+BSONRAW_TOUCHING(size_t, path_text, (const uint8_t *bytes, size_t len, const uint64_t *path, size_t path_len, char *BSONRAW_RESTRICT text,
+                  size_t room),
+                 BSONRAW_LACKS(bytes, len) + BSONRAW_LACKS(path, path_len) + BSONRAW_LACKS(text, room),
+                 (bytes, len, path, path_len, text, room))
+#define bsonraw_path_text bsonraw_touching_path_text
+BSONRAW_TOUCHING(BSONRAW_USE int32_t, get, (const uint8_t *bytes, size_t len, const char *path, struct bsonraw_iter *iter),
+                 BSONRAW_LACKS(bytes, len), (bytes, len, path, iter))
+#define bsonraw_get bsonraw_touching_get
+BSONRAW_TOUCHING(BSONRAW_USE int32_t, get_value, (const uint8_t *bytes, size_t len, const char *path, struct bsonraw_value *value),
+                 BSONRAW_LACKS(bytes, len), (bytes, len, path, value))
+#define bsonraw_get_value bsonraw_touching_get_value
+BSONRAW_TOUCHING(BSONRAW_USE int32_t, get_int32, (const uint8_t *bytes, size_t len, const char *path, int32_t *number),
+                 BSONRAW_LACKS(bytes, len), (bytes, len, path, number))
+#define bsonraw_get_int32 bsonraw_touching_get_int32
+BSONRAW_TOUCHING(BSONRAW_USE int32_t, get_int64, (const uint8_t *bytes, size_t len, const char *path, int64_t *number),
+                 BSONRAW_LACKS(bytes, len), (bytes, len, path, number))
+#define bsonraw_get_int64 bsonraw_touching_get_int64
+BSONRAW_TOUCHING(BSONRAW_USE int32_t, get_double, (const uint8_t *bytes, size_t len, const char *path, double *number),
+                 BSONRAW_LACKS(bytes, len), (bytes, len, path, number))
+#define bsonraw_get_double bsonraw_touching_get_double
+BSONRAW_TOUCHING(BSONRAW_USE int32_t, get_as_int64, (const uint8_t *bytes, size_t len, const char *path, int64_t *number),
+                 BSONRAW_LACKS(bytes, len), (bytes, len, path, number))
+#define bsonraw_get_as_int64 bsonraw_touching_get_as_int64
+BSONRAW_TOUCHING(BSONRAW_USE int32_t, get_as_double, (const uint8_t *bytes, size_t len, const char *path, double *number),
+                 BSONRAW_LACKS(bytes, len), (bytes, len, path, number))
+#define bsonraw_get_as_double bsonraw_touching_get_as_double
+BSONRAW_TOUCHING(BSONRAW_USE int32_t, get_bool, (const uint8_t *bytes, size_t len, const char *path, int32_t *is_true),
+                 BSONRAW_LACKS(bytes, len), (bytes, len, path, is_true))
+#define bsonraw_get_bool bsonraw_touching_get_bool
+BSONRAW_TOUCHING(BSONRAW_USE int32_t, get_date_time, (const uint8_t *bytes, size_t len, const char *path, int64_t *millis),
+                 BSONRAW_LACKS(bytes, len), (bytes, len, path, millis))
+#define bsonraw_get_date_time bsonraw_touching_get_date_time
+BSONRAW_TOUCHING(BSONRAW_USE int32_t, get_utf8, (const uint8_t *bytes, size_t len, const char *path, const char **text, size_t *text_len),
+                 BSONRAW_LACKS(bytes, len), (bytes, len, path, text, text_len))
+#define bsonraw_get_utf8 bsonraw_touching_get_utf8
+BSONRAW_TOUCHING(BSONRAW_USE int32_t, get_oid, (const uint8_t *bytes, size_t len, const char *path, const uint8_t **id),
+                 BSONRAW_LACKS(bytes, len), (bytes, len, path, id))
+#define bsonraw_get_oid bsonraw_touching_get_oid
+BSONRAW_TOUCHING(BSONRAW_USE int32_t, get_document, (const uint8_t *bytes, size_t len, const char *path, const uint8_t **document,
+                  size_t *document_len),
+                 BSONRAW_LACKS(bytes, len), (bytes, len, path, document, document_len))
+#define bsonraw_get_document bsonraw_touching_get_document
+BSONRAW_TOUCHING(BSONRAW_USE int32_t, get_array, (const uint8_t *bytes, size_t len, const char *path, const uint8_t **array,
+                  size_t *array_len),
+                 BSONRAW_LACKS(bytes, len), (bytes, len, path, array, array_len))
+#define bsonraw_get_array bsonraw_touching_get_array
+BSONRAW_TOUCHING(BSONRAW_USE int32_t, find_many, (const uint8_t *bytes, size_t len, struct bsonraw_field *fields, size_t count),
+                 BSONRAW_LACKS(bytes, len) + BSONRAW_LACKS(fields, count), (bytes, len, fields, count))
+#define bsonraw_find_many bsonraw_touching_find_many
+BSONRAW_TOUCHING(BSONRAW_USE int32_t, has_key, (const uint8_t *bytes, size_t len, const char *path),
+                 BSONRAW_LACKS(bytes, len), (bytes, len, path))
+#define bsonraw_has_key bsonraw_touching_has_key
+BSONRAW_TOUCHING(BSONRAW_USE int32_t, count, (const uint8_t *bytes, size_t len, uint64_t *count),
+                 BSONRAW_LACKS(bytes, len), (bytes, len, count))
+#define bsonraw_count bsonraw_touching_count
+BSONRAW_TOUCHING(BSONRAW_USE int32_t, compare, (const uint8_t *one, size_t one_len, const uint8_t *other, size_t other_len, int32_t *order),
+                 BSONRAW_LACKS(one, one_len) + BSONRAW_LACKS(other, other_len), (one, one_len, other, other_len, order))
+#define bsonraw_compare bsonraw_touching_compare
+BSONRAW_TOUCHING(BSONRAW_USE int32_t, equal, (const uint8_t *one, size_t one_len, const uint8_t *other, size_t other_len,
+                  int32_t *is_equal),
+                 BSONRAW_LACKS(one, one_len) + BSONRAW_LACKS(other, other_len), (one, one_len, other, other_len, is_equal))
+#define bsonraw_equal bsonraw_touching_equal
+BSONRAW_TOUCHING(BSONRAW_USE int32_t, set_int32, (uint8_t *bytes, size_t len, const char *path, int32_t number),
+                 BSONRAW_LACKS(bytes, len), (bytes, len, path, number))
+#define bsonraw_set_int32 bsonraw_touching_set_int32
+BSONRAW_TOUCHING(BSONRAW_USE int32_t, set_int64, (uint8_t *bytes, size_t len, const char *path, int64_t number),
+                 BSONRAW_LACKS(bytes, len), (bytes, len, path, number))
+#define bsonraw_set_int64 bsonraw_touching_set_int64
+BSONRAW_TOUCHING(BSONRAW_USE int32_t, set_double, (uint8_t *bytes, size_t len, const char *path, double number),
+                 BSONRAW_LACKS(bytes, len), (bytes, len, path, number))
+#define bsonraw_set_double bsonraw_touching_set_double
+BSONRAW_TOUCHING(BSONRAW_USE int32_t, set_bool, (uint8_t *bytes, size_t len, const char *path, int32_t is_true),
+                 BSONRAW_LACKS(bytes, len), (bytes, len, path, is_true))
+#define bsonraw_set_bool bsonraw_touching_set_bool
+BSONRAW_TOUCHING(BSONRAW_USE int32_t, set_date_time, (uint8_t *bytes, size_t len, const char *path, int64_t millis),
+                 BSONRAW_LACKS(bytes, len), (bytes, len, path, millis))
+#define bsonraw_set_date_time bsonraw_touching_set_date_time
+BSONRAW_TOUCHING(BSONRAW_USE int32_t, set_oid, (uint8_t *bytes, size_t len, const char *path, const uint8_t id[12]),
+                 BSONRAW_LACKS(bytes, len) + BSONRAW_LACKS(id, 12), (bytes, len, path, id))
+#define bsonraw_set_oid bsonraw_touching_set_oid
+BSONRAW_TOUCHING(BSONRAW_USE int32_t, json_write, (const uint8_t *bytes, size_t len, size_t max_bytes, size_t max_depth,
+                  uint32_t canonical, uint32_t indented, int32_t (*write)(void *context, const char *text, size_t text_len), void *context,
+                  struct bsonraw_report *report, uint64_t *path, size_t path_room),
+                 BSONRAW_LACKS(bytes, len) + BSONRAW_LACKS(path, path_room),
+                 (bytes, len, max_bytes, max_depth, canonical, indented, write, context, report, path, path_room))
+#define bsonraw_json_write bsonraw_touching_json_write
+BSONRAW_TOUCHING(BSONRAW_USE int32_t, iter_json, (const struct bsonraw_iter *iter, const uint8_t *bytes, size_t len, size_t max_depth,
+                  uint32_t canonical, uint32_t indented, char *BSONRAW_RESTRICT text, size_t room, struct bsonraw_report *report),
+                 BSONRAW_LACKS(bytes, len) + BSONRAW_LACKS(text, room),
+                 (iter, bytes, len, max_depth, canonical, indented, text, room, report))
+#define bsonraw_iter_json bsonraw_touching_iter_json
+BSONRAW_TOUCHING(int32_t, buffer_append, (struct bsonraw_buffer *buffer, uint32_t tag, const char *key, const void *one, size_t one_len,
+                  const void *two, size_t two_len),
+                 BSONRAW_LACKS(BSONRAW_BYTES(one), one_len) + BSONRAW_LACKS(BSONRAW_BYTES(two), two_len),
+                 (buffer, tag, key, one, one_len, two, two_len))
+#define bsonraw_buffer_append bsonraw_touching_buffer_append
+BSONRAW_TOUCHING(int32_t, buffer_text, (struct bsonraw_buffer *buffer, const char *key, const char *text, size_t text_len),
+                 BSONRAW_LACKS(text, text_len), (buffer, key, text, text_len))
+#define bsonraw_buffer_text bsonraw_touching_buffer_text
+BSONRAW_TOUCHING(int32_t, buffer_oid, (struct bsonraw_buffer *buffer, const char *key, const uint8_t id[12]),
+                 BSONRAW_LACKS(id, 12), (buffer, key, id))
+#define bsonraw_buffer_oid bsonraw_touching_buffer_oid
+BSONRAW_TOUCHING(int32_t, buffer_decimal128, (struct bsonraw_buffer *buffer, const char *key, const uint8_t decimal[16]),
+                 BSONRAW_LACKS(decimal, 16), (buffer, key, decimal))
+#define bsonraw_buffer_decimal128 bsonraw_touching_buffer_decimal128
+BSONRAW_TOUCHING(int32_t, buffer_binary, (struct bsonraw_buffer *buffer, const char *key, uint8_t subtype, const void *data,
+                  size_t data_len),
+                 BSONRAW_LACKS(BSONRAW_BYTES(data), data_len), (buffer, key, subtype, data, data_len))
+#define bsonraw_buffer_binary bsonraw_touching_buffer_binary
+BSONRAW_TOUCHING(int32_t, buffer_document, (struct bsonraw_buffer *buffer, const char *key, const uint8_t *document, size_t document_len),
+                 BSONRAW_LACKS(document, document_len), (buffer, key, document, document_len))
+#define bsonraw_buffer_document bsonraw_touching_buffer_document
+BSONRAW_TOUCHING(int32_t, buffer_array, (struct bsonraw_buffer *buffer, const char *key, const uint8_t *array, size_t array_len),
+                 BSONRAW_LACKS(array, array_len), (buffer, key, array, array_len))
+#define bsonraw_buffer_array bsonraw_touching_buffer_array
+BSONRAW_TOUCHING(int32_t, buffer_iter, (struct bsonraw_buffer *buffer, const struct bsonraw_iter *iter, const uint8_t *bytes, size_t len),
+                 BSONRAW_LACKS(bytes, len), (buffer, iter, bytes, len))
+#define bsonraw_buffer_iter bsonraw_touching_buffer_iter
+BSONRAW_TOUCHING(int32_t, buffer_concat, (struct bsonraw_buffer *buffer, const uint8_t *bytes, size_t len),
+                 BSONRAW_LACKS(bytes, len), (buffer, bytes, len))
+#define bsonraw_buffer_concat bsonraw_touching_buffer_concat
+BSONRAW_TOUCHING(int32_t, buffer_copy_without, (struct bsonraw_buffer *buffer, const uint8_t *bytes, size_t len, const char *const *keys,
+                  size_t count),
+                 BSONRAW_LACKS(bytes, len) + BSONRAW_LACKS(keys, count), (buffer, bytes, len, keys, count))
+#define bsonraw_buffer_copy_without bsonraw_touching_buffer_copy_without
+BSONRAW_TOUCHING(int32_t, buffer_copy_with, (struct bsonraw_buffer *buffer, const uint8_t *bytes, size_t len, const uint8_t *over,
+                  size_t over_len),
+                 BSONRAW_LACKS(bytes, len) + BSONRAW_LACKS(over, over_len), (buffer, bytes, len, over, over_len))
+#define bsonraw_buffer_copy_with bsonraw_touching_buffer_copy_with
+BSONRAW_TOUCHING(BSONRAW_USE int32_t, reader_is_cut, (const struct bsonraw_reader *reader, const uint8_t *bytes, size_t len),
+                 BSONRAW_LACKS(bytes, len), (reader, bytes, len))
+#define bsonraw_reader_is_cut bsonraw_touching_reader_is_cut
+#endif
+
 #ifdef __cplusplus
 }
 #endif
