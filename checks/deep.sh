@@ -119,9 +119,7 @@ n=2400000
 levels "$n"
 prints canon 1 "refused 6"
 
-lets_go trees a_million_documents_come_back
-lets_go trees a_million_arrays_come_back
-lets_go trees a_million_scopes_come_back
+lets_go trees a_million_levels_of_each_kind_come_back
 lets_go trees a_list_of_deep_documents_comes_back
 lets_go views a_deep_branch_among_others_is_let_go
 lets_go trees a_million_owned_levels_are_compared_and_printed

@@ -3,34 +3,37 @@ use raw_bson::{ElementType, RawArrayBuf, RawDocumentBuf, Result};
 use std::alloc::Global;
 use std::process::Abort;
 
-/// Whether the value of this kind is appended, owned.
-fn is_appended(alloc: Global, document: &mut RawDocumentBuf, key: &str, kind: ElementType) -> bool {
-    match owned(alloc, kind) {
-        Ok(value) => document.append(key, value).is_ok(),
-        Err(_) => false,
-    }
+/// Appends the value of this kind, owned.
+fn append(
+    alloc: Global,
+    document: &mut RawDocumentBuf,
+    key: &str,
+    kind: ElementType,
+) -> Result<()> {
+    document.append(key, owned(alloc, kind)?)
 }
 
 /// Whether the values of all kinds make the document of all kinds.
 fn are_appended(alloc: Global, document: &mut RawDocumentBuf) -> bool {
     let mut are_right = true;
     for &(key, kind) in KINDS.iter() {
-        are_right = are_right && is_appended(alloc, document, key, kind);
+        are_right = are_right && let_go!(made = append(alloc, document, key, kind); made.is_ok());
     }
     are_right && document.as_bytes() == ALL_KINDS
 }
 
-/// Whether that holds of an empty document, where there is memory for it.
-fn are_made(alloc: Global) -> bool {
-    match RawDocumentBuf::new(alloc) {
-        Ok(mut document) => are_appended(alloc, &mut document),
+/// Whether that holds of a document, where there is memory for it.
+fn are_made(alloc: Global, made: &mut Result<RawDocumentBuf>) -> bool {
+    match made {
+        Ok(document) => are_appended(alloc, document),
         Err(_) => false,
     }
 }
 
 #[test]
 fn a_value_of_each_kind_is_appended(rt: HostRuntime) {
-    assert!(rt; are_made(rt.alloc()));
+    let alloc = rt.alloc();
+    assert!(rt; let_go!(mut made = RawDocumentBuf::new(alloc); are_made(alloc, &mut made)));
 }
 
 /// How many of the first six getters have a value in the document of all kinds: each where its kind is.

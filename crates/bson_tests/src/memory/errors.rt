@@ -1,96 +1,72 @@
 use crate::fixtures::*;
-use raw_bson::{
-    DoubleBits, Error, ErrorKind, RawBsonRef, Reason, ValueAccessError, ValueAccessErrorKind,
-    ValueAccessResult,
-};
+use raw_bson::{DoubleBits, Error, RawBsonRef, RawDocument, ValueAccessError, ValueAccessResult};
+use std::alloc::AllocError;
 use std::process::Abort;
 
-// Each copy is equal, or there is none because memory ran out. What has no memory of its own is copied in any run.
+// Each copy is equal, or there is none because memory ran out. An error without a key has no memory of its own, and is copied in any run.
 
-fn is_kind_copied(kind: &ErrorKind) -> bool {
-    let copy: Result<_, _> = kind.clone();
-    match &copy {
-        Ok(copy) => copy == kind,
-        Err(_) => false,
+/// Whether this is a copy, or memory ran out, which it may for what has some of its own.
+fn is_copy<T: PartialEq>(copy: &Result<T, AllocError>, copied: &T, may_fail: bool) -> bool {
+    match copy {
+        Ok(copy) => copy == copied,
+        Err(_) => may_fail,
     }
 }
 
-fn is_copied(error: &Error) -> bool {
-    let copy: Result<_, _> = error.clone();
-    match &copy {
-        Ok(copy) => copy == error,
-        Err(_) => error.key().is_some(),
-    }
+/// Whether the error is copied.
+fn is_copied(checks: Checks, error: &Error) -> bool {
+    let may_fail = checks.is_refusable && error.key().is_some();
+    let_go!(made: Result<_, _> = error.clone(); is_copy(&made, error, may_fail))
 }
 
 /// Whether the look-up has an error, which is copied.
-fn has_a_copy(answer: &raw_bson::Result<Option<RawBsonRef<'_>>>) -> bool {
+fn has_a_copy(checks: Checks, answer: &raw_bson::Result<Option<RawBsonRef<'_>>>) -> bool {
     match answer {
         Ok(_) => false,
-        Err(error) => is_copied(error),
+        Err(error) => is_copied(checks, error),
     }
 }
 
-/// Documents, each with a key whose look-up has an error.
-const FAULTS: &[(&[u8], &str)] = &[
-    (BOOLEAN_TWO, "a"),
-    (TAG_ZERO, ""),
-    (PATTERN_NOT_UTF8, "a"),
-    (KEY_NOT_UTF8, "a"),
-    (SWALLOWED_TERMINATOR, "a"),
-];
+/// Whether the error of this key is copied.
+fn is_fault_copied(checks: Checks, document: RawDocument<'_>, key: &str) -> bool {
+    let_go!(made = document.get(checks.alloc, key); has_a_copy(checks, &made))
+}
 
-/// Whether kinds that have no memory of their own are copied.
-fn are_kinds_copied(reason: Reason) -> bool {
-    is_kind_copied(&ErrorKind::OutOfMemory) && is_kind_copied(&ErrorKind::MalformedValue { reason })
+/// Whether the getter's error is copied.
+fn is_access_copied(checks: Checks, error: &ValueAccessError) -> bool {
+    let_go!(made: Result<_, _> = error.clone(); is_copy(&made, error, checks.is_refusable))
+}
+
+/// Whether the getter has an error, which is copied.
+fn has_access_copies(checks: Checks, answer: &ValueAccessResult<DoubleBits>) -> bool {
+    match answer {
+        Ok(_) => false,
+        Err(error) => is_access_copied(checks, error),
+    }
+}
+
+/// Whether the error of this key, under which there is no double, is copied.
+fn is_no_double_copied(checks: Checks, document: RawDocument<'_>, key: &str) -> bool {
+    let_go!(made = document.get_f64(checks.alloc, key); has_access_copies(checks, &made))
+}
+
+/// Whether errors of a boolean of the byte 2 are copied, and that of a key that isn't there.
+pub(crate) fn are_copied(checks: Checks, two: RawDocument<'_>) -> bool {
+    is_fault_copied(checks, two, "a")
+        && is_no_double_copied(checks, two, "a")
+        && is_no_double_copied(checks, two, "b")
+}
+
+/// Whether that of a text that isn't UTF-8 is, which has no key.
+pub(crate) fn is_text_copied(checks: Checks, document: RawDocument<'_>) -> bool {
+    is_fault_copied(checks, document, "a") && is_no_double_copied(checks, document, "a")
 }
 
 #[test]
-fn error_copies_or_out_of_memory(rt: HostRuntime) {
-    assert!(rt; are_kinds_copied(Reason::BadBoolean(2)));
-    for (row, (bytes, key)) in FAULTS.iter().enumerate() {
-        let is_right = let_go!(made = view(&rt, bytes).get(rt.alloc(), key); has_a_copy(&made));
-        require_row(&rt, is_right, "faults", row);
-    }
-}
-
-fn is_access_kind_copied(kind: &ValueAccessErrorKind) -> bool {
-    let copy: Result<_, _> = kind.clone();
-    match &copy {
-        Ok(copy) => copy == kind,
-        Err(_) => matches!(kind, ValueAccessErrorKind::InvalidBson(_)),
-    }
-}
-
-fn is_access_copied(error: &ValueAccessError) -> bool {
-    let copy: Result<_, _> = error.clone();
-    match &copy {
-        Ok(copy) => copy == error,
-        Err(_) => !error.key().is_empty(),
-    }
-}
-
-/// Whether the getter has an error, which is copied, and so is its kind.
-fn has_access_copies(answer: &ValueAccessResult<DoubleBits>) -> bool {
-    match answer {
-        Ok(_) => false,
-        Err(error) => is_access_kind_copied(&error.kind) && is_access_copied(error),
-    }
-}
-
-/// Documents, each with a key under which no double is found.
-const NO_DOUBLES: &[(&[u8], &str)] = &[
-    (GREETING, "hi"),
-    (GREETING, "x"),
-    (BOOLEAN_TWO, "a"),
-    (KEY_NOT_UTF8, "a"),
-];
-
-#[test]
-fn access_error_copies_or_out_of_memory(rt: HostRuntime) {
-    for (row, (bytes, key)) in NO_DOUBLES.iter().enumerate() {
-        let is_right =
-            let_go!(made = view(&rt, bytes).get_f64(rt.alloc(), key); has_access_copies(&made));
-        require_row(&rt, is_right, "no doubles", row);
-    }
+fn copies_or_out_of_memory(rt: HostRuntime) {
+    let checks = Checks::refusable(rt.alloc());
+    assert!(rt;
+        are_copied(checks, view(&rt, BOOLEAN_TWO))
+            && is_text_copied(checks, view(&rt, KEY_NOT_UTF8))
+    );
 }

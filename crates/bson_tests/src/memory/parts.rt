@@ -7,7 +7,7 @@ fn is_null_document(document: &Document) -> bool {
 }
 
 /// Whether the list is one null.
-pub(crate) fn is_one_null(list: &[Bson]) -> bool {
+fn is_one_null(list: &[Bson]) -> bool {
     list.len() == 1 && matches!(list.first(), Some(Bson::Null))
 }
 

@@ -1,6 +1,5 @@
 use crate::fixtures::*;
-use crate::memory::asserts::is_out_of_memory;
-use raw_bson::{RawBsonRef, RawDocumentBuf, Result};
+use raw_bson::{RawBson, RawBsonRef, RawDocumentBuf, Result};
 use std::alloc::Global;
 use std::process::Abort;
 
@@ -11,34 +10,26 @@ const NUMBERS: &[(&str, i32)] = &[("a", -1), ("b", 123), ("c", 0)];
 
 const LONG: &str = "a text that outgrows the room of a new buffer many times over";
 
-/// Whether the long text is in so many bytes, or memory ran out.
-fn is_in(answer: &Result<()>, len: usize) -> bool {
+/// A new document, to which a long text is appended.
+fn long(alloc: Global) -> Result<RawDocumentBuf> {
+    let mut document = RawDocumentBuf::new(alloc)?;
+    document.append_ref("text", RawBsonRef::String(LONG))?;
+    Ok(document)
+}
+
+/// Whether the long text is in the document, or memory ran out.
+fn has_text(checks: Checks, answer: &Result<RawDocumentBuf>) -> bool {
     match answer {
-        Ok(()) => len == 5 + 6 + 5 + LONG.len(),
-        Err(error) => is_out_of_memory(error),
-    }
-}
-
-/// Whether a long text is appended, or memory ran out.
-fn is_long_text_appended(document: &mut RawDocumentBuf) -> bool {
-    let_go!(
-        made = document.append_ref("text", RawBsonRef::String(LONG));
-        is_in(&made, document.as_bytes().len())
-    )
-}
-
-/// The same of a new document, if there is memory for it.
-fn is_appended_to_new(alloc: Global) -> bool {
-    match RawDocumentBuf::new(alloc) {
-        Ok(mut document) => is_long_text_appended(&mut document),
-        Err(error) => is_out_of_memory(&error),
+        Ok(document) => document.as_bytes().len() == 5 + 6 + 5 + LONG.len(),
+        Err(error) => checks.is_out_of_memory(error),
     }
 }
 
 /// One request for the new buffer, and one for all that is appended.
 #[test]
 fn an_append_asks_once(rt: HostRuntime) {
-    assert!(rt; is_appended_to_new(rt.alloc()));
+    let checks = Checks::refusable(rt.alloc());
+    assert!(rt; let_go!(made = long(rt.alloc()); has_text(checks, &made)));
 }
 
 /// The empty document in this room.
@@ -70,5 +61,25 @@ fn are_numbers_appended(room: Vec<u8>) -> bool {
 fn an_append_with_room_asks_for_nothing(rt: HostRuntime) {
     if let Ok(room) = Vec::with_capacity(rt.alloc(), THREE_INT32.len()) {
         assert!(rt; are_numbers_appended(room));
+    }
+}
+
+/// A value that becomes a tree, and a value again.
+fn turned(alloc: Global, value: RawBson) -> Result<RawBson> {
+    RawBson::try_from_bson(alloc, value.into_bson(alloc)?)
+}
+
+/// Whether this one is what it was then.
+fn is_turned(checks: Checks, value: RawBson, want: RawBsonRef<'_>) -> bool {
+    let_go!(made = turned(checks.alloc, value); checks.is_value(&made, want))
+}
+
+/// One request for the text, and none for what it becomes; none for a number.
+#[test]
+fn a_text_that_becomes_a_tree_asks_for_nothing(rt: HostRuntime) {
+    let checks = Checks::ample(rt.alloc());
+    assert!(rt; is_turned(checks, RawBson::Int32(7), RawBsonRef::Int32(7)));
+    if let Ok(text) = String::from_str(rt.alloc(), LONG) {
+        assert!(rt; is_turned(checks, RawBson::String(text), RawBsonRef::String(LONG)));
     }
 }

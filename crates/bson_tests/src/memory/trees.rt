@@ -1,10 +1,9 @@
 use crate::fixtures::*;
-use crate::memory::asserts::{is_document, is_list, is_out_of_memory};
-use crate::memory::parts::{is_one_null, is_part};
+use crate::memory::parts::is_part;
 use raw_bson::{
-    Bson, Document, Error, Limits, RawBson, RawBsonRef, RawDocument, RawDocumentBuf, RawElement,
-    bson_from_element, bson_from_raw, canonical_bytes, document_from_raw, document_from_raw_within,
-    encode, list_from_raw,
+    Bson, Document, Limits, RawBson, RawBsonRef, RawDocument, RawDocumentBuf, RawElement, Result,
+    bson_from_element, bson_from_raw, canonical_bytes, document_from_raw,
+    document_from_raw_counted, document_from_raw_within, encode, list_from_raw,
 };
 use std::alloc::{AllocError, Global};
 use std::process::Abort;
@@ -13,7 +12,7 @@ use std::process::Abort;
 // ample memory, or out of memory without a key. What is looked at of a tree takes no memory.
 
 /// A document, an array, a text, a regular expression and code with a scope.
-const PARTS: &[u8] = b"\x3D\0\0\0\
+pub(crate) const PARTS: &[u8] = b"\x3D\0\0\0\
 \x03d\0\x07\0\0\0\x0A\0\0\
 \x04l\0\x08\0\0\0\x0A0\0\0\
 \x02t\0\x02\0\0\0s\0\
@@ -22,13 +21,19 @@ const PARTS: &[u8] = b"\x3D\0\0\0\
 \0";
 
 /// The same with another key in the array and other options' order.
-const OTHER_SPELLING: &[u8] = b"\x3D\0\0\0\
+pub(crate) const OTHER_SPELLING: &[u8] = b"\x3D\0\0\0\
 \x03d\0\x07\0\0\0\x0A\0\0\
 \x04l\0\x08\0\0\0\x0Ax\0\0\
 \x02t\0\x02\0\0\0s\0\
 \x0Br\0p\0mi\0\
 \x0Fc\0\x0F\0\0\0\x02\0\0\0g\0\x05\0\0\0\0\
 \0";
+
+/// Its bytes and levels.
+const LIMITS: Limits = Limits {
+    bytes: 61,
+    depth: 2,
+};
 
 /// Whether the tree has this part at this place.
 fn has_part(tree: &Document, index: usize, wanted: &str) -> bool {
@@ -49,302 +54,189 @@ fn has_parts(tree: &Document) -> bool {
 }
 
 /// Whether the result is a tree of these parts, or out of memory.
-fn is_tree(answer: &raw_bson::Result<Document>) -> bool {
+fn is_tree(checks: Checks, answer: &Result<Document>) -> bool {
     match answer {
         Ok(tree) => has_parts(tree),
-        Err(error) => is_out_of_memory(error),
+        Err(error) => checks.is_out_of_memory(error),
     }
 }
 
 /// Whether the buffer has these parts, also within limits, and is as it was then, if there was memory for it.
-fn is_buffer_read(answer: &raw_bson::Result<RawDocumentBuf>, bytes: &[u8]) -> bool {
+fn is_buffer_read(checks: Checks, answer: &Result<RawDocumentBuf>) -> bool {
     match answer {
         Ok(buffer) => {
-            let_go!(made = buffer.to_document(); is_tree(&made))
-                && let_go!(made = buffer.to_document_within(LIMITS); is_tree(&made))
-                && buffer.as_bytes() == bytes
+            let_go!(made = buffer.to_document(); is_tree(checks, &made))
+                && let_go!(made = buffer.to_document_within(LIMITS); is_tree(checks, &made))
+                && buffer.as_bytes() == OTHER_SPELLING
         }
-        Err(error) => is_out_of_memory(error),
+        Err(error) => checks.is_out_of_memory(error),
     }
 }
 
-/// Whether the buffer becomes a tree of these parts.
-fn is_buffer_taken(answer: raw_bson::Result<RawDocumentBuf>) -> bool {
-    match answer {
-        Ok(buffer) => let_go!(made = buffer.into_document(); is_tree(&made)),
-        Err(error) => is_out_of_memory(&error),
-    }
+/// The tree of a buffer that is taken.
+fn taken(alloc: Global) -> Result<Document> {
+    document_of(alloc, OTHER_SPELLING)?.into_document()
+}
+
+/// Whether the parts are counted: five, and one in the document and one in the array.
+fn is_counted(checks: Checks, view: RawDocument<'_>) -> bool {
+    let (answer, steps) = document_from_raw_counted(checks.alloc, view);
+    let_go!(made = answer; is_tree(checks, &made) && (made.is_err() || steps.count() == 7))
 }
 
 /// Whether the document has these parts, also within limits.
-fn is_view_read(alloc: Global, view: RawDocument<'_>) -> bool {
-    let_go!(made = document_from_raw(alloc, view); is_tree(&made))
-        && let_go!(made = document_from_raw_within(alloc, view, LIMITS); is_tree(&made))
+pub(crate) fn is_view_read(checks: Checks, view: RawDocument<'_>) -> bool {
+    let_go!(made = document_from_raw(checks.alloc, view); is_tree(checks, &made))
+        && let_go!(
+            made = document_from_raw_within(checks.alloc, view, LIMITS);
+            is_tree(checks, &made)
+        )
+        && is_counted(checks, view)
 }
 
 /// Whether so have buffers of these bytes, that are read and that are taken.
-fn are_buffers_read(alloc: Global, bytes: &[u8]) -> bool {
-    let_go!(made = document_of(alloc, bytes); is_buffer_read(&made, bytes))
-        && is_buffer_taken(document_of(alloc, bytes))
+pub(crate) fn are_buffers_read(checks: Checks) -> bool {
+    let_go!(made = document_of(checks.alloc, OTHER_SPELLING); is_buffer_read(checks, &made))
+        && let_go!(made = taken(checks.alloc); is_tree(checks, &made))
 }
 
 #[test]
 fn trees_of_documents_or_out_of_memory(rt: HostRuntime) {
-    assert!(rt; is_view_read(rt.alloc(), view(&rt, OTHER_SPELLING)));
-    assert!(rt; are_buffers_read(rt.alloc(), OTHER_SPELLING));
-}
-
-/// The bytes of that document, and its levels.
-const LIMITS: Limits = Limits {
-    bytes: 61,
-    depth: 2,
-};
-
-/// Whether the result is the value under this key, or out of memory.
-fn is_part_answered(key: &str, answer: &raw_bson::Result<Bson>) -> bool {
-    match answer {
-        Ok(tree) => is_part(key, tree),
-        Err(error) => is_out_of_memory(error),
-    }
-}
-
-/// Whether the result is a list of one null, or out of memory.
-fn is_null_list(answer: &raw_bson::Result<Vec<Bson>>) -> bool {
-    match answer {
-        Ok(list) => is_one_null(list),
-        Err(error) => is_out_of_memory(error),
-    }
-}
-
-/// Whether a value that is an array becomes a list.
-fn is_list_read(alloc: Global, value: RawBsonRef<'_>) -> bool {
-    match value.as_array() {
-        Some(array) => let_go!(made = list_from_raw(alloc, array); is_null_list(&made)),
-        None => true,
-    }
-}
-
-/// Whether the element becomes the tree under its key, and so does its value.
-fn is_element_read(alloc: Global, element: RawElement<'_>, value: RawBsonRef<'_>) -> bool {
-    let_go!(made = bson_from_element(alloc, element); is_part_answered(element.key(), &made))
-        && let_go!(made = bson_from_raw(alloc, value); is_part_answered(element.key(), &made))
-        && is_list_read(alloc, value)
+    let checks = Checks::refusable(rt.alloc());
+    assert!(rt; is_view_read(checks, view(&rt, OTHER_SPELLING)) && are_buffers_read(checks));
 }
 
 /// Whether each call that writes the tree gives its bytes, or runs out of memory, and leaves the tree as it was.
-fn is_written(alloc: Global, tree: &Document) -> bool {
-    let_go!(made = RawDocumentBuf::from_document(alloc, tree); is_document(&made, PARTS))
-        && let_go!(made = RawDocumentBuf::try_from_document(alloc, tree); is_document(&made, PARTS))
-        && has_parts(tree)
+fn is_written(checks: Checks, tree: &Document) -> bool {
+    let_go!(
+        made = RawDocumentBuf::from_document(checks.alloc, tree);
+        checks.is_document(&made, PARTS)
+    ) && let_go!(
+        made = RawDocumentBuf::try_from_document(checks.alloc, tree);
+        checks.is_document(&made, PARTS)
+    ) && has_parts(tree)
 }
 
 /// Whether the tree is written, or memory ran out for it.
-fn is_tree_written(alloc: Global, answer: &raw_bson::Result<Document>) -> bool {
+fn is_tree_written(checks: Checks, answer: &Result<Document>) -> bool {
     match answer {
-        Ok(tree) => is_written(alloc, tree),
-        Err(error) => is_out_of_memory(error),
+        Ok(tree) => is_written(checks, tree),
+        Err(error) => checks.is_out_of_memory(error),
     }
 }
 
 /// Whether each call that writes the parts does.
-fn are_parts_written(alloc: Global) -> bool {
-    let_go!(made = canonical_bytes(alloc, OTHER_SPELLING); is_list(&made, PARTS))
-        && let_go!(made = tree_of(alloc, PARTS); is_tree_written(alloc, &made))
+pub(crate) fn are_parts_written(checks: Checks) -> bool {
+    let_go!(made = canonical_bytes(checks.alloc, OTHER_SPELLING); checks.is_list(&made, PARTS))
+        && let_go!(made = tree_of(checks.alloc, PARTS); is_tree_written(checks, &made))
 }
 
 #[test]
 fn bytes_of_trees_or_out_of_memory(rt: HostRuntime) {
-    assert!(rt; are_parts_written(rt.alloc()));
+    assert!(rt; are_parts_written(Checks::refusable(rt.alloc())));
 }
 
-/// Whether memory ran out for the value under this key. A text and a regular expression are moved, which takes none.
-fn is_copy_refused(key: &str, error: &Error) -> bool {
-    key != "t" && key != "r" && is_out_of_memory(error)
-}
-
-/// Whether this is the tree under this key, or memory ran out for its copy.
-fn comes_back(key: &str, answer: &raw_bson::Result<Bson>) -> bool {
+/// Whether the result is the value under this key, or out of memory.
+fn is_part_made(checks: Checks, key: &str, answer: &Result<Bson>) -> bool {
     match answer {
         Ok(tree) => is_part(key, tree),
-        Err(error) => is_copy_refused(key, error),
+        Err(error) => checks.is_out_of_memory(error),
     }
 }
 
-/// Whether this is the value, or memory ran out for its copy.
-fn is_value(key: &str, answer: &raw_bson::Result<RawBson>, value: RawBsonRef<'_>) -> bool {
-    match answer {
-        Ok(owned) => owned.as_raw_bson_ref() == value,
-        Err(error) => is_copy_refused(key, error),
+/// The value as a tree; of an array its list.
+fn tree_or_list(alloc: Global, value: RawBsonRef<'_>) -> Result<Bson> {
+    match value.as_array() {
+        Some(array) => Ok(Bson::Array(list_from_raw(alloc, array)?)),
+        None => bson_from_raw(alloc, value),
     }
 }
 
-/// Whether an owned value becomes the tree under this key, if there is one.
-fn is_tree_again(alloc: Global, key: &str, answer: raw_bson::Result<RawBson>) -> bool {
-    match answer {
-        Ok(owned) => let_go!(made = owned.into_bson(alloc); comes_back(key, &made)),
-        Err(_) => true,
-    }
+/// The element as an owned value, by way of its tree.
+fn there(alloc: Global, element: RawElement<'_>) -> Result<RawBson> {
+    RawBson::try_from_bson(alloc, bson_from_element(alloc, element)?)
 }
 
-/// Whether the tree under this key becomes a value, this one where it was spelled as trees are written, and that the tree
-/// again; or memory runs out for a copy.
-fn goes_and_comes_back(
-    alloc: Global,
-    key: &str,
-    answer: raw_bson::Result<RawBson>,
-    value: RawBsonRef<'_>,
-    is_form: bool,
-) -> bool {
-    let is_value = !is_form || is_value(key, &answer, value);
-    let is_tree = is_tree_again(alloc, key, answer);
-    is_value && is_tree
+/// That value as a tree again.
+fn there_and_back(alloc: Global, element: RawElement<'_>) -> Result<Bson> {
+    there(alloc, element)?.into_bson(alloc)
 }
 
-/// The same of what an element becomes, or memory ran out for it.
-fn is_tree_owned(
-    alloc: Global,
-    key: &str,
-    made: raw_bson::Result<Bson>,
-    value: RawBsonRef<'_>,
-    is_form: bool,
-) -> bool {
-    match made {
-        Ok(tree) => {
-            let answer = RawBson::try_from_bson(alloc, tree);
-            goes_and_comes_back(alloc, key, answer, value, is_form)
-        }
-        Err(error) => is_out_of_memory(&error),
-    }
-}
-
-/// Whether the element becomes a tree, and that the element where this is as trees are written.
-fn is_element_right(
-    alloc: Global,
-    element: RawElement<'_>,
-    value: RawBsonRef<'_>,
-    is_form: bool,
-) -> bool {
-    let made = bson_from_element(alloc, element);
-    let is_owned = is_tree_owned(alloc, element.key(), made, value, is_form);
-    is_owned && is_element_read(alloc, element, value)
+/// Whether the element and its value become the tree under its key, and that the value and the tree again.
+fn is_element_right(checks: Checks, element: RawElement<'_>, value: RawBsonRef<'_>) -> bool {
+    let key = element.key();
+    let_go!(made = bson_from_element(checks.alloc, element); is_part_made(checks, key, &made))
+        && let_go!(made = tree_or_list(checks.alloc, value); is_part_made(checks, key, &made))
+        && let_go!(made = there(checks.alloc, element); checks.is_value(&made, value))
+        && let_go!(
+            made = there_and_back(checks.alloc, element);
+            is_part_made(checks, key, &made)
+        )
 }
 
 /// The same of an element whose value was read.
 fn is_value_right(
-    alloc: Global,
+    checks: Checks,
     element: RawElement<'_>,
-    answer: &raw_bson::Result<RawBsonRef<'_>>,
-    is_form: bool,
+    answer: &Result<RawBsonRef<'_>>,
 ) -> bool {
     match answer {
-        Ok(value) => is_element_right(alloc, element, *value, is_form),
+        Ok(value) => is_element_right(checks, element, *value),
         Err(_) => false,
     }
 }
 
 /// The same of an item.
-fn is_item_right(alloc: Global, item: &raw_bson::Result<RawElement<'_>>, is_form: bool) -> bool {
+fn is_item_right(checks: Checks, item: &Option<Result<RawElement<'_>>>) -> bool {
     match item {
-        Ok(element) => {
-            let_go!(made = element.value(alloc); is_value_right(alloc, *element, &made, is_form))
-        }
-        Err(_) => false,
+        Some(Ok(element)) => let_go!(
+                made = element.value(checks.alloc);
+                is_value_right(checks, *element, &made)
+            ),
+        _ => false,
     }
 }
 
-/// The same of each element.
-fn are_elements_right(alloc: Global, document: RawDocument<'_>, is_form: bool) -> bool {
+/// The same of each of the five parts.
+pub(crate) fn are_values_right(checks: Checks, document: RawDocument<'_>) -> bool {
+    let mut elements = document.iter_elements(checks.alloc);
     let mut are_right = true;
-    for item in document.iter_elements(alloc) {
-        are_right = are_right && is_item_right(alloc, &item, is_form);
-        drop(item);
+    for _ in 0..5 {
+        are_right = are_right && let_go!(made = elements.next(); is_item_right(checks, &made));
     }
     are_right
 }
 
 #[test]
 fn values_or_out_of_memory(rt: HostRuntime) {
-    assert!(rt; are_elements_right(rt.alloc(), view(&rt, OTHER_SPELLING), false));
-    assert!(rt; are_elements_right(rt.alloc(), view(&rt, PARTS), true));
+    assert!(rt; are_values_right(Checks::refusable(rt.alloc()), view(&rt, PARTS)));
 }
 
-/// Whether just this form was written.
-fn is_written_as(written: &raw_bson::Result<Vec<u8>>, form: &[u8]) -> bool {
-    match written {
-        Ok(written) => written.as_slice() == form,
-        Err(_) => false,
-    }
-}
-
-/// Whether the tree is written as the form.
-fn is_written_again(alloc: Global, tree: &Document, form: &[u8]) -> bool {
-    let_go!(made = encode(alloc, tree); is_written_as(&made, form))
-}
-
-/// Whether the tree is written as the form; where memory runs out, it is so when it is written again.
-fn has_form(alloc: Global, tree: &Document, form: &[u8]) -> bool {
-    let_go!(
-        made = encode(alloc, tree);
-        is_list(&made, form) && (made.is_ok() || is_written_again(alloc, tree, form))
-    )
-}
-
-/// Whether the tree has the form, or memory ran out for it.
-fn is_tree_of_form(alloc: Global, answer: &raw_bson::Result<Document>, form: &[u8]) -> bool {
+/// Whether the tree is written as these bytes, or memory runs out.
+fn is_form(checks: Checks, answer: &Result<Document>, bytes: &[u8]) -> bool {
     match answer {
-        Ok(tree) => has_form(alloc, tree, form),
-        Err(error) => is_out_of_memory(error),
-    }
-}
-
-/// Whether the buffer becomes a tree with the form and has its bytes, or memory ran out for it.
-fn becomes(
-    alloc: Global,
-    answer: &raw_bson::Result<RawDocumentBuf>,
-    bytes: &[u8],
-    form: &[u8],
-) -> bool {
-    match answer {
-        Ok(buffer) => {
-            let_go!(made = buffer.to_document(); is_tree_of_form(alloc, &made, form))
-                && buffer.as_bytes() == bytes
-        }
-        Err(error) => is_out_of_memory(error),
-    }
-}
-
-/// Whether by way of a buffer and a tree the bytes become the form, or memory runs out.
-fn have_form(alloc: Global, bytes: &[u8], form: &[u8]) -> bool {
-    let_go!(made = document_of(alloc, bytes); becomes(alloc, &made, bytes, form))
-}
-
-/// Whether they also do so by one call.
-fn are_forms(alloc: Global, bytes: &[u8], form: &[u8]) -> bool {
-    have_form(alloc, bytes, form)
-        && let_go!(made = canonical_bytes(alloc, bytes); is_list(&made, form))
-}
-
-#[test]
-fn forms_or_out_of_memory(rt: HostRuntime) {
-    for (row, (bytes, form)) in FORMS.iter().enumerate() {
-        require_row(&rt, are_forms(rt.alloc(), bytes, form), "forms", row);
+        Ok(tree) => let_go!(made = encode(checks.alloc, tree); checks.is_list(&made, bytes)),
+        Err(error) => checks.is_out_of_memory(error),
     }
 }
 
 /// Whether these bytes are their own form, or memory ran out for them.
-fn are_form(alloc: Global, made: &Result<Vec<u8>, AllocError>) -> bool {
+fn are_form(checks: Checks, made: &std::result::Result<Vec<u8>, AllocError>) -> bool {
     match made {
-        Ok(bytes) => have_form(alloc, bytes, bytes),
-        Err(_) => true,
+        Ok(bytes) => let_go!(tree = tree_of(checks.alloc, bytes); is_form(checks, &tree, bytes)),
+        Err(_) => checks.is_refusable,
     }
 }
 
 /// Whether so many levels are.
-fn are_levels_form(alloc: Global, levels: usize) -> bool {
-    let_go!(made = nested(alloc, Holder::Document, levels, EMPTY); are_form(alloc, &made))
+pub(crate) fn are_levels_form(checks: Checks, levels: usize) -> bool {
+    let_go!(
+        made = nested(checks.alloc, &[IN_A_DOCUMENT], levels, EMPTY);
+        are_form(checks, &made)
+    )
 }
 
 #[test]
 fn form_of_five_hundred_levels_or_out_of_memory(rt: HostRuntime) {
-    assert!(rt; are_levels_form(rt.alloc(), 499));
+    assert!(rt; are_levels_form(Checks::refusable(rt.alloc()), 499));
 }

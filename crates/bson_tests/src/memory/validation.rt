@@ -1,61 +1,47 @@
 use crate::fixtures::*;
-use crate::memory::asserts::is_out_of_memory;
-use raw_bson::{Breach, Cause, Limits, RawDocument, validate};
-use raw_form::{Place, PlacedBreach, ValidateError, validate_within};
-use std::alloc::Global;
+use raw_bson::{Breach, Cause, Limits, RawDocument, Result, validate};
+use raw_form::{
+    Barrier, FlattenError, Place, PlacedBreach, ValidateError, canonical_within,
+    first_fault_within, flatten_within, validate_within,
+};
 use std::process::Abort;
 
 // `bin/test` runs these with each request for memory refused in turn, alone: the result is the one with ample memory,
 // or out of memory without a key.
 
-/// Whether the result is this breach, or out of memory.
-fn is_breach(answer: &raw_bson::Result<Option<Breach>>, path: &[usize], cause: Cause) -> bool {
-    match answer {
-        Ok(Some(breach)) => breach.path.as_slice() == path && breach.cause == cause,
-        Ok(None) => false,
-        Err(error) => is_out_of_memory(error),
-    }
-}
+/// What `validate_within` returns.
+type Placed<'a> = std::result::Result<Option<PlacedBreach<'a>>, ValidateError<'a>>;
 
-/// Whether the result is that the document is canonical, or out of memory.
-fn is_canonical(answer: &raw_bson::Result<Option<Breach>>) -> bool {
-    match answer {
-        Ok(found) => found.is_none(),
-        Err(error) => is_out_of_memory(error),
+/// The path to a breach, and why it is one; none of a canonical document.
+type Wanted<'a> = Option<(&'a [usize], Cause)>;
+
+/// Whether the result is the wanted one, or out of memory.
+fn is_breach(checks: Checks, answer: &Result<Option<Breach>>, want: Wanted<'_>) -> bool {
+    match (answer, want) {
+        (Ok(Some(breach)), Some((path, cause))) => {
+            breach.path.as_slice() == path && breach.cause == cause
+        }
+        (Ok(found), _) => found.is_none() && want.is_none(),
+        (Err(error), _) => checks.is_out_of_memory(error),
     }
 }
 
 /// Whether the place has these numbers.
 fn is_at(place: &Place<'_>, path: &[usize]) -> bool {
-    if place.path.len() != path.len() {
-        return false;
-    }
-    for (step, number) in place.path.iter().zip(path) {
-        if step.number != *number {
-            return false;
+    let mut numbers = [usize::MAX; 8];
+    place.put_path(&mut numbers);
+    place.path.len() == path.len() && numbers.starts_with(path)
+}
+
+/// The same within limits.
+fn is_placed(checks: Checks, answer: &Placed<'_>, want: Wanted<'_>) -> bool {
+    match (answer, want) {
+        (Ok(Some(breach)), Some((path, cause))) => {
+            breach.cause == cause && is_at(&breach.place, path)
         }
-    }
-    true
-}
-
-/// Whether this breach is found within limits, or out of memory.
-fn is_placed(
-    answer: &std::result::Result<Option<PlacedBreach<'_>>, ValidateError<'_>>,
-    path: &[usize],
-    cause: Cause,
-) -> bool {
-    match answer {
-        Ok(Some(breach)) => breach.cause == cause && is_at(&breach.place, path),
-        Err(ValidateError::OutOfMemory) => true,
-        _ => false,
-    }
-}
-
-/// Whether none is, or out of memory.
-fn is_sound(answer: &std::result::Result<Option<PlacedBreach<'_>>, ValidateError<'_>>) -> bool {
-    match answer {
-        Ok(found) => found.is_none(),
-        Err(error) => matches!(error, ValidateError::OutOfMemory),
+        (Ok(found), _) => found.is_none() && want.is_none(),
+        (Err(ValidateError::OutOfMemory), _) => checks.is_refusable,
+        (Err(_), _) => false,
     }
 }
 
@@ -65,39 +51,26 @@ const LIMITS: Limits = Limits {
     depth: 10,
 };
 
-/// Whether the first breach of the document is this one, or memory runs out.
-fn is_broken(alloc: Global, view: RawDocument<'_>, path: &[usize], cause: Cause) -> bool {
-    let_go!(made = validate(alloc, view); is_breach(&made, path, cause))
-        && let_go!(made = validate_within(alloc, view, LIMITS); is_placed(&made, path, cause))
+/// Whether this is found of the document, or memory runs out.
+fn is_found(checks: Checks, view: RawDocument<'_>, want: Wanted<'_>) -> bool {
+    let_go!(made = validate(checks.alloc, view); is_breach(checks, &made, want))
+        && let_go!(
+            made = validate_within(checks.alloc, view, LIMITS);
+            is_placed(checks, &made, want)
+        )
 }
 
-/// The same of each row.
-fn check_rows(rt: &impl Abort, alloc: Global, table: &str, rows: &[BreachRow]) {
-    for (row, (bytes, path, cause)) in rows.iter().enumerate() {
-        let is_right = is_broken(alloc, view(rt, bytes), path, *cause);
-        require_row(rt, is_right, table, row);
+/// Each document has its first breach.
+pub(crate) fn breaches(rt: &impl Abort, checks: Checks) {
+    for (row, (bytes, path, cause)) in BREACHES.iter().enumerate() {
+        let is_right = is_found(checks, view(rt, bytes), Some((*path, *cause)));
+        require_row(rt, is_right, "breaches", row);
     }
 }
 
 #[test]
 fn breaches_or_out_of_memory(rt: HostRuntime) {
-    for (table, rows) in BREACHES {
-        check_rows(&rt, rt.alloc(), table, rows);
-    }
-}
-
-/// Whether the document is canonical, or memory runs out.
-fn is_without_breach(alloc: Global, view: RawDocument<'_>) -> bool {
-    let_go!(made = validate(alloc, view); is_canonical(&made))
-        && let_go!(made = validate_within(alloc, view, LIMITS); is_sound(&made))
-}
-
-#[test]
-fn canonical_or_out_of_memory(rt: HostRuntime) {
-    for (row, bytes) in CANONICAL.iter().enumerate() {
-        let is_right = is_without_breach(rt.alloc(), view(&rt, bytes));
-        require_row(&rt, is_right, "canonical", row);
-    }
+    breaches(&rt, Checks::refusable(rt.alloc()));
 }
 
 /// Forty nulls, under the keys `00` to `39`, and one more under the key `40`.
@@ -118,15 +91,98 @@ const FIRST_KEY_LAST: &[u8] = b"\xA9\0\0\0\
 \x0A00\0\
 \0";
 
+/// A document of all kinds has no breach, and of many keys one where a key comes again.
+pub(crate) fn keys(rt: &impl Abort, checks: Checks) {
+    assert!(*rt;
+        is_found(checks, view(rt, ALL_KINDS), None)
+            && is_found(checks, view(rt, DISTINCT_KEYS), None)
+            && is_found(
+                checks,
+                view(rt, FIRST_KEY_LAST),
+                Some((&[40], Cause::RepeatedKey))
+            )
+    );
+}
+
 #[test]
-fn many_keys_or_out_of_memory(rt: HostRuntime) {
-    assert!(rt; is_without_breach(rt.alloc(), view(&rt, DISTINCT_KEYS)));
+fn keys_or_out_of_memory(rt: HostRuntime) {
+    keys(&rt, Checks::refusable(rt.alloc()));
+}
+
+/// Whether the result is a barrier at this place, or out of memory.
+fn is_barrier(
+    checks: Checks,
+    answer: &Result<Option<Barrier<'_>>>,
+    path: &[usize],
+    offset: usize,
+) -> bool {
+    match answer {
+        Ok(Some(barrier)) => is_at(&barrier.place, path) && barrier.place.offset == offset,
+        Ok(None) => false,
+        Err(error) => checks.is_out_of_memory(error),
+    }
+}
+
+/// Whether the first barrier is the stop in the document of a document with a stop.
+pub(crate) fn is_stopped(checks: Checks, stopped: RawDocument<'_>) -> bool {
+    let_go!(
+        made = first_fault_within(checks.alloc, stopped, LIMITS);
+        is_barrier(checks, &made, &[0, 1], 13)
+    )
+}
+
+/// Whether the result counts so many tokens, or is out of memory.
+fn are_tokens(
+    checks: Checks,
+    answer: &std::result::Result<usize, FlattenError<'_>>,
+    count: usize,
+) -> bool {
+    match answer {
+        Ok(found) => *found == count,
+        Err(FlattenError::OutOfMemory) => checks.is_refusable,
+        Err(FlattenError::Barrier(_)) => false,
+    }
+}
+
+/// Whether the document of all kinds has 23 elements, at all levels.
+pub(crate) fn is_flattened(checks: Checks, document: RawDocument<'_>) -> bool {
+    let_go!(
+        made = flatten_within(checks.alloc, document, LIMITS, &mut []);
+        are_tokens(checks, &made, 23)
+    )
+}
+
+/// The keys b, a, b, of which the last holds a document; a code whose scope has the keys x and x; an array under the keys z and
+/// the empty one, with options out of order.
+const MIXED: &[u8] = b"F\0\0\0\x10b\0\x01\0\0\0\x0Aa\0\x03b\0\x09\0\0\0\x08y\0\x01\0\
+    \x0Fc\0\x16\0\0\0\x02\0\0\0f\0\x0C\0\0\0\x0Ax\0\x08x\0\x01\0\
+    \x04d\0\x0F\0\0\0\x0Bz\0p\0mi\0\x0A\0\0\0";
+
+/// Its canonical form.
+const MIXED_FORM: &[u8] = b"\x3D\0\0\0\x03b\0\x09\0\0\0\x08y\0\x01\0\x0Aa\0\
+    \x0Fc\0\x13\0\0\0\x02\0\0\0f\0\x09\0\0\0\x08x\0\x01\0\
+    \x04d\0\x10\0\0\0\x0B\x30\0p\0im\0\x0A\x31\0\0\0";
+
+/// Whether these bytes have that form, or memory runs out. They have as many bytes and levels as is allowed.
+fn is_form(checks: Checks, bytes: &[u8]) -> bool {
+    let limits = Limits {
+        bytes: bytes.len(),
+        depth: 2,
+    };
+    let_go!(made = canonical_within(checks.alloc, bytes, limits); checks.is_list(&made, MIXED_FORM))
+}
+
+/// Whether both do.
+pub(crate) fn are_forms(checks: Checks) -> bool {
+    is_form(checks, MIXED) && is_form(checks, MIXED_FORM)
+}
+
+#[test]
+fn places_and_forms_or_out_of_memory(rt: HostRuntime) {
+    let checks = Checks::refusable(rt.alloc());
     assert!(rt;
-        is_broken(
-            rt.alloc(),
-            view(&rt, FIRST_KEY_LAST),
-            &[40],
-            Cause::RepeatedKey
-        )
+        is_stopped(checks, view(&rt, NESTED_STOP))
+            && is_flattened(checks, view(&rt, ALL_KINDS))
+            && are_forms(checks)
     );
 }

@@ -1,27 +1,45 @@
 use crate::fixtures::*;
-use crate::memory::asserts::is_out_of_memory;
-use raw_bson::{RawBsonRef, RawDocument};
+use raw_bson::{
+    RawArray, RawBsonRef, RawDocument, Result, ValueAccessErrorKind, ValueAccessResult,
+};
 use std::alloc::Global;
 use std::test::Fail;
 
-#[test]
-fn rows_or_out_of_memory(rt: HostRuntime) {
-    let checks = Checks::refusable(rt.alloc());
-    checks.rows_without_a_key(&rt);
-    checks.rows_to_a_key(&rt);
-}
+// What takes no memory is in `no_memory`.
 
 /// A typed look-up by position goes past faults, and says which it meets. A fault under a key is returned, though a good value is
 /// under it further on.
 #[test]
-fn getters_or_out_of_memory(rt: HostRuntime) {
-    Checks::refusable(rt.alloc()).rows_of_getters(&rt);
+fn rows_or_out_of_memory(rt: HostRuntime) {
+    let checks = Checks::refusable(rt.alloc());
+    checks.rows_to_a_key(&rt);
+    checks.rows_of_getters(&rt);
 }
 
-/// Whether this item is out of memory, without a key.
-fn is_item_out_of_memory(item: &Option<raw_bson::Result<(&str, RawBsonRef<'_>)>>) -> bool {
+/// Whether the result is out of memory, with the empty key, and its text says so.
+fn is_getter_out_of_memory(alloc: Global, answer: &ValueAccessResult<bool>) -> bool {
+    match answer {
+        Ok(_) => false,
+        Err(error) => {
+            matches!(error.kind, ValueAccessErrorKind::OutOfMemory)
+                && error.key().is_empty()
+                && has_display_text(alloc, error, "error at key: \"\": out of memory")
+        }
+    }
+}
+
+/// Whether the result is out of memory, without a key.
+fn is_look_up_out_of_memory(alloc: Global, answer: &Result<Option<RawBsonRef<'_>>>) -> bool {
+    match answer {
+        Ok(_) => false,
+        Err(error) => Checks::refusable(alloc).is_out_of_memory(error),
+    }
+}
+
+/// Whether this item is.
+fn is_item_out_of_memory(alloc: Global, item: &Option<Result<(&str, RawBsonRef<'_>)>>) -> bool {
     match item {
-        Some(Err(error)) => is_out_of_memory(error),
+        Some(Err(error)) => Checks::refusable(alloc).is_out_of_memory(error),
         _ => false,
     }
 }
@@ -29,14 +47,22 @@ fn is_item_out_of_memory(item: &Option<raw_bson::Result<(&str, RawBsonRef<'_>)>>
 /// Whether the first item is, and nothing comes behind it.
 fn is_out_of_memory_alone(alloc: Global, document: RawDocument<'_>) -> bool {
     let mut iter = document.iter(alloc);
-    let is_first = let_go!(made = iter.next(); is_item_out_of_memory(&made));
+    let is_first = let_go!(made = iter.next(); is_item_out_of_memory(alloc, &made));
     is_first && let_go!(made = iter.next(); made.is_none())
+}
+
+/// Whether a look-up of the boolean of the byte 2 is out of memory.
+fn is_one_out_of_memory(alloc: Global, two: RawDocument<'_>) -> bool {
+    let array = RawArray::from_doc(two);
+    let_go!(made = array.get_bool(alloc, 0); is_getter_out_of_memory(alloc, &made))
+        || let_go!(made = array.get(alloc, 0); is_look_up_out_of_memory(alloc, &made))
+        || is_out_of_memory_alone(alloc, two)
 }
 
 /// `bin/test` wants the line in each run in which a request was refused, and in no other.
 #[test]
-fn a_refused_boolean_two_is_out_of_memory(rt: HostRuntime) -> Result<(), Fail> {
-    if is_out_of_memory_alone(rt.alloc(), view(&rt, BOOLEAN_TWO)) {
+fn a_refused_look_up_is_out_of_memory(rt: HostRuntime) -> std::result::Result<(), Fail> {
+    if is_one_out_of_memory(rt.alloc(), view(&rt, BOOLEAN_TWO)) {
         println!(rt; "out of memory")?;
     }
     Ok(())

@@ -1,60 +1,47 @@
-use crate::fixtures::{EMPTY, is_refused, let_go};
-use crate::memory::asserts::is_list;
-use raw_bson::{Bson, Document, Reason, encode, encode_list};
+use crate::fixtures::{Checks, EMPTY, is_refused, let_go};
+use raw_bson::{Bson, Document, Reason, Result, encode, encode_list};
 use std::alloc::Global;
 
-/// Whether the list of `true` is written, or memory ran out.
-fn is_true_written(alloc: Global) -> bool {
+/// Whether the empty document and the list of `true` are written, or memory ran out.
+pub(crate) fn are_written(checks: Checks) -> bool {
     let bytes = b"\x09\0\0\0\x080\0\x01\0";
-    let_go!(made = encode_list(alloc, &[Bson::Boolean(true)]); is_list(&made, bytes))
-}
-
-/// Whether the empty document is written, or memory ran out.
-fn is_empty_written(alloc: Global) -> bool {
     let_go!(
-        tree = Document::new(alloc);
-        let_go!(made = encode(alloc, &tree); is_list(&made, EMPTY))
+        tree = Document::new(checks.alloc);
+        let_go!(made = encode(checks.alloc, &tree); checks.is_list(&made, EMPTY))
+    ) && let_go!(
+        made = encode_list(checks.alloc, &[Bson::Boolean(true)]);
+        checks.is_list(&made, bytes)
     )
 }
 
 #[test]
 fn encode_or_out_of_memory(rt: HostRuntime) {
-    assert!(rt; is_empty_written(rt.alloc()) && is_true_written(rt.alloc()));
+    assert!(rt; are_written(Checks::refusable(rt.alloc())));
 }
 
-/// The document that holds this value under this key.
-fn holding(alloc: Global, key: &str, value: Bson) -> raw_bson::Result<Document> {
-    let key = String::from_str(alloc, key)?;
+/// A document with a 0 in its key.
+fn with_nul(alloc: Global) -> Result<Document> {
+    let key = String::from_str(alloc, "x\0")?;
     let mut document = Document::new(alloc);
-    document.put(key, value)?;
+    document.put(key, Bson::Null)?;
     Ok(document)
 }
 
-/// So many documents one inside the other, and in the innermost a key that holds a 0.
-fn nul_below(alloc: Global, levels: usize) -> raw_bson::Result<Document> {
-    let mut tree = holding(alloc, "x\0", Bson::Null)?;
-    for _ in 0..levels {
-        tree = holding(alloc, "", Bson::Document(tree))?;
-    }
-    Ok(tree)
-}
-
 /// Whether the tree isn't written for a 0, if there was memory for it.
-fn is_nul_refused(alloc: Global, made: &raw_bson::Result<Document>) -> bool {
+fn is_nul_refused(checks: Checks, made: &Result<Document>) -> bool {
     match made {
         Ok(tree) =>
-            let_go!(made = encode(alloc, tree); is_refused(&made, Reason::InteriorNul, None)),
-        Err(_) => true,
+            let_go!(made = encode(checks.alloc, tree); is_refused(&made, Reason::InteriorNul, None)),
+        Err(error) => checks.is_out_of_memory(error),
     }
 }
 
-/// Whether a 0 below so many levels is found, if there is memory for them.
-fn is_nul_found(alloc: Global, levels: usize) -> bool {
-    let_go!(made = nul_below(alloc, levels); is_nul_refused(alloc, &made))
+/// Whether a 0 is found.
+pub(crate) fn is_nul_found(checks: Checks) -> bool {
+    let_go!(made = with_nul(checks.alloc); is_nul_refused(checks, &made))
 }
 
-// A 0 is found whichever request is refused.
 #[test]
-fn nul_below_forty_levels_whatever_is_refused(rt: HostRuntime) {
-    assert!(rt; is_nul_found(rt.alloc(), 40));
+fn nul_or_out_of_memory(rt: HostRuntime) {
+    assert!(rt; is_nul_found(Checks::refusable(rt.alloc())));
 }

@@ -17,7 +17,7 @@ fn is_counted(alloc: Global, view: RawDocument<'_>, count: usize) -> bool {
 #[test]
 fn a_million_levels_have_a_fault(rt: HostRuntime) {
     let alloc = rt.alloc();
-    let bytes = nested(alloc, Holder::Document, 999_999, SWALLOWED_TERMINATOR).expect(
+    let bytes = nested(alloc, &[IN_A_DOCUMENT], 999_999, SWALLOWED_TERMINATOR).expect(
         &rt,
         "no memory for the levels",
     );

@@ -11,12 +11,12 @@ use std::process::Abort;
 
 const MILLION: usize = 1_000_000;
 
-/// All holders.
-const IN_TURN: &[Holder] = &[Holder::Document, Holder::Array, Holder::CodeWithScope];
+/// Levels of each kind.
+const IN_TURN: &[Level] = &[IN_A_DOCUMENT, IN_AN_ARRAY, IN_A_SCOPE];
 
 /// The bytes of a million levels.
-fn million(rt: &impl Abort, alloc: Global, holders: &[Holder]) -> Vec<u8> {
-    nested_in_turn(alloc, holders, MILLION, EMPTY).expect(rt, "no memory for the levels")
+fn million(rt: &impl Abort, alloc: Global, kinds: &[Level]) -> Vec<u8> {
+    nested(alloc, kinds, MILLION, EMPTY).expect(rt, "no memory for the levels")
 }
 
 /// Whether the tree has a million levels, and is written as these bytes.
@@ -38,24 +38,16 @@ fn come_back(alloc: Global, bytes: &[u8]) -> bool {
     let_go!(made = tree_of(alloc, bytes); is_million_read(alloc, &made, bytes))
 }
 
-/// Whether those do that are held so.
-fn are_read(rt: &impl Abort, alloc: Global, holders: &[Holder]) -> bool {
-    let_go!(made = million(rt, alloc, holders); come_back(alloc, &made))
+/// Whether those of these kinds do.
+fn are_read(rt: &impl Abort, alloc: Global, kinds: &[Level]) -> bool {
+    let_go!(made = million(rt, alloc, kinds); come_back(alloc, &made))
 }
 
 #[test]
-fn a_million_documents_come_back(rt: HostRuntime) {
-    assert!(rt; are_read(&rt, rt.alloc(), &[Holder::Document]));
-}
-
-#[test]
-fn a_million_arrays_come_back(rt: HostRuntime) {
-    assert!(rt; are_read(&rt, rt.alloc(), &[Holder::Array]));
-}
-
-#[test]
-fn a_million_scopes_come_back(rt: HostRuntime) {
-    assert!(rt; are_read(&rt, rt.alloc(), &[Holder::CodeWithScope]));
+fn a_million_levels_of_each_kind_come_back(rt: HostRuntime) {
+    for level in IN_TURN {
+        assert!(rt; are_read(&rt, rt.alloc(), &[*level]));
+    }
 }
 
 #[test]
@@ -83,19 +75,16 @@ fn a_million_levels_in_turn_are_forgotten(rt: HostRuntime) {
     );
 }
 
-/// Whether the document of these bytes is pushed.
-fn is_pushed(alloc: Global, array: &mut RawArrayBuf, bytes: &[u8]) -> bool {
-    match document_of(alloc, bytes) {
-        Ok(document) => array.push(RawBson::from(document)).is_ok(),
-        Err(_) => false,
-    }
+/// Pushes the document of these bytes.
+fn push(alloc: Global, array: &mut RawArrayBuf, bytes: &[u8]) -> Result<(), Error> {
+    array.push(RawBson::from(document_of(alloc, bytes)?))
 }
 
 /// Whether a thousand documents of these bytes are pushed.
 fn are_pushed(alloc: Global, array: &mut RawArrayBuf, bytes: &[u8]) -> bool {
     let mut are_right = true;
     for _ in 0..1000 {
-        are_right = are_right && is_pushed(alloc, array, bytes);
+        are_right = are_right && let_go!(made = push(alloc, array, bytes); made.is_ok());
     }
     are_right
 }
@@ -118,50 +107,34 @@ fn is_pushed_and_read(alloc: Global, array: &mut RawArrayBuf, bytes: &[u8]) -> b
         )
 }
 
-/// Whether an empty array takes and gives them.
-fn are_deep_documents_read(alloc: Global, bytes: &[u8]) -> bool {
-    match RawArrayBuf::new(alloc) {
-        Ok(mut array) => is_pushed_and_read(alloc, &mut array, bytes),
+/// Whether an array takes and gives them.
+fn are_deep_documents_read(
+    alloc: Global,
+    made: &mut Result<RawArrayBuf, Error>,
+    bytes: &[u8],
+) -> bool {
+    match made {
+        Ok(array) => is_pushed_and_read(alloc, array, bytes),
         Err(_) => false,
     }
 }
 
 #[test]
 fn a_list_of_deep_documents_comes_back(rt: HostRuntime) {
-    let bytes = nested_in_turn(rt.alloc(), IN_TURN, 1000, EMPTY).expect(
-        &rt,
-        "no memory for the levels",
+    let bytes = nested(rt.alloc(), IN_TURN, 1000, EMPTY).expect(&rt, "no memory for the levels");
+    assert!(rt;
+        let_go!(
+            mut made = RawArrayBuf::new(rt.alloc());
+            are_deep_documents_read(rt.alloc(), &mut made, &bytes)
+        )
     );
-    assert!(rt; are_deep_documents_read(rt.alloc(), &bytes));
 }
 
-/// The digits of the numbers below 16.
-const DIGITS: &[u8] = b"0123456789abcdef";
-
-/// Whether this is the digit of a number below 16.
-fn is_digit(digit: u8, number: u8) -> bool {
-    DIGITS.get(usize::from(number)) == Some(&digit)
-}
-
-/// Whether these are the digits of the bytes, two for each.
-fn are_digits(mut digits: &[u8], bytes: &[u8]) -> bool {
-    for &byte in bytes {
-        let [high, low, rest @ ..] = digits else {
-            return false;
-        };
-        if !is_digit(*high, byte / 16) || !is_digit(*low, byte % 16) {
-            return false;
-        }
-        digits = rest;
-    }
-    digits.is_empty()
-}
-
-/// Whether this is the printed text of an owned document of these bytes.
-fn is_printed_text(text: &str, bytes: &[u8]) -> bool {
+/// Whether this text is that of an owned document, with two digits for each of so many bytes. `views::debug_texts` has digits.
+fn is_printed_text(text: &str, len: usize) -> bool {
     match text.strip_prefix("Document(RawDocumentBuf { data: \"") {
         Some(rest) => match rest.strip_suffix("\" })") {
-            Some(digits) => are_digits(digits.as_bytes(), bytes),
+            Some(digits) => digits.len() == len.wrapping_mul(2),
             None => false,
         },
         None => false,
@@ -176,26 +149,33 @@ fn is_copy(copy: &Result<RawBson, AllocError>, value: &RawBson) -> bool {
     }
 }
 
-/// Whether it is printed as a document of these bytes.
-fn has_text(alloc: Global, value: &RawBson, bytes: &[u8]) -> bool {
-    match format!(in alloc; "{value:?}") {
-        Ok(text) => is_printed_text(text.as_str(), bytes),
+/// Whether this was printed of a document of these bytes.
+fn is_printed(made: &Result<String, AllocError>, bytes: &[u8]) -> bool {
+    match made {
+        Ok(text) => is_printed_text(text.as_str(), bytes.len()),
         Err(_) => false,
     }
 }
 
-/// Whether the value is equal to its copy and printed as a document of these bytes.
-fn is_value(alloc: Global, value: &RawBson, bytes: &[u8]) -> bool {
-    let_go!(made: Result<_, _> = value.clone(); is_copy(&made, value))
-        && has_text(alloc, value, bytes)
+/// Whether the value was made, is equal to its copy and printed as a document of these bytes.
+fn is_value(alloc: Global, made: &Result<RawBson, Error>, bytes: &[u8]) -> bool {
+    match made {
+        Ok(value) => {
+            let_go!(copy: Result<_, _> = value.clone(); is_copy(&copy, value))
+                && let_go!(text = format!(in alloc; "{value:?}"); is_printed(&text, bytes))
+        }
+        Err(_) => false,
+    }
+}
+
+/// The document of these bytes, owned.
+fn owned_levels(alloc: Global, bytes: &[u8]) -> Result<RawBson, Error> {
+    Ok(RawBson::from(document_of(alloc, bytes)?))
 }
 
 /// Whether the value of the document of these bytes is.
 fn is_owned_value(alloc: Global, bytes: &[u8]) -> bool {
-    match document_of(alloc, bytes) {
-        Ok(document) => let_go!(made = RawBson::from(document); is_value(alloc, &made, bytes)),
-        Err(_) => false,
-    }
+    let_go!(made = owned_levels(alloc, bytes); is_value(alloc, &made, bytes))
 }
 
 #[test]

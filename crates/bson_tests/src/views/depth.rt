@@ -1,38 +1,9 @@
 //! Documents of many levels. `bin/test` also runs the first of these on a stack of 256 KiB, and sees that all is released.
 
-use crate::fixtures::{EMPTY, Holder, let_go, nested_in_turn, require_row, tree_of};
+use crate::fixtures::*;
 use bson_model::Document;
 use std::alloc::{AllocError, Global};
 use std::process::Abort;
-
-/// What is in front of the next level of a branch, behind the header: a list of the numbers 1 and 2, and the next level's tag and key.
-const BEFORE: &[u8] = b"\x04a\0\x13\0\0\0\x100\0\x01\0\0\0\x101\0\x02\0\0\0\0\x03b\0";
-
-/// What is behind it: a text, and the final 0.
-const BEHIND: &[u8] = b"\x02c\0\x02\0\0\0t\0\0";
-
-/// Writes so many levels, each but the innermost with others around the next one.
-fn push_branch(bytes: &mut Vec<u8>, levels: usize) -> Result<(), AllocError> {
-    let size = 4usize.wrapping_add(BEFORE.len()).wrapping_add(BEHIND.len());
-    let mut len = size.wrapping_mul(levels).wrapping_add(EMPTY.len());
-    for _ in 0..levels {
-        bytes.extend_from_slice(&len.to_le_bytes()[..4])?;
-        bytes.extend_from_slice(BEFORE)?;
-        len = len.wrapping_sub(size);
-    }
-    bytes.extend_from_slice(EMPTY)?;
-    for _ in 0..levels {
-        bytes.extend_from_slice(BEHIND)?;
-    }
-    Ok(())
-}
-
-/// Their bytes.
-fn branch(alloc: Global, levels: usize) -> Result<Vec<u8>, AllocError> {
-    let mut bytes = Vec::new(alloc);
-    push_branch(&mut bytes, levels)?;
-    Ok(bytes)
-}
 
 /// Whether the outermost level of a branch is there.
 fn is_branch(made: &raw_bson::Result<Document>) -> bool {
@@ -46,7 +17,7 @@ fn is_let_go(alloc: Global, bytes: &[u8]) -> bool {
 
 #[test]
 fn a_deep_branch_among_others_is_let_go(rt: HostRuntime) {
-    let bytes = branch(rt.alloc(), 200_000).expect(&rt, "no memory for the levels");
+    let bytes = levels(&rt, rt.alloc(), AMONG_OTHERS, 200_000);
     assert!(rt; is_let_go(rt.alloc(), &bytes));
 }
 
@@ -67,16 +38,16 @@ fn are_levels_equal(alloc: Global, bytes: &[u8]) -> bool {
 }
 
 /// So many levels.
-fn levels(rt: &impl Abort, alloc: Global, holder: Holder, levels: usize) -> Vec<u8> {
-    nested_in_turn(alloc, &[holder], levels, EMPTY).expect(rt, "no memory for the levels")
+fn levels(rt: &impl Abort, alloc: Global, level: Level, levels: usize) -> Vec<u8> {
+    nested(alloc, &[level], levels, EMPTY).expect(rt, "no memory for the levels")
 }
 
 #[test]
 fn levels_are_compared(rt: HostRuntime) {
-    for (row, (holder, _)) in TEXTS.iter().enumerate() {
+    for (row, (level, _)) in TEXTS.iter().enumerate() {
         // as many as the page of `Bson` says
-        let bytes = levels(&rt, rt.alloc(), *holder, 40_000);
-        require_row(&rt, are_levels_equal(rt.alloc(), &bytes), "holders", row);
+        let bytes = levels(&rt, rt.alloc(), *level, 40_000);
+        require_row(&rt, are_levels_equal(rt.alloc(), &bytes), "levels", row);
     }
 }
 
@@ -88,9 +59,9 @@ struct LevelsText {
 }
 
 /// The texts of levels.
-const TEXTS: &[(Holder, LevelsText)] = &[
+const TEXTS: &[(Level, LevelsText)] = &[
     (
-        Holder::Document,
+        IN_A_DOCUMENT,
         LevelsText {
             outside: ("", ""),
             around: (r#"Document { pairs: {"0": Document("#, ")} }"),
@@ -98,7 +69,7 @@ const TEXTS: &[(Holder, LevelsText)] = &[
         },
     ),
     (
-        Holder::Array,
+        IN_AN_ARRAY,
         LevelsText {
             outside: (r#"Document { pairs: {"0": "#, "} }"),
             around: ("Array([", "])"),
@@ -106,7 +77,7 @@ const TEXTS: &[(Holder, LevelsText)] = &[
         },
     ),
     (
-        Holder::CodeWithScope,
+        IN_A_SCOPE,
         LevelsText {
             outside: ("", ""),
             around: (
@@ -140,16 +111,26 @@ fn is_text_of_levels(text: &str, wanted: &LevelsText, levels: usize) -> bool {
     }
 }
 
-/// Whether the tree was made, and is printed as so many levels.
+/// Whether this was printed of so many levels.
+fn is_printed(made: &Result<String, AllocError>, wanted: &LevelsText, levels: usize) -> bool {
+    match made {
+        Ok(text) => is_text_of_levels(text.as_str(), wanted, levels),
+        Err(_) => false,
+    }
+}
+
+/// Whether the tree was made, and is printed so.
 fn is_tree_printed(
     alloc: Global,
     made: &raw_bson::Result<Document>,
     wanted: &LevelsText,
     levels: usize,
 ) -> bool {
-    let Ok(tree) = made else { return false };
-    match format!(in alloc; "{tree:?}") {
-        Ok(text) => is_text_of_levels(text.as_str(), wanted, levels),
+    match made {
+        Ok(tree) => let_go!(
+            text = format!(in alloc; "{tree:?}");
+            is_printed(&text, wanted, levels)
+        ),
         Err(_) => false,
     }
 }
@@ -161,10 +142,10 @@ fn are_levels_printed(alloc: Global, bytes: &[u8], wanted: &LevelsText, levels: 
 
 #[test]
 fn levels_are_printed(rt: HostRuntime) {
-    for (row, (holder, wanted)) in TEXTS.iter().enumerate() {
+    for (row, (level, wanted)) in TEXTS.iter().enumerate() {
         // as many as the page of `Bson` says
-        let bytes = levels(&rt, rt.alloc(), *holder, 15_000);
+        let bytes = levels(&rt, rt.alloc(), *level, 15_000);
         let is_right = are_levels_printed(rt.alloc(), &bytes, wanted, 15_000);
-        require_row(&rt, is_right, "holders", row);
+        require_row(&rt, is_right, "levels", row);
     }
 }

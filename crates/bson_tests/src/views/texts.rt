@@ -35,6 +35,13 @@ const LOOK_UPS: &[Row] = &[
         "utf-8 encoding error: invalid utf-8 sequence of 1 bytes from index 0",
         "Error { kind: Utf8EncodingError(Utf8Error { valid_up_to: 0, error_len: Some(1) }), key: None }",
     ),
+    // a pattern
+    (
+        b"\x0A\0\0\0\x0Ba\0\xFF\0\0",
+        "a",
+        "error at key \"a\": utf-8 encoding error: invalid utf-8 sequence of 1 bytes from index 0",
+        "Error { kind: Utf8EncodingError(Utf8Error { valid_up_to: 0, error_len: Some(1) }), key: Some(\"a\") }",
+    ),
     // a text that ends too early
     (
         b"\x0F\0\0\0\x0Ek\0\x03\0\0\0a\xC3\0\0",
