@@ -95,7 +95,26 @@ header_compiles() {
     fi
 }
 
+# The functions for daily use that are given memory with its length, one a line, in a header.
+measured() {
+    awk '/---- daily use/ { daily = 1 }
+        daily && /^[A-Za-z].*[ *]bsonraw_[a-z0-9_]*\(/ { name = $0; sub(/\(.*/, "", name); sub(/.*[ *]/, "", name); text = "" }
+        name != "" { text = text $0 }
+        name != "" && /;$/ { gsub(/\(\*[a-z_]*\)\([^)]*\)/, "", text); if (text ~ /\*[A-Z_ ]*[a-z_]+, +size_t [a-z_]+[,)]/) print name; name = "" }' "$1"
+}
+
+# touched FILE: whether BSONRAW_DEBUG looks at what each of them is given, in this header
+touched() {
+    [ "$(measured "$1" | wc -l)" -gt 30 ] || return 1
+    for name in $(measured "$1"); do
+        grep -qx "#define $name bsonraw_touching_${name#bsonraw_}" "$1" || return 1
+    done
+}
+
 look_at_header() {
+    sed '/bsonraw_touching_has_key$/d' c/bsonraw.h >"$work/untouched.h"
+    touched "$work/untouched.h" && fails "a header in which BSONRAW_DEBUG doesn't look at a call passes"
+    touched c/bsonraw.h || fails "BSONRAW_DEBUG doesn't look at each call for daily use"
     sed 's/^    uint32_t next;/    uint32_t next/' c/bsonraw.h >"$work/wrong.h"
     header_compiles "$work/wrong.h" 2>/dev/null && fails "a header with a mistake compiles"
     header_compiles bsonraw.h || fails "the header doesn't compile"
