@@ -150,7 +150,8 @@ static struct PyModuleDef definition = {
 __attribute__((visibility("default"))) /* which headers before 3.9 leave out */
 #endif
 PyMODINIT_FUNC PyInit__native(void) {
-    if (bsonraw_version() / 10000 == BSONRAW_VERSION / 10000) return PyModuleDef_Init(&definition);
+    uint32_t version = bsonraw_version(); /* a later one has all that the header's has, if the first digits are the same */
+    if (version >= BSONRAW_VERSION && version / 10000 == BSONRAW_VERSION / 10000) return PyModuleDef_Init(&definition);
     PyErr_SetString(PyExc_ImportError,
                     "bsonraw was built with the header of another version of the library: build the package again");
     return NULL;
