@@ -1326,7 +1326,7 @@ try:
 except OSError:  # the other side is closed, and all was read
     pass
 counts = b"documents: 1000000, bytes: 12000000, not canonical: 0, damaged: 0, too deep: 0, bytes passed over: 0, bytes not read: 0, files not read to the end: 0\n"
-line = rb"\x1b\[Kmillion: (69|7[0-9]) %, [0-9]+ MB/s, [0-9]+:[0-9][0-9] left\r\x1b\[K"
+line = rb"\x1b\[K\"million\": (69|7[0-9]) %, [0-9]+ MB/s, [0-9]+:[0-9][0-9] left\r\x1b\[K"
 sys.exit(said != b'"million": ' + counts + counts or re.fullmatch(line, shown) is None)
 END
 

@@ -232,8 +232,12 @@ def try_terminals(runs: Runs) -> None:
     status, shown = on_terminal(runs, ("stdout", "stderr"), "json", "million")
     if status != 0 or b"\x1b" in shown or shown.count(b'{"a":1}\r\n') != 1_000_000:
         fails("JSON on a terminal that shows progress", status, shown[-200:])
-    if b"\x1b[Kmillion: " not in on_terminal(runs, ("stderr",), "json", "million")[1]:
+    if b'\x1b[K"million": ' not in on_terminal(runs, ("stderr",), "json", "million")[1]:
         fails("progress beside JSON in a file")
+    os.rename(runs.path("million"), runs.path("mil\x1b[31m\nlion"))
+    shown = on_terminal(runs, ("stderr",), "check", "mil\x1b[31m\nlion")[1]
+    if b'\x1b[K"mil\\u001b[31m\\nlion": ' not in shown or b"\x1b[31m" in shown or b"\n" in shown:
+        fails("progress of a name that a terminal would obey", shown)
 
 
 def main(words: List[str]) -> int:

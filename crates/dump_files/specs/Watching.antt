@@ -1,5 +1,6 @@
 -- Readers that are looked at while they are read.
-use Rattle.std.specs.Prelude.{◌≡◌, ◌^◌, None}
+use Rattle.std.specs.Prelude.{◌≡◌, ◌^◌, ◌∷◌, ◌++◌, ℕ, List, [], None, codes}
+use Rattle.json.specs.Print.{quoted}
 use Rattle.dump_files.specs.declared.watch.About.{About}
 use Rattle.dump_files.specs.declared.watch.Watched.{Watched}
 
@@ -10,3 +11,8 @@ pub record IsUnread {R : Type 0} (reader : R) (about : About) (w : Watched R) : 
   pub none_read : w.count ≡ 0
   pub first_shown : w.next ≡ 2 ^ 23
   pub not_begun : w.begun ≡ None
+
+-- The line that shows how far the reading of an input has come: in place of the one before it, its name in quotes, then these words. The
+-- next line goes over it.
+abbrev pub progress_line : List ℕ → List ℕ → List ℕ
+progress_line name words = 0x1B ∷ codes "[K" ++ quoted name ++ codes ": " ++ words ++ 0x0D ∷ []

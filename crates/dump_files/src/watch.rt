@@ -2,14 +2,16 @@
 //! like that isn't a dump.
 #![tactic(auto)]
 
-ghost use Rattle.std.specs.Prelude.{◌≡◌, ◌++◌, ◌*◌, ◌/◌, ◌^◌, ◌-◌, ℕ, List, None, Some, max, min};
+ghost use Rattle.std.specs.Prelude.{◌≡◌, ◌++◌, ◌*◌, ◌/◌, ◌^◌, ◌-◌, ℕ, IfOk, List, None, Some, max, min};
 ghost use Rattle.std.specs.Option.{option_copied};
 ghost use Rattle.dump_files.specs.Guess.{HintsAt, OpensWell};
-ghost use Rattle.dump_files.specs.Watching.{IsUnread};
+ghost use Rattle.dump_files.specs.Watching.{IsUnread, progress_line};
 
 use crate::guess::{hint, text_hint};
 use crate::tell::tell;
 use dump_lines::style::Style;
+use dump_lines::text::{push_quoted, push_words};
+use std::alloc::{AllocError, Global};
 use std::io;
 use std::io::{Read, Write};
 use std::time::Instant;
@@ -105,28 +107,50 @@ impl<'a, R> Watched<'a, R> {
         }
     }
 
-    /// Shows the name, how much was read, how fast and, if that can be told, how long it will take, in a line that the next overwrites.
+    /// Shows the name and how far the reading has come, in a line that the next overwrites.
     fn show(&self) {
         let name = self.about.name.as_ref().map_or("", |name| name.as_str());
+        let line = match self.progress() {
+            Ok(words) => line_of(self.rt.alloc(), name, words.as_str()),
+            Err(error) => Err(error),
+        };
+        if let Ok(line) = line {
+            let _shown = self.rt.stderr().write_all(&line);
+        }
+    }
+
+    /// How much was read, how fast and, if that can be told, how long it will take.
+    fn progress(&self) -> Result<String, AllocError> {
+        let alloc = self.rt.alloc();
         let millis = match self.begun.map(|begun| begun.elapsed(self.rt)) {
             Some(Ok(elapsed)) => u64::try_from(elapsed.as_millis()).unwrap_or(u64::MAX),
             _ => 0,
         };
         let rate = per_second(self.count, millis);
         let megabytes = self.count / 1_000_000;
-        let _shown = match self.about.size {
+        match self.about.size {
             Some(size) if size >= self.count && rate > 0 => {
                 let percent = u128::from(self.count) * 100 / u128::from(size.max(1));
                 let left = (size - self.count) / rate;
                 let (minutes, seconds) = (left / 60, left % 60);
                 let speed = rate / 1_000_000;
-                eprint!(self.rt;
-                    "\x1b[K{name}: {percent} %, {speed} MB/s, {minutes}:{seconds:02} left\r"
-                )
+                format!(in alloc; "{percent} %, {speed} MB/s, {minutes}:{seconds:02} left")
             }
-            _ => eprint!(self.rt; "\x1b[K{name}: {megabytes} MB\r"),
-        };
+            _ => format!(in alloc; "{megabytes} MB"),
+        }
     }
+}
+
+/// The line that shows how far the reading of an input has come. Its name is in quotes, so a terminal shows it, and obeys none of it.
+fn line_of(alloc: Global, name: &str, words: &str) -> Result<Vec<u8>, AllocError>
+    ensures { IfOk result (λ line. line.items ≡ progress_line name.now words.now) }
+{
+    let mut line = Vec::from_slice(alloc, b"\x1b[K")?;
+    push_quoted(alloc, &mut line, name)?;
+    push_words(&mut line, ": ")?;
+    push_words(&mut line, words)?;
+    push_words(&mut line, "\r")?;
+    Ok(line)
 }
 
 /// How many bytes come in a second, where so many came in this time.
