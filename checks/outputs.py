@@ -84,8 +84,10 @@ def try_hints(runs: Runs) -> None:
     for name, data, wanted in (
         ("x.gz", b"\x1f\x8b\x08\0\0\0\0\0\0\3" + b"\x63" * 40, "looks like gzip, not a dump: gzip -dc FILE | bsonraw-dump .."),
         ("x.zst", b"\x28\xb5\x2f\xfd" + b"\x24" * 40, "looks like zstd, not a dump: zstd -dc FILE | bsonraw-dump .."),
-        ("x.json", b'{"a":1}\n', "looks like JSON, not a dump: mongoimport reads JSON"),
-        ("x.array", b' [\n{"a":1}]\n', "looks like JSON, not a dump: mongoimport reads JSON"),
+        ("x.json", b'{"a":1}\n', "looks like JSON, not a dump: bsonraw-dump bson FILE, or mongoimport, reads it"),
+        ("x.array", b' [\n{"a":1}]\n', "looks like JSON, not a dump: bsonraw-dump bson FILE, or mongoimport, reads it"),
+        ("x.mark", b'\xef\xbb\xbf{"a":1}\n', "looks like JSON, not a dump: tail -c +4 FILE | bsonraw-dump bson"),
+        ("x.mark", b'\xef\xbb\xbf [\r\n{"a":1}]\n', "looks like JSON, not a dump: tail -c +4 FILE | bsonraw-dump bson"),
         ("x.txt", b"id,name\n1,Ada\n", "looks like text, not a dump"),
         ("x.utf16", b"\xff\xfe" + '{"a":1}'.encode("utf-16-le"), "looks like text in UTF-16, not a dump"),
         ("x.utf16", b"\xfe\xff" + '{"a":1}'.encode("utf-16-be"), "looks like text in UTF-16, not a dump"),

@@ -62,6 +62,14 @@ IsPlain byte = (byte ≡ 9) ⊎ (byte ≡ 10) ⊎ (byte ≡ 13) ⊎ ((0x20 ≤ b
 abbrev pub OpensJson : List ℕ → Type 0
 OpensJson s = (r : List ℕ) × IsTrimAsciiStart s r × (Begins (codes "{") r ⊎ Begins (codes "[") r)
 
+-- the byte order mark of UTF-8
+abbrev pub IsMarked : List ℕ → Type 0
+IsMarked s = Begins (0xEF ∷ 0xBB ∷ 0xBF ∷ []) s
+
+-- behind it an object or an array begins
+abbrev pub IsMarkedJson : List ℕ → Type 0
+IsMarkedJson s = IsMarked s × All IsPlain (drop 3 s) × OpensJson (drop 3 s)
+
 -- what a file looks like that begins so, and what helps
 abbrev pub LooksLike : List ℕ → List ℕ → Type 0
 LooksLike s words =
@@ -69,7 +77,8 @@ LooksLike s words =
     ⊎ (IsZstd s × (words ≡ codes "looks like zstd, not a dump: zstd -dc FILE | bsonraw-dump .."))
     ⊎ (IsArchive s × (words ≡ codes "looks like an archive: mongorestore --archive=FILE, then mongodump"))
     ⊎ (IsUtf16 s × (words ≡ codes "looks like text in UTF-16, not a dump"))
-    ⊎ (All IsPlain s × OpensJson s × (words ≡ codes "looks like JSON, not a dump: mongoimport reads JSON"))
+    ⊎ (IsMarkedJson s × (words ≡ codes "looks like JSON, not a dump: tail -c +4 FILE | bsonraw-dump bson"))
+    ⊎ (All IsPlain s × OpensJson s × (words ≡ codes "looks like JSON, not a dump: bsonraw-dump bson FILE, or mongoimport, reads it"))
     ⊎ (All IsPlain s × (¬ OpensJson s) × (words ≡ codes "looks like text, not a dump"))
 
 -- it looks like none of these
@@ -81,10 +90,6 @@ LooksLikeNothing s = (words : List ℕ) → ¬ LooksLike s words
 abbrev pub Hints : (most : ℕ) → List ℕ → Option (List ℕ) → Type 0
 Hints most s (Some words) = (¬ MayBegin most (front_of s)) × LooksLike (front_of s) words
 Hints most s None = MayBegin most (front_of s) ⊎ LooksLikeNothing (front_of s)
-
--- the byte order mark of UTF-8
-abbrev pub IsMarked : List ℕ → Type 0
-IsMarked s = Begins (0xEF ∷ 0xBB ∷ 0xBF ∷ []) s
 
 -- what is told of a file that begins so and has to be a text in UTF-8
 abbrev pub HintsAtText : List ℕ → Option (List ℕ) → Type 0

@@ -1,10 +1,10 @@
 //! What a file is that is no dump, as far as its first bytes tell.
 #![tactic(auto)]
 
-ghost use Rattle.std.specs.Prelude.{◌≡◌, ◌++◌, List, MatchBool, MatchOption, None, ℕ};
+ghost use Rattle.std.specs.Prelude.{◌≡◌, ◌++◌, List, MatchBool, MatchOption, None, drop, ℕ};
 ghost use Rattle.std.specs.List.{All};
 ghost use Rattle.std.specs.Option.{option_copied};
-ghost use Rattle.dump_files.specs.Guess.{Begins, Hints, HintsAtText, IsArchive, IsGzip, IsMarked, IsPlain, IsTag, IsUtf16, IsZstd, LooksLike, LooksLikeNothing, MayBegin, MayFollow, OpensJson, OpensWell, front_of};
+ghost use Rattle.dump_files.specs.Guess.{Begins, Hints, HintsAtText, IsArchive, IsGzip, IsMarked, IsMarkedJson, IsPlain, IsTag, IsUtf16, IsZstd, LooksLike, LooksLikeNothing, MayBegin, MayFollow, OpensJson, OpensWell, front_of};
 
 use raw_view::ElementType;
 
@@ -104,6 +104,25 @@ fn opens_json(front: &[u8]) -> bool
     matches!(front.trim_ascii_start().first(), Some(b'{' | b'['))
 }
 
+/// What is behind the byte order mark.
+#[tactic(auto, using(std::proofs::lemmas::List::drop_all))]
+fn behind_mark(front: &[u8]) -> &[u8]
+    ensures { result.now ≡ drop 3 front.now }
+{
+    match front.split_first_chunk::<3>() {
+        Some((_, behind)) => behind,
+        None => &[],
+    }
+}
+
+/// Whether a byte order mark and an object or an array of JSON begin so.
+fn is_marked_json(front: &[u8]) -> bool
+    ensures { MatchBool result (IsMarkedJson front.now) (¬ IsMarkedJson front.now) }
+{
+    let behind = behind_mark(front);
+    is_marked(front) && is_text(behind) && opens_json(behind)
+}
+
 /// What a file looks like that begins so, and what helps.
 fn look(front: &[u8]) -> Option<&'static str>
     ensures { MatchOption result (LooksLikeNothing front.now) (λ words. LooksLike front.now words.now) }
@@ -116,10 +135,12 @@ fn look(front: &[u8]) -> Option<&'static str>
         Some("looks like an archive: mongorestore --archive=FILE, then mongodump")
     } else if is_utf16(front) {
         Some("looks like text in UTF-16, not a dump")
+    } else if is_marked_json(front) {
+        Some("looks like JSON, not a dump: tail -c +4 FILE | bsonraw-dump bson")
     } else if !is_text(front) {
         None
     } else if opens_json(front) {
-        Some("looks like JSON, not a dump: mongoimport reads JSON")
+        Some("looks like JSON, not a dump: bsonraw-dump bson FILE, or mongoimport, reads it")
     } else {
         Some("looks like text, not a dump")
     }
