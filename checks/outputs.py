@@ -146,8 +146,31 @@ def try_output(runs: Runs) -> None:
     status, _, err = runs.run("canon", "-o", "locked", "one", user=NOBODY)
     if status != 5 or runs.get("locked") != b"old" or "Permission denied" not in err:
         fails("an OUTPUT that may not be written", status, err)
+    os.mkdir(runs.path("shut"))
+    runs.put("shut/old", b"old")
+    os.chmod(runs.path("shut/old"), 0o666)
+    words = "a file beside it can't be made: "
+    for name, why in (("shut/old", words), ("shut/new", "")):
+        status, _, err = runs.run("canon", "-o", name, "one", user=NOBODY)
+        if (status, err) != (5, f'bsonraw-dump: "{name}": {why}Permission denied (os error 13)\n') or runs.get("shut/old") != b"old":
+            fails("an OUTPUT in a folder that may not be written", status, err)
     if runs.beside():
         fails("files beside an OUTPUT are left", runs.beside())
+
+
+def try_findings_go(runs: Runs) -> None:
+    """Where the reader of findings is gone, an OUTPUT isn't written, and the status says so."""
+    damaged = bytes.fromhex("090000000861000200")
+    runs.put("damaged", damaged * 1000 + ONE)
+    runs.put("fault", b'{"a" 1}\n{"a":1}\n')
+    for words in (("sound", "damaged"), ("canon", "one"), ("bson", "--keep-going", "fault")):
+        runs.put("output", b"old")
+        ours, side = os.pipe()
+        os.close(ours)
+        status = subprocess.run([runs.program, *words, "-o", "output"], cwd=runs.folder, stderr=side).returncode
+        os.close(side)
+        if status != 5 or runs.get("output") != b"old" or runs.beside():
+            fails("an OUTPUT where the reader of findings is gone", words, status, runs.get("output")[:20], runs.beside())
 
 
 def try_small_disk(runs: Runs) -> None:
@@ -246,7 +269,9 @@ def main(words: List[str]) -> int:
     with tempfile.TemporaryDirectory() as folder:
         os.chmod(folder, 0o755)
         runs = Runs(words[0], folder)
-        for trial in (try_names, try_hints, try_same_file, try_output, try_small_disk, try_signals, try_findings_come, try_terminals):
+        for trial in (
+            try_names, try_hints, try_same_file, try_output, try_small_disk, try_signals, try_findings_come, try_findings_go, try_terminals,
+        ):
             trial(runs)
     for what in left_out:
         print("outputs: left out:", what)

@@ -1,3 +1,4 @@
 pub mod Guess
 pub mod Watching
 pub mod Errors
+pub mod Endings

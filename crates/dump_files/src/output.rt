@@ -1,9 +1,13 @@
 //! Writes into a file in place of standard output: by way of a file beside it, which takes its place at the end.
 #![tactic(auto)]
 
+ghost use Rattle.std.specs.Prelude.{◌≡◌};
+ghost use Rattle.dump_files.specs.Endings.{unwritten_status};
+
 use crate::tell::{tell, tell_lack};
-use dump_input::done::Done;
+use dump_input::done::{Done, Lack};
 use dump_input::status::Status;
+use dump_lines::failure::Failure;
 use dump_lines::style::Style;
 use std::alloc::AllocError;
 use std::fs::{File, Metadata, OpenOptions};
@@ -92,7 +96,11 @@ fn replaced<'a, F: Fill<'a>>(
         Err(_) => String::from_str(rt.alloc(), name)?,
     };
     let beside = beside(rt, place.as_str())?;
-    let file = File::create_new(rt, beside.as_str())?;
+    let file = match File::create_new(rt, beside.as_str()) {
+        Ok(file) => file,
+        Err(error) if old.is_some() => return Err(not_beside(rt, &error)),
+        Err(error) => return Err(error),
+    };
     let result = match filled(rt, run, name, file, old) {
         Ok(done) if done.lack.is_none() => {
             fs::rename(rt, beside.as_str(), place.as_str())?;
@@ -105,7 +113,26 @@ fn replaced<'a, F: Fill<'a>>(
     if let Some(lack) = &done.lack {
         tell_lack(rt, run.style(), run.way_on(), name, lack);
     }
-    Ok(done.status)
+    Ok(status_of(&done))
+}
+
+/// How a run ends whose file isn't written. If writing failed, it is by that, even where the reader of the findings is gone.
+fn status_of(done: &Done<'_>) -> Status
+    ensures { result ≡ unwritten_status done.now }
+{
+    match done.lack {
+        Some(Lack::Failed(Failure::Writing(_) | Failure::Reading(_))) => Status::Output,
+        _ => done.status,
+    }
+}
+
+/// Why the file that takes the place of another at the end can't be made beside it.
+fn not_beside(rt: &HostRuntime, error: &io::Error) -> io::Error {
+    let text: Result<_, _> = format!(in rt.alloc(); "a file beside it can't be made: {error}");
+    io::Error::other(
+        text.as_ref()
+            .map_or("a file beside it can't be made", |text| text.as_str()),
+    )
 }
 
 /// The name of the file that takes a place at the end: that of the place, cut if it is too long, with a number and `.tmp`.
