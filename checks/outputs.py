@@ -61,23 +61,92 @@ def try_names(runs: Runs) -> None:
     runs.put("one", ONE)
     wrong = b"\xff.bson"
     status, out, err = runs.run("check", "one", wrong)
-    wanted = 'bsonraw-dump: "argument 3 isn\'t UTF-8": No such file or directory (os error 2)\n'
+    wanted = 'bsonraw-dump: "argument 3 isn\'t UTF-8": not read; use: bsonraw-dump check < FILE\n'
     if (status, err) != (3, wanted) or b"files not read to the end: 1\n" not in out or b"documents: 1," not in out:
         fails("a name that isn't UTF-8", status, out, err)
     if runs.run("check", wrong, stdin=subprocess.DEVNULL)[0] != 3:
         fails("a name that isn't UTF-8, alone")
-    for words in (("sound", "-o", wrong, "one"), ("sound", b"--output=\xff", "one"), (b"\xff", "one")):
+    # no file is opened in its place, though one is named as it is told; that one is read where it is given
+    runs.put("argument 2 isn't UTF-8", TWICE)
+    if runs.run("sound", wrong, "one")[:2] != (3, ONE):
+        fails("a file that is named as a name that isn't UTF-8 is told", runs.run("sound", wrong, "one"))
+    status, out, err = runs.run("sound", wrong, "argument 2 isn't UTF-8", "one")
+    wanted = 'bsonraw-dump: "argument 2 isn\'t UTF-8": not read; use: bsonraw-dump sound < FILE\n'
+    if (status, out) != (3, TWICE + ONE) or not err.startswith(wanted):
+        fails("a file that is named as a name that isn't UTF-8 is told, and given", status, out, err)
+    for words, way in ((("pick", "a", wrong), "pick PATHS"), (("bson", wrong), "bson")):
+        status, _, err = runs.run(*words)
+        if status != 3 or f"isn't UTF-8\": not read; use: bsonraw-dump {way} < FILE\n" not in err:
+            fails("how a file is read whose name isn't UTF-8", status, err)
+    status, _, err = runs.run("check", "--json", wrong)
+    if (status, err) != (3, '{"file":"argument 3 isn\'t UTF-8","error":"not read; use: bsonraw-dump check < FILE"}\n'):
+        fails("a name that isn't UTF-8, as JSON", status, err)
+
+
+def try_words(runs: Runs) -> None:
+    wrong = b"\xff.bson"
+    for words in (
+        (b"\xff", "one"), ("sound", b"--output=\xff", "one"), ("sound", "-o", wrong, "one"), ("sound", "--output", wrong, "one"),
+        ("pick", wrong, "one"), ("pick", wrong), ("pick", "--limit", "1", wrong, "one"),
+    ):
         status, out, err = runs.run(*words)
         if status != 2 or out or "isn't UTF-8\": it can't be left out" not in err or os.path.exists(runs.path(wrong)):
-            fails("an OUTPUT or a command that isn't UTF-8", status, out, err)
+            fails("an OUTPUT, PATHS or a command that isn't UTF-8", words, status, out, err)
+    for option in ("--limit", "--at", "--skip", "--take", "--max-bytes", "--max-depth", "--findings"):
+        status, out, err = runs.run("check", option, wrong, "one")
+        if status != 2 or out or f"error: invalid value 'argument 3 isn't UTF-8' for '{option} <" not in err:
+            fails("a value that isn't UTF-8", option, status, out, err)
+    status, out, err = runs.run("fields", "--paths", wrong, "one")
+    if status != 2 or out or "error: invalid value 'argument 3 isn't UTF-8' for '--paths <N>': " not in err:
+        fails("a number of paths that isn't UTF-8", status, out, err)
+    # no escape and no line feed of a word comes to the terminal
+    word = "--lim\x1b[31m\n\x7f\u009bit"
+    said = "--lim\\u001b[31m\\u000a\\u007f\\u009bit"
+    wanted = f"error: unexpected argument '{said}' found\n\n  tip: to pass '{said}' as a value, use '-- {said}'\n"
+    wanted += "\nUsage: bsonraw-dump check [OPTIONS] [FILE]...\n\nFor more information, try '--help'.\n"
+    if runs.run("check", word, "one") != (2, b"", wanted):
+        fails("an option that a terminal would obey", runs.run("check", word, "one"))
+    for words in (("\x1b[31m\n",), ("check", "--limit", "\x1b[31m\n"), ("check", "--findings", "\x1b[31m\n"), ("count", "-\x1b[31m\n")):
+        status, out, err = runs.run(*words)
+        if status != 2 or out or "\x1b" in err or ("\\u001b[31m\\u000a'" not in err and "'-\\'" not in err):
+            fails("a word that a terminal would obey", words, status, out, err)
+
+
+def try_folders(runs: Runs) -> None:
     os.mkdir(runs.path("dumps"))
     for name, data in (("b.bson", TWICE), ("a.bson", ONE), ("c.txt", EMPTY), ("d.bson", EMPTY)):
         runs.put("dumps/" + name, data)
-    if runs.run("sound", "dumps", "one")[:2] != (0, ONE + TWICE + EMPTY + ONE):
-        fails("a folder", runs.run("sound", "dumps", "one"))
+    for folder in ("dumps", "dumps/"):
+        if runs.run("sound", folder, "one")[:2] != (0, ONE + TWICE + EMPTY + ONE):
+            fails("a folder", runs.run("sound", folder, "one"))
+    os.symlink("dumps", runs.path("link"))
+    if runs.run("sound", "link")[:2] != (0, ONE + TWICE + EMPTY):
+        fails("a link to a folder", runs.run("sound", "link"))
+    words = "no *.bson in it; name a database's folder, or: gzip -dc FILE | bsonraw-dump .."
     os.mkdir(runs.path("none"))
-    if runs.run("sound", "none")[0] != 3:
-        fails("a folder without a dump")
+    os.mkdir(runs.path("gzip"))
+    runs.put("gzip/a.bson.gz", b"\x1f\x8b\x08\0\0\0\0\0\0\3")
+    for folder in ("none", "gzip"):
+        status, out, err = runs.run("sound", folder, "one")
+        if (status, out) != (3, ONE) or not err.startswith(f'bsonraw-dump: "{folder}": {words}\n'):
+            fails("a folder without a dump", status, out, err)
+    status, out, err = runs.run("bson", "dumps")
+    if (status, out) != (3, b"") or not err.startswith('bsonraw-dump: "dumps": a folder isn\'t read; name the files in it\n'):
+        fails("a folder of texts", status, out, err)
+    # a name that isn't UTF-8 is told, and the others are read
+    os.mkdir(runs.path("odd"))
+    for name in (b"odd/\xff.bson", b"odd/\xff.txt"):
+        with open(runs.path(name), "wb") as file:
+            file.write(TWICE)
+    odd = 'bsonraw-dump: "odd/\ufffd.bson isn\'t UTF-8": not read; use: bsonraw-dump sound < FILE\n'
+    for name, data, wanted in (("odd/b.txt", ONE, b""), ("odd/a.bson", ONE, ONE), ("odd/\ufffd.bson", EMPTY, ONE + EMPTY)):
+        runs.put(name, data)
+        status, out, err = runs.run("sound", "odd")
+        if (status, out) != (3, wanted) or not err.startswith(odd) or "files not read to the end: 1\n" not in err:
+            fails("a folder with a name that isn't UTF-8", name, status, out, err)
+    runs.put("odd/\ufffd.bson isn't UTF-8", FORM)
+    if runs.run("sound", "odd", "odd/\ufffd.bson isn't UTF-8")[:2] != (3, ONE + EMPTY + FORM):
+        fails("a file that is named as another in a folder is told", runs.run("sound", "odd", "odd/\ufffd.bson isn't UTF-8"))
 
 
 def try_hints(runs: Runs) -> None:
@@ -270,7 +339,8 @@ def main(words: List[str]) -> int:
         os.chmod(folder, 0o755)
         runs = Runs(words[0], folder)
         for trial in (
-            try_names, try_hints, try_same_file, try_output, try_small_disk, try_signals, try_findings_come, try_findings_go, try_terminals,
+            try_names, try_words, try_folders, try_hints, try_same_file, try_output, try_small_disk, try_signals, try_findings_come, try_findings_go,
+            try_terminals,
         ):
             trial(runs)
     for what in left_out:

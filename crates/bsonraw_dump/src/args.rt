@@ -6,12 +6,21 @@ use crate::version::VERSION;
 use bson_json::{Format, Layout, Style as JsonStyle};
 use clap::{ArgMatches, Error};
 use dump_cli::command_line;
+use dump_files::files::Unread;
 use dump_lines::find::most_allowed;
 use dump_lines::style::Style;
 use dump_runs::{Command, Job, Picking, Portion, Spelling};
 use raw_tree::Limits;
 use std::alloc::Global;
 use text_runs::TextJob;
+
+/// Which inputs can't be opened: none, as far as the arguments tell.
+fn none_unread<'a>() -> Unread<'a> {
+    Unread {
+        names: &[],
+        words: "",
+    }
+}
 
 /// What the arguments ask for.
 #[derive(Drop)]
@@ -22,6 +31,8 @@ pub struct Task<'a> {
     pub output: Option<&'a str>,
     /// what is read; nothing and `-` are standard input
     pub inputs: Vec<&'a str>,
+    /// which inputs can't be opened
+    pub unread: Unread<'a>,
 }
 
 /// Elements of so many paths are counted where no number is given.
@@ -133,6 +144,7 @@ fn task_of<'a>(
         }),
         output,
         inputs: inputs_of(alloc, matches)?,
+        unread: none_unread(),
     })
 }
 
@@ -157,6 +169,7 @@ fn text_task<'a>(alloc: Global, matches: &ArgMatches<'a>) -> Result<Task<'a>, Er
         }),
         output: matches.get_str("output").filter(|name| *name != "-"),
         inputs: inputs_of(alloc, matches)?,
+        unread: none_unread(),
     })
 }
 

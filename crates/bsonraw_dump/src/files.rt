@@ -4,7 +4,7 @@
 use crate::args::{Task, parsed};
 use crate::reading::Reading;
 use dump_cli::{Prompt, Words, copied, expanded, given_words};
-use dump_files::files::{Files, node_of};
+use dump_files::files::{Files, Unread, node_of};
 use dump_files::output::{BLOCK, Fill, into_file};
 use dump_files::tell::{tell, tell_words};
 use dump_input::done::{Done, Lack};
@@ -13,7 +13,7 @@ use dump_lines::failure::Failure;
 use dump_lines::find::most_allowed;
 use dump_lines::style::Style;
 use dump_runs::{Command, run_all};
-use std::alloc::AllocError;
+use std::alloc::{AllocError, Global};
 use std::fs::File;
 use std::io;
 use std::io::{BufWriter, ErrorKind, IsTerminal, Write};
@@ -26,50 +26,74 @@ pub fn all(rt: &HostRuntime) -> Status {
         return Status::Memory;
     };
     if let Some(wrong) = &words.wrong {
-        tell(
-            rt,
-            Style::Words,
-            wrong.as_str(),
-            None,
-            &io::Error::other("it can't be left out"),
-        );
-        return Status::Usage;
+        return misplaced(rt, wrong.as_str());
     }
     match parsed(rt.alloc(), &words.words) {
-        Ok(Some(task)) => with_names(rt, &task, &words).unwrap_or(Status::Memory),
+        Ok(Some(task)) => with_words(rt, &task, &words),
         Ok(None) => Status::Usage,
-        Err(error) => explained(rt, &error),
+        Err(error) if error.use_stderr() => refused(rt, &words, &error),
+        Err(error) => printed(rt, &error, Status::Done),
+    }
+}
+
+/// Tells of an argument that isn't UTF-8, and isn't a FILE.
+fn misplaced(rt: &HostRuntime, name: &str) -> Status {
+    let error = io::Error::other("it can't be left out");
+    tell(rt, Style::Words, name, None, &error);
+    Status::Usage
+}
+
+/// Prints what is wrong with the arguments, without what a terminal would obey in them.
+fn refused(rt: &HostRuntime, words: &Words, error: &clap::Error) -> Status {
+    let Ok(shown) = words.shown(rt.alloc()) else {
+        tell_words(rt, Style::Words, "not enough memory");
+        return Status::Memory;
+    };
+    match parsed(rt.alloc(), &shown) {
+        Err(error) => printed(rt, &error, Status::Usage),
+        Ok(_) => {
+            tell_words(
+                rt,
+                Style::Words,
+                error.kind().as_str().unwrap_or("wrong arguments"),
+            );
+            Status::Usage
+        }
     }
 }
 
 /// Prints why the arguments ask for nothing: help that was asked for, or what is wrong with them.
-fn explained(rt: &HostRuntime, error: &clap::Error) -> Status {
-    let status = if error.use_stderr() {
-        Status::Usage
-    } else {
-        Status::Done
-    };
+fn printed(rt: &HostRuntime, error: &clap::Error, status: Status) -> Status {
     match error.print(rt) {
         Ok(()) => status,
         Err(_) => Status::Output,
     }
 }
 
+/// Does a task, unless an argument that isn't UTF-8 isn't a FILE.
+fn with_words(rt: &HostRuntime, task: &Task<'_>, words: &Words) -> Status {
+    if let Some(name) = words.misplaced(&task.inputs) {
+        return misplaced(rt, name);
+    }
+    with_names(rt, task, words).unwrap_or(Status::Memory)
+}
+
+/// How a file is read whose name isn't UTF-8.
+fn way_of(alloc: Global, words: &Words) -> Result<String, AllocError> {
+    let command = words.words.get(1).map_or("..", |word| word.as_str());
+    let paths = if command == "pick" { " PATHS" } else { "" };
+    format!(in alloc; "not read; use: bsonraw-dump {command}{paths} < FILE")
+}
+
 /// Does a task whose inputs are named as on the command line.
-fn with_names<'a>(
-    rt: &HostRuntime,
-    task: &Task<'a>,
-    words: &'a Words,
-) -> Result<Status, AllocError> {
+fn with_names(rt: &HostRuntime, task: &Task<'_>, words: &Words) -> Result<Status, AllocError> {
     let names = match task.reading {
         Reading::Dumps(_) => expanded(rt, &task.inputs)?,
         Reading::Texts(_) => copied(rt, &task.inputs)?,
     };
+    let way = way_of(rt.alloc(), words)?;
     let mut inputs = Vec::new(rt.alloc());
-    for name in &words.left_out {
-        inputs.push(name.as_str())?;
-    }
-    for name in &names {
+    for name in &names.names {
         inputs.push(name.as_str())?;
     }
     if inputs.is_empty() {
@@ -81,6 +105,10 @@ fn with_names<'a>(
             reading: task.reading,
             output: task.output,
             inputs,
+            unread: Unread {
+                names: &names.unread,
+                words: way.as_str(),
+            },
         },
     ))
 }
@@ -138,7 +166,7 @@ fn each<'a, D: Write, W: Write>(
     data: &mut D,
     report: &mut W,
 ) -> Done<'a> {
-    let inputs = files_of(rt, task);
+    let inputs = files_of(&*rt, &*task);
     let done = match task.reading {
         Reading::Dumps(job) => run_all(rt.alloc(), job, &inputs, &task.inputs, data, report),
         Reading::Texts(job) => run_texts(rt.alloc(), job, &inputs, &task.inputs, data, report),
@@ -149,7 +177,7 @@ fn each<'a, D: Write, W: Write>(
     done
 }
 
-fn files_of<'a>(rt: &'a HostRuntime, task: &Task<'_>) -> Files<'a> {
+fn files_of<'a>(rt: &'a HostRuntime, task: &'a Task<'_>) -> Files<'a> {
     let is_redirected = task.output.is_none();
     let is_apart = matches!(
         task.reading.command(),
@@ -170,6 +198,10 @@ fn files_of<'a>(rt: &'a HostRuntime, task: &Task<'_>) -> Files<'a> {
             node_of(rt, "/dev/stdout")
         } else {
             None
+        },
+        unread: Unread {
+            names: task.unread.names,
+            words: task.unread.words,
         },
     }
 }

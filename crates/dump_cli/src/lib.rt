@@ -7,5 +7,5 @@ mod names;
 mod prompt;
 
 pub use args::command_line;
-pub use names::{Words, copied, expanded, given_words};
+pub use names::{Names, Words, copied, expanded, given_words};
 pub use prompt::Prompt;

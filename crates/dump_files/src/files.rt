@@ -28,6 +28,26 @@ impl Read for Source<'_> {
     }
 }
 
+/// Inputs that can't be opened, as their names aren't UTF-8.
+#[derive(Clone, Copy)]
+pub struct Unread<'a> {
+    /// what stands for their names; no other input is named so
+    pub names: &'a [String],
+    /// what is told of each
+    pub words: &'a str,
+}
+
+impl Unread<'_> {
+    fn has(self, name: &str) -> bool {
+        for unread in self.names {
+            if unread.as_str() == name {
+                return true;
+            }
+        }
+        false
+    }
+}
+
 /// The files of a run.
 #[derive(Drop)]
 pub struct Files<'a> {
@@ -40,6 +60,8 @@ pub struct Files<'a> {
     pub most: Option<usize>,
     /// the file that is written by redirection, if it is one, which isn't read
     pub written: Option<Node>,
+    /// which of them can't be opened
+    pub unread: Unread<'a>,
 }
 
 /// What makes two names those of one file: its device and its number there.
@@ -65,12 +87,24 @@ impl<'a> Files<'a> {
             most: self.most,
         }
     }
+
+    /// Why a folder isn't read: one that has dumps is these, where dumps are read.
+    fn why_no_folder(&self) -> io::Error {
+        io::Error::other(match self.most {
+            Some(_) =>
+                "no *.bson in it; name a database's folder, or: gzip -dc FILE | bsonraw-dump ..",
+            None => "a folder isn't read; name the files in it",
+        })
+    }
 }
 
 impl<'a> Inputs for Files<'a> {
     type Input = Source<'a>;
 
     fn open(&self, name: &str) -> io::Result<Source<'a>> {
+        if self.unread.has(name) {
+            return Err(io::Error::other(self.unread.words));
+        }
         let place = if name == "-" { "/dev/stdin" } else { name };
         if self.written.is_some() && node_of(self.rt, place) == self.written {
             return Err(io::Error::other("this file is the output as well"));
@@ -80,6 +114,9 @@ impl<'a> Inputs for Files<'a> {
             return Ok(Source::Input(Watched::new(self.rt, self.rt.stdin(), about)));
         }
         let file = File::open(self.rt, name)?;
+        if fs::metadata(self.rt, name).is_ok_and(|about| about.is_dir()) {
+            return Err(self.why_no_folder());
+        }
         Ok(Source::File(Watched::new(self.rt, file, about)))
     }
 
