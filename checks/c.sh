@@ -676,7 +676,7 @@ run_sanitized() {
 # With BSONRAW_DEBUG a length that is too long by a byte ends in the function that passed it.
 look_at_wrong_length() {
     echo 'int main(void) { struct bsonraw_iter it; return bsonraw_iter_init(&it, calloc(5, 1), 6); }' >"$work/longer.c"
-    cc -g -include stdlib.h -include bsonraw.h "-I$prefix/include" -DBSONRAW_DEBUG -fsanitize=address -o "$work/sanitized" "$work/longer.c" "$prefix/lib/libbsonraw.a" &&
+    cc -g -Wno-stringop-overread -include stdlib.h -include bsonraw.h "-I$prefix/include" -DBSONRAW_DEBUG -fsanitize=address -o "$work/sanitized" "$work/longer.c" "$prefix/lib/libbsonraw.a" &&
         "$work/sanitized" >"$work/said" 2>&1 && fails "a wrong length isn't seen"
     grep -q 'heap-buffer-overflow' "$work/said" && grep -q ' in main ' "$work/said" || fails "a wrong length doesn't end in its caller: $(head -9 "$work/said")"
 }

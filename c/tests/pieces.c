@@ -186,7 +186,7 @@ static void look_at_null(void) {
     struct bsonraw_iter it;
     struct bsonraw_report r;
     uint8_t own[16] = {0};
-    char text[9], hex[25];
+    char text[BSONRAW_DECIMAL128_TEXT], hex[BSONRAW_OID_TEXT];
     int64_t millis;
     expect(bsonraw_iter_init(&it, bytes, 5) == BSONRAW_OK, "NULL", "a cursor");
     expect(bsonraw_json_write(NULL, 5, 9, 9, 0, 0, NULL, NULL, &r, NULL, 0) == BSONRAW_NULL, "NULL", "bytes");
@@ -197,7 +197,7 @@ static void look_at_null(void) {
     expect(bsonraw_iter_json(&it, NULL, 5, 9, 0, 0, text, 9, &r) == BSONRAW_NULL, "NULL", "bytes");
     expect(bsonraw_iter_json(&it, bytes, 5, 9, 0, 0, NULL, 9, &r) == BSONRAW_NULL, "NULL", "a text");
     expect(bsonraw_iter_json(&it, bytes, 5, 9, 0, 0, text, 9, NULL) == BSONRAW_NULL, "NULL", "a report");
-    expect(bsonraw_decimal128_to_text(NULL, text) == BSONRAW_NULL && bsonraw_decimal128_to_text(bytes, NULL) == BSONRAW_NULL, "NULL", "a decimal");
+    expect(bsonraw_decimal128_to_text(NULL, text) == BSONRAW_NULL && bsonraw_decimal128_to_text(own, NULL) == BSONRAW_NULL, "NULL", "a decimal");
     expect(bsonraw_decimal128_from_text(NULL, own) == BSONRAW_NULL && bsonraw_decimal128_from_text("1", NULL) == BSONRAW_NULL, "NULL", "a decimal's text");
     expect(bsonraw_date_time_to_text(0, NULL) == BSONRAW_NULL, "NULL", "a time");
     expect(bsonraw_date_time_from_text(NULL, &millis) == BSONRAW_NULL, "NULL", "a time's text");
