@@ -345,11 +345,11 @@ functions! {
     fn bsonraw_builder_begin(builder: *mut bsonraw_builder, room: *mut u8, room_len: usize) -> i32;
     fn bsonraw_builder_end(builder: *mut bsonraw_builder, room: *mut u8, room_len: usize) -> i32;
     fn bsonraw_append_begin(
-        builder: *const bsonraw_builder, room: *mut u8, room_len: usize, tag: u32, key: *const u8, key_len: usize,
+        builder: *mut bsonraw_builder, room: *mut u8, room_len: usize, tag: u32, key: *const u8, key_len: usize,
         level: *mut bsonraw_builder
     ) -> i32;
     fn bsonraw_append_end(
-        builder: *mut bsonraw_builder, room: *mut u8, room_len: usize, level: *const bsonraw_builder
+        builder: *mut bsonraw_builder, room: *mut u8, room_len: usize, level: *mut bsonraw_builder
     ) -> i32;
     fn bsonraw_append_iter(
         builder: *mut bsonraw_builder, room: *mut u8, room_len: usize, iter: *const bsonraw_iter, bytes: *const u8,

@@ -5,7 +5,7 @@ use std::fs;
 
 use bsonraw::sys;
 
-/// The header without its comments and the lines of the preprocessor.
+/// The header without its comments, the lines of the preprocessor, and what is for C++ alone.
 fn header() -> String {
     let text = fs::read_to_string(env!("BSONRAW_HEADER")).expect("the header is beside the library");
     let mut code = String::new();
@@ -24,7 +24,12 @@ fn header() -> String {
             lines.push(line);
         }
     }
-    lines.join("\n").replace("extern \"C\" {", "")
+    let mut code = lines.join("\n").replace("extern \"C\" {", "").replace("BSONRAW_RESTRICT ", "");
+    while let Some(at) = code.find("extern \"C++\" {") {
+        let len = code[at..].find('}').expect("a block ends") + 1;
+        code.replace_range(at..at + len, "");
+    }
+    code
 }
 
 /// The parts of the header: what ends with a semicolon or a brace that is in no other brace; a function with a body is one.
@@ -111,10 +116,13 @@ fn translated(of: &str) -> String {
     }
 }
 
-/// A declaration, such as `const uint8_t *bytes`, as name and type.
+/// A declaration, such as `const uint8_t *bytes`, as name and type. As an argument an array is a pointer.
 fn declaration(text: &str) -> (String, String) {
     let at = text.rfind([' ', '*']).expect("a type is before a name") + 1;
-    (text[at..].to_string(), translated(&text[..at]))
+    match text[at..].split_once('[') {
+        Some((name, _)) => (name.to_string(), translated(&format!("{}*", &text[..at]))),
+        None => (text[at..].to_string(), translated(&text[..at])),
+    }
 }
 
 #[test]
@@ -156,7 +164,9 @@ fn structs_are_those_of_the_header() {
 fn functions_are_those_of_the_header() {
     let mut said = Vec::new();
     for part in parts(&header()) {
-        let Some((head, arguments)) = part.strip_suffix(");").and_then(|part| part.split_once('(')) else {
+        // behind the arguments may be which of them are memory with a length
+        let whole = part.strip_suffix(");").and_then(|part| part.split(") BSONRAW_").next());
+        let Some((head, arguments)) = whole.and_then(|whole| whole.split_once('(')) else {
             continue;
         };
         if part.contains("BSONRAW_INLINE") || part.contains("BSONRAW_LOCAL") {
