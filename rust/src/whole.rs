@@ -192,7 +192,7 @@ pub struct JsonStyle {
 }
 
 /// An element of any level. That it has a value, and each in it, is judged already.
-#[derive(Clone, Copy)]
+#[derive(Clone, Copy, Debug)]
 pub struct Token<'a> {
     /// The element.
     pub element: RawElement<'a>,
@@ -316,6 +316,12 @@ impl<'a> Documents<'a> {
             BSONRAW_NO_MEMORY => Err(ProblemKind::OutOfMemory),
             _ => Err(ProblemKind::TooManyBytes),
         }
+    }
+}
+
+impl fmt::Debug for Documents<'_> {
+    fn fmt(&self, f: &mut fmt::Formatter<'_>) -> fmt::Result {
+        f.debug_struct("Documents").field("next", &self.reader.next).field("len", &self.bytes.len()).finish()
     }
 }
 

@@ -2,6 +2,7 @@
 
 use core::borrow::Borrow;
 use core::fmt;
+use core::hash::{Hash, Hasher};
 use core::ops::Deref;
 
 use alloc::borrow::Cow;
@@ -22,7 +23,7 @@ use crate::sys::BSONRAW_TAG_ARRAY;
 /// assert_eq!(array.get_i32(1)?, 12);
 /// # Ok::<(), Box<dyn std::error::Error>>(())
 /// ```
-#[derive(Clone, PartialEq)]
+#[derive(Clone)]
 pub struct RawArrayBuf {
     inner: RawDocumentBuf,
     len: usize,
@@ -67,6 +68,21 @@ impl RawArrayBuf {
 impl Default for RawArrayBuf {
     fn default() -> RawArrayBuf {
         RawArrayBuf::new()
+    }
+}
+
+/// As those of the views, since a view is what it borrows as.
+impl PartialEq for RawArrayBuf {
+    fn eq(&self, other: &RawArrayBuf) -> bool {
+        **self == **other
+    }
+}
+
+impl Eq for RawArrayBuf {}
+
+impl Hash for RawArrayBuf {
+    fn hash<H: Hasher>(&self, state: &mut H) {
+        (**self).hash(state);
     }
 }
 

@@ -205,6 +205,12 @@ impl From<&str> for RawBson {
     }
 }
 
+impl From<RawBsonRef<'_>> for RawBson {
+    fn from(value: RawBsonRef<'_>) -> RawBson {
+        value.to_raw_bson()
+    }
+}
+
 /// Code with a document of its variables, which owns both.
 #[derive(Clone, Debug, PartialEq)]
 pub struct RawJavaScriptCodeWithScope {

@@ -1,5 +1,7 @@
 //! Iterators, and the elements that they give.
 
+use core::fmt;
+
 use super::{Error, RawArray, RawBinaryRef, RawBson, RawBsonRef, RawDbPointerRef, RawDocument};
 use super::{RawJavaScriptCodeWithScopeRef, RawRegexRef, Result};
 use crate::ffi::{self, Frame, Steps};
@@ -107,6 +109,22 @@ impl<'a> Iterator for RawArrayIter<'a> {
 }
 
 impl core::iter::FusedIterator for RawArrayIter<'_> {}
+
+/// Prints an iterator as the items that are left.
+macro_rules! debug {
+    ($($iter:ident)*) => {
+        $(
+            impl fmt::Debug for $iter<'_> {
+                fn fmt(&self, f: &mut fmt::Formatter<'_>) -> fmt::Result {
+                    f.write_str(concat!(stringify!($iter), " "))?;
+                    f.debug_list().entries(self.clone()).finish()
+                }
+            }
+        )*
+    };
+}
+
+debug! { RawIter Iter RawArrayIter }
 
 /// An element of a document: its key, its type, and its value once that is asked for.
 #[derive(Clone, Copy)]
@@ -237,6 +255,13 @@ impl<'a> RawElement<'a> {
             }
             kind => unreachable!("a value of {kind:?} is read where it lies"),
         })
+    }
+}
+
+impl fmt::Debug for RawElement<'_> {
+    fn fmt(&self, f: &mut fmt::Formatter<'_>) -> fmt::Result {
+        let mut parts = f.debug_struct("RawElement");
+        parts.field("key", &self.key()).field("kind", &self.element_type()).field("len", &self.len()).finish()
     }
 }
 

@@ -692,3 +692,58 @@ fn ids_are_printed_in_hex() {
     assert_eq!((id.to_string(), format!("{id:?}")), (id.to_hex(), format!("ObjectId(\"{}\")", id.to_hex())));
     assert_eq!(id.bytes()[11], 12);
 }
+
+#[test]
+fn iterators_print_what_is_left() {
+    use bsonraw::whole::Documents;
+    let bad = document("0d000000 08 6100 02 08 6200 01 00");
+    let mut elements = bad.iter_elements();
+    let first = r#"RawElement { key: "a", kind: Boolean, len: 1 }"#;
+    let second = r#"RawElement { key: "b", kind: Boolean, len: 1 }"#;
+    assert_eq!(format!("{elements:?}"), format!("RawIter [Ok({first}), Ok({second})]"));
+    assert_eq!(format!("{:?}", elements.next().unwrap().unwrap()), first);
+    assert_eq!(format!("{elements:?}"), format!("RawIter [Ok({second})]"));
+    let mut items = bad.iter();
+    assert!(format!("{items:?}").starts_with("Iter [Err(Error {"));
+    assert!(items.next().unwrap().is_err());
+    assert_eq!(format!("{items:?}"), r#"Iter [Ok(("b", Boolean(true)))]"#);
+    let list = rawdoc! { "l": [1, null] };
+    assert_eq!(format!("{:?}", list.get_array("l").unwrap().into_iter()), "RawArrayIter [Ok(Int32(1)), Ok(Null)]");
+    for (hex, _) in ITEMS {
+        let given = document(hex);
+        let text = format!("{:?} {:?}", given.iter_elements(), given.iter());
+        assert!(text.starts_with("RawIter [") && text.ends_with(']'), "{text}");
+    }
+    let tokens = list.flatten(Limits::default()).unwrap();
+    let wanted = r#"Token { element: RawElement { key: "1", kind: Null, len: 0 }, depth: 1, inside: 0 }"#;
+    assert_eq!(format!("{:?}", tokens[2]), wanted);
+    assert_eq!(bad.flatten(Limits::default()).unwrap_err().place.unwrap().path, [0]);
+    let dump = bytes("0500000000 0500000000 01");
+    let mut documents = Documents::new(&dump);
+    documents.next();
+    assert_eq!(format!("{documents:?}"), "Documents { next: 5, len: 11 }");
+}
+
+#[test]
+fn arrays_are_found_by_their_views() {
+    use std::collections::HashSet;
+    let list: RawArrayBuf = [1, 2].into_iter().collect();
+    let other: RawArrayBuf = [1, 3].into_iter().collect();
+    let made = rawdoc! { "a": [1, 2] };
+    let view = made.get_array("a").unwrap();
+    let set: HashSet<RawArrayBuf> = [list.clone(), view.to_owned(), other].into();
+    assert_eq!(set.len(), 2);
+    assert_eq!(set.get(view), Some(&list));
+}
+
+#[test]
+fn borrowed_values_become_owned_ones() {
+    for (_, value, _) in kinds() {
+        assert_eq!(RawBson::from(value.as_raw_bson_ref()), value);
+    }
+    let regex = RawBsonRef::RegularExpression(RawRegexRef { pattern: "p", options: "mi" });
+    let wanted = Regex { pattern: "p".into(), options: "im".into() };
+    assert_eq!(RawBson::from(regex), RawBson::RegularExpression(wanted));
+    let made = RawArrayBuf::try_from_iter([RawBsonRef::Int32(7), RawBsonRef::String("x")]).unwrap();
+    assert_eq!(made.get_str(1), Ok("x"));
+}
