@@ -491,3 +491,17 @@ pub(crate) fn from_json(text: &[u8], max_bytes: usize, max_depth: usize) -> (i32
         made = vec![0; said.count as usize];
     }
 }
+
+/// `bsonraw_oid_from_hex`: the id of 24 digits, if they are that.
+pub(crate) fn oid_from_hex(hex: &[u8]) -> Option<[u8; 12]> {
+    let mut id = [0; 12];
+    // SAFETY: as said at the head of this file; an id has twelve bytes.
+    let status = unsafe { bsonraw_oid_from_hex(hex.as_ptr(), hex.len(), id.as_mut_ptr()) };
+    (status == BSONRAW_OK).then_some(id)
+}
+
+/// `bsonraw_oid_time`: the seconds of an id.
+pub(crate) fn oid_time(id: &[u8; 12]) -> u32 {
+    // SAFETY: an id has twelve bytes.
+    unsafe { bsonraw_oid_time(id.as_ptr()) }
+}

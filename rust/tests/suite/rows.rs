@@ -747,3 +747,30 @@ fn borrowed_values_become_owned_ones() {
     let made = RawArrayBuf::try_from_iter([RawBsonRef::Int32(7), RawBsonRef::String("x")]).unwrap();
     assert_eq!(made.get_str(1), Ok("x"));
 }
+
+#[test]
+fn ids_are_read_from_hex() {
+    use bsonraw::oid::Error;
+    let id = ObjectId::from_bytes([0x50, 0x7f, 0x1f, 0x77, 0xbc, 0xf8, 0x6c, 0xd7, 0x99, 0x43, 0x90, 0x11]);
+    assert_eq!(ObjectId::parse_str("507f1f77bcf86cd799439011"), Ok(id));
+    assert_eq!("507F1F77BCF86CD799439011".parse(), Ok(id));
+    // 0x507f1f77 is 1350508407, and the first bit is no sign.
+    assert_eq!(id.timestamp(), DateTime::from_millis(1_350_508_407_000));
+    assert_eq!(ObjectId::from_bytes([0xff; 12]).timestamp(), DateTime::from_millis(4_294_967_295_000));
+    let length = |length, hex: &str| Err(Error::InvalidHexStringLength { length, hex: hex.into() });
+    let character = |c, index, hex: &str| Err(Error::InvalidHexStringCharacter { c, index, hex: hex.into() });
+    for (hex, wanted) in [
+        ("", length(0, "")),
+        ("507f1f77bcf86cd79943901", length(23, "507f1f77bcf86cd79943901")),
+        ("507f1f77bcf86cd79943901100", length(26, "507f1f77bcf86cd79943901100")),
+        ("507f1f77bcf86cd79943901g", character('g', 23, "507f1f77bcf86cd79943901g")),
+        ("50é", character('é', 2, "50é")),
+        ("5g7", length(3, "5g7")),
+    ] {
+        assert_eq!(ObjectId::parse_str(hex), wanted);
+        assert_eq!(hex.parse::<ObjectId>(), wanted);
+    }
+    let said = |hex| ObjectId::parse_str(hex).unwrap_err().to_string();
+    assert_eq!(said("5"), r#"an id has 24 digits, not 1: "5""#);
+    assert_eq!(said("5g"), r#"not a digit of hex: 'g' behind 1 bytes of "5g""#);
+}
