@@ -375,22 +375,45 @@ fn reported(mut call: impl FnMut(&mut bsonraw_report, &mut [u64]) -> i32) -> Rep
     Report { status, said, path }
 }
 
+/// So many blanks, if there is memory for them.
+fn blanks<T: Clone>(count: usize, blank: T) -> Option<Vec<T>> {
+    let mut made = Vec::new();
+    made.try_reserve_exact(count).ok()?;
+    made.resize(count, blank);
+    Some(made)
+}
+
 /// Makes a call that fills a room, and makes it again where more room is wanted, with some behind it. The room has what the call
-/// put there.
+/// put there. Without memory for it the report says so.
 fn filled<T: Clone>(
     room: usize,
     behind: usize,
     blank: T,
     mut call: impl FnMut(&mut [T], &mut bsonraw_report, &mut [u64]) -> i32,
 ) -> (Report, Vec<T>) {
-    let mut made = vec![blank.clone(); room];
-    let mut report = reported(|said, path| call(&mut made, said, path));
-    if report.status == BSONRAW_SMALL_BUFFER {
-        made = vec![blank; report.said.count as usize + behind];
-        report = reported(|said, path| call(&mut made, said, path));
+    let mut room = room;
+    loop {
+        let Some(mut made) = blanks(room, blank.clone()) else {
+            let said = bsonraw_report::default();
+            return (Report { status: BSONRAW_NO_MEMORY, said, path: Vec::new() }, Vec::new());
+        };
+        let report = reported(|said, path| call(&mut made, said, path));
+        let count = report.said.count as usize;
+        if report.status != BSONRAW_SMALL_BUFFER {
+            made.truncate(count);
+            return (report, made);
+        }
+        room = count + behind;
     }
-    made.truncate(report.said.count as usize);
-    (report, made)
+}
+
+/// The room that is asked for at first: none where the bytes are too many for the limits, so that the call only says so.
+fn first_room(len: usize, max_bytes: usize, room: usize) -> usize {
+    if len > max_bytes {
+        0
+    } else {
+        room
+    }
 }
 
 /// `bsonraw_first_fault`.
@@ -414,7 +437,7 @@ pub(crate) fn check(bytes: &[u8], max_bytes: usize, max_depth: usize) -> Report 
 /// `bsonraw_canonical`, and the form.
 pub(crate) fn canonical(bytes: &[u8], max_bytes: usize, max_depth: usize) -> (Report, Vec<u8>) {
     let (at, len) = (bytes.as_ptr(), bytes.len());
-    filled(len, 0, 0, |form, said, path| {
+    filled(first_room(len, max_bytes, len), 0, 0, |form, said, path| {
         let (to, room) = (form.as_mut_ptr(), form.len());
         // SAFETY: as said at the head of this file.
         unsafe { bsonraw_canonical(at, len, max_bytes, max_depth, to, room, said, path.as_mut_ptr(), path.len()) }
@@ -445,16 +468,20 @@ impl<'a> Flat<'a> {
 /// `bsonraw_flatten`, and the tokens, of which there are none where it fails.
 pub(crate) fn flatten(bytes: &[u8], max_bytes: usize, max_depth: usize) -> (Report, Vec<Flat<'_>>) {
     let (at, len) = (bytes.as_ptr(), bytes.len());
-    let (report, mut tokens) = filled(len / 16 + 8, 0, bsonraw_token::default(), |tokens, said, path| {
+    let room = first_room(len, max_bytes, len / 16 + 8);
+    let (mut report, tokens) = filled(room, 0, bsonraw_token::default(), |tokens, said, path| {
         let (to, room) = (tokens.as_mut_ptr(), tokens.len());
         // SAFETY: as said at the head of this file.
         unsafe { bsonraw_flatten(at, len, max_bytes, max_depth, to, room, said, path.as_mut_ptr(), path.len()) }
     });
-    if report.status != BSONRAW_OK {
-        tokens.clear();
+    let mut flats = Vec::new();
+    if report.status == BSONRAW_OK {
+        match flats.try_reserve_exact(tokens.len()) {
+            Ok(()) => flats.extend(tokens.iter().map(|token| Flat::of(bytes, token))),
+            Err(_) => report.status = BSONRAW_NO_MEMORY,
+        }
     }
-    let tokens = tokens.iter().map(|token| Flat::of(bytes, token)).collect();
-    (report, tokens)
+    (report, flats)
 }
 
 /// `bsonraw_json`, and the text without the 0 behind it.
@@ -467,7 +494,8 @@ pub(crate) fn json(
 ) -> (Report, Vec<u8>) {
     let (at, len) = (bytes.as_ptr(), bytes.len());
     let (canonical, indented) = (u32::from(canonical), u32::from(indented));
-    filled(2 * len + 64, 1, 0, |text, said, path| {
+    let room = first_room(len, max_bytes, len.saturating_mul(2).saturating_add(64));
+    filled(room, 1, 0, |text, said, path| {
         let (to, room) = (text.as_mut_ptr(), text.len());
         let (path, steps) = (path.as_mut_ptr(), path.len());
         // SAFETY: as said at the head of this file.
@@ -479,16 +507,20 @@ pub(crate) fn json(
 pub(crate) fn from_json(text: &[u8], max_bytes: usize, max_depth: usize) -> (i32, bsonraw_json_report, Vec<u8>) {
     let (at, len) = (text.as_ptr(), text.len());
     let mut said = bsonraw_json_report::default();
-    let mut made = vec![0; 2 * len + 64];
+    let mut room = len.saturating_mul(2).saturating_add(64).min(max_bytes);
     loop {
-        let (to, room) = (made.as_mut_ptr(), made.len());
+        let Some(mut made) = blanks(room, 0) else {
+            let said = bsonraw_json_report { line: 1, column: 1, ..bsonraw_json_report::default() };
+            return (BSONRAW_NO_MEMORY, said, Vec::new());
+        };
+        let to = made.as_mut_ptr();
         // SAFETY: as said at the head of this file.
         let status = unsafe { bsonraw_from_json(at, len, max_bytes, max_depth, to, room, &mut said) };
         if status != BSONRAW_SMALL_BUFFER {
             made.truncate(said.count as usize);
             return (status, said, made);
         }
-        made = vec![0; said.count as usize];
+        room = said.count as usize;
     }
 }
 

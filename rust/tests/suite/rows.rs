@@ -774,3 +774,41 @@ fn ids_are_read_from_hex() {
     assert_eq!(said("5"), r#"an id has 24 digits, not 1: "5""#);
     assert_eq!(said("5g"), r#"not a digit of hex: 'g' behind 1 bytes of "5g""#);
 }
+
+/// What is larger than the limits is refused before any room is taken, and what there is no memory for is an error. The test starts
+/// itself again, with 1.5 GB for all.
+#[cfg(target_os = "linux")]
+#[test]
+fn limits_come_before_memory() {
+    use bsonraw::whole::JsonReason;
+    use std::process::Command;
+    if std::env::var_os("BSONRAW_LITTLE_MEMORY").is_none() {
+        let status = Command::new("sh")
+            .args(["-c", r#"ulimit -v 1500000 && exec "$0" --exact rows::limits_come_before_memory --test-threads 1"#])
+            .arg(std::env::current_exe().unwrap())
+            .env("BSONRAW_LITTLE_MEMORY", "1")
+            .status();
+        assert!(status.unwrap().success());
+        return;
+    }
+    let text = "\0".repeat(600 << 20);
+    let error = RawDocumentBuf::from_json(&text, Limits::default()).unwrap_err();
+    assert_eq!(error.reason, JsonReason::ExpectedDocument);
+    let all = Limits { max_bytes: usize::MAX, max_depth: 500 };
+    let error = RawDocumentBuf::from_json(&text, all).unwrap_err();
+    assert_eq!((error.reason, error.offset, error.line, error.column), (JsonReason::OutOfMemory, 0, 1, 1));
+    drop(text);
+
+    let mut large = vec![0; 1 << 30];
+    large[..4].copy_from_slice(&(1_u32 << 30).to_le_bytes());
+    let large = RawDocumentBuf::from_bytes(large).unwrap();
+    for (limits, wanted) in [(Limits::default(), ProblemKind::TooManyBytes), (all, ProblemKind::OutOfMemory)] {
+        for problem in [
+            large.to_json(limits, Default::default()).unwrap_err(),
+            large.canonical(limits).unwrap_err(),
+            large.flatten(limits).unwrap_err(),
+        ] {
+            assert_eq!((problem.kind, problem.place), (wanted.clone(), None));
+        }
+    }
+}
