@@ -160,6 +160,8 @@ PyDoc_STRVAR(element_decode_doc,
 
 static PyMethodDef element_methods[] = {{"decode", FASTCALL(element_decode), METH_FASTCALL | METH_KEYWORDS, element_decode_doc},
                                         {"__reduce__", element_reduce, METH_NOARGS, NULL},
+                                        {"__copy__", itself_entered, METH_NOARGS, NULL},
+                                        {"__deepcopy__", itself_entered, METH_O, NULL},
                                         {NULL, NULL, 0, NULL}};
 
 PyDoc_STRVAR(element_doc, "An element of a document. It keeps the bytes that it is in.\n\n"
@@ -191,30 +193,37 @@ static void elements_dealloc(PyObject *self) {
 }
 
 /* The element of an entry of the level. */
-static PyObject *element_at(const Elements *all, const struct bsonraw_entry *entry) {
+static PyObject *element_at(const Elements *all, Source *source, const struct bsonraw_entry *entry) {
     struct bsonraw_iter iter = all->iter;
     iter.tag = entry->tag;
     iter.key_at = entry->key_at;
     iter.key_len = entry->key_len;
     iter.payload_at = entry->payload_at;
     iter.payload_len = entry->payload_len;
-    return element_new(all->source, &iter, MAX_DEPTH);
+    return element_new(source, &iter, MAX_DEPTH);
 }
 
-static PyObject *elements_next(PyObject *self) {
-    Elements *all = (Elements *)self;
-    const struct bytes *bytes;
-    if (all->source == NULL) return NULL;
-    bytes = &all->source->bytes;
+/* The next element of bytes that the caller holds: making an error may run code of others, which may close this meanwhile. */
+static PyObject *elements_on(Elements *all, Source *source) {
+    const struct bytes *bytes = &source->bytes;
     if (all->done == all->count && all->status == BSONRAW_OK) {
         all->done = 0;
         all->status = bsonraw_iter_next_many(&all->iter, bytes->at, bytes->len, all->entries, ENTRIES, &all->count);
     }
-    if (all->done < all->count)
-        return element_at(all, &all->entries[all->done++]);
-    if (all->status != BSONRAW_NONE) set_cursor_error(bytes, all->status, &all->iter);
+    if (all->done < all->count) return element_at(all, source, &all->entries[all->done++]);
     Py_CLEAR(all->source);
+    if (all->status != BSONRAW_NONE) set_cursor_error(bytes, all->status, &all->iter);
     return NULL;
+}
+
+static PyObject *elements_next(PyObject *self) {
+    Source *source = ((Elements *)self)->source;
+    PyObject *element;
+    if (source == NULL) return NULL;
+    Py_INCREF((PyObject *)source);
+    element = elements_on((Elements *)self, source);
+    Py_DECREF((PyObject *)source);
+    return element;
 }
 
 /* Lets go of the bytes. */

@@ -452,6 +452,35 @@ class Hostile(unittest.TestCase):
             gc.set_threshold(*before)
         self.assertGreater(len(seen), 10)
 
+    @unittest.skipIf(sys.version_info >= (3, 12), "the collector runs between steps of Python alone")
+    def test_closed_by_the_collector(self) -> None:
+        """While the error of damage is made, the collector closes the iterator, which is all that has the bytes."""
+        data = bytearray(framed(b"\x08a\0\1" + b"\x14" + b"k" * 200000 + b"\0"))
+        items = bsonraw.elements(data)
+        next(items)
+
+        def close(*_: Any) -> None:
+            items.close()
+
+        before, found = gc.get_threshold(), None
+        gc.disable()
+        held: List[Any] = [[] for _ in range(400)]
+        gc.callbacks.append(close)
+        gc.set_threshold(1)
+        try:
+            gc.enable()
+            next(items)
+        except BsonError as error:
+            gc.disable()
+            found = error
+        finally:
+            gc.callbacks.remove(close)
+            gc.set_threshold(*before)
+            gc.enable()
+        assert found is not None and held
+        self.assertEqual((found.key, found.path, found.offset), ("k" * 200000, (1,), 8))
+        self.assertEqual(list(items), [])
+
     def test_what_the_collector_shows_stays_as_it_is(self) -> None:
         """Whatever an earlier call has left is others' once they have it."""
         for number in range(3):
