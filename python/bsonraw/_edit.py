@@ -23,6 +23,9 @@ class _Remove:
     def __repr__(self) -> str:
         return "bsonraw.REMOVE"
 
+    def __reduce__(self) -> str:
+        return "REMOVE"
+
 
 REMOVE = _Remove()
 _Changes = Dict[str, Any]  # by each step what is changed there: _Changes again, REMOVE, or the bytes of a kind and a value

@@ -115,7 +115,7 @@ class ObjectId(_Ordered):
         if getattr(value, "_type_marker", None) == 7:
             value = value.binary  # type: ignore[union-attr]
         raw = bytes.fromhex(value) if isinstance(value, str) else _bytes_of(value, "an ObjectId")
-        if len(raw) != 12:
+        if len(raw) != 12 or (isinstance(value, str) and len(value) != 24):
             raise ValueError(f"an ObjectId has 12 bytes, or 24 digits in hex, not {value!r}")
         return super().__new__(cls, raw)
 

@@ -1,5 +1,7 @@
 """Documents changed and read without being decoded."""
 
+import copy
+import pickle
 import random
 import unittest
 from typing import Any
@@ -26,6 +28,13 @@ class Edit(unittest.TestCase):
             edited = bsonraw.edit(data, changes)
             self.assertEqual(edited, bsonraw.encode(wanted))
         self.assertEqual(bsonraw.edit(bytearray(data), {"h": {1}}, default=list), bsonraw.edit(data, {"h": [1]}))
+
+    def test_copies_of_what_removes_and_of_elements_are_the_same(self) -> None:
+        self.assertEqual(bsonraw.edit(bsonraw.encode({"a": 1}), copy.deepcopy({"a": REMOVE})), bsonraw.encode({}))
+        self.assertIs(pickle.loads(pickle.dumps(REMOVE)), REMOVE)
+        self.assertIs(copy.copy(REMOVE), REMOVE)
+        element = bsonraw.find(bsonraw.encode({"a": {"b": 1}, "c": 2}), "a.b")
+        self.assertEqual([copy.copy(element) is element, copy.deepcopy([element])[0] is element], [True, True])
 
     def test_all_other_bytes_are_kept(self) -> None:
         loose = framed(b"\x04a\0" + framed(b"\x0ax\0\x0ax\0") + b"\x08b\0\7" + b"\x10c\0\1\0\0\0" + b"\x10c\0\2\0\0\0")

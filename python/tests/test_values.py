@@ -205,7 +205,7 @@ class Classes(unittest.TestCase):
     def test_what_they_refuse(self) -> None:
         for make in (
             lambda: ObjectId("12"), lambda: ObjectId(b"12"), lambda: Decimal128(b""), lambda: Binary(b"", 256),
-            lambda: ObjectId("x" * 24),
+            lambda: ObjectId("x" * 24), lambda: ObjectId("01 " * 12), lambda: ObjectId("01" * 12 + "\n"),
         ):
             self.assertRaises(ValueError, make)
         self.assertRaises(OverflowError, Timestamp, 1 << 32, 0)
