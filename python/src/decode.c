@@ -740,7 +740,7 @@ INLINE PyObject *decoded_as(const struct bytes *bytes, const struct options *opt
     struct tokens tokens;
     struct maker maker = {bytes->at, bytes->len, options, options->is_plain};
     PyObject *object;
-    if (bytes->len > FEW_BYTES) {
+    if (bytes->len > FEW_BYTES && bytes->len <= INT32_MAX) {
         object = by_cursors(&maker, &of);
         if (object != NULL || PyErr_Occurred()) return object;
     }

@@ -1,5 +1,6 @@
 """A document of many bytes is read another way than a small one: with the same values, and the same errors."""
 
+import ctypes
 import itertools
 import random
 import struct
@@ -7,7 +8,7 @@ import unittest
 from typing import Any, Iterator, List, Tuple
 
 import bsonraw
-from bsonraw import BsonError
+from bsonraw import BsonError, Reason
 from made import all_made, framed, string
 
 FRONT = b"\x02front\0" + string("x" * 6000)
@@ -45,6 +46,19 @@ class Large(unittest.TestCase):
             count += 1
             faults += len(small) > 1
         self.assertGreater(min(count - faults, faults), 500)
+
+    def test_more_than_32_bits_of_bytes(self) -> None:
+        document = framed(FRONT)
+        try:
+            data = bytes((1 << 32) + len(document))  # pages that nobody writes take no memory
+        except MemoryError:
+            self.skipTest("there is no room for 4 GiB")
+        ctypes.memmove(id(data) + bytes.__basicsize__ - 1, document, len(document))
+        self.assertEqual(data[: len(document)], document)
+        for call in (bsonraw.decode, bsonraw.check):
+            with self.assertRaises(BsonError) as caught:
+                call(data, max_bytes=1 << 40)
+            self.assertEqual(caught.exception.reason, Reason.LENGTH_INCORRECT)
 
     def test_documents_in_others(self) -> None:
         """Small ones in a large array, and large ones in one another."""
