@@ -109,7 +109,11 @@ class Column(Sequence):  # type: ignore[type-arg]
 
     def __array__(self, dtype: Any = None, copy: Optional[bool] = None) -> numpy.ndarray[Any, Any]:
         array = self.to_numpy()
-        return array if dtype is None else array.astype(dtype)
+        if dtype is not None:
+            array = array.astype(dtype, copy=copy is not False)
+        if copy is False and array.base is None:
+            raise ValueError("an array of these values isn't made without a copy")
+        return array.copy() if copy and array.base is not None else array
 
     def __arrow_c_schema__(self) -> object:
         return _native.arrow(*self._parts, 0, len(self))[0]

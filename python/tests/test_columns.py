@@ -249,6 +249,15 @@ class Numpy(unittest.TestCase):
         self.assertEqual([numpy.asarray(whole[key]).dtype.str for key in "ibh"], ["<i8", "|b1", "<f8"])
         self.assertEqual((numpy.asarray(whole["i"], "f4").tolist(), numpy.asarray(whole["b"]).tolist()), ([0.0, 1.0, 2.0], [True, False, True]))
         self.assertFalse(numpy.asarray(whole["i"]).flags.writeable)
+        for column, kind, is_shared in ((whole["i"], None, True), (whole["i"], "<i8", True), (whole["i"], "f4", False), (table["u.v"], None, False)):
+            array = column.__array__(kind, copy=True)
+            self.assertTrue(array.flags.writeable)
+            array[0] = 5
+            self.assertNotEqual(column[0], 5)
+            if is_shared:
+                self.assertFalse(column.__array__(kind, copy=False).flags.writeable)
+            else:
+                self.assertRaises(ValueError, column.__array__, kind, copy=False)
 
     @unittest.skipIf(pandas is None, "pandas isn't there")
     def test_a_frame(self) -> None:
