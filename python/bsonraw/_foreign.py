@@ -121,7 +121,8 @@ def placed(error: BaseException, path: List[int], keys: List[str]) -> BaseExcept
     """An error of encode that says where the value is; one that isn't of encode itself as it is."""
     made: BaseException
     if type(error) is BsonError:
-        made = BsonError(error.kind, error.reason, error.key, None, tuple(path), tuple(keys))
+        places = (*path, *error.path), (*keys, *error.keys)
+        made = BsonError(error.kind, error.reason, error.key, None, *places, *error._numbers)
     elif type(error) in (TypeError, OverflowError) and keys:
         made = type(error)(f"at key {'.'.join(keys)!r}: {error}")
     else:

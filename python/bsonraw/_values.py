@@ -209,6 +209,8 @@ _SPECIAL = {"F": 0x78 << 56, "n": 0x7C << 56, "N": 0x7E << 56}
 def _decimal_bytes(value: Decimal) -> bytes:
     """The sixteen bytes of a decimal, whose digits are a binary integer. Raises decimal.Inexact for more than 34 digits."""
     sign, digits, exponent = _CONTEXT.create_decimal(value).as_tuple()
+    if exponent in ("n", "N") and digits:
+        raise ValueError(f"a Decimal128 has no number in a NaN: {value}")
     if isinstance(exponent, str):
         high, low = _SPECIAL[exponent], 0
     else:
@@ -233,7 +235,8 @@ def _decimal(raw: bytes) -> Decimal:
 class Decimal128(Raw):
     """A decimal of 34 digits, from its text, a decimal.Decimal, or the 16 bytes of BSON. Equal where these are.
 
-    Raises decimal.Inexact or decimal.Overflow for what it can't hold.
+    Raises decimal.Inexact or decimal.Overflow for what it can't hold, and
+    ValueError for a NaN with a number.
     """
 
     __slots__ = ()
@@ -393,7 +396,7 @@ class Code(str):
         if not isinstance(code, str):
             raise TypeError(f"a Code is made of a str, not of {type(code).__name__}")
         self = super().__new__(cls, code)
-        self._scope = scope
+        self._scope = getattr(code, "scope", None) if scope is None else scope
         return self
 
     @property

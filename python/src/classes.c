@@ -48,6 +48,10 @@ static PyObject *compare_marked(PyObject *self, PyObject *other, int how, richcm
     if (name == NULL && (name = PyUnicode_InternFromString("_type_marker")) == NULL) return NULL;
     if (classes.convert == NULL || !PyObject_HasAttr(other, name)) Py_RETURN_NOTIMPLEMENTED;
     made = PyObject_CallFunctionObjArgs(classes.convert, other, NULL);
+    if (made == NULL && PyErr_ExceptionMatches(PyExc_ValueError)) { /* damage in it */
+        PyErr_Clear();
+        Py_RETURN_NOTIMPLEMENTED;
+    }
     if (made == NULL) return NULL;
     if (Py_TYPE(made) == Py_TYPE(self)) result = compare(self, made, how);
     else Py_INCREF(result = Py_NotImplemented);

@@ -828,8 +828,11 @@ PyObject *value_at(const struct bytes *bytes, const struct bsonraw_iter *iter, c
         set_cursor_error(bytes, status, &here);
         return NULL;
     }
-    if (value.tag == BSONRAW_TAG_DOCUMENT || value.tag == BSONRAW_TAG_ARRAY)
-        return inside_of(bytes, iter, value.text_at, value.text_len, options, value.tag);
+    if (value.tag == BSONRAW_TAG_DOCUMENT || value.tag == BSONRAW_TAG_ARRAY) {
+        PyObject *object = inside_of(bytes, iter, value.text_at, value.text_len, options, value.tag);
+        int is_asked = options->types != NULL && options->hook == NULL && options->pairs_hook == NULL;
+        return object != NULL && is_asked && PyDict_CheckExact(object) ? foreign_document(options->types, object) : object;
+    }
     if (value.tag == BSONRAW_TAG_JAVASCRIPT_WITH_SCOPE) return scoped_at(bytes, iter, &value, options);
     maker.bytes = bytes->at;
     maker.len = bytes->len;

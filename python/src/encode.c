@@ -513,17 +513,28 @@ static PyObject *encoded(PyObject *document, int kind, const struct options *opt
     return bytes;
 }
 
-/* A dict or Pairs for a document; NULL with an error set, or where there is none. */
-static PyObject *as_document(PyObject *document, PyObject *other) {
+/* What kind of level a dict or Pairs are; -1 for another value. */
+static int document_kind(PyObject *document) {
+    return PyDict_CheckExact(document) ? OF_DICT : Py_TYPE(document) == classes.pairs ? OF_ITEMS : -1;
+}
+
+/* The level for a document, and its kind, which is -1 where it is none; NULL with an error set. */
+static PyObject *as_document(PyObject *document, PyObject *other, int *kind) {
     PyObject *known;
-    if (PyDict_CheckExact(document) || Py_TYPE(document) == classes.pairs) return itself(document);
-    if (PyDict_Check(document)) known = PyMapping_Items(document);
-    else known = PyObject_CallFunctionObjArgs(classes.convert, document, NULL);
+    *kind = document_kind(document);
+    if (*kind >= 0) return itself(document);
+    if (PyDict_Check(document)) {
+        *kind = OF_ITEMS;
+        return PyMapping_Items(document);
+    }
+    known = PyObject_CallFunctionObjArgs(classes.convert, document, NULL);
     if (known == Py_NotImplemented && other != NULL) {
         PyObject *made = PyObject_CallFunctionObjArgs(other, document, NULL);
         Py_DECREF(known);
-        known = made == NULL ? NULL : as_document(made, NULL);
+        known = made == NULL ? NULL : as_document(made, NULL, kind);
         Py_XDECREF(made);
+    } else if (known != NULL) {
+        *kind = document_kind(known);
     }
     return known;
 }
@@ -531,15 +542,15 @@ static PyObject *as_document(PyObject *document, PyObject *other) {
 CALL(py_encode) {
     struct options options;
     PyObject *given, *document, *bytes = NULL;
+    int kind;
     (void)module;
     options_begin(&options);
     options.max_bytes = SIZE_MAX;
     if (count == 1 && names == NULL) given = args[0];
     else if (options_given(&OF_ENCODE, &options, &given, args, count, names) < 0) return NULL;
-    document = as_document(given, options.other);
+    document = as_document(given, options.other, &kind);
     if (document == NULL) return NULL;
-    if (PyDict_CheckExact(document)) bytes = encoded(document, OF_DICT, &options);
-    else if (Py_TYPE(document) == classes.pairs || PyDict_Check(given)) bytes = encoded(document, OF_ITEMS, &options);
+    if (kind >= 0) bytes = encoded(document, kind, &options);
     else PyErr_Format(PyExc_TypeError, "a document is a mapping or Pairs, not %R", Py_TYPE(given));
     Py_DECREF(document);
     return bytes;

@@ -12,7 +12,7 @@ import uuid
 from typing import Any, List
 
 import bsonraw
-from bsonraw import Binary, BsonError, Code, DatetimeMS, Decimal128, Int64, MaxKey, MinKey, ObjectId, Pairs, Reason, Regex, Timestamp
+from bsonraw import Binary, BsonError, Code, DatetimeMS, Decimal128, Int64, MaxKey, MinKey, ObjectId, Pairs, RawDocument, Reason, Regex, Timestamp
 from made import all_made, framed
 from test_values import ROWS, of
 
@@ -101,6 +101,8 @@ class Theirs(unittest.TestCase):
         data = framed(b"\x03k\0" + reference)
         self.same(bsonraw.decode(data, types="bson"), bson.decode(data))
         self.same(bsonraw.decode(reference, types="bson"), bson.decode(reference))
+        self.same(bsonraw.get(data, "k").decode(types="bson"), bson.decode(data)["k"])
+        self.assertEqual(bsonraw.get(data, "k").decode(types="bson", object_hook=len), 4)
         same_time = of(9, bytes(8))
         self.assertEqual(bsonraw.decode(same_time, types="bson")["k"], times.datetime(1970, 1, 1))
         self.assertEqual(bsonraw.decode(same_time, types="bson", tz_aware=True)["k"].utcoffset(), times.timedelta())
@@ -126,6 +128,13 @@ class Theirs(unittest.TestCase):
         document = bsonraw.RawDocument(bsonraw.encode(pairs))
         self.assertEqual(bson.encode({"k": document}), bsonraw.encode({"k": pairs}))
         self.assertEqual(bsonraw.encode({"k": raw_bson.RawBSONDocument(bsonraw.encode(pairs))}), bsonraw.encode({"k": pairs}))
+
+    def test_what_their_encoder_does_otherwise(self) -> None:
+        self.assertEqual(bson.encode({"a": 1, "_id": 2}), bsonraw.encode({"_id": 2, "a": 1}))
+        self.assertEqual(list(bsonraw.decode(bsonraw.encode({"a": 1, "_id": 2}))), ["a", "_id"])
+        if not hasattr(bson, "DatetimeMS"):
+            self.assertEqual(bson.encode({"k": DatetimeMS(1 << 40)}), bsonraw.encode({"k": Int64(1 << 40)}))
+        self.assertEqual([Regex("a", options) == bson.Regex("a", "ix") for options in ("ix", "xi")], [True, False])
 
     def test_equal_to_theirs(self) -> None:
         for value, data in ROWS:
@@ -179,7 +188,9 @@ class Hooks(unittest.TestCase):
     def test_default(self) -> None:
         self.assertEqual(again({1, 1}, default=list), [1])
         self.assertEqual(again(1j, default=lambda value: collections.OrderedDict(real=value.real)), {"real": 0.0})
-        self.assertEqual(bsonraw.decode(bsonraw.encode({1}, default=lambda value: {"k": 1})), {"k": 1})
+        for made in ({"k": 1}, collections.OrderedDict(k=1), collections.Counter("k"), Pairs([("k", 1)]), RawDocument(bsonraw.encode({"k": 1}))):
+            self.assertEqual(bsonraw.encode({1}, default=lambda value: made), bsonraw.encode({"k": 1}))
+        self.assertRaises(TypeError, bsonraw.encode, {1}, default=lambda value: [("k", 1)])
         for default in (None, lambda value: value, lambda value: NotImplemented, lambda value: {2}):
             with self.assertRaises(TypeError) as caught:
                 bsonraw.encode({"a": [0, {"b": {1}}]}, default=default)
@@ -227,6 +238,9 @@ class Classes(unittest.TestCase):
         self.assertEqual(Decimal128(bytes(7) + b"\xff" * 7 + b"\x00\x6c").to_decimal(), 0)
         for text in ("1" * 35, "1E+6145", "x"):
             self.assertRaises(decimal.DecimalException, Decimal128, text)
+        for text in ("NaN123", "-NaN5", "sNaN1"):
+            self.assertRaises(ValueError, Decimal128, text)
+            self.assertRaises(ValueError, Decimal128, decimal.Decimal(text))
 
     def test_ids(self) -> None:
         begun = times.datetime.now(times.timezone.utc).replace(microsecond=0)
@@ -247,6 +261,7 @@ class Classes(unittest.TestCase):
         self.assertEqual((Binary(b"a", 0) == b"a", Code("a") == "a", len({Binary(b"a", 1), Binary(b"a", 1)})), (False, False, 1))
         self.assertEqual(sorted([5, MaxKey(), MinKey(), 2], key=lambda value: value), [MinKey(), 2, 5, MaxKey()])
         self.assertEqual([MinKey() < MinKey(), MinKey() <= MinKey(), MaxKey() > MaxKey(), MaxKey() >= MaxKey()], [False, True, False, True])
+        self.assertEqual([Code(Code("f", {"a": 1})).scope, Code(Code("f", {"a": 1}), {"b": 2}).scope], [{"a": 1}, {"b": 2}])
         self.assertEqual((Regex("a", "ix").flags, Regex("a", Regex("a", "ix").flags).options), (2 + 64, "ix"))
 
     def test_what_is_made_of_something_else(self) -> None:
@@ -279,6 +294,19 @@ class Classes(unittest.TestCase):
             bsonraw.encode({"x": 1, "a": [0, {"b": 1, "c\0d": 2}]})
         error = caught.exception
         self.assertEqual((error.reason, error.key, error.path), (Reason.INTERIOR_NUL, "c\0d", (1, 1, 1)))
+
+    def test_damage_in_a_value_of_another_class(self) -> None:
+        damaged = RawDocument(framed(b"\x10a\0\0\0\0\0" + b"\x03b\0" + framed(b"\x08c\0\2")))
+        with self.assertRaises(BsonError) as caught:
+            bsonraw.encode({"x": 1, "y": [damaged]})
+        error = caught.exception
+        self.assertEqual((error.key, error.path, error.keys, error.offset), ("c", (1, 0, 1, 0), ("y", "0", "b", "c"), None))
+        self.assertEqual(str(error), "at key 'y.0.b.c': a boolean is neither 0 nor 1: 2")
+
+    def test_no_comparison_raises(self) -> None:
+        damaged = RawDocument(framed(b"\x08c\0\2"))
+        for value in (ObjectId(), Timestamp(1, 2), Regex("a", ""), Binary(b"a", 1), DatetimeMS(0), Decimal128("1"), Code("f"), MinKey()):
+            self.assertEqual((value == damaged, value != damaged, value in [damaged, value]), (False, True, True))
 
 
 class Scopes(unittest.TestCase):
