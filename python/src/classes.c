@@ -41,14 +41,28 @@ static void free_object(PyObject *self) {
 
 static void raw_dealloc(PyObject *self) { free_object(self); }
 
-/* The comparison with a value of another class: that with what the package makes of it, where it has one of MongoDB's marks. */
+/* Whether another value has the mark of this one. */
+static int has_mark_of(PyObject *self, PyObject *other, PyObject *name) {
+    PyObject *mine = PyObject_GetAttr(self, name), *theirs = mine == NULL ? NULL : PyObject_GetAttr(other, name);
+    int is_same = theirs == NULL ? -1 : PyObject_RichCompareBool(mine, theirs, Py_EQ);
+    Py_XDECREF(mine);
+    Py_XDECREF(theirs);
+    if (is_same >= 0 || !PyErr_ExceptionMatches(PyExc_Exception)) return is_same;
+    PyErr_Clear();
+    return 0;
+}
+
+/* The comparison with a value of another class: that with what the package makes of it, where it has the same of MongoDB's marks. */
 static PyObject *compare_marked(PyObject *self, PyObject *other, int how, richcmpfunc compare) {
     static PyObject *name;
     PyObject *made, *result;
+    int is_same;
     if (name == NULL && (name = PyUnicode_InternFromString("_type_marker")) == NULL) return NULL;
-    if (classes.convert == NULL || !PyObject_HasAttr(other, name)) Py_RETURN_NOTIMPLEMENTED;
+    is_same = classes.convert == NULL ? 0 : has_mark_of(self, other, name);
+    if (is_same < 0) return NULL;
+    if (is_same == 0) Py_RETURN_NOTIMPLEMENTED;
     made = PyObject_CallFunctionObjArgs(classes.convert, other, NULL);
-    if (made == NULL && PyErr_ExceptionMatches(PyExc_ValueError)) { /* damage in it */
+    if (made == NULL && PyErr_ExceptionMatches(PyExc_ValueError)) { /* such as a pattern that isn't UTF-8 */
         PyErr_Clear();
         Py_RETURN_NOTIMPLEMENTED;
     }

@@ -308,6 +308,17 @@ class Classes(unittest.TestCase):
         for value in (ObjectId(), Timestamp(1, 2), Regex("a", ""), Binary(b"a", 1), DatetimeMS(0), Decimal128("1"), Code("f"), MinKey()):
             self.assertEqual((value == damaged, value != damaged, value in [damaged, value]), (False, True, True))
 
+        class Broken:
+            @property
+            def _type_marker(self) -> int:
+                raise ZeroDivisionError
+
+        class Lying:
+            _type_marker = 11
+            pattern, flags = b"\xff", 0
+
+        self.assertEqual([ObjectId() == Broken(), Regex("a", "") == Lying(), Regex("a", "") != Lying()], [False, False, True])
+
 
 class Scopes(unittest.TestCase):
     def test_many_in_one_another(self) -> None:
