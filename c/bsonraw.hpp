@@ -229,7 +229,7 @@ result<T> element::as() const {
     }
 }
 
-// A key, which a 0 ends: nullptr in an array. A text with a 0 in it is none, and stands for one that is refused with BSONRAW_FAULT.
+// A key, which a 0 ends: nullptr in an array. A text with a 0 in it is none, and is passed on as one that is refused with BSONRAW_FAULT.
 class key_text {
 public:
     key_text(const char *text) noexcept : text_(text) {}

@@ -33,7 +33,7 @@ impl fmt::Display for Error {
     fn fmt(&self, f: &mut fmt::Formatter<'_>) -> fmt::Result {
         match self {
             Error::InvalidHexStringCharacter { c, index, hex } => {
-                write!(f, "not a digit of hex: {c:?} behind {index} bytes of {hex:?}")
+                write!(f, "not a digit of hex: {c:?} after {index} bytes of {hex:?}")
             }
             Error::InvalidHexStringLength { length, hex } => write!(f, "an id has 24 digits, not {length}: {hex:?}"),
         }

@@ -772,7 +772,7 @@ fn ids_are_read_from_hex() {
     }
     let said = |hex| ObjectId::parse_str(hex).unwrap_err().to_string();
     assert_eq!(said("5"), r#"an id has 24 digits, not 1: "5""#);
-    assert_eq!(said("5g"), r#"not a digit of hex: 'g' behind 1 bytes of "5g""#);
+    assert_eq!(said("5g"), r#"not a digit of hex: 'g' after 1 bytes of "5g""#);
 }
 
 /// What is larger than the limits is refused before any room is taken, and what there is no memory for is an error. The test starts
