@@ -6,7 +6,7 @@
  *        worst levels COUNT          16 MiB of levels of so many keys in one another, the keys descending
  *        worst twins                 as much of levels of one key, which comes twice
  *
- * crates/raw_tree/src/validator has the marks, and how many keys there is room for. */
+ * crates/key_set/src has the marks, and how many keys there is room for. */
 #include <stdint.h>
 #include <stdio.h>
 #include <stdlib.h>

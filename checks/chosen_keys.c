@@ -1,5 +1,5 @@
 /* Writes a document of 174,000 nulls under keys of four bytes whose hashes agree in their last ten bits, so that the fingerprints
-   of all begin at one place. crates/raw_tree/src/validator/fingerprints.rt has the hash. It is alone, without a C library. */
+   of all begin at one place. crates/key_set/src/fingerprints.rt has the hash. It is alone, without a C library. */
 typedef unsigned char byte;
 typedef unsigned long u64;
 

@@ -12,7 +12,8 @@ ghost use Rattle.raw_tree.specs.Reading.{ReadsAs, ReadsRest};
 ghost use Rattle.raw_view.specs.Document.{bytes_of};
 ghost use Rattle.raw_view.specs.Errors.{IsOutOfMemory};
 
-use raw_tree::{KeySet, behind, element_at, next_element};
+use key_set::KeySet;
+use raw_tree::{behind, element_at, next_element};
 use raw_view::{Elements, RawDocument, RawElement, Result};
 use std::alloc::Global;
 

@@ -10,7 +10,7 @@ pub use Rattle.std.proofs.lemmas.Option.{none-some, slice_get-get_or}
 pub use Rattle.std.proofs.lemmas.Result.{err_from_is_err_and, on_ok_weaker}
 pub use Rattle.std.proofs.lemmas.Str.{IsUtf8-from_ascii}
 pub use Rattle.std.specs.Cmp.Lexicographic.{bytes_decides}
-pub use Rattle.std.specs.List.{IsDistinct, list_any}
+pub use Rattle.std.specs.List.{IsDistinct}
 pub use Rattle.bson_model.specs.Bytes.{AreBytes, NulFree}
 pub use Rattle.bson_model.specs.Leaf.{Leaf, binary, db_pointer, regular_expression}
 pub use Rattle.bson_model.specs.Pairs.{keep, keys_of, with_pair}
@@ -63,7 +63,7 @@ pub use Rattle.raw_tree.specs.reader.Reading.{IsValueReadOneWay, Reads, ReadsAs,
 pub use Rattle.raw_tree.specs.reader.WithinLimits.{AllAreAnsweredOneWay, AllHaveOneDepth, Barrier, BarsFrame, BarsFront, FirstBarrier, FirstFaultWithin, HasDepth, HasDepthUpTo, IsFaultWith}
 pub use Rattle.raw_tree.specs.reader.WithinLimits.{IsGreatestDepth, IsSoDeep, ReadsWithin, SaysBarrier, TellsFirstBarrier, TellsFirstFaultWithin, fault_of, too_deep, too_many_bytes}
 pub use Rattle.raw_tree.specs.validator.Breaches.{AllAreValidatedOneWay, BreachesFrame, BreachesFront, BreachesKeys, BreachesMeaning, HasBreachAs, HasBreachUpTo, IsValidatedOneWay, keys_of_frames}
-pub use Rattle.raw_tree.specs.validator.References.{texts}
+pub use Rattle.key_set.specs.References.{texts}
 pub use Rattle.raw_tree.specs.validator.Validating.{HasPassed, HoldsAs, left_of}
 pub use Rattle.raw_tree.specs.writer.Encoding.{IsEncoded, IsRefused, encoded_len, encoding, entries_bytes, entries_len, items_bytes, items_len, kind_of_tree, tree_payload}
 pub use Rattle.raw_tree.specs.writer.Measuring.{HasRoomFor, Measures}

@@ -21,7 +21,5 @@ pub use Rattle.raw_tree.proofs.walk.OneBarrier.{barred_at_one_place, barrier_tol
 pub use Rattle.raw_tree.proofs.walk.Rooms.{filled_more, filled_none}
 pub use Rattle.raw_tree.proofs.walk.Starts.{first_begins}
 pub use Rattle.raw_tree.proofs.walk.Visits.{reads_visits}
--- sets of keys
-pub use Rattle.raw_tree.proofs.validator.KeyPlaces.{first_at, position_is}
-pub use Rattle.raw_tree.proofs.validator.KeySets.{keys_distinct}
+-- what isn't canonical
 pub use Rattle.raw_tree.proofs.validator.NotCanonical.{breach_not_canonical, too_deep_not_canonical}

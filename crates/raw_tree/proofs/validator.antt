@@ -1,13 +1,8 @@
 pub mod EitherWay
-pub mod Fingerprinting
 pub mod ValidatedAt
 pub mod ValidatedLevels
-pub mod KeyOrder
-pub mod KeyPlaces
-pub mod KeySets
 pub mod LevelKeys
 pub mod NotCanonical
 pub mod OneBreach
 pub mod OneViolation
-pub mod References
 pub mod Unlimited

@@ -13,9 +13,6 @@ pub use Rattle.raw_tree.specs.reader.WithinLimits
 pub use Rattle.raw_tree.specs.writer.Encoding
 pub use Rattle.raw_tree.specs.writer.Members
 pub use Rattle.raw_tree.specs.validator.Breaches
-pub use Rattle.raw_tree.specs.validator.IndexedKeys
-pub use Rattle.raw_tree.specs.validator.KeySets
-pub use Rattle.raw_tree.specs.validator.References
 pub use Rattle.raw_tree.specs.validator.Validating
 pub use Rattle.raw_tree.specs.validator.ValidationSteps
 pub use Rattle.raw_tree.specs.validator.Violations

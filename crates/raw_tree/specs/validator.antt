@@ -1,10 +1,5 @@
 pub mod Breaches
-pub mod IndexedKeys
-pub mod KeySets
-pub mod Fingerprints
-pub mod KeyFilter
 pub mod OpenKeys
-pub mod References
 pub mod Validating
 pub mod ValidationSteps
 pub mod Violations

@@ -20,9 +20,6 @@ pub use reader::{
     bson_from_element, bson_from_raw, document_from_raw, document_from_raw_counted, list_from_raw,
 };
 pub use validator::breach::{Breach, Cause};
-// For `raw_form` alone: the list that its levels share is its caller's to keep.
-#[doc(hidden)]
-pub use validator::key_set::KeySet;
 pub use validator::validate;
 pub use validator::within::{PlacedBreach, ValidateError, validate_within};
 // For `raw_form` alone, which goes on from where a validation ends.

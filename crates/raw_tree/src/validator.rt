@@ -9,12 +9,7 @@ ghost use Rattle.raw_view.specs.Document.{bytes_of};
 ghost use Rattle.raw_view.specs.Errors.{IsOutOfMemory};
 
 pub(crate) mod breach;
-pub(crate) mod filter;
-pub(crate) mod fingerprints;
-pub(crate) mod indexed_keys;
-pub(crate) mod key_set;
 pub(crate) mod keys_so_far;
-pub(crate) mod listed;
 pub(crate) mod step;
 pub(crate) mod within;
 

@@ -5,12 +5,13 @@ use Rattle.std.proofs.lemmas.List.{drop-drop}
 use Rattle.std.proofs.lemmas.Option.{get_or_from_slice_get, slice_get_within}
 use Rattle.std.proofs.lemmas.Slice.Eq.{bytes_eq-Decides}
 use Rattle.raw_form.proofs.canonical.Common.{Bor, Frame, IsFrame, IsRest, LeadsTo, LeadsTo-more, LastPlaces, RawElement, ReadsAs, TakesFrame, Tree, bytes_eq, bytes_of, entries, frame_of, keep, keep-last, keys_of, left_of, put_at, size_of, with_pair}
-use Rattle.raw_tree.specs.IndexedKeys.{with_key}
-use Rattle.raw_tree.specs.KeySets.{HasKeys, TellsPlace}
+use Rattle.key_set.specs.IndexedKeys.{with_key}
+use Rattle.key_set.specs.KeySets.{HasKeys, TellsPlace}
 use Rattle.bson_model.specs.Tree.{Entries, entry_then}
 use Rattle.raw_tree.specs.Reading.{FrameStandsFor, ReadsRest}
-use Rattle.raw_tree.specs.declared.validator.key_set.KeySet.{KeySet}
-use Rattle.raw_tree.proofs.Face.{drop_frame, first_at, frame_size, position_is}
+use Rattle.key_set.specs.declared.key_set.KeySet.{KeySet}
+use Rattle.raw_tree.proofs.Face.{drop_frame, frame_size}
+use Rattle.key_set.proofs.Face.{first_at, position_is}
 use Rattle.raw_form.specs.Staying.{AreFramesAt, IsFrameAt, IsLeftAt, TakesMember}
 use Rattle.raw_form.proofs.rewritten.Members.{pair_over, pair_taken}
 

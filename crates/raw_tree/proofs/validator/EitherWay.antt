@@ -11,7 +11,7 @@ use Rattle.raw_view.specs.Meaning as raw
 use Rattle.raw_view.proofs.Face.{IsFrame-shorter, LeadsTo-more, LeadsTo-walk, has_meaning, AreBytes-rest, document_has_walk}
 use Rattle.raw_tree.specs.declared.validator.breach.Cause.TheVariants as cause
 use Rattle.raw_tree.proofs.Returns.{canonical_of}
-use Rattle.raw_tree.proofs.validator.KeyPlaces.{place_where}
+use Rattle.key_set.proofs.Face.{place_where}
 use Rattle.raw_tree.proofs.validator.LevelKeys.{array_key, frames_more, keys_more, no_keys}
 use Rattle.raw_tree.proofs.reader.Loops.{holds_bytes, nested_envelope, nested_shorter}
 

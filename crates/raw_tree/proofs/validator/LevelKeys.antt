@@ -1,31 +1,18 @@
 -- The keys of a level, and canonical frames, with one more behind them.
-use Rattle.std.proofs.Common.{◌≡◌, ◌≢◌, ◌∙◌, ◌+◌, ◌++◌, ◌∷◌, [], ℕ, List, false, None, Some, length, decimal, arith, ap, refl, sym}
+use Rattle.std.proofs.Common.{◌≡◌, ◌≢◌, ◌∙◌, ◌+◌, ◌++◌, ◌∷◌, [], ℕ, List, None, Some, length, decimal, arith, ap, refl, sym}
 use Rattle.std.proofs.lemmas.Cmp.{nat_list_eq_equiv}
-use Rattle.std.proofs.lemmas.List.{get_or_append_left, get_or_at, length-append}
-use Rattle.std.proofs.lemmas.List.Folds.{list_any_none}
-use Rattle.std.proofs.lemmas.Map.Keys.{IsDistinct-push, IsDistinct-from_apart, apart_from_distinct}
-use Rattle.std.specs.Str.{bytes_eq}
+use Rattle.std.proofs.lemmas.Map.Keys.{IsDistinct-push}
 use denote.Ref.{Bor}
 use Rattle.std.specs.List.{IsDistinct}
-use Rattle.raw_tree.proofs.Common.{list_any, AreFramesCanonical, Frame, IsValueCanonical, Means, RawValue, keys_of_frames, map-append, value, BreachesKeys, AreDecimalsFrom}
+use Rattle.raw_tree.proofs.Common.{AreFramesCanonical, Frame, IsValueCanonical, Means, RawValue, keys_of_frames, map-append, value, BreachesKeys, AreDecimalsFrom}
 use Rattle.raw_tree.proofs.Common.{AreKeysCanonical, Sort, as_document, as_array, texts, Cause}
-use Rattle.raw_tree.specs.validator.KeySets.{AddsKey}
+use Rattle.key_set.specs.KeySets.{AddsKey}
 use Rattle.raw_tree.specs.validator.OpenKeys.{AddsOpenKey, HasKeysSoFar}
-use Rattle.raw_tree.specs.declared.validator.key_set.KeySet.{KeySet}
+use Rattle.key_set.specs.declared.key_set.KeySet.{KeySet}
 use Rattle.raw_tree.specs.declared.validator.keys_so_far.KeysSoFar.{KeysSoFar}
-use Rattle.raw_tree.proofs.validator.KeyPlaces.{place_where}
+use Rattle.key_set.proofs.Face.{distinct_apart, distinct_front, place_where}
 use Rattle.raw_tree.specs.declared.validator.breach.Cause.TheVariants as cause
 use Rattle.raw_tree.specs.declared.validator.keys_so_far.KeysSoFar.TheVariants as keys
-
--- distinct keys in front of others, and behind others
-pub distinct_front : (xs ys : List (List ℕ)) → IsDistinct bytes_eq (xs ++ ys) → IsDistinct bytes_eq xs
-distinct_front xs ys h =
-    IsDistinct-from_apart bytes_eq xs (λ i j d l m. grind (arith, apart_from_distinct bytes_eq (xs ++ ys) i j d h, get_or_append_left {A = List ℕ}, length-append {A = List ℕ}))
-
-pub distinct_apart : (xs : List (List ℕ)) (key : List ℕ) → IsDistinct bytes_eq (xs ++ key ∷ []) → list_any (bytes_eq key) xs ≡ false
-distinct_apart xs key h = list_any_none (bytes_eq key) xs (λ k d l.
-    let apart = apart_from_distinct bytes_eq (xs ++ key ∷ []) k (length xs) d h l in
-    grind (arith, apart, get_or_append_left xs (key ∷ []) d k l, get_or_at xs key [] d (length xs) refl, length-append xs (key ∷ []), nat_list_eq_equiv.symm))
 
 -- decimals in front of others, and behind others
 decimals_cut : (n : ℕ) (xs ys : List (List ℕ)) → (AreDecimalsFrom n (xs ++ ys) → AreDecimalsFrom n xs × AreDecimalsFrom (n + length xs) ys)

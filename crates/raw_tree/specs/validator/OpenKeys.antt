@@ -4,8 +4,8 @@ use denote.Ref.{Bor}
 use Rattle.raw_tree.specs.Canonical.{AreKeysCanonical}
 use Rattle.raw_tree.specs.reader.Reading.{Sort, as_array, as_document}
 use Rattle.raw_tree.specs.validator.Breaches.{BreachesKeys}
-use Rattle.raw_tree.specs.validator.KeySets.{HasKeys}
-use Rattle.raw_tree.specs.validator.References.{texts}
+use Rattle.key_set.specs.KeySets.{HasKeys}
+use Rattle.key_set.specs.References.{texts}
 use Rattle.raw_tree.specs.declared.validator.breach.Cause.{Cause}
 use Rattle.raw_tree.specs.declared.validator.keys_so_far.KeysSoFar.{KeysSoFar}
 use Rattle.raw_tree.specs.declared.validator.keys_so_far.KeysSoFar.TheVariants as keys

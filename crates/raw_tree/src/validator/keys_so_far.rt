@@ -4,12 +4,12 @@
 ghost use Rattle.std.specs.Prelude.{◌≡◌, ◌↔◌, [], decimal, IsTrue, IfOk, IfErr};
 ghost use Rattle.raw_tree.specs.validator.OpenKeys.{AddsOpenKey, AreOpenKeys, HasKeysSoFar, LeavesOpenKeys};
 ghost use Rattle.raw_tree.specs.reader.Reading.{as_array, as_document};
-ghost use Rattle.raw_tree.specs.validator.References.{texts};
+ghost use Rattle.key_set.specs.References.{texts};
 ghost use Rattle.raw_view.specs.Errors.{IsOutOfMemory};
 
 use crate::validator::breach::Cause;
-use crate::validator::key_set::KeySet;
 use itoa::Buffer;
+use key_set::KeySet;
 use raw_view::Result;
 use std::alloc::Global;
 

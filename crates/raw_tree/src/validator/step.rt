@@ -4,7 +4,7 @@
 ghost use Rattle.std.specs.Prelude.{[], IfOk, IfErr};
 ghost use Rattle.raw_tree.specs.validator.ValidationSteps.{HoldsAsTold, TellsValue, Validates, array_sort};
 ghost use Rattle.raw_tree.specs.validator.OpenKeys.{AreOpenKeys, HasKeysSoFar};
-ghost use Rattle.raw_tree.specs.validator.References.{texts};
+ghost use Rattle.key_set.specs.References.{texts};
 ghost use Rattle.raw_view.specs.Errors.{IsOutOfMemory};
 ghost use Rattle.raw_view.specs.Meaning.Value.{value_of};
 

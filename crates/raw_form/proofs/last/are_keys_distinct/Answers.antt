@@ -1,7 +1,7 @@
 use Rattle.std.proofs.Common.{◌≡◌, ◌++◌, ◌∷◌, None, [], arith, refl}
 use Rattle.raw_form.proofs.canonical.Common.{frame_of, keys_of, map-append}
-use Rattle.raw_tree.specs.References.{texts}
-use Rattle.raw_tree.proofs.Face.{keys_distinct}
+use Rattle.key_set.specs.References.{texts}
+use Rattle.key_set.proofs.Face.{keys_distinct}
 use Rattle.raw_form.proofs.last.Places.{passed_all, passed_more}
 use Rattle.raw_form.proofs.last.are_keys_distinct.Goals as goal
 

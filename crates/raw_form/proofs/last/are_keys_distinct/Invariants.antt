@@ -2,7 +2,7 @@ use Rattle.std.proofs.Common.{◌≡◌, ℕ, List, drop}
 use Rattle.raw_form.proofs.canonical.Common.{ReadsAs, Tree, bytes_of, keys_of, left_of}
 use Rattle.raw_form.proofs.last.Places.{HasPassed}
 use Rattle.raw_form.proofs.last.are_keys_distinct.Given as goal
-use Rattle.raw_tree.specs.KeySets.{HasKeys}
+use Rattle.key_set.specs.KeySets.{HasKeys}
 use Rattle.raw_tree.specs.Reading.{ReadsRest}
 
 -- the keys of the pairs passed are in the set

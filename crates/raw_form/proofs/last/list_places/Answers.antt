@@ -1,6 +1,6 @@
 use Rattle.std.proofs.Common.{rules, ◌≡◌, [], arith, length-drop, refl}
 use Rattle.raw_form.proofs.canonical.Common.{bytes_of}
-use Rattle.raw_tree.specs.References.{texts}
+use Rattle.key_set.specs.References.{texts}
 use Rattle.raw_tree.proofs.Face.{envelope_fits}
 use Rattle.raw_form.proofs.last.Places.{left_more, listed_more, passed_all}
 use Rattle.raw_form.proofs.last.list_places.Goals as goal

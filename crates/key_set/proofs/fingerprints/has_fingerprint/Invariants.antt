@@ -1,0 +1,5 @@
+use Rattle.key_set.proofs.Fingerprinting.{ArePassed}
+use Rattle.key_set.proofs.fingerprints.has_fingerprint.Given as goal
+
+abbrev pub invariant-probes : goal.invariant-probes
+invariant-probes l = ArePassed l.slots l.start l.fingerprint l.at

@@ -1,0 +1,5 @@
+pub mod Fingerprints
+pub mod IndexedKeys
+pub mod KeyFilter
+pub mod KeySets
+pub mod References

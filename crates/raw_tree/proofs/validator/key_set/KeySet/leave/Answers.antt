@@ -1,6 +1,0 @@
-use Rattle.std.proofs.Common.{arith}
-use Rattle.raw_tree.proofs.validator.References.{texts_front}
-use Rattle.raw_tree.proofs.validator.key_set.KeySet.leave.Goals as goal
-
-pub returns-in-Ascending : goal.returns-in-Ascending
-returns-in-Ascending c below own h = rw c.truncate.ensures.items (grind (arith, texts_front c.args.listed.now.items below own c.in-Ascending.first, h, c.in-Ascending.is))

@@ -1,7 +1,0 @@
-use Rattle.std.proofs.Common.{◌≡◌, take}
-use Rattle.raw_tree.specs.validator.References.{texts}
-use Rattle.raw_tree.proofs.validator.key_set.indexed.Given as goal
-
--- the keys so far are in the set
-abbrev pub invariant-loop-key : goal.invariant-loop-key
-invariant-loop-key l = l.set ≡ texts (take l.key-index l.keys)

@@ -1,6 +1,0 @@
--- References to texts, as the code holds them. No public contract cites this file.
-use Rattle.std.specs.Prelude.{ℕ, List, map}
-use denote.Ref.{Bor}
-
-abbrev pub texts : List (Bor (List ℕ)) → List (List ℕ)
-texts keys = map (λ k. k.now) keys
