@@ -6,8 +6,8 @@ use Rattle.raw_tree.specs.declared.walk.barrier.Barrier.{Barrier}
 use Rattle.raw_tree.specs.declared.walk.WalkError.{WalkError}
 use Rattle.raw_tree.specs.declared.walk.WalkError.TheVariants as error
 use Rattle.raw_tree.proofs.Face.{barrier_told}
-use Rattle.bson_json.specs.declared.print.Failure.{Failure}
-use Rattle.bson_json.specs.declared.print.Failure.TheVariants as failure
+use Rattle.values_to_json.specs.declared.sink.Failure.{Failure}
+use Rattle.values_to_json.specs.declared.sink.Failure.TheVariants as failure
 use Rattle.bson_json.specs.declared.print.PrintError.TheVariants as print
 
 -- what `?` returns is told as what it was made of

@@ -1,10 +1,6 @@
 -- Bytes piece by piece, and their base64.
 use Rattle.bson_json.proofs.Common.{encode_of, encode_of-append, length-take-le, standard, take-add, take-length}
-use Rattle.std.proofs.Common.{◌≡◌, ◌+◌, ◌-◌, ◌%◌, ◌≤◌, ℕ, List, ◌++◌, length, take, drop, refl, sym, ap, ◌∙◌, arith, length-drop}
-
--- what is left behind a place
-pub rest_whole : (b : List ℕ) (i : ℕ) → take (length b - i) (drop i b) ≡ drop i b
-rest_whole b i = ap (λ (k : ℕ). take k (drop i b)) (sym (length-drop i b)) ∙ take-length (drop i b)
+use Rattle.std.proofs.Common.{◌≡◌, ◌+◌, ◌-◌, ◌%◌, ◌≤◌, ℕ, List, ◌++◌, length, take, drop, refl, sym, ap, ◌∙◌, arith}
 
 -- a piece behind groups of three
 pub chunk_put : (b : List ℕ) (i n m : ℕ) → i ≤ length b → i % 3 ≡ 0 → m ≡ n → encode_of standard (take i b) ++ encode_of standard (take m (drop i b)) ≡ encode_of standard (take (i + n) b)

@@ -1,15 +1,7 @@
 pub mod Common
-pub mod Puts
 pub mod Chunks
-pub mod Escapes
-pub mod Numbers
-pub mod Days
 pub mod Printing
 pub mod Blocks
 pub mod Walking
 pub mod Utf8
-pub mod Exact
-pub mod Calendar
-pub mod Texts
 pub mod Sinks
-pub mod Lengths

@@ -6,7 +6,15 @@ use Rattle.raw_tree.specs.Reading as reading
 use Rattle.raw_tree.specs.Visits.{whole, enter, leave}
 use Rattle.bson_json.specs.declared.level.Sort.{Sort}
 use Rattle.bson_json.specs.declared.level.Sort.TheVariants as sort
-use Rattle.bson_json.proofs.Texts.{single_has}
+use Rattle.values_to_json.proofs.Face.{leaf_has}
+use Rattle.values_to_json.specs.declared.style.Format.{Format}
+
+-- each value that holds no others has a text
+single_has : (format : Format) (v : RawValue) → (text : List ℕ) × IsSingleJson format v text
+single_has format (raw.single l) = leaf_has format l
+single_has format (raw.document d) = ([], refl)
+single_has format (raw.array d) = ([], refl)
+single_has format (raw.scoped code d) = ([], refl)
 
 -- Where a text is: levels of these sorts wait for the innermost, the outermost first; its sort, and whether nothing of it is printed yet.
 pub record Place : Type 0 where

@@ -9,7 +9,7 @@ use Rattle.bson_json.specs.declared.error.ToJsonError.{ToJsonError}
 use Rattle.bson_json.specs.declared.error.ToJsonError.TheVariants as json
 use Rattle.bson_json.specs.declared.error.WriteJsonError.{WriteJsonError}
 use Rattle.bson_json.specs.declared.error.WriteJsonError.TheVariants as write
-use Rattle.bson_json.specs.declared.style.Style.{Style}
+use Rattle.values_to_json.specs.declared.style.Style.{Style}
 
 -- the first barrier of the document; or out of memory, where it has few enough bytes
 abbrev pub TellsJsonError : Limits → List ℕ → ToJsonError → Type 0

@@ -5,10 +5,10 @@ use Rattle.raw_view.specs.Frame.{Frame, IsWalk, Done}
 use Rattle.raw_view.specs.Meaning.{RawValue, Means, value}
 use Rattle.raw_view.specs.Meaning as raw
 use Rattle.raw_tree.specs.Reading.{Sort, as_document, as_array}
-use Rattle.bson_json.specs.Leaves.{IsLeafJson}
-use Rattle.bson_json.specs.declared.style.Layout.{Layout}
-use Rattle.bson_json.specs.declared.style.Layout.TheVariants.{OneLine, Indented}
-use Rattle.bson_json.specs.declared.style.Style.{Style}
+use Rattle.values_to_json.specs.Leaves.{IsLeafJson}
+use Rattle.values_to_json.specs.declared.style.Layout.{Layout}
+use Rattle.values_to_json.specs.declared.style.Layout.TheVariants.{OneLine, Indented}
+use Rattle.values_to_json.specs.declared.style.Style.{Style}
 
 -- the brackets of a document and of an array
 abbrev pub opening : Sort → ℕ

@@ -12,14 +12,14 @@ use Rattle.raw_view.specs.Meaning.{RawValue}
 use Rattle.raw_view.specs.Meaning as raw
 use Rattle.raw_view.specs.Meaning.Value.{held_value, value_of}
 use Rattle.bson_json.specs.Json.{before_scope, end_text, head_text}
-use Rattle.bson_json.specs.Leaves.{IsLeafJson}
+use Rattle.values_to_json.specs.Leaves.{IsLeafJson}
 use Rattle.bson_json.specs.declared.level.Sort.{Sort}
 use Rattle.bson_json.specs.declared.level.Sort.TheVariants as sort
-use Rattle.bson_json.specs.declared.print.Failure.TheVariants as failure
+use Rattle.values_to_json.specs.declared.sink.Failure.TheVariants as failure
 use Rattle.bson_json.specs.declared.print.PrintError.{PrintError}
 use Rattle.bson_json.specs.declared.print.PrintError.TheVariants as print
-use Rattle.bson_json.specs.declared.style.Format.{Format}
-use Rattle.bson_json.specs.declared.style.Style.{Style}
+use Rattle.values_to_json.specs.declared.style.Format.{Format}
+use Rattle.values_to_json.specs.declared.style.Style.{Style}
 
 -- how the bytes of a level are read
 abbrev pub level_sort : Sort → reading.Sort

@@ -5,11 +5,12 @@ use Rattle.raw_tree.specs.Barriers.{TellsBarrier}
 use Rattle.raw_tree.specs.declared.walk.barrier.Barrier.{Barrier}
 use Rattle.raw_tree.specs.WithinLimits.{ReadsWithin}
 use Rattle.raw_tree.specs.declared.reader.limits.Limits.{Limits}
-use Rattle.bson_json.specs.Written.{GrowsFront, HasFront}
-use Rattle.bson_json.specs.declared.print.Failure.TheVariants as failure
+use Rattle.bson_json.specs.Written.{HasFront}
+use Rattle.values_to_json.specs.Written.{GrowsFront}
+use Rattle.values_to_json.specs.declared.sink.Failure.TheVariants as failure
 use Rattle.bson_json.specs.declared.print.PrintError.{PrintError}
 use Rattle.bson_json.specs.declared.print.PrintError.TheVariants as print
-use Rattle.bson_json.specs.declared.style.Style.{Style}
+use Rattle.values_to_json.specs.declared.style.Style.{Style}
 
 -- the document b was looked through: it is within the limits, and has no barrier
 pub record IsSeen (limits : Limits) (b : List ℕ) : Type 0 where

@@ -10,17 +10,16 @@ ghost use Rattle.raw_tree.specs.declared.reader.limits.Limits.{Limits};
 ghost use Rattle.raw_view.specs.Document.{bytes_of};
 ghost use Rattle.bson_json.specs.Errors.{TellsJsonError, TellsWriteError};
 ghost use Rattle.bson_json.specs.Json.{IsJson};
-ghost use Rattle.bson_json.specs.Measured.{Measures};
+ghost use Rattle.values_to_json.specs.Measured.{Measures};
 ghost use Rattle.bson_json.specs.Passing.{TellsBriefly};
 
 use crate::error::{ToJsonError, WriteJsonError};
-use crate::print::{Failure, PrintError, print};
-use crate::sink::{Counted, Measured};
-use crate::style::Style;
+use crate::print::{PrintError, print};
 use raw_tree::Limits;
 use raw_view::RawDocument;
 use std::alloc::Global;
 use std::io::Write;
+use values_to_json::{Counted, Failure, Measured, Style};
 
 /// Writes a document within limits as MongoDB Extended JSON v2, each element as it is: repeated keys in order, an array without
 /// its keys. The error is the first barrier, as `first_fault_within` has it, and then nothing was written; else the writer's

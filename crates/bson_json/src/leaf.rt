@@ -9,17 +9,16 @@ ghost use Rattle.bson_model.specs.Scalars.{bytes_of_object_id};
 ghost use Rattle.hex.specs.Hex.{encode_lower};
 ghost use Rattle.json.specs.Print.{quoted};
 ghost use Rattle.raw_view.specs.Meaning.Value.{namespace_of, id_of};
-ghost use Rattle.bson_json.specs.Leaves.{binary_json, int32_json, int64_json, pointer_json, regex_json, timestamp_json};
+ghost use Rattle.values_to_json.specs.Leaves.{binary_json, int32_json, int64_json, pointer_json, regex_json, timestamp_json};
 
-use crate::put::{put, put_between, put_bytes_between, put_words};
-use crate::quote::put_quoted;
-use crate::style::Format;
 use base64::engine::general_purpose::STANDARD;
 use bson_model::{ObjectId, Timestamp};
 use itoa::Buffer;
 use raw_view::{RawBinaryRef, RawDbPointerRef, RawRegexRef};
 use std::io;
 use std::io::Write;
+use values_to_json::put::{put, put_between, put_bytes_between, put_words};
+use values_to_json::{Format, put_quoted};
 
 /// How many bytes are encoded at a time.
 const CHUNK: usize = 192;

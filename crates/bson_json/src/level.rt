@@ -8,18 +8,14 @@ ghost use Rattle.json.specs.Print.{quoted};
 ghost use Rattle.bson_json.specs.Levels.{PutsOpening, PutsSingle, level_sort, after};
 ghost use Rattle.raw_view.specs.Meaning.Value.{held_value, value_of};
 
-use crate::dates::put_date;
-use crate::decimals::write_decimal128;
-use crate::doubles::put_double;
 use crate::leaf::{
     put_binary, put_id, put_int32, put_int64, put_pointer, put_regex, put_text, put_timestamp,
 };
-use crate::put::{put, put_repeated};
-use crate::quote::put_quoted;
-use crate::style::{Format, Layout};
 use raw_view::{Holder, RawBsonRef, RawLevel};
 use std::io;
 use std::io::Write;
+use values_to_json::put::{put, put_repeated};
+use values_to_json::{Format, Layout, put_date, put_double, put_quoted, write_decimal128};
 
 /// What a level is.
 #[derive(Clone, Copy, PartialEq, Eq)]

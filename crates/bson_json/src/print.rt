@@ -8,28 +8,21 @@ ghost use Rattle.raw_view.specs.Document.{bytes_of};
 ghost use Rattle.bson_json.specs.Json.{IsJson};
 ghost use Rattle.bson_json.specs.Levels.{PutsEvent, Suits};
 ghost use Rattle.bson_json.specs.Passing.{Guards, IsSeen, TellsLookError, TellsPassError, TellsPrintError};
-ghost use Rattle.bson_json.specs.Written.{Grows, Moves};
-ghost use Rattle.bson_json.specs.declared.print.Failure.TheVariants as failure;
+ghost use Rattle.bson_json.specs.Written.{Moves};
+ghost use Rattle.values_to_json.specs.Written.{Grows};
+ghost use Rattle.values_to_json.specs.declared.sink.Failure.TheVariants as failure;
 ghost use Rattle.bson_json.specs.declared.print.PrintError.TheVariants as print;
 
 use crate::level::{Sort, put_end, put_head, put_opening, put_single};
-use crate::put::put;
-use crate::sink::Sink;
-use crate::style::Style;
 use raw_tree::{Barrier, Event, Limits, Walk, WalkError, first_fault_within};
 use raw_view::RawDocument;
 use std::alloc::{AllocFailed, Global};
 use std::{io, mem};
+use values_to_json::put::put;
+use values_to_json::{Failure, Sink, Style};
 
 /// From so many bytes on a block is written.
 const FULL: usize = 4096;
-
-/// Why a document without a barrier isn't printed whole.
-#[derive(Debug, Drop)]
-pub(crate) enum Failure {
-    OutOfMemory,
-    Writing(io::Error),
-}
 
 /// Why a document isn't printed whole.
 #[derive(Debug, Drop)]
@@ -64,7 +57,7 @@ impl<'a> From<Failure> for PrintError<'a> {
 
 /// A block in memory takes all that it is given, unless memory runs out.
 impl<'a> From<io::Error> for PrintError<'a> {
-    ghost use Rattle.bson_json.specs.declared.print.Failure.TheVariants as failure;
+    ghost use Rattle.values_to_json.specs.declared.sink.Failure.TheVariants as failure;
     ghost use Rattle.bson_json.specs.declared.print.PrintError.TheVariants as print;
 
     ghost from_gives = { λ _ printed. printed ≡ print.Failure failure.OutOfMemory };
@@ -75,7 +68,7 @@ impl<'a> From<io::Error> for PrintError<'a> {
 }
 
 impl<'a, T: Drop> From<AllocFailed<T>> for PrintError<'a> {
-    ghost use Rattle.bson_json.specs.declared.print.Failure.TheVariants as failure;
+    ghost use Rattle.values_to_json.specs.declared.sink.Failure.TheVariants as failure;
     ghost use Rattle.bson_json.specs.declared.print.PrintError.TheVariants as print;
 
     ghost from_gives = { λ _ printed. printed ≡ print.Failure failure.OutOfMemory };

@@ -3,7 +3,6 @@
 
 use crate::reading::Reading;
 use crate::version::VERSION;
-use bson_json::{Format, Layout, Style as JsonStyle};
 use clap::{ArgMatches, Error};
 use dump_cli::command_line;
 use dump_files::files::Unread;
@@ -13,6 +12,7 @@ use dump_runs::{Command, Job, Picking, Portion, Spelling};
 use raw_tree::Limits;
 use std::alloc::Global;
 use text_runs::TextJob;
+use values_to_json::{Format, Layout, Style as JsonStyle};
 
 /// Which inputs can't be opened: none, as far as the arguments tell.
 fn none_unread<'a>() -> Unread<'a> {

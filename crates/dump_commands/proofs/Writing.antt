@@ -7,7 +7,7 @@ use Rattle.bson_json.specs.Json.{IsJson}
 use Rattle.bson_json.specs.Written.{WroteFront}
 use Rattle.bson_json.specs.declared.error.WriteJsonError.{WriteJsonError}
 use Rattle.bson_json.specs.declared.error.WriteJsonError.TheVariants as error
-use Rattle.bson_json.specs.declared.style.Style as json
+use Rattle.values_to_json.specs.declared.style.Style as json
 use Rattle.raw_tree.specs.CanonicalForm.{IsCanonicalForm}
 use Rattle.raw_tree.specs.declared.reader.limits.Limits.{Limits}
 use Rattle.dump_commands.specs.Fields.{KeepsWritten}

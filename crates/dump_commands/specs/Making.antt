@@ -4,7 +4,7 @@ use Rattle.std.specs.Io.KnownBytes.{Appends}
 use Rattle.std.specs.Option.{option_map}
 use Rattle.raw_tree.specs.CanonicalForm.{IsCanonicalForm}
 use Rattle.bson_json.specs.Json.{IsJson}
-use Rattle.bson_json.specs.declared.style.Style as json
+use Rattle.values_to_json.specs.declared.style.Style as json
 use Rattle.dump_commands.specs.Pick.{IsPickedAs}
 use Rattle.dump_commands.specs.declared.pick.Picking.{Picking}
 use Rattle.dump_commands.specs.Unique.{Made, firsts_behind, firsts_of, kept_of, known_behind, knows, made_as, placed_at, plain, repeat_at, repeats_of, written_of}

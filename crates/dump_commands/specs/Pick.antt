@@ -6,7 +6,7 @@ use Rattle.raw_view.specs.LookUp.{FindsElement, found, missing}
 use Rattle.raw_view.specs.declared.element_type.ElementType.{ElementType}
 use Rattle.raw_view.specs.declared.element_type.ElementType.TheVariants as kind
 use Rattle.bson_json.specs.Json.{IsJson}
-use Rattle.bson_json.specs.declared.style.Style as json
+use Rattle.values_to_json.specs.declared.style.Style as json
 use Rattle.dump_commands.specs.declared.pick.Picking.{Picking}
 
 -- the same parts, with a byte more in front of the first one

@@ -1,7 +1,7 @@
 use Rattle.bson_json.proofs.Common.{Appends, Appends-nil, encode_of, encode_of-nil, standard}
 use Rattle.std.proofs.Common.{◌≡◌, ◌+◌, ◌-◌, ◌≤◌, ◌%◌, ℕ, List, take, drop, length, arith, refl, sym, subst}
 use Rattle.bson_json.proofs.Chunks.{chunk_put, last_chunk}
-use Rattle.bson_json.proofs.Puts.{last_put, whole_put}
+use Rattle.values_to_json.proofs.Face.{last_put, whole_put}
 use Rattle.bson_json.proofs.leaf.put_base64.Goals as goal
 
 pub chunks-init : goal.chunks-init

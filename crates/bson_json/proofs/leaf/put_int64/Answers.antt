@@ -1,6 +1,6 @@
 use Rattle.bson_json.proofs.Common.{Appends, int64_json, signed_decimal}
 use Rattle.std.proofs.Common.{rules, ◌≡◌, ◌++◌, ℕ, List, OnOk, codes, sym, subst}
-use Rattle.bson_json.specs.declared.style.Format.{Format}
+use Rattle.values_to_json.specs.declared.style.Format.{Format}
 use Rattle.bson_json.proofs.leaf.put_int64.Goals as goal
 
 pub returns-in-Canonical : goal.returns-in-Canonical

@@ -1,6 +1,6 @@
 use Rattle.bson_json.proofs.Common.{Appends, bytes_of_object_id, encode_lower, id_of, namespace_of, on_ok_weaker, pointer_json, quoted}
 use Rattle.std.proofs.Common.{◌≡◌, ◌++◌, ℕ, List, codes, ap, ◌∙◌}
-use Rattle.bson_json.proofs.Puts.{joined, whole_put}
+use Rattle.values_to_json.proofs.Face.{joined, whole_put}
 use Rattle.bson_json.proofs.leaf.put_pointer.Goals as goal
 
 pub returns : goal.returns

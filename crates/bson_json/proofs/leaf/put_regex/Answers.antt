@@ -1,6 +1,6 @@
 use Rattle.bson_json.proofs.Common.{quoted, regex_json}
 use Rattle.std.proofs.Common.{◌≡◌, ◌++◌, codes}
-use Rattle.bson_json.proofs.Puts.{joined, last_put}
+use Rattle.values_to_json.proofs.Face.{joined, last_put}
 use Rattle.bson_json.proofs.leaf.put_regex.Goals as goal
 
 pub returns : goal.returns

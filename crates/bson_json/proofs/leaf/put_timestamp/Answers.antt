@@ -1,6 +1,6 @@
 use Rattle.std.proofs.Common.{◌≡◌, ◌++◌, ℕ, List, codes, ap, ◌∙◌, decimal}
-use Rattle.bson_json.specs.Leaves.{timestamp_json}
-use Rattle.bson_json.proofs.Puts.{joined, last_put}
+use Rattle.values_to_json.specs.Leaves.{timestamp_json}
+use Rattle.values_to_json.proofs.Face.{joined, last_put}
 use Rattle.bson_json.proofs.leaf.put_timestamp.Goals as goal
 
 pub returns : goal.returns

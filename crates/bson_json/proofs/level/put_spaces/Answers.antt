@@ -1,5 +1,5 @@
 use Rattle.std.proofs.Common.{◌*◌, replicate, arith}
-use Rattle.bson_json.proofs.Puts.{last_put, repeated_more}
+use Rattle.values_to_json.proofs.Face.{last_put, repeated_more}
 use Rattle.bson_json.proofs.level.put_spaces.Goals as goal
 
 pub returns : goal.returns

@@ -1,0 +1,11 @@
+pub mod Common
+pub mod Puts
+pub mod Escapes
+pub mod Numbers
+pub mod Days
+pub mod Utf8
+pub mod Exact
+pub mod Calendar
+pub mod Texts
+pub mod Lengths
+pub mod Face

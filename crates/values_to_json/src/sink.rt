@@ -1,0 +1,84 @@
+//! What a text is given to, block by block.
+#![tactic(auto)]
+
+ghost use Rattle.std.specs.Prelude.{◌≡◌, ◌≤◌, ℕ, List, [], length, Some, OnErr, OnOk};
+ghost use Rattle.values_to_json.specs.Written.{Grows, GrowsFront};
+
+use crate::put::put_all;
+use std::alloc::Global;
+use std::io;
+use std::io::Write;
+
+/// Why a text isn't taken whole.
+#[derive(Debug, Drop)]
+pub enum Failure {
+    OutOfMemory,
+    Writing(io::Error),
+}
+
+/// Takes a text block by block.
+pub trait Sink {
+    // that it keeps texts of so many bytes, and was given this one
+    ghost has: { Self → ℕ → List ℕ → Type 0 };
+
+    /// Takes a block. What it has behind an error is a front of it.
+    fn accept(&mut self, block: &[u8]) -> Result<(), Failure>
+        ensures taken { OnOk result (Grows has self.old self.new block.now) }
+        ensures front { OnErr result (GrowsFront has self.old self.new block.now) };
+}
+
+impl<W: Write> Sink for W {
+    ghost has = { λ w _ text. W.contents w ≡ Some text };
+
+    fn accept(&mut self, block: &[u8]) -> Result<(), Failure> {
+        match put_all(self, block) {
+            Ok(()) => Ok(()),
+            Err(error) => Err(Failure::Writing(error)),
+        }
+    }
+}
+
+/// How long a text is, and the text if it isn't longer than was asked for.
+#[derive(Debug, Drop)]
+pub struct Measured {
+    pub len: usize,
+    pub text: Option<String>,
+}
+
+/// Counts a text, and keeps it as long as it has at most so many bytes.
+#[derive(Drop)]
+pub struct Counted {
+    pub most: usize,
+    pub len: usize,
+    pub text: Vec<u8>,
+}
+
+impl Counted {
+    /// Of no text yet.
+    pub fn new(alloc: Global, most: usize) -> Counted
+        ensures most { result.most ≡ most }
+        ensures len { result.len ≡ 0 }
+        ensures text { result.text.items ≡ [] }
+    {
+        Counted {
+            most,
+            len: 0,
+            text: Vec::new(alloc),
+        }
+    }
+}
+
+impl Sink for Counted {
+    ghost has = { λ c most text. (c.most ≡ most) × (c.len ≡ length text) × (length text ≤ most → c.text.items ≡ text) };
+
+    fn accept(&mut self, block: &[u8]) -> Result<(), Failure> {
+        let Some(len) = self.len.checked_add(block.len()) else {
+            return Err(Failure::OutOfMemory);
+        };
+        if len <= self.most && self.text.extend_from_slice(block).is_err() {
+            return Err(Failure::OutOfMemory);
+        }
+        self.len = len;
+        Ok(())
+    }
+}
