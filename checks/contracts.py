@@ -13,7 +13,7 @@ from pathlib import Path
 from typing import Dict, Iterator, List, NamedTuple, Optional, Set
 
 USED = ["raw_bson", "raw_form", "raw_shelf", "bson_json", "bson_from_json", "json_round_trip"]
-CRATES = ["bson_model", "raw_view", "raw_tree", "values_to_json", "bytes_from_json", *USED]
+CRATES = ["bson_model", "raw_view", "raw_tree", "values_to_json", "values_from_json", "bytes_from_json", *USED]
 # the calls of the programs that PROMISES.md names
 PROGRAMS = {
     "bsonraw/src/answer.rt": ["answer"],

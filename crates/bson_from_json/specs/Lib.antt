@@ -1,15 +1,15 @@
--- what the crate below says, for whoever lists this crate alone
-pub use Rattle.bytes_from_json.specs.DecimalTexts
-pub use Rattle.bytes_from_json.specs.Digits
-pub use Rattle.bytes_from_json.specs.Levels
-pub use Rattle.bytes_from_json.specs.Meaning
-pub use Rattle.bytes_from_json.specs.Numbers
-pub use Rattle.bytes_from_json.specs.Place
-pub use Rattle.bytes_from_json.specs.Reasons
+-- what the crates below say, for whoever lists this crate alone
 pub use Rattle.bytes_from_json.specs.Texts
-pub use Rattle.bytes_from_json.specs.Times
-pub use Rattle.bytes_from_json.specs.Wrapped
--- its types that clauses speak of
-pub use Rattle.bytes_from_json.specs.declared.error.JsonError
-pub use Rattle.bytes_from_json.specs.declared.error.JsonReason
-pub use Rattle.bytes_from_json.specs.declared.wrapper.Wrapper
+pub use Rattle.values_from_json.specs.DecimalTexts
+pub use Rattle.values_from_json.specs.Digits
+pub use Rattle.values_from_json.specs.Keys
+pub use Rattle.values_from_json.specs.Meaning
+pub use Rattle.values_from_json.specs.Numbers
+pub use Rattle.values_from_json.specs.Place
+pub use Rattle.values_from_json.specs.Reasons
+pub use Rattle.values_from_json.specs.Times
+pub use Rattle.values_from_json.specs.Wrapped
+-- their types that clauses speak of
+pub use Rattle.values_from_json.specs.declared.error.JsonError
+pub use Rattle.values_from_json.specs.declared.error.JsonReason
+pub use Rattle.values_from_json.specs.declared.wrapper.Wrapper

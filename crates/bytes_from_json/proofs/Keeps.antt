@@ -10,22 +10,25 @@ use Rattle.json.specs.Token.{Token}
 use Rattle.json.specs.Tree.{json_tokens, members_tokens}
 use Rattle.bson_model.specs.Leaf.{Leaf}
 use Rattle.bson_model.specs.Tree.{Entries}
-use Rattle.bytes_from_json.specs.Meaning.{AreMembers, IsWhole, is_wrapper_key}
-use Rattle.bytes_from_json.specs.Numbers.{IsPlain}
-use Rattle.bytes_from_json.specs.Levels.{HasMembers, MayBeIn, Rest, SaysBytes, TakesLeaf, TakesLevel, array_level, bytes_of, level_at, levels_of, wrapper_key}
-use Rattle.bytes_from_json.specs.Ends.{CanEnd, ItemsThen, KeepsClosed, KeepsLevel, KeepsValue, LacksLeaf, LacksLevel, LacksValue, LacksWhole, LacksWrapper, LevelThen, MembersThen, ValueThen, WrapperThen}
-use Rattle.bytes_from_json.specs.Taken.{LacksToken, NoToken}
+use Rattle.values_from_json.specs.Meaning.{AreMembers, IsWhole, is_wrapper_key}
+use Rattle.values_from_json.specs.Numbers.{IsPlain}
+use Rattle.bytes_from_json.specs.Levels.{HasMembers, MayBeIn, Rest, SaysBytes, TakesLeaf, TakesLevel, array_level, bytes_of, level_at, levels_of}
+use Rattle.values_from_json.specs.Keys.{wrapper_key}
+use Rattle.bytes_from_json.specs.Ends.{CanEnd, ItemsThen, KeepsClosed, KeepsLevel, KeepsValue, LacksLevel, LacksValue, LacksWhole, LacksWrapper, LevelThen, MembersThen, ValueThen, WrapperThen}
+use Rattle.values_from_json.specs.Taken.{LacksLeaf}
+use Rattle.values_from_json.specs.Taken.{LacksToken, NoToken}
 use Rattle.bytes_from_json.specs.Texts.{LeavesOpen, SaysNone}
-use Rattle.bytes_from_json.specs.declared.error.JsonReason.{JsonReason}
+use Rattle.values_from_json.specs.declared.error.JsonReason.{JsonReason}
 use Rattle.bytes_from_json.specs.declared.levels.Holder.{Holder}
 use Rattle.bytes_from_json.specs.declared.levels.Holder.TheVariants as holder
 use Rattle.bytes_from_json.specs.declared.levels.Level.{Level}
 use Rattle.bytes_from_json.specs.declared.levels.Unfinished.{Unfinished}
 use Rattle.bytes_from_json.specs.declared.reading.Reader.{Reader}
-use Rattle.bytes_from_json.specs.declared.source.Source.{Source}
-use Rattle.bytes_from_json.specs.declared.wrapper.Wrapper.{Wrapper}
-use Rattle.bytes_from_json.specs.declared.wrapper.Wrapper.TheVariants as wrapper
-use Rattle.bytes_from_json.proofs.Ends.{LeafThen, ObjectThen, ScopeThen, Starts, WrapperValueThen, Writes, array_end_taken, empty_object, end_taken, item_next, key_taken, no_object, none_taken, ordinary, same_value, starts, wrapper_value, writes}
+use Rattle.values_from_json.specs.declared.source.Source.{Source}
+use Rattle.values_from_json.specs.declared.wrapper.Wrapper.{Wrapper}
+use Rattle.values_from_json.specs.declared.wrapper.Wrapper.TheVariants as wrapper
+use Rattle.bytes_from_json.proofs.Ends.{LeafThen, ObjectThen, ScopeThen, Starts, WrapperValueThen, array_end_taken, empty_object, end_taken, item_next, key_taken, no_object, none_taken, ordinary, same_value, starts, wrapper_value}
+use Rattle.values_from_json.proofs.Face.{Writes, writes}
 use Rattle.bytes_from_json.proofs.Moments.{Whole}
 use Rattle.bytes_from_json.proofs.Steps.{innermost}
 use denote.Ref.{Bor}

@@ -1,15 +1,5 @@
-mod Integers
-mod Uuids
-mod Times
-mod Takes
 mod Left
 mod Steps
 mod Moments
-mod Keys
-mod Decimals
-mod Only
-mod Lacks
-mod Plain
 mod Ends
 mod Keeps
-mod NoLeaf

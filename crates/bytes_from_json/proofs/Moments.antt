@@ -1,29 +1,29 @@
 -- The steps of reading, between two moments of a reader.
-use Rattle.std.proofs.Common.{◌≡◌, ◌⊎◌, inl, inr, ℕ, ◌+◌, false, List, [], ◌∷◌, ◌++◌, Result, Ok, Err, OnOk, codes, decimal, length, refl, sym, ap, ◌∙◌, subst, reverse, append-nil, append_assoc}
-use Rattle.hex.specs.Hex.{decode_sized}
+use Rattle.std.proofs.Common.{◌≡◌, ◌⊎◌, inl, inr, ℕ, ℤ, FitsSigned, ◌+◌, false, List, [], ◌∷◌, ◌++◌, Result, Ok, Err, OnOk, codes, decimal, length, refl, sym, ap, ◌∙◌, subst, reverse, append-nil, append_assoc}
+use Rattle.std.specs.Int.{w32, w64}
 use Rattle.json.specs.Json.{Json, string, object}
 use Rattle.json.specs.Lex.{tokens as text_tokens}
 use Rattle.json.specs.Token.{Token}
 use Rattle.json.specs.Tree.{json_tokens, members_tokens}
-use Rattle.bson_model.specs.Leaf.{Leaf, javascript_code, object_id, regular_expression, symbol}
-use Rattle.bson_model.specs.Options.{sorted_options}
+use Rattle.bson_model.specs.Leaf.{Leaf, int32, int64, javascript_code}
 use Rattle.bson_model.specs.Tree.{leaf}
 use Rattle.raw_view.specs.Frame.Format.{framed}
 use Rattle.raw_view.specs.Meaning.{RawValue, single}
 use Rattle.raw_tree.specs.Payload.{element_bytes, unset}
-use Rattle.bytes_from_json.specs.Meaning.{Means, is_wrapper_key}
-use Rattle.bytes_from_json.specs.Levels.{before_scope, headed, level_at, array_level, with_len, HasMembers, MayBeIn, bracket, behind_bracket, ended, Rest, ValueIn, levels_of, bytes_of, RestOf, TakesLevel, ClosesBracket, TakesValue, Puts, TakesLeaf, SaysBytes, wrapper_key}
+use Rattle.values_from_json.specs.Meaning.{Means, is_wrapper_key}
+use Rattle.bytes_from_json.specs.Levels.{before_scope, headed, level_at, array_level, with_len, HasMembers, MayBeIn, bracket, behind_bracket, ended, Rest, ValueIn, levels_of, bytes_of, RestOf, TakesLevel, ClosesBracket, TakesValue, Puts, TakesLeaf, SaysBytes}
+use Rattle.values_from_json.specs.Keys.{wrapper_key}
 use Rattle.bytes_from_json.specs.declared.levels.Holder.{Holder}
 use Rattle.bytes_from_json.specs.declared.levels.Holder.TheVariants as holder
 use Rattle.bytes_from_json.specs.declared.levels.Level.{Level}
 use Rattle.bytes_from_json.specs.declared.reading.Reader.{Reader}
 use Rattle.bytes_from_json.specs.declared.levels.Unfinished.{Unfinished}
-use Rattle.bytes_from_json.specs.declared.source.Source.{Source}
+use Rattle.values_from_json.specs.declared.source.Source.{Source}
 use Rattle.bytes_from_json.specs.Texts.{IsWritten}
-use Rattle.bytes_from_json.specs.Taken.{Takes, TakesToken, TakesTwo}
-use Rattle.bytes_from_json.specs.Wrapped.{InString, IsOid, IsRegex}
-use Rattle.bytes_from_json.specs.declared.wrapper.Wrapper.{Wrapper}
-use Rattle.bytes_from_json.proofs.Ends.{Writes, wrapped}
+use Rattle.values_from_json.specs.Numbers.{IsPlain, WritesInteger}
+use Rattle.values_from_json.specs.Taken.{Takes}
+use Rattle.values_from_json.specs.declared.wrapper.Wrapper.{Wrapper}
+use Rattle.values_from_json.proofs.Face.{Writes, wrapped}
 use Rattle.bytes_from_json.proofs.Steps.{innermost, closes as level_closes, takes_item, takes_member, takes_first, opens_text, opens_array, opens_begun, opens_scope, opens_before_code, puts_empty, puts_leaf, puts_wrapped}
 use denote.Ref.{Bor}
 
@@ -297,12 +297,10 @@ leaf_taken {old} {mid} {new} {k} {l} w (j, tokens, is) same source puts = record
   };
 }
 
-pub takes_oid : {old new : List Token} {s id : List ℕ} → TakesToken old new (Token.string s) → decode_sized s 12 ≡ Ok id → Takes IsOid old new (object_id id)
-takes_oid {old} {new} {s} {id} t h = (string s, t, (id, h, refl))
+-- an integer is put that a text writes
+module _ {old new : Reader} {s k : List ℕ} {z : ℤ} where
+  pub int32_put : Puts old new k (single (int32 z)) → WritesInteger s z → FitsSigned w32 z → (l : Leaf) × IsPlain s l × Puts old new k (single l)
+  int32_put puts w fits = (int32 z, inl (z, w, fits, refl), puts)
 
-pub takes_symbol : {old new : List Token} {s : List ℕ} → TakesToken old new (Token.string s) → Takes (InString (λ s l. l ≡ symbol s)) old new (symbol s)
-takes_symbol {old} {new} {s} t = (string s, t, refl)
-
-pub takes_regex : {old new : List Token} {pattern options : List ℕ} → TakesTwo old new (codes "pattern") (string pattern) (codes "options") (string options)
-    → Takes IsRegex old new (regular_expression pattern (sorted_options options))
-takes_regex {old} {new} {pattern} {options} (ms, tokens, two) = (object ms, tokens, (pattern, options, two, refl))
+  pub int64_put : Puts old new k (single (int64 z)) → WritesInteger s z → ¬ FitsSigned w32 z → FitsSigned w64 z → (l : Leaf) × IsPlain s l × Puts old new k (single l)
+  int64_put puts w large fits = (int64 z, inr (inl (z, w, large, fits, refl)), puts)

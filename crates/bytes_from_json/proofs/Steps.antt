@@ -6,14 +6,14 @@ use Rattle.json.specs.Json.{Json, Members, array, object, string, no_items, item
 use Rattle.json.specs.Token.{Token}
 use Rattle.json.specs.Tree.{json_tokens, members_tokens}
 use Rattle.bson_model.specs.Leaf.{Leaf}
-use Rattle.bson_model.specs.Tree.{Tree, Trees, Entries, leaf, document, code_with_scope, no_tree, tree_then, no_entry, entry_then}
+use Rattle.bson_model.specs.Tree.{Tree, Entries, leaf, document, code_with_scope, no_tree, tree_then, no_entry, entry_then}
 use Rattle.bson_model.specs.Tree as tree
 use Rattle.raw_tree.specs.Encoding.{encoding, kind_of_tree, tree_payload}
 use Rattle.raw_view.specs.Frame.Format.{counted, element_of, framed, leaf_payload, scoped_payload, string_payload}
 use Rattle.raw_view.specs.Frame.Kind.{kind_of_leaf}
 use Rattle.raw_tree.specs.Payload.{unset}
-use Rattle.bytes_from_json.specs.Meaning.{AreMembers, Means, has_wrapper_key, is_wrapper_key}
-use Rattle.bytes_from_json.specs.Wrapped.{IsWrapped, one_member}
+use Rattle.values_from_json.specs.Meaning.{AreMembers, Means, has_wrapper_key, is_wrapper_key}
+use Rattle.values_from_json.specs.Wrapped.{IsWrapped, one_member}
 use Rattle.bytes_from_json.specs.Levels.{headed, with_len, HasMembers, MayBeIn, ArePairs, HasRestOfLevel, bracket, behind_bracket, ended, Makes, RestIn, ValueIn}
 use Rattle.bytes_from_json.specs.declared.levels.Holder.{Holder}
 use Rattle.bytes_from_json.specs.declared.levels.Holder.TheVariants as holder

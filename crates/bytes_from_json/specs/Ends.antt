@@ -4,14 +4,12 @@ use Rattle.json.specs.Json.{Json, Items, Members, object}
 use Rattle.json.specs.Token.{Token, end_object, key, string}
 use Rattle.json.specs.Tree.{json_tokens, items_tokens, members_tokens}
 use Rattle.bson_model.specs.Tree.{Tree, Trees, Entries}
-use Rattle.bytes_from_json.specs.Meaning.{AreItems, AreMembers, Means, has_wrapper_key}
+use Rattle.values_from_json.specs.Meaning.{AreItems, AreMembers, Means, has_wrapper_key}
 use Rattle.bytes_from_json.specs.declared.levels.Holder.{Holder}
 use Rattle.bytes_from_json.specs.declared.levels.Holder.TheVariants as holder
 use Rattle.bytes_from_json.specs.declared.levels.Level.{Level}
 use Rattle.bytes_from_json.specs.declared.reading.Reader.{Reader}
 use Rattle.bytes_from_json.specs.Levels.{levels_of}
-use Rattle.bytes_from_json.specs.Taken.{TakesNone}
-use Rattle.bytes_from_json.specs.Wrapped.{IsWrapped}
 
 -- a value that says a tree is next, and these tokens are behind it
 abbrev pub ValueThen : List Token → List Token → Type 0
@@ -64,10 +62,6 @@ LacksLevel h ts = (behind : List Token) → ¬ LevelThen h ts behind
 
 abbrev pub LacksWrapper : Holder → List Token → Type 0
 LacksWrapper h ts = (behind : List Token) → ¬ WrapperThen h ts behind
-
--- no value of a wrapper with this key is next
-pub record LacksLeaf (wrapper : List ℕ) (ts : List Token) : Type 0 where
-  pub none : TakesNone (IsWrapped wrapper) ts
 
 -- these aren't the tokens of an object whose members say a document
 abbrev pub LacksWhole : List Token → Type 0

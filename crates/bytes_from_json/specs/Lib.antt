@@ -1,13 +1,4 @@
 pub mod Left
-pub mod Place
-pub mod Reasons
-pub mod Numbers
-pub mod DecimalTexts
-pub mod Digits
-pub mod Times
-pub mod Wrapped
-pub mod Meaning
 pub mod Texts
-pub mod Taken
 pub mod Levels
 pub mod Ends

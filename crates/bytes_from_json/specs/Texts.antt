@@ -5,9 +5,9 @@ use Rattle.json.specs.Lex.{tokens}
 use Rattle.json.specs.Tree.{json_tokens}
 use Rattle.bson_model.specs.Tree.{Entries, document}
 use Rattle.raw_tree.specs.Encoding.{encoding}
-use Rattle.bytes_from_json.specs.Meaning.{IsWhole}
-use Rattle.bytes_from_json.specs.declared.error.JsonReason.{JsonReason}
-use Rattle.bytes_from_json.specs.declared.error.JsonReason.TheVariants.{OutOfMemory, TooManyBytes, TooDeep, InteriorNul, Unsound}
+use Rattle.values_from_json.specs.Meaning.{IsWhole}
+use Rattle.values_from_json.specs.declared.error.JsonReason.{JsonReason}
+use Rattle.values_from_json.specs.declared.error.JsonReason.TheVariants.{OutOfMemory, TooManyBytes, TooDeep, InteriorNul, Unsound}
 
 -- the text is this JSON value (RFC 8259), however deep it nests: its tokens are those of the value.
 abbrev pub IsJsonText : List ℕ → Json → Type 0

@@ -11,13 +11,13 @@ ghost use Rattle.raw_tree.specs.WithinLimits.{ReadsWithin};
 ghost use Rattle.bytes_from_json.specs.Levels.{before_scope, headed, level_at, with_len};
 ghost use Rattle.bytes_from_json.specs.Texts.{LeavesOpen};
 
-use crate::error::JsonReason;
 use raw_tree::{
     BarrierKind, Limits, first_fault_within, payload_len, put_element, put_head, put_string,
     set_len, total_len,
 };
 use raw_view::{ElementType, RawBsonRef, RawDocument};
 use std::alloc::Global;
+use values_from_json::JsonReason;
 
 /// What holds a level.
 #[derive(Clone, Copy)]

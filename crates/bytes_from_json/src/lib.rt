@@ -1,22 +1,11 @@
-//! The bytes of documents from MongoDB Extended JSON v2: a text is read once, by its tokens. `bson_from_json` hands them to users.
+//! The bytes of documents from MongoDB Extended JSON v2: a text is read once, by its tokens. `values_from_json` reads single values,
+//! and `bson_from_json` hands documents to users.
 #![tactic(auto)]
 
-mod codes;
-mod date;
-mod decimal;
-mod error;
-mod fault;
-mod leaves;
 mod levels;
 mod number;
-mod place;
 mod reading;
-mod source;
 mod wrapped;
-mod wrapper;
 
-pub use date::millis_of;
-pub use decimal::decimal128_of;
-pub use error::{JsonError, JsonReason};
 pub use reading::document_bytes;
-pub use wrapper::Wrapper;
+pub use values_from_json::{JsonError, JsonReason, Wrapper, decimal128_of, millis_of};

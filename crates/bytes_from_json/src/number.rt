@@ -4,15 +4,14 @@
 ghost use Rattle.std.specs.Prelude.{◌≡◌, ◌⊎◌, IfErr, OnOk};
 ghost use Rattle.bson_model.specs.Leaf.{Leaf};
 ghost use Rattle.bytes_from_json.specs.Levels.{Puts};
-ghost use Rattle.bytes_from_json.specs.Numbers.{IsPlain, is_fractional};
+ghost use Rattle.values_from_json.specs.Numbers.{IsPlain, is_fractional};
 ghost use Rattle.bytes_from_json.specs.Texts.{LeavesOpen};
 ghost use Rattle.raw_view.specs.Meaning.{single};
 
-use crate::error::JsonReason;
-use crate::leaves::{double_of, integer_of};
 use crate::reading::Reader;
 use bson_model::DoubleBits;
 use raw_view::RawBsonRef;
+use values_from_json::{JsonReason, double_of, integer_of};
 
 /// Whether a number of JSON has a fraction or an exponent.
 fn is_fractional(text: &[u8]) -> bool

@@ -1,7 +1,7 @@
 //! Documents from text: one loop over the members of the innermost level.
 #![tactic(auto, using(crate::proofs::Left::one_taken, crate::proofs::Left::some_taken, crate::proofs::Keeps::only_open))]
 
-ghost use Rattle.std.specs.Prelude.{◌≡◌, ◌<◌, ◌≤◌, ◌∷◌, ◌⊎◌, [], decimal, IfErr, IfOk, IfSome, OnErr, OnOk};
+ghost use Rattle.std.specs.Prelude.{◌≡◌, ◌<◌, ◌≤◌, ◌∷◌, ◌⊎◌, [], IfErr, IfOk, IfSome, OnErr, OnOk};
 ghost use Rattle.json.specs.Reads.{token_of};
 ghost use Rattle.json.specs.Token.{begin_object};
 ghost use Rattle.bson_model.specs.Bytes.{NulFree};
@@ -11,22 +11,20 @@ ghost use Rattle.raw_view.specs.Meaning.Value.{value_of};
 ghost use Rattle.raw_tree.specs.WithinLimits.{ReadsWithin};
 ghost use Rattle.bytes_from_json.specs.Left.{left_of};
 ghost use Rattle.bytes_from_json.specs.Levels.{ClosesBracket, HasMembers, MayBeIn, Puts, SaysBytes, TakesLevel, TakesValue, array_level};
-ghost use Rattle.bytes_from_json.specs.Place.{IsPlaceIn};
+ghost use Rattle.values_from_json.specs.Place.{IsPlaceIn};
 ghost use Rattle.bytes_from_json.specs.declared.levels.Holder.TheVariants.{Array};
 ghost use Rattle.bytes_from_json.specs.Ends.{KeepsClosed, KeepsLevel, KeepsValue, LacksLevel, LacksValue, LacksWhole, LacksWrapper};
 ghost use Rattle.bytes_from_json.specs.Texts.{IsWritten, LeavesOpen, SaysNone};
 
-use crate::codes::{Codes, codes_of};
-use crate::error::{JsonError, JsonReason};
-use crate::fault::Wanted;
 use crate::levels::{Holder, Level, Unfinished};
-use crate::source::Source;
-use crate::wrapper::Wrapper;
 use itoa::Buffer;
 use json::{Reader as Tokens, Scratch, Token};
 use raw_tree::Limits;
 use raw_view::{ElementType, RawBsonRef};
 use std::alloc::Global;
+use values_from_json::{
+    Codes, JsonError, JsonReason, Source, Wanted, Wrapper, codes_of, error_at, wrapper_of_key,
+};
 
 /// A text and the document that is made of it.
 #[derive(Drop)]
@@ -52,12 +50,12 @@ pub fn document_bytes(alloc: Global, text: &str, limits: Limits) -> Result<Vec<u
         return Ok(bytes);
     }
     let Ok(codes) = codes_of(alloc, text) else {
-        return Err(JsonError::at(JsonReason::OutOfMemory, text.as_bytes(), 0));
+        return Err(error_at(JsonReason::OutOfMemory, text.as_bytes(), 0));
     };
     let codes = Some(Codes::new(&codes));
     match document_of(alloc, text, limits, codes)? {
         Some(bytes) => Ok(bytes),
-        None => Err(JsonError::at(JsonReason::Unsound, text.as_bytes(), 0)),
+        None => Err(error_at(JsonReason::Unsound, text.as_bytes(), 0)),
     }
 }
 
@@ -77,7 +75,7 @@ fn document_of<'a>(
     let mut scratch = Scratch::new(alloc);
     let tokens = match Tokens::new(text, &mut scratch) {
         Ok(tokens) => tokens,
-        Err(_) => return Err(JsonError::at(JsonReason::OutOfMemory, text.as_bytes(), 0)),
+        Err(_) => return Err(error_at(JsonReason::OutOfMemory, text.as_bytes(), 0)),
     };
     let mut reader = Reader {
         alloc,
@@ -90,7 +88,7 @@ fn document_of<'a>(
     if reader.misses_codes {
         return Ok(None);
     }
-    let offset = reader.source.place.min(text.len());
+    let place = reader.source.place;
     let reason = match outcome {
         Err(reason) => reason,
         Ok(()) => match reader.document.finish(alloc, limits) {
@@ -98,7 +96,7 @@ fn document_of<'a>(
             Err(reason) => reason,
         },
     };
-    Err(JsonError::at(reason, text.as_bytes(), offset))
+    Err(error_at(reason, text.as_bytes(), place))
 }
 
 impl<'a> Reader<'a> {
@@ -248,7 +246,7 @@ impl<'a> Reader<'a> {
                 self.source.place = brace;
                 self.document.put_empty(key)
             }
-            Token::Key(first) => match Wrapper::of_key(first) {
+            Token::Key(first) => match wrapper_of_key(first) {
                 Some(wrapper) => self.wrapped(wrapper, key),
                 None => {
                     check_free(first)?;
@@ -279,7 +277,7 @@ fn check_key(key: &str, holder: Holder<'_>) -> Result<(), JsonReason>
     ensures others { IfErr result (λ reason. LeavesOpen reason ⊎ ¬ MayBeIn holder.entry key.now) }
 {
     match holder {
-        Holder::Document => match Wrapper::of_key(key) {
+        Holder::Document => match wrapper_of_key(key) {
             Some(wrapper) => Err(JsonReason::Malformed(wrapper)),
             None => check_free(key),
         },

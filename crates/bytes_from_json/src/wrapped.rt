@@ -1,21 +1,21 @@
 //! The values of wrappers, each behind its first key, as bytes of the document.
 #![tactic(auto, using(crate::proofs::Left::one_taken, crate::proofs::Left::some_taken, crate::proofs::Left::leaf_less, crate::proofs::Keeps::only_open))]
 
-ghost use Rattle.std.specs.Prelude.{◌≡◌, ◌≤◌, ◌⊎◌, ◌∷◌, [], IfErr, OnOk, codes};
+ghost use Rattle.std.specs.Prelude.{◌≤◌, ◌⊎◌, ◌∷◌, [], IfErr, OnOk, codes};
 ghost use Rattle.json.specs.Token.{begin_object, key as key_token, string};
-ghost use Rattle.bytes_from_json.specs.Ends.{KeepsValue, LacksLeaf, LacksValue};
+ghost use Rattle.bytes_from_json.specs.Ends.{KeepsValue, LacksValue};
 ghost use Rattle.bytes_from_json.specs.Left.{left_of};
 ghost use Rattle.bytes_from_json.specs.Texts.{LeavesOpen};
-ghost use Rattle.bytes_from_json.specs.Levels.{TakesLeaf, TakesValue, wrapper_key};
+ghost use Rattle.bytes_from_json.specs.Levels.{TakesLeaf, TakesValue};
+ghost use Rattle.values_from_json.specs.Keys.{wrapper_key};
+ghost use Rattle.values_from_json.specs.Taken.{LacksLeaf};
 
-use crate::error::JsonReason;
-use crate::fault::Wanted;
 use crate::levels::Holder;
 use crate::reading::Reader;
-use crate::wrapper::Wrapper;
 use bson_model::{BinarySubtype, DateTime, Decimal128, DoubleBits, ObjectId, Regex, Timestamp};
 use json::Token;
 use raw_view::{RawBinaryRef, RawBsonRef, RawDbPointerRef, RawRegexRef};
+use values_from_json::{JsonReason, Wanted, Wrapper};
 
 impl Reader<'_> {
     /// Takes the value of a wrapper and its brace, or the beginning of one that is a level, and puts it under a key.

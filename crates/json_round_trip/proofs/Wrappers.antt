@@ -7,7 +7,7 @@ use Rattle.json.specs.Json as json
 use Rattle.bson_model.specs.Leaf.{Leaf, javascript_code, max_key, min_key, symbol, undefined}
 use Rattle.bson_model.specs.Tree.{Tree, leaf}
 use Rattle.bson_from_json.specs.DecimalTexts.{IsQuotedDecimal}
-use Rattle.bson_from_json.specs.Levels.{wrapper_key}
+use Rattle.bson_from_json.specs.Keys.{wrapper_key}
 use Rattle.bson_from_json.specs.Meaning.{Means, WrapsOne, WrapsScope, has_wrapper_key, is_wrapper_key}
 use Rattle.bson_from_json.specs.Numbers.{IsQuotedDouble, IsQuotedInt32, IsQuotedInt64}
 use Rattle.bson_from_json.specs.Wrapped.{InString, IsBinary, IsDate, IsDbPointer, IsOid, IsRegex, IsTimestamp, IsUuid, IsWrapped, one_member}

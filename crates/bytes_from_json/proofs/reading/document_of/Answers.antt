@@ -1,6 +1,6 @@
 use Rattle.std.proofs.Common.{◌⊎◌, ◌∙◌, inl, subst, sym}
 use Rattle.bytes_from_json.specs.Texts.{LeavesOpen, SaysNone}
-use Rattle.bytes_from_json.specs.declared.error.JsonReason.{JsonReason}
+use Rattle.values_from_json.specs.declared.error.JsonReason.{JsonReason}
 use Rattle.bytes_from_json.proofs.Keeps.{none_said, or_open}
 use Rattle.bytes_from_json.proofs.Moments.{written}
 use Rattle.bytes_from_json.proofs.reading.document_of.Goals.{in-Err-outcome, in-Ok-outcome+in-Err-finish}
@@ -17,4 +17,4 @@ returns-clause-none c =
           (or_open _ (λ none. none_said text none (c.new-2.ensures ∙ c.in-Ok.ensures.ok)) w.in-Err-outcome.ensures.none)
       | in-Ok-outcome+in-Err-finish w ↦ subst (λ (x : JsonReason). LeavesOpen x ⊎ SaysNone text) (sym w.reason-is) (inl w.in-Err-finish.ensures.reason)
     ] in
-    subst (λ (x : JsonReason). LeavesOpen x ⊎ SaysNone text) (sym c.at-2.ensures.reason) told
+    subst (λ (x : JsonReason). LeavesOpen x ⊎ SaysNone text) (sym c.error_at-2.ensures.reason) told

@@ -1,7 +1,7 @@
 use Rattle.std.proofs.Common.{◌≡◌, ◌∙◌, refl, rules}
 use Rattle.bytes_from_json.specs.declared.levels.Holder.TheVariants as holder
 use Rattle.bytes_from_json.proofs.Moments.{code_closed, on_ok, plain_closed, scope_closed}
-use Rattle.bytes_from_json.specs.declared.error.JsonReason.TheVariants.{Unsound}
+use Rattle.values_from_json.specs.declared.error.JsonReason.TheVariants.{Unsound}
 use Rattle.bytes_from_json.proofs.Keeps.{code_keeps, lacks_on, no_code_behind, no_scope_end, one_open, on_err, plain_keeps, scope_keeps}
 use Rattle.bytes_from_json.proofs.reading.Reader.close.Goals as goal
 

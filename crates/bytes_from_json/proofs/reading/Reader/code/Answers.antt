@@ -1,6 +1,6 @@
 use Rattle.std.proofs.Common.{◌≡◌, ◌∙◌, ◌∷◌, List, ap, refl, sym, rules, codes}
 use Rattle.json.specs.Token.{Token}
-use Rattle.bytes_from_json.specs.declared.source.Source.{Source}
+use Rattle.values_from_json.specs.declared.source.Source.{Source}
 use Rattle.bytes_from_json.proofs.Moments.{code_put, on_ok}
 use Rattle.bytes_from_json.proofs.Keeps.{code_behind, lacks, no_code, no_code_token, put_keeps}
 use Rattle.bytes_from_json.proofs.Keeps.{no_such_scope, or_lacks}

@@ -3,7 +3,7 @@ use Rattle.bytes_from_json.specs.Levels.{array_level}
 use Rattle.bytes_from_json.proofs.Moments.{end_taken, item_taken, on_ok}
 use Rattle.bytes_from_json.proofs.Keeps.{array_end_keeps, item_keeps, lacks, no_array_end, no_item, no_item_token, or_lacks}
 use Rattle.json.specs.Token.{Token}
-use Rattle.bytes_from_json.specs.Taken.{LacksToken}
+use Rattle.values_from_json.specs.Taken.{LacksToken}
 use Rattle.bytes_from_json.proofs.Keeps.{no_such_value}
 use Rattle.bytes_from_json.proofs.reading.Reader.item.Goals as goal
 

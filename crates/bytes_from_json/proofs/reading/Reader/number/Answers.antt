@@ -1,7 +1,7 @@
 use Rattle.std.proofs.Common.{inr, refl, rules}
 use Rattle.bson_model.specs.Leaf.{double}
-use Rattle.bytes_from_json.proofs.Moments.{on_ok}
-use Rattle.bytes_from_json.proofs.Plain.{int32_put, int64_put, no_double}
+use Rattle.bytes_from_json.proofs.Moments.{on_ok, int32_put, int64_put}
+use Rattle.values_from_json.proofs.Face.{no_double}
 use Rattle.bytes_from_json.proofs.reading.Reader.number.Goals as goal
 
 pub returns-in-Some-clause-puts : goal.returns-in-Some-clause-puts

@@ -1,10 +1,10 @@
 use Rattle.std.proofs.Common.{◌≡◌, ◌∷◌, false, refl, rules}
 use Rattle.json.specs.Token.{Token}
-use Rattle.bytes_from_json.specs.Meaning.{is_wrapper_key}
+use Rattle.values_from_json.specs.Meaning.{is_wrapper_key}
 use Rattle.bytes_from_json.proofs.Moments.{begun_opened, empty_put, on_ok, on_ok_two}
 use Rattle.bytes_from_json.specs.declared.levels.Holder.TheVariants as holder
 use Rattle.bytes_from_json.proofs.Keeps.{begun_behind, empty_behind, lacks, no_first, open_keeps, put_keeps}
-use Rattle.bytes_from_json.specs.Levels.{wrapper_key}
+use Rattle.values_from_json.specs.Keys.{wrapper_key}
 use Rattle.bytes_from_json.proofs.Keeps.{no_wrapped, or_lacks}
 use Rattle.bytes_from_json.proofs.reading.Reader.object.Goals as goal
 

@@ -1,7 +1,7 @@
 use Rattle.std.proofs.Common.{refl, rules}
-use Rattle.bytes_from_json.specs.declared.wrapper.Wrapper.TheVariants as wrapper
-use Rattle.bytes_from_json.proofs.Moments.{leaf_taken, on_ok, puts_as, takes_oid}
-use Rattle.bytes_from_json.proofs.NoLeaf.{no_oid}
+use Rattle.values_from_json.specs.declared.wrapper.Wrapper.TheVariants as wrapper
+use Rattle.bytes_from_json.proofs.Moments.{leaf_taken, on_ok, puts_as}
+use Rattle.values_from_json.proofs.Face.{no_oid, takes_oid}
 use Rattle.bytes_from_json.proofs.Keeps.{lacks}
 use Rattle.bytes_from_json.proofs.reading.Reader.oid.Goals as goal
 

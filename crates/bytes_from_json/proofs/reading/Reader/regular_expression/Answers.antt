@@ -1,10 +1,10 @@
 use Rattle.std.proofs.Common.{refl, rules}
-use Rattle.bytes_from_json.specs.declared.wrapper.Wrapper.TheVariants as wrapper
-use Rattle.bytes_from_json.proofs.Moments.{leaf_taken, on_ok, puts_as, takes_regex}
+use Rattle.values_from_json.specs.declared.wrapper.Wrapper.TheVariants as wrapper
+use Rattle.bytes_from_json.proofs.Moments.{leaf_taken, on_ok, puts_as}
+use Rattle.values_from_json.proofs.Face.{no_regex, takes_regex}
 use Rattle.std.proofs.lemmas.Result.{err_from_is_err_and}
-use Rattle.bytes_from_json.specs.declared.error.JsonReason.TheVariants.{InteriorNul}
+use Rattle.values_from_json.specs.declared.error.JsonReason.TheVariants.{InteriorNul}
 use Rattle.bytes_from_json.proofs.Keeps.{one_open}
-use Rattle.bytes_from_json.proofs.NoLeaf.{no_regex}
 use Rattle.bytes_from_json.proofs.reading.Reader.regular_expression.Goals as goal
 
 pub returns-clause-some : goal.returns-clause-some

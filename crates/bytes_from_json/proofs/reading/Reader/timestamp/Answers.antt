@@ -1,7 +1,7 @@
 use Rattle.std.proofs.Common.{refl, rules}
 use Rattle.bytes_from_json.proofs.Moments.{leaf_taken, on_ok, puts_as}
-use Rattle.bytes_from_json.specs.declared.wrapper.Wrapper.TheVariants as wrapper
-use Rattle.bytes_from_json.proofs.Ends.{none_wrapped}
+use Rattle.values_from_json.specs.declared.wrapper.Wrapper.TheVariants as wrapper
+use Rattle.values_from_json.proofs.Face.{none_wrapped}
 use Rattle.bytes_from_json.proofs.Keeps.{lacks}
 use Rattle.bytes_from_json.proofs.reading.Reader.timestamp.Goals as goal
 

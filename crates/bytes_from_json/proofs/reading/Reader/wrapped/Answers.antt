@@ -3,7 +3,7 @@ use Rattle.bytes_from_json.proofs.Left.{leaf_less, one_taken}
 use Rattle.bytes_from_json.proofs.Moments.{on_ok, wrapped_put}
 use Rattle.std.proofs.lemmas.Result.{err_from_is_err_and}
 use Rattle.bytes_from_json.proofs.Keeps.{lacks_on, no_leaf, no_wrapper_end, or_open, wrapped_keeps}
-use Rattle.bytes_from_json.specs.declared.wrapper.Wrapper.TheVariants as wrapper
+use Rattle.values_from_json.specs.declared.wrapper.Wrapper.TheVariants as wrapper
 use Rattle.bytes_from_json.proofs.Keeps.{or_lacks, wrapped_as}
 use Rattle.bytes_from_json.proofs.reading.Reader.wrapped.Goals as goal
 

@@ -1,8 +1,0 @@
-use Rattle.std.proofs.Common.{◌∙◌}
-use Rattle.std.proofs.lemmas.Bool.{false≢true}
-use Rattle.bytes_from_json.proofs.Uuids.{at_36, none_of}
-use Rattle.bytes_from_json.proofs.leaves.uuid_of.Goals as goal
-
--- what the kit's reader refuses has no form at all
-pub returns-in-Err : goal.returns-in-Err
-returns-in-Err c = none_of _ (λ b is. false≢true (c.in-Err.ensures.ok.1 (b, at_36 _ c.if-text-ne36.false ∙ is)))

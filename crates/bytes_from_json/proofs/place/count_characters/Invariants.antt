@@ -1,6 +1,0 @@
-use Rattle.std.proofs.Common.{◌≡◌, take}
-use Rattle.bytes_from_json.specs.Place.{characters}
-use Rattle.bytes_from_json.proofs.place.count_characters.Given as goal
-
-abbrev pub invariant-loop-byte : goal.invariant-loop-byte
-invariant-loop-byte l = l.count ≡ characters (take l.byte-index l.text)

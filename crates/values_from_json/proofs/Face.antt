@@ -1,0 +1,8 @@
+-- The lemmas of this crate that crates above may cite; they cite no other.
+
+-- the keys of wrappers, and what those write that hold no others
+pub use Rattle.values_from_json.proofs.Wrappers.{Writes, is_of_wrapper, named, none_wrapped, wrapped, wrapped_key, writes}
+-- values from the tokens that were taken, and tokens that begin with none
+pub use Rattle.values_from_json.proofs.Takes.{takes_oid, takes_regex, takes_symbol}
+pub use Rattle.values_from_json.proofs.NoLeaf.{no_max_key, no_min_key, no_oid, no_regex, no_symbol, no_undefined}
+pub use Rattle.values_from_json.proofs.Plain.{no_double}

@@ -1,0 +1,12 @@
+mod Integers
+mod Uuids
+mod Times
+mod Takes
+mod Keys
+mod Decimals
+mod Only
+mod Lacks
+mod Plain
+mod Wrappers
+mod NoLeaf
+pub mod Face

@@ -1,0 +1,10 @@
+pub mod Place
+pub mod Reasons
+pub mod Numbers
+pub mod DecimalTexts
+pub mod Digits
+pub mod Times
+pub mod Wrapped
+pub mod Meaning
+pub mod Keys
+pub mod Taken

@@ -1,0 +1,47 @@
+-- What was taken from the tokens of a text.
+use Rattle.std.specs.Prelude.{◌≡◌, ◌⊎◌, [], ◌∷◌, ◌++◌, ℕ, List, codes}
+use Rattle.bson_model.specs.Leaf.{Leaf}
+use Rattle.json.specs.Json.{Json, Members, object, string}
+use Rattle.json.specs.Token.{Token, bad}
+use Rattle.json.specs.Tree.{json_tokens}
+use Rattle.values_from_json.specs.Wrapped.{AreTwo, IsWrapped, one_member}
+
+-- one token
+abbrev pub TakesToken : List Token → List Token → Token → Type 0
+TakesToken old new token = old ≡ token ∷ new
+
+-- the tokens of a JSON value that writes this value
+abbrev pub Takes : (Json → Leaf → Type 0) → List Token → List Token → Leaf → Type 0
+Takes Writes old new l = (j : Json) × (old ≡ json_tokens j ++ new) × Writes j l
+
+-- the tokens of an object of two members in either order
+abbrev pub TakesTwo : List Token → List Token → List ℕ → Json → List ℕ → Json → Type 0
+TakesTwo old new key j key' j' = (ms : Members) × (old ≡ json_tokens (object ms) ++ new) × AreTwo key j key' j' ms
+
+-- no token is there that JSON has
+abbrev pub NoToken : List Token → Type 0
+NoToken ts = (ts ≡ []) ⊎ ((rest : List Token) × (ts ≡ bad ∷ rest))
+
+-- this token isn't the first
+abbrev pub LacksToken : List Token → Token → Type 0
+LacksToken ts token = (rest : List Token) → ¬ TakesToken ts rest token
+
+-- this JSON value isn't
+abbrev pub LacksJson : List Token → Json → Type 0
+LacksJson ts j = (rest : List Token) → ¬ (ts ≡ json_tokens j ++ rest)
+
+-- no JSON value that writes a value is the first
+abbrev pub TakesNone : (Json → Leaf → Type 0) → List Token → Type 0
+TakesNone Writes ts = (j : Json) (l : Leaf) → Writes j l → LacksJson ts j
+
+-- nor an object of these two members, in either order
+abbrev pub TakesNoTwo : List Token → List ℕ → Json → List ℕ → Json → Type 0
+TakesNoTwo ts key j key' j' = (ms : Members) → AreTwo key j key' j' ms → LacksJson ts (object ms)
+
+-- no value of a wrapper with this key is next
+pub record LacksLeaf (wrapper : List ℕ) (ts : List Token) : Type 0 where
+  pub none : TakesNone (IsWrapped wrapper) ts
+
+-- {"$oid": digits}
+abbrev pub pointed : List ℕ → Json
+pointed digits = object (one_member (codes "$oid") (string digits))
