@@ -27,6 +27,7 @@ documents = {
     "boolean": "09000000 08 6100 02 00",
     "both": "17000000 10 6100 01000000 10 6100 02000000 08 6200 02 00",
     "key": "0b000000 08 0a225c00 02 00",
+    "obeyed": "18000000 02 7fc29b316d00 08000000 c280c29fc2a01f00 00",
     "stop": "06000000 10 00",
     "tag": "08000000 20 6100 00",
     "past": "45000000 02 6100 39100000 " + 57 * "78" + " 00",
@@ -619,6 +620,24 @@ wants '"key":0: 11 bytes: damaged at /0:"\n\"\\", byte 4: a boolean is neither 0
   "\n\"\\": Boolean, damaged: a boolean is neither 0 nor 1: 2
 '
 run 'a key with a newline, listed' 1 list key
+wants '"obeyed":0: 24 bytes
+  "\u007f\u009b1m": String, 7 bytes: "\u0080\u009f'"$(printf '\302\240')"'\u001f"
+'
+run 'characters that a terminal obeys, listed' 0 list obeyed
+csi=$(printf '\177\302\233')
+cp key "$csi"
+wants '"\u007f\u009b":0: damaged at /0:"\n\"\\", byte 4: a boolean is neither 0 nor 1: 2
+'"$(one '\u007f\u009b' 1 11 0 1 0 0 0 0)"'
+'
+run 'a name that a terminal obeys' 1 check "$csi"
+wants '{"file":"'"$csi"'","offset":0,"finding":"damaged","path":[0],"keys":["\n\"\\"],"byte":4,"reason":"a boolean is neither 0 nor 1","number":2}
+'"$(one_json "$csi" 1 11 0 1 0 0 0 0)"'
+'
+run 'a name that a terminal obeys, for programs' 1 check --json "$csi"
+wants '{"'"$(printf '\177\302\233')"'1m":"'"$(printf '\302\200\302\237\302\240')"'\u001f"}
+' "$(wrote 1 24 1 0 0 0 0 0 0)
+"
+run 'characters that a terminal obeys, as JSON' 0 json obeyed
 (ulimit -s 256 && "$program" list levels501) 2>err | tail -n 1 >out
 printf '%1000stoo deep\n' '' | sed 's/^/  /' >wanted.out
 : >wanted.err

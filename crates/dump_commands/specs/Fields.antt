@@ -1,7 +1,7 @@
 -- What the elements of documents have under each path, and how that is printed.
 use Rattle.std.specs.Prelude.{⊤, ◌≡◌, ◌⊎◌, ◌+◌, ◌-◌, ◌≤◌, ℕ, List, [], ◌∷◌, ◌++◌, Bool, false, Option, None, Some, bytes_eq, codes, cond, decimal, drop, flat_map, fold, get_or, length, map, max, nat_eq, nat_lt, position, replicate, set, take}
 use Rattle.std.specs.List.{AllByRecursion}
-use Rattle.json.specs.Print.{quoted}
+use Rattle.dump_lines.specs.Quoting.{quoted}
 use Rattle.raw_form.specs.Tokens.{HasTokens}
 use Rattle.raw_form.specs.declared.token.Token.{Token}
 use Rattle.raw_tree.specs.declared.reader.limits.Limits.{Limits}

@@ -2,7 +2,7 @@
 -- envelope.
 use Rattle.std.specs.Prelude.{◌≡◌, ◌⊎◌, ◌*◌, ◌+◌, ℕ, suc, zero, List, [], ◌∷◌, ◌++◌, Option, None, Some, Ok, Err, codes, drop, replicate}
 use Rattle.std.specs.Option.{option_copied}
-use Rattle.json.specs.Print.{quoted}
+use Rattle.dump_lines.specs.Quoting.{quoted}
 use Rattle.raw_view.specs.Frame.Envelope.{IsEnvelope, Refuses}
 use Rattle.raw_view.specs.Errors.{IsReadingKind, SaysFault}
 use Rattle.raw_view.specs.Frame.{Frame, IsFrame, IsStop, IsWalk, LeadsTo, Fault, End, Done, Stopped}

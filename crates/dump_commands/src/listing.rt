@@ -3,20 +3,21 @@
 
 ghost use Rattle.std.specs.Prelude.{◌≡◌, ◌*◌, ◌<◌, ◌^◌, ◌∷◌, [], ◌++◌, ℕ, List, Some, codes, drop, replicate, IfErr, IfOk, OnErr, OnOk};
 ghost use Rattle.std.specs.Io.KnownBytes.{Appends};
-ghost use Rattle.json.specs.Print.{quoted};
 ghost use Rattle.raw_view.specs.Document.{bytes_of};
 ghost use Rattle.raw_view.specs.Frame.ElementSteps.{frame_of};
 ghost use Rattle.raw_view.specs.Frame.Kind.{kind_text};
 ghost use Rattle.raw_view.specs.Meaning.Value.{value_of};
 ghost use Rattle.dump_lines.specs.Find as find;
+ghost use Rattle.dump_lines.specs.Quoting.{quoted};
 ghost use Rattle.dump_commands.specs.Listing.{indented, HasLinesFront, Lists, ListsNext, TellsElement, TellsStop};
 ghost use Rattle.dump_commands.specs.Listing as says;
 ghost use Rattle.dump_lines.specs.Failing.{IsReading};
 ghost use Rattle.dump_lines.specs.Values.{ShowsValue};
 
 use dump_lines::failure::Failure;
+use dump_lines::quote::push_quoted;
 use dump_lines::reason::kind_of;
-use dump_lines::text::{push_quoted, push_why, push_words};
+use dump_lines::text::{push_why, push_words};
 use dump_lines::value::{push_kind, push_value};
 use dump_lines::write::put;
 use raw_view::{BorrowedError, Elements, RawBsonRef, RawDocument, RawElement, RawLevel};
@@ -124,18 +125,13 @@ fn begin(depth: usize, line: &mut Vec<u8>) -> Result<(), AllocError>
 }
 
 /// Begins the line of an element: spaces, the key in quotes, and a colon.
-fn begin_element(
-    alloc: Global,
-    depth: usize,
-    key: &str,
-    line: &mut Vec<u8>,
-) -> Result<(), AllocError>
+fn begin_element(depth: usize, key: &str, line: &mut Vec<u8>) -> Result<(), AllocError>
     requires { depth < 2 ^ 32 }
     ensures { OnOk result
         (line.new.items ≡ replicate (2 * depth) 32 ++ (quoted key.now ++ codes ": ")) }
 {
     begin(depth, line)?;
-    push_quoted(alloc, line, key)?;
+    push_quoted(line, key)?;
     push_words(line, ": ")
 }
 
@@ -168,7 +164,7 @@ fn stop_line(
     ensures { OnOk result (TellsStop depth error.now line.new.items) }
 {
     match error.key {
-        Some(key) => begin_element(alloc, depth, key, line)?,
+        Some(key) => begin_element(depth, key, line)?,
         None => begin(depth, line)?,
     }
     push_fault(line, error)?;
@@ -209,7 +205,7 @@ fn value_line(
     ensures { OnOk result ((shown : List ℕ) × ShowsValue (value_of value.entry) shown
         × (line.new.items ≡ says.element_line depth key.now shown)) }
 {
-    begin_element(alloc, depth, key, line)?;
+    begin_element(depth, key, line)?;
     push_value(alloc, line, value)?;
     push_words(line, "\n")
 }
@@ -226,7 +222,7 @@ fn fault_line(
     ensures { OnOk result (line.new.items
         ≡ says.element_line depth (frame_of element.entry).key (kind_text (frame_of element.entry).kind ++ codes ", " ++ (codes "damaged: " ++ find.kind_text error.now.kind))) }
 {
-    begin_element(alloc, depth, element.key(), line)?;
+    begin_element(depth, element.key(), line)?;
     push_kind(line, element.element_type())?;
     push_words(line, ", ")?;
     push_fault(line, error)?;

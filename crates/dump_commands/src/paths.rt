@@ -9,7 +9,8 @@ ghost use Rattle.dump_lines.specs.Origins.{origin_of};
 
 use dump_lines::failure::{Failure, in_range};
 use dump_lines::origin::Origin;
-use dump_lines::text::{push_number, push_words, quotation};
+use dump_lines::quote::push_quoted;
+use dump_lines::text::{push_number, push_words};
 use dump_lines::value::push_kind;
 use indexmap::IndexSet;
 use raw_view::ElementType;
@@ -227,7 +228,7 @@ impl<'a> Paths<'a> {
         ensures failed { IfErr result (λ failure. ¬ IsReading failure) }
     {
         let mut text = Vec::new(alloc);
-        self.push_rows(alloc, &mut text)?;
+        self.push_rows(&mut text)?;
         push_words(&mut text, "paths: ")?;
         push_number(&mut text, self.texts.len() as u64)?;
         push_words(&mut text, ", elements left out: ")?;
@@ -243,7 +244,7 @@ impl<'a> Paths<'a> {
         self.texts.len().min(self.firsts.len()).min(self.rows.len())
     }
 
-    fn push_rows(&self, alloc: Global, text: &mut Vec<u8>) -> Result<(), Failure>
+    fn push_rows(&self, text: &mut Vec<u8>) -> Result<(), Failure>
         ensures lines { OnOk result (text.new.items ≡ text.old.items
             ++ rows_text (table_of self.now).paths (table_of self.now).firsts (table_of self.now).rows) }
         ensures failed { IfErr result (λ failure. ¬ IsReading failure) }
@@ -253,7 +254,7 @@ impl<'a> Paths<'a> {
         for number in 0..count {
             let first = self.firsts[number];
             let row = self.rows[number];
-            push_row(alloc, text, &paths[number], first, &row)?;
+            push_row(text, &paths[number], first, &row)?;
         }
         Ok(())
     }
@@ -325,24 +326,18 @@ fn push_kind_count(text: &mut Vec<u8>, row: &Row, kind: ElementType) -> Result<(
 }
 
 /// Behind the text, the line of a path. One that isn't UTF-8, which no element of a sound document has, counts as out of memory.
-fn push_row(
-    alloc: Global,
-    text: &mut Vec<u8>,
-    path: &[u8],
-    first: Origin<'_>,
-    row: &Row,
-) -> Result<(), Failure>
+fn push_row(text: &mut Vec<u8>, path: &[u8], first: Origin<'_>, row: &Row) -> Result<(), Failure>
     ensures line { OnOk result (text.new.items ≡ text.old.items ++ row_line path.now (origin_of first.entry) row.now) }
     ensures failed { IfErr result (λ failure. ¬ IsReading failure) }
 {
     let Ok(path) = str::from_utf8(path) else {
         return Err(Failure::Memory);
     };
-    text.extend_from_slice(&quotation(alloc, path)?)?;
+    push_quoted(text, path)?;
     push_words(text, ": ")?;
     push_kinds(text, row)?;
     push_numbers(text, row)?;
-    push_first(alloc, text, first)?;
+    push_first(text, first)?;
     Ok(())
 }
 
@@ -359,11 +354,11 @@ fn push_numbers(text: &mut Vec<u8>, row: &Row) -> Result<(), AllocError>
 
 /// Behind the text, where the first document begins that has a path.
 #[tactic(auto, unfolding(crate::specs::Fields::first_text))]
-fn push_first(alloc: Global, text: &mut Vec<u8>, first: Origin<'_>) -> Result<(), AllocError>
+fn push_first(text: &mut Vec<u8>, first: Origin<'_>) -> Result<(), AllocError>
     ensures { OnOk result (text.new.items ≡ text.old.items ++ first_text (origin_of first.entry)) }
 {
     push_words(text, ", first: ")?;
-    text.extend_from_slice(&quotation(alloc, first.name)?)?;
+    push_quoted(text, first.name)?;
     push_words(text, ":")?;
     push_number(text, first.offset)?;
     push_words(text, "\n")

@@ -10,7 +10,8 @@ ghost use Rattle.dump_lines.specs.declared.style.Style.TheVariants.{Json, Words}
 use crate::command::Command;
 use crate::counts::Counts;
 use dump_lines::object::{begun, ended, put_number, put_text};
-use dump_lines::text::{push_number, push_words, quotation};
+use dump_lines::quote::push_quoted;
+use dump_lines::text::{push_number, push_words};
 use json::Writer;
 use std::alloc::{AllocError, Global};
 
@@ -158,13 +159,13 @@ fn push_counts(text: &mut Vec<u8>, counts: &[Count]) -> Result<(), AllocError>
     Ok(())
 }
 
-fn push_name(alloc: Global, text: &mut Vec<u8>, name: Option<&str>) -> Result<(), AllocError>
+fn push_name(text: &mut Vec<u8>, name: Option<&str>) -> Result<(), AllocError>
     ensures { OnOk result
         (text.new.items ≡ text.old.items ++ name_text (option_copied name.entry)) }
 {
     match name {
         Some(name) => {
-            text.extend_from_slice(&quotation(alloc, name)?)?;
+            push_quoted(text, name)?;
             push_words(text, ": ")
         }
         None => Ok(()),
@@ -183,7 +184,7 @@ pub fn summary(
     ensures { IfOk result (λ text. text.items ≡ summary_line Words (option_copied name.entry) limit command.entry counts.now kept) }
 {
     let mut text = Vec::new(alloc);
-    push_name(alloc, &mut text, name)?;
+    push_name(&mut text, name)?;
     push_count(&mut text, "documents", counts.documents)?;
     push_counts(&mut text, &counted(alloc, limit, command, counts, kept)?)?;
     push_words(&mut text, "\n")?;

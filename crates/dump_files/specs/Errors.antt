@@ -1,6 +1,6 @@
 -- What standard error is told, a line each.
 use Rattle.std.specs.Prelude.{ℕ, List, [], ◌++◌, Option, None, Some, codes, cond, decimal}
-use Rattle.json.specs.Print.{quoted}
+use Rattle.dump_lines.specs.Quoting.{quoted}
 use Rattle.dump_lines.specs.Told.{object_line, error_members}
 use Rattle.dump_input.specs.declared.done.Lack.{Lack}
 use Rattle.dump_input.specs.declared.done.Lack.TheVariants as lack

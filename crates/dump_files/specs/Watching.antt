@@ -1,6 +1,6 @@
 -- Readers that are looked at while they are read.
 use Rattle.std.specs.Prelude.{◌≡◌, ◌^◌, ◌∷◌, ◌++◌, ℕ, List, [], None, codes}
-use Rattle.json.specs.Print.{quoted}
+use Rattle.dump_lines.specs.Quoting.{quoted}
 use Rattle.dump_files.specs.declared.watch.About.{About}
 use Rattle.dump_files.specs.declared.watch.Watched.{Watched}
 

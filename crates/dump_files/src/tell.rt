@@ -8,8 +8,9 @@ ghost use Rattle.dump_lines.specs.declared.style.Style.TheVariants.{Json, Words}
 use dump_input::done::Lack;
 use dump_lines::failure::Failure;
 use dump_lines::object::error_object;
+use dump_lines::quote::{push_quoted, quotation};
 use dump_lines::style::Style;
-use dump_lines::text::{push_number, push_quoted, push_words, quotation};
+use dump_lines::text::{push_number, push_words};
 use std::alloc::{AllocError, Global};
 use std::io;
 use std::io::Write;
@@ -55,7 +56,7 @@ fn words_of(alloc: Global, name: &str, at: Option<u64>, text: &str) -> Result<Ve
     ensures { IfOk result (λ line. line.items ≡ error_line Words name.now at text.now) }
 {
     let mut line = Vec::from_slice(alloc, b"bsonraw-dump: ")?;
-    push_quoted(alloc, &mut line, name)?;
+    push_quoted(&mut line, name)?;
     push_place(&mut line, at)?;
     push_words(&mut line, ": ")?;
     push_words(&mut line, text)?;
@@ -113,18 +114,18 @@ fn lack_words_of(
 {
     let mut line = quotation(alloc, name)?;
     push_words(&mut line, ": not written: ")?;
-    push_input(alloc, &mut line, lack)?;
+    push_input(&mut line, lack)?;
     push_words(&mut line, why(way_on, lack))?;
     push_words(&mut line, "\n")?;
     Ok(line)
 }
 
 /// Behind the text, the input for which a file isn't written, in quotes.
-fn push_input(alloc: Global, line: &mut Vec<u8>, lack: &Lack<'_>) -> Result<(), AllocError>
+fn push_input(line: &mut Vec<u8>, lack: &Lack<'_>) -> Result<(), AllocError>
     ensures { OnOk result (line.new.items ≡ line.old.items ++ input_words lack.now) }
 {
     match lack {
-        Lack::Cut(cut) => push_quoted(alloc, line, cut.name),
+        Lack::Cut(cut) => push_quoted(line, cut.name),
         Lack::Failed(_) => Ok(()),
     }
 }

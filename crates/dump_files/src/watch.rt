@@ -9,8 +9,9 @@ ghost use Rattle.dump_files.specs.Watching.{IsUnread, progress_line};
 
 use crate::guess::{hint, text_hint};
 use crate::tell::tell;
+use dump_lines::quote::push_quoted;
 use dump_lines::style::Style;
-use dump_lines::text::{push_quoted, push_words};
+use dump_lines::text::push_words;
 use std::alloc::{AllocError, Global};
 use std::io;
 use std::io::{Read, Write};
@@ -146,7 +147,7 @@ fn line_of(alloc: Global, name: &str, words: &str) -> Result<Vec<u8>, AllocError
     ensures { IfOk result (λ line. line.items ≡ progress_line name.now words.now) }
 {
     let mut line = Vec::from_slice(alloc, b"\x1b[K")?;
-    push_quoted(alloc, &mut line, name)?;
+    push_quoted(&mut line, name)?;
     push_words(&mut line, ": ")?;
     push_words(&mut line, words)?;
     push_words(&mut line, "\r")?;

@@ -2,4 +2,5 @@ pub mod Cases
 pub mod Fronts
 pub mod Objects
 mod Naming
+mod Quoted
 pub mod Face

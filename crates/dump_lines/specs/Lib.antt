@@ -1,4 +1,5 @@
 pub mod Find
+pub mod Quoting
 pub mod Told
 pub mod Origins
 pub mod Values

@@ -1,11 +1,12 @@
 -- How what is told is printed: in words, as an object of JSON, or not at all.
 use Rattle.std.specs.Prelude.{◌≡◌, ℕ, List, [], ◌∷◌, ◌++◌, ◌-◌, Option, None, Some, codes, decimal, cond, drop, flat_map, length, map, nat_lt, suc, take, zero}
-use Rattle.json.specs.Print.{print, quoted}
+use Rattle.json.specs.Print.{print}
 use Rattle.json.specs.Token.{Token, begin_object, end_object, begin_array, end_array, key, string, number, null}
 use Rattle.json.specs.Written.{Written}
 use Rattle.raw_tree.specs.Places.{Step}
 use Rattle.dump_lines.specs.Find.{Account, Explanation, Spot, explanation_text}
 use Rattle.dump_lines.specs.Origins.{Origin, Repeat}
+use Rattle.dump_lines.specs.Quoting.{quoted}
 use Rattle.dump_lines.specs.declared.style.Style.{Style}
 use Rattle.dump_lines.specs.declared.style.Style.TheVariants as style
 

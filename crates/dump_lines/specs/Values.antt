@@ -4,12 +4,12 @@ use Rattle.std.specs.Fmt.{signed_decimal}
 use Rattle.std.specs.Float.{binary64}
 use Rattle.ryu.specs.Parse.{parse_float}
 use Rattle.hex.specs.Hex.{encode_lower}
-use Rattle.json.specs.Print.{quoted}
 use Rattle.bson_model.specs.Leaf.{Leaf, double, string, binary, undefined, object_id, boolean, date_time, null, regular_expression, db_pointer, javascript_code, symbol, int32, timestamp, int64, decimal128, max_key, min_key}
 use Rattle.bson_model.specs.Subtype.{subtype_byte}
 use Rattle.raw_view.specs.Frame.Kind.{kind_text}
 use Rattle.raw_view.specs.Meaning.{RawValue, kind_of_raw}
 use Rattle.raw_view.specs.Meaning as raw
+use Rattle.dump_lines.specs.Quoting.{quoted}
 
 -- a text or bytes of more than so many bytes aren't shown
 abbrev pub short : ℕ

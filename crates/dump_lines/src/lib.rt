@@ -5,6 +5,7 @@ pub mod failure;
 pub mod find;
 pub mod object;
 pub mod origin;
+pub mod quote;
 pub mod reason;
 pub mod style;
 pub mod text;

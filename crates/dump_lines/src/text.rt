@@ -4,7 +4,6 @@
 ghost use Rattle.std.specs.Prelude.{◌≡◌, ◌++◌, ℕ, List, Some, codes, decimal, IfOk, flat_map, length, map, OnOk};
 ghost use Rattle.std.specs.Fmt.{signed_decimal};
 ghost use Rattle.std.specs.Option.{option_map};
-ghost use Rattle.json.specs.Print.{quoted};
 ghost use Rattle.raw_tree.specs.Barriers.{step_of};
 ghost use Rattle.dump_lines.specs.Find.{account_of, explanation_of, explanation_text, spot_of};
 ghost use Rattle.dump_lines.specs.Told.{first_text, line, path_text, spot_text, step_text, head_text};
@@ -13,34 +12,14 @@ ghost use Rattle.dump_lines.specs.Origins.{origin_of};
 
 use crate::find::Told;
 use crate::origin::Origin;
+use crate::quote::{push_quoted, quotation};
 use crate::reason::Why;
 use itoa::Buffer;
-use json::Writer;
 use raw_tree::{PathStep, Place};
 use std::alloc::{AllocError, Global};
-use std::mem;
 
 /// So many steps are shown of each end of a path that has more than twice as many.
 const SHOWN: usize = 10;
-
-/// A text in quotes, as JSON has it.
-pub fn quotation(alloc: Global, words: &str) -> Result<Vec<u8>, AllocError>
-    ensures { IfOk result (λ text. text.items ≡ quoted words.now) }
-{
-    let mut text = Vec::new(alloc);
-    push_quoted(alloc, &mut text, words)?;
-    Ok(text)
-}
-
-/// Behind the text, another one in quotes.
-pub fn push_quoted(alloc: Global, text: &mut Vec<u8>, words: &str) -> Result<(), AllocError>
-    ensures { OnOk result (text.new.items ≡ text.old.items ++ quoted words.now) }
-{
-    let mut writer = Writer::new(mem::replace(text, Vec::new(alloc)));
-    writer.string(words)?;
-    *text = writer.into_inner();
-    Ok(())
-}
 
 /// Behind the text, a word or more.
 pub fn push_words(text: &mut Vec<u8>, words: &str) -> Result<(), AllocError>
@@ -65,47 +44,47 @@ pub fn push_number(text: &mut Vec<u8>, number: u64) -> Result<(), AllocError>
     text.extend_from_slice(digits.format(number).as_bytes())
 }
 
-fn push_step(alloc: Global, text: &mut Vec<u8>, step: &PathStep<'_>) -> Result<(), AllocError>
+fn push_step(text: &mut Vec<u8>, step: &PathStep<'_>) -> Result<(), AllocError>
     ensures { OnOk result (text.new.items ≡ text.old.items ++ step_text (step_of step.now)) }
 {
     push_words(text, "/")?;
     push_number(text, step.number as u64)?;
     if let Some(key) = step.key {
         push_words(text, ":")?;
-        text.extend_from_slice(&quotation(alloc, key)?)?;
+        push_quoted(text, key)?;
     }
     Ok(())
 }
 
 /// Behind the text, the steps of a path; of a long one those at its ends.
-fn push_path(alloc: Global, text: &mut Vec<u8>, path: &[PathStep<'_>]) -> Result<(), AllocError>
+fn push_path(text: &mut Vec<u8>, path: &[PathStep<'_>]) -> Result<(), AllocError>
     ensures { OnOk result (text.new.items ≡ text.old.items ++ path_text (map step_of path.now)) }
 {
     if path.len() <= 2 * SHOWN {
-        return push_steps(alloc, text, path);
+        return push_steps(text, path);
     }
-    push_steps(alloc, text, &path[..SHOWN])?;
+    push_steps(text, &path[..SHOWN])?;
     push_words(text, "/..")?;
-    push_steps(alloc, text, &path[path.len() - SHOWN..])
+    push_steps(text, &path[path.len() - SHOWN..])
 }
 
-fn push_steps(alloc: Global, text: &mut Vec<u8>, path: &[PathStep<'_>]) -> Result<(), AllocError>
+fn push_steps(text: &mut Vec<u8>, path: &[PathStep<'_>]) -> Result<(), AllocError>
     ensures { OnOk result
         (text.new.items ≡ text.old.items ++ flat_map step_text (map step_of path.now)) }
 {
     for step in path {
-        push_step(alloc, text, step)?;
+        push_step(text, step)?;
     }
     Ok(())
 }
 
 /// Behind the text, a place.
-fn push_place(alloc: Global, text: &mut Vec<u8>, place: &Place<'_>) -> Result<(), AllocError>
+fn push_place(text: &mut Vec<u8>, place: &Place<'_>) -> Result<(), AllocError>
     ensures { OnOk result
         (text.new.items ≡ text.old.items ++ spot_text (Some (spot_of place.now))) }
 {
     push_words(text, " at ")?;
-    push_path(alloc, text, &place.path)?;
+    push_path(text, &place.path)?;
     push_words(text, ", byte ")?;
     push_number(text, place.offset as u64)
 }
@@ -147,7 +126,7 @@ fn words_of(alloc: Global, told: &Told<'_>) -> Result<Vec<u8>, AllocError>
 {
     let mut text = Vec::from_slice(alloc, told.word.as_bytes())?;
     if let Some(place) = &told.place {
-        push_place(alloc, &mut text, place)?;
+        push_place(&mut text, place)?;
     }
     if let Some(why) = told.reason {
         push_words(&mut text, ": ")?;
@@ -187,7 +166,7 @@ fn first_words(alloc: Global, first: Origin<'_>) -> Result<Vec<u8>, AllocError>
 {
     let mut text = Vec::new(alloc);
     push_words(&mut text, "repeats ")?;
-    text.extend_from_slice(&quotation(alloc, first.name)?)?;
+    push_quoted(&mut text, first.name)?;
     push_words(&mut text, ":")?;
     push_number(&mut text, first.offset)?;
     Ok(text)

@@ -4,14 +4,15 @@
 ghost use Rattle.std.specs.Prelude.{◌≡◌, ◌++◌, ℕ, List, codes, decimal, length, OnOk};
 ghost use Rattle.std.specs.Fmt.{signed_decimal};
 ghost use Rattle.hex.specs.Hex.{encode_lower};
-ghost use Rattle.json.specs.Print.{quoted};
 ghost use Rattle.raw_view.specs.Frame.Kind.{kind_text};
 ghost use Rattle.bson_model.specs.Subtype.{subtype_byte};
 ghost use Rattle.raw_view.specs.Document.{bytes_of};
 ghost use Rattle.raw_view.specs.Meaning.Value.{id_of, namespace_of, value_of};
+ghost use Rattle.dump_lines.specs.Quoting.{quoted};
 ghost use Rattle.dump_lines.specs.Values.{ShowsBehind, ShowsDouble, ShowsValue, size_text, sized_text};
 
-use crate::text::{push_number, push_quoted, push_words};
+use crate::quote::push_quoted;
+use crate::text::{push_number, push_words};
 use bson_model::Timestamp;
 use raw_view::{
     ElementType, RawBinaryRef, RawBsonRef, RawDbPointerRef, RawJavaScriptCodeWithScopeRef,
@@ -77,7 +78,7 @@ fn push_behind(alloc: Global, text: &mut Vec<u8>, value: RawBsonRef<'_>) -> Resu
 {
     match value {
         RawBsonRef::Double(number) => push_double(text, number.0),
-        RawBsonRef::String(string) => push_string(alloc, text, string),
+        RawBsonRef::String(string) => push_string(text, string),
         RawBsonRef::Document(document) => push_size(text, document.as_bytes().len()),
         RawBsonRef::Array(array) => push_size(text, array.as_bytes().len()),
         RawBsonRef::Binary(binary) => push_binary(alloc, text, binary),
@@ -85,11 +86,11 @@ fn push_behind(alloc: Global, text: &mut Vec<u8>, value: RawBsonRef<'_>) -> Resu
         RawBsonRef::Boolean(true) => push_words(text, ": true"),
         RawBsonRef::Boolean(false) => push_words(text, ": false"),
         RawBsonRef::DateTime(time) => push_date(text, time.timestamp_millis()),
-        RawBsonRef::RegularExpression(regex) => push_regex(alloc, text, regex),
+        RawBsonRef::RegularExpression(regex) => push_regex(text, regex),
         RawBsonRef::DbPointer(pointer) => push_pointer(alloc, text, pointer),
-        RawBsonRef::JavaScriptCode(code) => push_string(alloc, text, code),
-        RawBsonRef::Symbol(symbol) => push_string(alloc, text, symbol),
-        RawBsonRef::JavaScriptCodeWithScope(code) => push_code(alloc, text, code),
+        RawBsonRef::JavaScriptCode(code) => push_string(text, code),
+        RawBsonRef::Symbol(symbol) => push_string(text, symbol),
+        RawBsonRef::JavaScriptCodeWithScope(code) => push_code(text, code),
         RawBsonRef::Int32(number) => push_signed(text, i64::from(number)),
         RawBsonRef::Timestamp(time) => push_timestamp(text, time),
         RawBsonRef::Int64(number) => push_signed(text, number),
@@ -157,7 +158,7 @@ fn push_size(text: &mut Vec<u8>, size: usize) -> Result<(), AllocError>
     push_words(text, " bytes")
 }
 
-fn push_string(alloc: Global, text: &mut Vec<u8>, string: &str) -> Result<(), AllocError>
+fn push_string(text: &mut Vec<u8>, string: &str) -> Result<(), AllocError>
     ensures { OnOk result
         (text.new.items ≡ text.old.items ++ sized_text string.now (quoted string.now)) }
 {
@@ -166,7 +167,7 @@ fn push_string(alloc: Global, text: &mut Vec<u8>, string: &str) -> Result<(), Al
         return Ok(());
     }
     push_words(text, ": ")?;
-    push_quoted(alloc, text, string)
+    push_quoted(text, string)
 }
 
 fn push_binary(
@@ -186,12 +187,12 @@ fn push_binary(
     push_hex(alloc, text, ": ", binary.bytes)
 }
 
-fn push_regex(alloc: Global, text: &mut Vec<u8>, regex: RawRegexRef<'_>) -> Result<(), AllocError>
+fn push_regex(text: &mut Vec<u8>, regex: RawRegexRef<'_>) -> Result<(), AllocError>
     ensures { OnOk result (text.new.items
         ≡ text.old.items ++ (sized_text regex.entry.pattern.now (quoted regex.entry.pattern.now) ++ sized_text regex.entry.options.now (quoted regex.entry.options.now))) }
 {
-    push_string(alloc, text, regex.pattern)?;
-    push_string(alloc, text, regex.options)
+    push_string(text, regex.pattern)?;
+    push_string(text, regex.options)
 }
 
 fn push_pointer(
@@ -202,18 +203,14 @@ fn push_pointer(
     ensures { OnOk result (text.new.items
         ≡ text.old.items ++ (sized_text (namespace_of pointer.entry) (quoted (namespace_of pointer.entry)) ++ codes ", " ++ encode_lower (id_of pointer.entry))) }
 {
-    push_string(alloc, text, pointer.namespace())?;
+    push_string(text, pointer.namespace())?;
     push_hex(alloc, text, ", ", &pointer.id().bytes())
 }
 
-fn push_code(
-    alloc: Global,
-    text: &mut Vec<u8>,
-    code: RawJavaScriptCodeWithScopeRef<'_>,
-) -> Result<(), AllocError>
+fn push_code(text: &mut Vec<u8>, code: RawJavaScriptCodeWithScopeRef<'_>) -> Result<(), AllocError>
     ensures { OnOk result (text.new.items
         ≡ text.old.items ++ (sized_text code.entry.code.now (quoted code.entry.code.now) ++ size_text (length (bytes_of code.entry.scope)))) }
 {
-    push_string(alloc, text, code.code)?;
+    push_string(text, code.code)?;
     push_size(text, code.scope.as_bytes().len())
 }

@@ -1,6 +1,6 @@
 -- How it is told what is wrong with a text, and what was counted.
 use Rattle.std.specs.Prelude.{ℕ, List, [], ◌∷◌, ◌++◌, codes, decimal}
-use Rattle.json.specs.Print.{quoted}
+use Rattle.dump_lines.specs.Quoting.{quoted}
 use Rattle.json.specs.Token.{key, number, string}
 use Rattle.bson_from_json.specs.Reasons.{reason_words}
 use Rattle.dump_lines.specs.Told.{object_line}

@@ -8,8 +8,9 @@ ghost use Rattle.dump_lines.specs.declared.style.Style.TheVariants.{Json, Words}
 use bson_from_json::JsonReason;
 use dump_input::position::Position;
 use dump_lines::object::{begun, ended, put_number, put_text};
+use dump_lines::quote::quotation;
 use dump_lines::style::Style;
-use dump_lines::text::{push_number, push_words, quotation};
+use dump_lines::text::{push_number, push_words};
 use std::alloc::{AllocError, Global};
 
 /// Why a text isn't read.
