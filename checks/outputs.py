@@ -240,6 +240,18 @@ def try_findings_go(runs: Runs) -> None:
         os.close(side)
         if status != 5 or runs.get("output") != b"old" or runs.beside():
             fails("an OUTPUT where the reader of findings is gone", words, status, runs.get("output")[:20], runs.beside())
+    # without an OUTPUT, the documents have a reader, who has to know
+    for words in (("sound", "damaged"), ("json", "damaged"), ("canon", "one"), ("bson", "--keep-going", "fault")):
+        ours, side = os.pipe()
+        os.close(ours)
+        status = subprocess.run([runs.program, *words], cwd=runs.folder, stdout=subprocess.DEVNULL, stderr=side).returncode
+        if status != 5:
+            fails("documents whose reader is there, where that of findings is gone", words, status)
+        # a pipe for both is one whose reader wants no more
+        status = subprocess.run([runs.program, words[0], "one"], cwd=runs.folder, stdout=side, stderr=side).returncode
+        if words[0] != "bson" and status != 0:
+            fails("documents and findings for one reader, who is gone", words, status)
+        os.close(side)
 
 
 def try_small_disk(runs: Runs) -> None:

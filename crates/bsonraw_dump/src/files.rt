@@ -4,7 +4,8 @@
 use crate::args::{Task, parsed};
 use crate::reading::Reading;
 use dump_cli::{Prompt, Words, copied, expanded, given_words};
-use dump_files::files::{Files, Unread, node_of};
+use dump_files::files::{Files, Unread, are_one, node_of};
+use dump_files::findings::Findings;
 use dump_files::output::{BLOCK, Fill, into_file};
 use dump_files::tell::{tell, tell_words};
 use dump_input::done::{Done, Lack};
@@ -141,7 +142,13 @@ fn start(rt: &HostRuntime, task: &Task<'_>) -> Status {
             | Command::Json(_)
             | Command::Pick(_),
         )
-        | None => each(rt, task, &mut out, &mut rt.stderr()).status,
+        | None => {
+            let mut findings = Findings {
+                writer: rt.stderr(),
+                is_apart: !are_one(rt, "/dev/stdout", "/dev/stderr"),
+            };
+            each(rt, task, &mut out, &mut findings).status
+        }
     }
 }
 
@@ -155,7 +162,11 @@ impl<'a> Fill<'a> for Task<'a> {
     }
 
     fn fill(&self, rt: &HostRuntime, data: &mut BufWriter<File>) -> Done<'a> {
-        each(rt, self, data, &mut rt.stderr())
+        let mut findings = Findings {
+            writer: rt.stderr(),
+            is_apart: true,
+        };
+        each(rt, self, data, &mut findings)
     }
 }
 

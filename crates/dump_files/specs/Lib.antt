@@ -2,3 +2,4 @@ pub mod Guess
 pub mod Watching
 pub mod Errors
 pub mod Endings
+pub mod Findings

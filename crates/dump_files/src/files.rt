@@ -73,6 +73,14 @@ pub fn node_of(rt: &HostRuntime, name: &str) -> Option<Node> {
     about.is_file().then_some((about.dev(), about.ino()))
 }
 
+/// Whether these are names of one file, pipe or device.
+pub fn are_one(rt: &HostRuntime, name: &str, other: &str) -> bool {
+    match (fs::metadata(rt, name), fs::metadata(rt, other)) {
+        (Ok(one), Ok(two)) => one.dev() == two.dev() && one.ino() == two.ino(),
+        _ => false,
+    }
+}
+
 impl<'a> Files<'a> {
     fn about(&self, name: &str, place: &str) -> About {
         let size = match fs::metadata(self.rt, place) {

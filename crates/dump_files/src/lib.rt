@@ -3,6 +3,7 @@
 #![tactic(auto)]
 
 pub mod files;
+pub mod findings;
 mod guess;
 pub mod output;
 pub mod tell;
