@@ -427,6 +427,22 @@ BSONRAW_USE BSONRAW_INLINE int32_t bsonraw_checked_iter_next_many(struct bsonraw
 #define bsonraw_iter_next_many bsonraw_checked_iter_next_many
 #endif
 
+/* The key of the element that a cursor is at, or of a stop that has one: iter->key_len bytes, with a 0 behind them. Where there is none, it
+ * is an empty text, and never NULL.
+ *
+ *     struct bsonraw_iter it;
+ *     if (bsonraw_iter_init(&it, bytes, len) == BSONRAW_OK)
+ *         while (bsonraw_iter_next(&it, bytes, len) == BSONRAW_OK)
+ *             if (strcmp(bsonraw_iter_key(&it, bytes, len), "_id") != 0) puts(bsonraw_iter_key(&it, bytes, len));
+ */
+BSONRAW_READS(2, 3)
+BSONRAW_USE BSONRAW_INLINE const char *bsonraw_iter_key(const struct bsonraw_iter *iter, const uint8_t *bytes, size_t len) {
+    const uint8_t *key;
+    if (!iter || !bytes || BSONRAW_LACKS(bytes, len) || iter->key_at >= len || iter->key_len >= len - iter->key_at) return "";
+    key = bytes + iter->key_at;
+    return key[iter->key_len] == 0 ? BSONRAW_CHARS(key) : "";
+}
+
 /* ---- values ----------------------------------------------------------------------------------------------------------
  *
  * What a kind doesn't have is 0; of a part that it doesn't have, the offset is that of a cursor at no element. Texts are

@@ -225,8 +225,15 @@ static int is_at(const struct bsonraw_iter *it, const struct element *e) {
            it->payload_len == e->payload_len && it->next == e->payload + e->payload_len;
 }
 
+/* Whether the key of a cursor is the element's, or the stop's, with a 0 behind it; else an empty text. */
+static int has_key_of(const struct bsonraw_iter *it, const struct element *e, size_t len) {
+    const char *key = bsonraw_iter_key(it, b, len);
+    return e->has_key ? key == (const char *)b + e->key && key[e->key_len] == 0 : key[0] == 0;
+}
+
 /* Whether a call that stops at what is at this offset says it. */
 static int stops_at(int32_t status, const struct bsonraw_iter *it, const struct element *e, size_t at, size_t len) {
+    if (!has_key_of(it, e, len)) return 0;
     if (e->is_end) return status == BSONRAW_NONE && is_nowhere(it, len) && it->key_len == 0 && it->next == at;
     if (e->kind == 0) return status == BSONRAW_OK && is_at(it, e);
     return status == BSONRAW_FAULT && is_nowhere(it, len) && is_fault(e, it->error, at) && it->next == at &&
@@ -436,6 +443,8 @@ static void compare_astray(size_t len) {
     it.document_at = any(room), it.document_len = any(room), it.next = any(room), it.key_at = any(room);
     if (any(4) == 0) it.document_at = 4294967295u - any(3);
     compare_part(it.document_at, it.document_len, len);
+    it.key_len = any(room);
+    expect(strlen(bsonraw_iter_key(&it, b, len)) <= it.key_len, "a key by any fields");
     if (bsonraw_iter_next(&it, b, len) != BSONRAW_BAD_OFFSET)
         expect(refused(it.document_at, it.document_len) == 0 && it.document_at + it.document_len <= len, "an iterator with any fields");
 }

@@ -220,6 +220,7 @@ static void look_at_null(void) {
     is(bsonraw_iter_find_descendant(&it, EMPTY, NULL, 0, '.'), BSONRAW_NONE, "the empty path");
     is(bsonraw_iter_find_descendant(&it, EMPTY, NULL, 1, '.'), BSONRAW_NULL, "a path");
     is(bsonraw_iter_next(&it, NULL, 1), BSONRAW_NULL, "next");
+    expect(bsonraw_iter_key(NULL, EMPTY)[0] == 0 && bsonraw_iter_key(&it, NULL, 5)[0] == 0, "a key", "one that isn't there");
     is(bsonraw_iter_recurse(&it, EMPTY, NULL), BSONRAW_NULL, "recurse");
     is(bsonraw_iter_recurse(NULL, EMPTY, &child), BSONRAW_NULL, "recurse");
     is(bsonraw_iter_next_many(&it, EMPTY, NULL, 0, &count), BSONRAW_OK, "no entries");
