@@ -1544,7 +1544,7 @@ size_t bsonraw_path_text(const uint8_t *bytes, size_t len, const uint64_t *path,
 
 /* The element at a path, and its value where it is of the kind that is asked for: BSONRAW_OK; BSONRAW_NO_DOCUMENT, BSONRAW_NONE,
  * BSONRAW_FAULT and BSONRAW_OTHER_KIND as the calls of a cursor. What is written is then 0, and a pointer NULL. Pointers are into the
- * bytes; a 0 is behind a text.
+ * bytes; a 0 is behind a text. Other kinds are got by bsonraw_get and bsonraw_iter_regex and its kin.
  *
  *     int32_t born;
  *     const char *name;
@@ -1561,9 +1561,14 @@ BSONRAW_USE int32_t bsonraw_get_as_int64(const uint8_t *bytes, size_t len, const
 BSONRAW_USE int32_t bsonraw_get_as_double(const uint8_t *bytes, size_t len, const char *path, double *number) BSONRAW_READS(1, 2);
 BSONRAW_USE int32_t bsonraw_get_bool(const uint8_t *bytes, size_t len, const char *path, int32_t *is_true) BSONRAW_READS(1, 2);
 BSONRAW_USE int32_t bsonraw_get_date_time(const uint8_t *bytes, size_t len, const char *path, int64_t *millis) BSONRAW_READS(1, 2);
+BSONRAW_USE int32_t bsonraw_get_timestamp(const uint8_t *bytes, size_t len, const char *path, uint32_t *time, uint32_t *increment)
+                                          BSONRAW_READS(1, 2);
 BSONRAW_USE int32_t bsonraw_get_utf8(const uint8_t *bytes, size_t len, const char *path, const char **text, size_t *text_len)
                                      BSONRAW_READS(1, 2);
 BSONRAW_USE int32_t bsonraw_get_oid(const uint8_t *bytes, size_t len, const char *path, const uint8_t **id) BSONRAW_READS(1, 2);
+BSONRAW_USE int32_t bsonraw_get_decimal128(const uint8_t *bytes, size_t len, const char *path, const uint8_t **decimal) BSONRAW_READS(1, 2);
+BSONRAW_USE int32_t bsonraw_get_binary(const uint8_t *bytes, size_t len, const char *path, uint32_t *subtype, const uint8_t **data,
+                                       size_t *data_len) BSONRAW_READS(1, 2);
 BSONRAW_USE int32_t bsonraw_get_document(const uint8_t *bytes, size_t len, const char *path, const uint8_t **document,
                                          size_t *document_len) BSONRAW_READS(1, 2);
 BSONRAW_USE int32_t bsonraw_get_array(const uint8_t *bytes, size_t len, const char *path, const uint8_t **array, size_t *array_len)
@@ -1615,7 +1620,10 @@ BSONRAW_USE int32_t bsonraw_set_int64(uint8_t *bytes, size_t len, const char *pa
 BSONRAW_USE int32_t bsonraw_set_double(uint8_t *bytes, size_t len, const char *path, double number) BSONRAW_CHANGES(1, 2);
 BSONRAW_USE int32_t bsonraw_set_bool(uint8_t *bytes, size_t len, const char *path, int32_t is_true) BSONRAW_CHANGES(1, 2);
 BSONRAW_USE int32_t bsonraw_set_date_time(uint8_t *bytes, size_t len, const char *path, int64_t millis) BSONRAW_CHANGES(1, 2);
+BSONRAW_USE int32_t bsonraw_set_timestamp(uint8_t *bytes, size_t len, const char *path, uint32_t time, uint32_t increment)
+                                          BSONRAW_CHANGES(1, 2);
 BSONRAW_USE int32_t bsonraw_set_oid(uint8_t *bytes, size_t len, const char *path, const uint8_t id[12]) BSONRAW_CHANGES(1, 2);
+BSONRAW_USE int32_t bsonraw_set_decimal128(uint8_t *bytes, size_t len, const char *path, const uint8_t decimal[16]) BSONRAW_CHANGES(1, 2);
 
 /* ---- Extended JSON in pieces ---- */
 
@@ -1687,7 +1695,8 @@ int32_t bsonraw_buffer_begin_document(struct bsonraw_buffer *buffer, const char 
 int32_t bsonraw_buffer_begin_array(struct bsonraw_buffer *buffer, const char *key);
 int32_t bsonraw_buffer_end(struct bsonraw_buffer *buffer);
 
-/* Append an element, as the calls of a builder do; bsonraw_buffer_append takes its parts, as bsonraw_append. */
+/* Append an element, as the calls of a builder do; bsonraw_buffer_append takes its parts, as bsonraw_append, and so appends the kinds that
+ * have no call of their own. Options are NULL where there are none. */
 int32_t bsonraw_buffer_append(struct bsonraw_buffer *buffer, uint32_t tag, const char *key, const void *one, size_t one_len,
                               const void *two, size_t two_len) BSONRAW_READS(4, 5) BSONRAW_READS(6, 7);
 int32_t bsonraw_buffer_int32(struct bsonraw_buffer *buffer, const char *key, int32_t number);
@@ -1703,6 +1712,7 @@ int32_t bsonraw_buffer_oid(struct bsonraw_buffer *buffer, const char *key, const
 int32_t bsonraw_buffer_decimal128(struct bsonraw_buffer *buffer, const char *key, const uint8_t decimal[16]);
 int32_t bsonraw_buffer_binary(struct bsonraw_buffer *buffer, const char *key, uint8_t subtype, const void *data, size_t data_len)
                               BSONRAW_READS(4, 5);
+int32_t bsonraw_buffer_regex(struct bsonraw_buffer *buffer, const char *key, const char *pattern, const char *options);
 int32_t bsonraw_buffer_document(struct bsonraw_buffer *buffer, const char *key, const uint8_t *document, size_t document_len)
                                 BSONRAW_READS(3, 4);
 int32_t bsonraw_buffer_array(struct bsonraw_buffer *buffer, const char *key, const uint8_t *array, size_t array_len) BSONRAW_READS(3, 4);
@@ -1805,12 +1815,23 @@ BSONRAW_TOUCHING(BSONRAW_USE int32_t, get_bool, (const uint8_t *bytes, size_t le
 BSONRAW_TOUCHING(BSONRAW_USE int32_t, get_date_time, (const uint8_t *bytes, size_t len, const char *path, int64_t *millis),
                  BSONRAW_LACKS(bytes, len), (bytes, len, path, millis))
 #define bsonraw_get_date_time bsonraw_touching_get_date_time
+BSONRAW_TOUCHING(BSONRAW_USE int32_t, get_timestamp, (const uint8_t *bytes, size_t len, const char *path, uint32_t *time,
+                  uint32_t *increment),
+                 BSONRAW_LACKS(bytes, len), (bytes, len, path, time, increment))
+#define bsonraw_get_timestamp bsonraw_touching_get_timestamp
 BSONRAW_TOUCHING(BSONRAW_USE int32_t, get_utf8, (const uint8_t *bytes, size_t len, const char *path, const char **text, size_t *text_len),
                  BSONRAW_LACKS(bytes, len), (bytes, len, path, text, text_len))
 #define bsonraw_get_utf8 bsonraw_touching_get_utf8
 BSONRAW_TOUCHING(BSONRAW_USE int32_t, get_oid, (const uint8_t *bytes, size_t len, const char *path, const uint8_t **id),
                  BSONRAW_LACKS(bytes, len), (bytes, len, path, id))
 #define bsonraw_get_oid bsonraw_touching_get_oid
+BSONRAW_TOUCHING(BSONRAW_USE int32_t, get_decimal128, (const uint8_t *bytes, size_t len, const char *path, const uint8_t **decimal),
+                 BSONRAW_LACKS(bytes, len), (bytes, len, path, decimal))
+#define bsonraw_get_decimal128 bsonraw_touching_get_decimal128
+BSONRAW_TOUCHING(BSONRAW_USE int32_t, get_binary, (const uint8_t *bytes, size_t len, const char *path, uint32_t *subtype,
+                  const uint8_t **data, size_t *data_len),
+                 BSONRAW_LACKS(bytes, len), (bytes, len, path, subtype, data, data_len))
+#define bsonraw_get_binary bsonraw_touching_get_binary
 BSONRAW_TOUCHING(BSONRAW_USE int32_t, get_document, (const uint8_t *bytes, size_t len, const char *path, const uint8_t **document,
                   size_t *document_len),
                  BSONRAW_LACKS(bytes, len), (bytes, len, path, document, document_len))
@@ -1850,9 +1871,15 @@ BSONRAW_TOUCHING(BSONRAW_USE int32_t, set_bool, (uint8_t *bytes, size_t len, con
 BSONRAW_TOUCHING(BSONRAW_USE int32_t, set_date_time, (uint8_t *bytes, size_t len, const char *path, int64_t millis),
                  BSONRAW_LACKS(bytes, len), (bytes, len, path, millis))
 #define bsonraw_set_date_time bsonraw_touching_set_date_time
+BSONRAW_TOUCHING(BSONRAW_USE int32_t, set_timestamp, (uint8_t *bytes, size_t len, const char *path, uint32_t time, uint32_t increment),
+                 BSONRAW_LACKS(bytes, len), (bytes, len, path, time, increment))
+#define bsonraw_set_timestamp bsonraw_touching_set_timestamp
 BSONRAW_TOUCHING(BSONRAW_USE int32_t, set_oid, (uint8_t *bytes, size_t len, const char *path, const uint8_t id[12]),
                  BSONRAW_LACKS(bytes, len) + BSONRAW_LACKS(id, 12), (bytes, len, path, id))
 #define bsonraw_set_oid bsonraw_touching_set_oid
+BSONRAW_TOUCHING(BSONRAW_USE int32_t, set_decimal128, (uint8_t *bytes, size_t len, const char *path, const uint8_t decimal[16]),
+                 BSONRAW_LACKS(bytes, len) + BSONRAW_LACKS(decimal, 16), (bytes, len, path, decimal))
+#define bsonraw_set_decimal128 bsonraw_touching_set_decimal128
 BSONRAW_TOUCHING(BSONRAW_USE int32_t, json_write, (const uint8_t *bytes, size_t len, size_t max_bytes, size_t max_depth,
                   uint32_t canonical, uint32_t indented, int32_t (*write)(void *context, const char *text, size_t text_len), void *context,
                   struct bsonraw_report *report, uint64_t *path, size_t path_room),

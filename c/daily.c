@@ -168,8 +168,11 @@ GET(as_int64, int64_t *number, number)
 GET(as_double, double *number, number)
 GET(bool, int32_t *is_true, is_true)
 GET(date_time, int64_t *millis, millis)
+GET(timestamp, uint32_t *time AND uint32_t *increment, time, increment)
 GET(utf8, const char **text AND size_t *text_len, text, text_len)
 GET(oid, const uint8_t **id, id)
+GET(decimal128, const uint8_t **decimal, decimal)
+GET(binary, uint32_t *subtype AND const uint8_t **data AND size_t *data_len, subtype, data, data_len)
 GET(document, const uint8_t **document AND size_t *document_len, document, document_len)
 GET(array, const uint8_t **array AND size_t *array_len, array, array_len)
 
@@ -574,8 +577,17 @@ int32_t bsonraw_set_bool(uint8_t *bytes, size_t len, const char *path, int32_t i
     return overwrite(bytes, len, path, BSONRAW_TAG_BOOLEAN, &payload, 1);
 }
 
+int32_t bsonraw_set_timestamp(uint8_t *bytes, size_t len, const char *path, uint32_t time, uint32_t increment) {
+    const struct bsonraw_number payload = bsonraw_number_of((uint64_t)time << 32 | increment);
+    return overwrite(bytes, len, path, BSONRAW_TAG_TIMESTAMP, payload.bytes, 8);
+}
+
 int32_t bsonraw_set_oid(uint8_t *bytes, size_t len, const char *path, const uint8_t id[12]) {
     return id == NULL ? BSONRAW_NULL : overwrite(bytes, len, path, BSONRAW_TAG_OBJECT_ID, id, 12);
+}
+
+int32_t bsonraw_set_decimal128(uint8_t *bytes, size_t len, const char *path, const uint8_t decimal[16]) {
+    return decimal == NULL ? BSONRAW_NULL : overwrite(bytes, len, path, BSONRAW_TAG_DECIMAL128, decimal, 16);
 }
 
 /* ---- Extended JSON in pieces ---- */
@@ -1109,6 +1121,11 @@ int32_t bsonraw_buffer_decimal128(struct bsonraw_buffer *buffer, const char *key
 
 int32_t bsonraw_buffer_binary(struct bsonraw_buffer *buffer, const char *key, uint8_t subtype, const void *data, size_t data_len) {
     return add(buffer, BSONRAW_TAG_BINARY, key, data, data_len, &subtype, 1);
+}
+
+int32_t bsonraw_buffer_regex(struct bsonraw_buffer *buffer, const char *key, const char *pattern, const char *options) {
+    size_t pattern_len = pattern == NULL ? 1 : strlen(pattern);
+    return add(buffer, BSONRAW_TAG_REGEX, key, BSONRAW_BYTES(pattern), pattern_len, bsonraw_str_bytes(options), bsonraw_str_len(options));
 }
 
 int32_t bsonraw_buffer_document(struct bsonraw_buffer *buffer, const char *key, const uint8_t *document, size_t document_len) {

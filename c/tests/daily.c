@@ -132,6 +132,36 @@ static void look_at_values(void) {
     is((int64_t)count, 1, "a count up to a stop");
 }
 
+/* {"t": a timestamp, "d": the Decimal128 1.5, "b": two bytes of subtype 128, "r": a regular expression} */
+static const uint8_t rarer[] = "\65\0\0\0\21t\0\2\0\0\0\1\0\0\0\23d\0\17\0\0\0\0\0\0\0\0\0\0\0\0\0\76\60"
+                               "\5b\0\2\0\0\0\200xy\13r\0^a\0i\0";
+
+static void look_at_rarer(void) {
+    static const uint8_t changed[] = "\65\0\0\0\21t\0\4\0\0\0\3\0\0\0\23d\0abcdefghijklmnop\5b\0\2\0\0\0\200xy\13r\0^a\0i\0";
+    uint8_t own[sizeof rarer];
+    uint32_t one, two;
+    const uint8_t *part;
+    size_t len;
+    is(bsonraw_get_timestamp(rarer, sizeof rarer, "t", &one, &two), BSONRAW_OK, "t");
+    expect(one == 1 && two == 2, "t", "another time");
+    is(bsonraw_get_timestamp(rarer, sizeof rarer, "d", &one, &two), BSONRAW_OTHER_KIND, "d as a timestamp");
+    expect(one == 0 && two == 0, "d as a timestamp", "another time");
+    is(bsonraw_get_decimal128(rarer, sizeof rarer, "d", &part), BSONRAW_OK, "d");
+    expect(part == rarer + 18, "d", "another part");
+    is(bsonraw_get_decimal128(rarer, sizeof rarer, "x", &part), BSONRAW_NONE, "x");
+    expect(part == NULL, "x", "a part");
+    is(bsonraw_get_binary(rarer, sizeof rarer, "b", &one, &part, &len), BSONRAW_OK, "b");
+    expect(one == 128 && part == rarer + 42 && len == 2, "b", "another part");
+    is(bsonraw_get_binary(rarer, sizeof rarer, "b", &one, NULL, &len), BSONRAW_NULL, "b");
+    memcpy(own, rarer, sizeof own);
+    is(bsonraw_set_timestamp(own, sizeof own, "t", 3, 4), BSONRAW_OK, "t");
+    is(bsonraw_set_decimal128(own, sizeof own, "d", (const uint8_t *)"abcdefghijklmnop"), BSONRAW_OK, "d");
+    is(bsonraw_set_decimal128(own, sizeof own, "d", NULL), BSONRAW_NULL, "d");
+    is(bsonraw_set_decimal128(own, sizeof own, "t", changed), BSONRAW_OTHER_KIND, "t as a Decimal128");
+    is(bsonraw_set_timestamp(own, sizeof own, "d", 5, 6), BSONRAW_OTHER_KIND, "d as a timestamp");
+    expect(memcmp(own, changed, sizeof own) == 0, "values in place", "other bytes");
+}
+
 static void look_at_places(void) {
     static uint8_t own[sizeof sample], id[12];
     char hex[25];
@@ -472,6 +502,16 @@ static void look_at_kinds(void) {
     bsonraw_buffer_append(&b, BSONRAW_TAG_SYMBOL, "g", "s", 1, NULL, 0);
     is(bsonraw_buffer_end(&b), BSONRAW_OK, "kinds");
     has(&b, kinds, sizeof kinds, "kinds");
+    bsonraw_buffer_reset(&b);
+    bsonraw_buffer_regex(&b, "r", "^a", "i");
+    bsonraw_buffer_begin_array(&b, "l");
+    bsonraw_buffer_regex(&b, NULL, "", NULL);
+    bsonraw_buffer_append(&b, BSONRAW_TAG_MIN_KEY, NULL, NULL, 0, NULL, 0);
+    bsonraw_buffer_end(&b);
+    is(bsonraw_buffer_end(&b), BSONRAW_OK, "regular expressions");
+    has(&b, "\35\0\0\0\13r\0^a\0i\0\4l\0\15\0\0\0\13\60\0\0\0\377\61\0\0", 29, "regular expressions");
+    bsonraw_buffer_reset(&b);
+    is(bsonraw_buffer_regex(&b, "r", NULL, "i"), BSONRAW_NULL, "a pattern of NULL");
     bsonraw_buffer_free(&b);
 }
 
@@ -633,6 +673,7 @@ int main(void) {
     read_documents(&all);
     look_at_texts();
     look_at_values();
+    look_at_rarer();
     look_at_places();
     look_at_order();
     look_at_many(&all);

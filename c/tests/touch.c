@@ -36,6 +36,7 @@ static int use(int call, uint8_t *bytes, size_t len) {
     struct bsonraw_value value;
     uint64_t count;
     int32_t number;
+    uint32_t one;
     int64_t wide;
     double real;
     const char *text;
@@ -83,6 +84,11 @@ static int use(int call, uint8_t *bytes, size_t len) {
     case 37: bsonraw_buffer_copy_without(&b, bytes, len, none, 1); break;
     case 38: bsonraw_buffer_copy_with(&b, NULL, 0, bytes, len); break;
     case 39: (void)!bsonraw_reader_is_cut(&reader, bytes, len); break;
+    case 40: (void)!bsonraw_get_timestamp(bytes, len, "a", &one, &one); break;
+    case 41: (void)!bsonraw_get_decimal128(bytes, len, "a", &part); break;
+    case 42: (void)!bsonraw_get_binary(bytes, len, "a", &one, &part, &part_len); break;
+    case 43: (void)!bsonraw_set_timestamp(bytes, len, "a", 1, 1); break;
+    case 44: (void)!bsonraw_set_decimal128(bytes, 5, "a", end - 16); break;
     default: return 0;
     }
     return 1;
@@ -104,7 +110,7 @@ int main(void) {
     expect(is_touched(pages + 4096, 4096), "a right length", "it ends the process");
     expect(!is_touched(pages + 4096, 4097), "a length that is too long", "it isn't seen");
     expect(!is_touched(pages + 4095, 4096), "bytes that begin too early", "they aren't seen");
-    for (call = 0; call < 40; call++) {
+    for (call = 0; call < 45; call++) {
         expect(is_used(call, pages + 4096, 4096), "a right length", "it ends the process");
         expect(!is_used(call, pages + 4096, 4097), "a length that is too long", "it isn't seen");
     }
