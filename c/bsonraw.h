@@ -1511,6 +1511,16 @@ BSONRAW_USE BSONRAW_INLINE int32_t bsonraw_checked_date_time_to_text(int64_t mil
  * What follows is written in C over the calls above, and tested, not proved; elements of the usual kinds with ASCII keys and texts are
  * looked through by bsonraw_find_many, and put by a buffer, without these calls. Keys, paths and texts are const char *, which a 0
  * ends; the steps of a path have a dot between them, as "authors.0.name" (see bsonraw_iter_find_descendant).
+ *
+ * A key that has a dot is no step of such a path. bsonraw_iter_find_descendant goes there with another separator, as 0, which is in no key.
+ * Where a digit follows it, the literal is split, as "authors\0" "0\0name".
+ *
+ *     struct bsonraw_iter it;
+ *     int32_t hits;
+ *     if (bsonraw_iter_init(&it, bytes, len) == BSONRAW_OK &&
+ *         bsonraw_iter_find_descendant(&it, bytes, len, BSONRAW_KEY("sites\0example.org\0hits"), 0) == BSONRAW_OK &&
+ *         bsonraw_iter_int32(&it, bytes, len, &hits) == BSONRAW_OK)
+ *         printf("%d\n", hits);
  */
 
 /* Texts: what a status, a reason, a cause or a tag says. They are never freed, and never NULL. */

@@ -162,6 +162,19 @@ static void look_at_rarer(void) {
     expect(memcmp(own, changed, sizeof own) == 0, "values in place", "other bytes");
 }
 
+/* Keys with dots, by another separator. */
+static void look_at_dots(void) {
+    static const uint8_t bytes[] = "\43\0\0\0\3a.b\0\31\0\0\0\4c\0\21\0\0\0\3\60\0\11\0\0\0\10.\0\1\0\0\0";
+    struct bsonraw_iter it;
+    int32_t is_true;
+    is(bsonraw_get_bool(bytes, sizeof bytes, "a.b.c.0..", &is_true), BSONRAW_NONE, "a dot");
+    is(bsonraw_iter_init(&it, bytes, sizeof bytes), BSONRAW_OK, "a separator");
+    is(bsonraw_iter_find_descendant(&it, bytes, sizeof bytes, BSONRAW_KEY("a.b\0c\0" "0\0."), 0), BSONRAW_OK, "a separator");
+    is(bsonraw_iter_bool(&it, bytes, sizeof bytes, &is_true), BSONRAW_OK, "a separator");
+    is(is_true, 1, "a separator");
+    is_text(bsonraw_iter_key(&it, bytes, sizeof bytes), ".");
+}
+
 static void look_at_places(void) {
     static uint8_t own[sizeof sample], id[12];
     char hex[25];
@@ -674,6 +687,7 @@ int main(void) {
     look_at_texts();
     look_at_values();
     look_at_rarer();
+    look_at_dots();
     look_at_places();
     look_at_order();
     look_at_many(&all);
