@@ -167,6 +167,7 @@ enum bsonraw_cause {
 #define BSONRAW_DOUBLE(number) static_cast<double>(number)
 #define BSONRAW_BYTES(pointer) reinterpret_cast<const uint8_t *>(pointer)
 #define BSONRAW_CHARS(pointer) reinterpret_cast<const char *>(pointer)
+#define BSONRAW_ROOM(pointer) reinterpret_cast<uint8_t *>(pointer)
 #define BSONRAW_TEXT(bytes, at, len) static_cast<int>(len), reinterpret_cast<const char *>(bytes) + (at)
 #else
 #define BSONRAW_INT32(number) (int32_t)(number)
@@ -176,6 +177,7 @@ enum bsonraw_cause {
 #define BSONRAW_DOUBLE(number) (double)(number)
 #define BSONRAW_BYTES(pointer) (const uint8_t *)(pointer)
 #define BSONRAW_CHARS(pointer) (const char *)(pointer)
+#define BSONRAW_ROOM(pointer) (uint8_t *)(pointer)
 #define BSONRAW_TEXT(bytes, at, len) (int)(len), (const char *)(bytes) + (at) /* a key or a text as two arguments of printf, for "%.*s" */
 #endif
 
@@ -1333,6 +1335,14 @@ BSONRAW_USE BSONRAW_INLINE int32_t bsonraw_checked_json(const uint8_t *bytes, si
 }
 #define bsonraw_json bsonraw_checked_json
 #endif
+
+/* bsonraw_json for a room of char: puts(text) takes it without a cast. */
+BSONRAW_READS(1, 2) BSONRAW_WRITES(7, 8) BSONRAW_WRITES(10, 11)
+BSONRAW_USE BSONRAW_INLINE int32_t bsonraw_json_text(const uint8_t *bytes, size_t len, size_t max_bytes, size_t max_depth, uint32_t canonical,
+                                                     uint32_t indented, char *BSONRAW_RESTRICT text, size_t text_len,
+                                                     struct bsonraw_report *report, uint64_t *path, size_t path_room) {
+    return bsonraw_json(bytes, len, max_bytes, max_depth, canonical, indented, BSONRAW_ROOM(text), text_len, report, path, path_room);
+}
 
 /* ---- documents from text --------------------------------------------------------------------------------------------- */
 
