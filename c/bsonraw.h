@@ -1336,7 +1336,7 @@ BSONRAW_USE BSONRAW_INLINE int32_t bsonraw_checked_json(const uint8_t *bytes, si
 #define bsonraw_json bsonraw_checked_json
 #endif
 
-/* bsonraw_json for a room of char: puts(text) takes it without a cast. */
+/* bsonraw_json for a room of char: puts(text) takes it without a cast. bsonraw_json_new takes memory for it. */
 BSONRAW_READS(1, 2) BSONRAW_WRITES(7, 8) BSONRAW_WRITES(10, 11)
 BSONRAW_USE BSONRAW_INLINE int32_t bsonraw_json_text(const uint8_t *bytes, size_t len, size_t max_bytes, size_t max_depth, uint32_t canonical,
                                                      uint32_t indented, char *BSONRAW_RESTRICT text, size_t text_len,
@@ -1672,6 +1672,25 @@ BSONRAW_USE int32_t bsonraw_iter_json(const struct bsonraw_iter *iter, const uin
                                       uint32_t canonical, uint32_t indented, char *BSONRAW_RESTRICT text, size_t room, struct bsonraw_report *report)
                                       BSONRAW_READS(2, 3) BSONRAW_WRITES(7, 8);
 
+/* ---- in new memory ---- */
+
+/* What bsonraw_json prints, with its 0; what bsonraw_canonical writes; and the document that bsonraw_from_json reads: in memory that the
+ * call takes by malloc. The caller gives it back by free, as the library, static or shared, has no allocator but the program's. With
+ * BSONRAW_OK report->count is how many bytes it has, without the 0 of a text; report may be NULL. Else the pointer is NULL, and the status
+ * and the report are those of these calls, but never BSONRAW_SMALL_BUFFER; the path, bsonraw_first_fault says. A call takes memory as these
+ * do, and up to four times len bytes before it knows how many there are.
+ *
+ *     char *text;
+ *     if (bsonraw_json_new(bytes, len, 1 << 24, 100, 0, 0, &text, NULL) == BSONRAW_OK) puts(text);
+ *     free(text);
+ */
+BSONRAW_USE int32_t bsonraw_json_new(const uint8_t *bytes, size_t len, size_t max_bytes, size_t max_depth, uint32_t canonical,
+                                     uint32_t indented, char **text, struct bsonraw_report *report) BSONRAW_READS(1, 2);
+BSONRAW_USE int32_t bsonraw_canonical_new(const uint8_t *bytes, size_t len, size_t max_bytes, size_t max_depth, uint8_t **form,
+                                          struct bsonraw_report *report) BSONRAW_READS(1, 2);
+BSONRAW_USE int32_t bsonraw_from_json_new(const char *text, size_t len, size_t max_bytes, size_t max_depth, uint8_t **document,
+                                          struct bsonraw_json_report *report) BSONRAW_READS(1, 2);
+
 /* ---- a builder that grows ---- */
 
 /* Memory for a document that is built, which grows. Each call returns buffer->status, which sticks as that of a builder:
@@ -1911,6 +1930,18 @@ BSONRAW_TOUCHING(BSONRAW_USE int32_t, iter_json, (const struct bsonraw_iter *ite
                  BSONRAW_LACKS(bytes, len) + BSONRAW_LACKS(text, room),
                  (iter, bytes, len, max_depth, canonical, indented, text, room, report))
 #define bsonraw_iter_json bsonraw_touching_iter_json
+BSONRAW_TOUCHING(BSONRAW_USE int32_t, json_new, (const uint8_t *bytes, size_t len, size_t max_bytes, size_t max_depth, uint32_t canonical,
+                  uint32_t indented, char **text, struct bsonraw_report *report),
+                 BSONRAW_LACKS(bytes, len), (bytes, len, max_bytes, max_depth, canonical, indented, text, report))
+#define bsonraw_json_new bsonraw_touching_json_new
+BSONRAW_TOUCHING(BSONRAW_USE int32_t, canonical_new, (const uint8_t *bytes, size_t len, size_t max_bytes, size_t max_depth, uint8_t **form,
+                  struct bsonraw_report *report),
+                 BSONRAW_LACKS(bytes, len), (bytes, len, max_bytes, max_depth, form, report))
+#define bsonraw_canonical_new bsonraw_touching_canonical_new
+BSONRAW_TOUCHING(BSONRAW_USE int32_t, from_json_new, (const char *text, size_t len, size_t max_bytes, size_t max_depth, uint8_t **document,
+                  struct bsonraw_json_report *report),
+                 BSONRAW_LACKS(text, len), (text, len, max_bytes, max_depth, document, report))
+#define bsonraw_from_json_new bsonraw_touching_from_json_new
 BSONRAW_TOUCHING(int32_t, buffer_append, (struct bsonraw_buffer *buffer, uint32_t tag, const char *key, const void *one, size_t one_len,
                   const void *two, size_t two_len),
                  BSONRAW_LACKS(BSONRAW_BYTES(one), one_len) + BSONRAW_LACKS(BSONRAW_BYTES(two), two_len),

@@ -488,25 +488,6 @@ int32_t bsonraw_count(const uint8_t *bytes, size_t len, uint64_t *count) {
     return status == BSONRAW_NONE ? BSONRAW_OK : status;
 }
 
-/* The canonical form of a document, in memory of its own. */
-static int32_t form_of(const uint8_t *bytes, size_t len, uint8_t **form, size_t *form_len) {
-    struct bsonraw_report report;
-    uint64_t none[1];
-    int32_t status;
-    *form = malloc(len + (len == 0)); /* the form is no longer than the document, but for the keys of an array */
-    *form_len = len;
-    if (*form == NULL) return BSONRAW_NO_MEMORY;
-    status = bsonraw_canonical(bsonraw_some_bytes(bytes), len, SIZE_MAX, SIZE_MAX, *form, len, &report, none, 0);
-    if (status == BSONRAW_SMALL_BUFFER) {
-        free(*form);
-        *form = malloc((size_t)report.count);
-        if (*form == NULL) return BSONRAW_NO_MEMORY;
-        status = bsonraw_canonical(bytes, len, SIZE_MAX, SIZE_MAX, *form, (size_t)report.count, &report, none, 0);
-    }
-    *form_len = (size_t)report.count;
-    return status;
-}
-
 /* The order of two forms, which begin with their lengths: none begins with another one. */
 static int32_t order_of(const uint8_t *one, size_t one_len, const uint8_t *other, size_t other_len) {
     int order = memcmp(one, other, one_len < other_len ? one_len : other_len);
@@ -515,13 +496,13 @@ static int32_t order_of(const uint8_t *one, size_t one_len, const uint8_t *other
 
 int32_t bsonraw_compare(const uint8_t *one, size_t one_len, const uint8_t *other, size_t other_len, int32_t *order) {
     uint8_t *first = NULL, *second = NULL;
-    size_t first_len, second_len;
+    struct bsonraw_report of_first, of_second;
     int32_t status;
     if (order == NULL || BSONRAW_LACKS(one, one_len) || BSONRAW_LACKS(other, other_len)) return BSONRAW_NULL;
     *order = 0;
-    status = form_of(one, one_len, &first, &first_len);
-    if (status == BSONRAW_OK) status = form_of(other, other_len, &second, &second_len);
-    if (status == BSONRAW_OK) *order = order_of(first, first_len, second, second_len);
+    status = bsonraw_canonical_new(one, one_len, SIZE_MAX, SIZE_MAX, &first, &of_first);
+    if (status == BSONRAW_OK) status = bsonraw_canonical_new(other, other_len, SIZE_MAX, SIZE_MAX, &second, &of_second);
+    if (status == BSONRAW_OK) *order = order_of(first, (size_t)of_first.count, second, (size_t)of_second.count);
     free(first);
     free(second);
     return status;
@@ -883,6 +864,107 @@ int32_t bsonraw_iter_json(const struct bsonraw_iter *iter, const uint8_t *bytes,
     if (j.count >= room) return BSONRAW_SMALL_BUFFER;
     text[j.count] = 0;
     return BSONRAW_OK;
+}
+
+/* ---- in new memory ---- */
+
+/* A call that puts what it makes into a room, and how many bytes that has. */
+struct making {
+    int32_t (*make)(struct making *m, uint8_t *room, size_t room_len);
+    const uint8_t *bytes;
+    size_t len, max_bytes, max_depth;
+    uint32_t canonical, indented;
+    struct bsonraw_report report;
+    struct bsonraw_json_report json_report;
+    uint64_t count;
+};
+
+static int32_t make_json(struct making *m, uint8_t *room, size_t room_len) {
+    uint64_t none[1];
+    int32_t status = bsonraw_json(m->bytes, m->len, m->max_bytes, m->max_depth, m->canonical, m->indented, room, room_len, &m->report, none, 0);
+    m->count = m->report.count + 1;
+    return status;
+}
+
+static int32_t make_form(struct making *m, uint8_t *room, size_t room_len) {
+    uint64_t none[1];
+    int32_t status = bsonraw_canonical(m->bytes, m->len, m->max_bytes, m->max_depth, room, room_len, &m->report, none, 0);
+    m->count = m->report.count;
+    return status;
+}
+
+static int32_t make_document(struct making *m, uint8_t *room, size_t room_len) {
+    int32_t status = bsonraw_from_json(m->bytes, m->len, m->max_bytes, m->max_depth, room, room_len, &m->json_report);
+    m->count = m->json_report.count;
+    return status;
+}
+
+/* What a call makes, in new memory: at first of so many bytes, which are mostly enough, as to count them costs as much as to make them; and
+ * else of as many as it then says. */
+static int32_t make_new(struct making *m, size_t room, uint8_t **made) {
+    uint8_t *memory = room > 0 ? malloc(room) : NULL;
+    int32_t status = m->make(m, bsonraw_some_room(memory), memory == NULL ? 0 : room);
+    if (status == BSONRAW_SMALL_BUFFER) {
+        free(memory);
+        room = (size_t)m->count;
+        memory = malloc(room);
+        status = memory == NULL ? BSONRAW_NO_MEMORY : m->make(m, memory, room);
+    }
+    if (status != BSONRAW_OK) {
+        free(memory);
+        return status;
+    }
+    *made = realloc(memory, (size_t)m->count);
+    if (*made == NULL) *made = memory;
+    return BSONRAW_OK;
+}
+
+/* The same of a document, where its elements are read: at first of this many times its bytes. */
+static int32_t make_of_document(struct making *m, size_t times, uint8_t **made, struct bsonraw_report *report) {
+    static const struct bsonraw_report nothing;
+    struct bsonraw_iter it;
+    int is_read = m->len <= m->max_bytes && bsonraw_iter_init(&it, m->bytes, m->len) == BSONRAW_OK;
+    int32_t status = make_new(m, is_read ? times * m->len : 0, made);
+    if (status == BSONRAW_NO_MEMORY) m->report = nothing, m->report.key_at = m->len;
+    if (report != NULL) *report = m->report;
+    return status;
+}
+
+int32_t bsonraw_json_new(const uint8_t *bytes, size_t len, size_t max_bytes, size_t max_depth, uint32_t canonical, uint32_t indented,
+                         char **text, struct bsonraw_report *report) {
+    struct making m = {.make = make_json, .bytes = bsonraw_some_bytes(bytes), .len = len, .max_bytes = max_bytes, .max_depth = max_depth,
+                       .canonical = canonical, .indented = indented};
+    uint8_t *made = NULL;
+    int32_t status;
+    if (text == NULL) return BSONRAW_NULL;
+    status = BSONRAW_LACKS(bytes, len) ? BSONRAW_NULL : make_of_document(&m, canonical || indented ? 4 : 2, &made, report);
+    *text = (char *)made;
+    return status;
+}
+
+/* A form is no longer than its document, but for the keys of arrays. */
+int32_t bsonraw_canonical_new(const uint8_t *bytes, size_t len, size_t max_bytes, size_t max_depth, uint8_t **form, struct bsonraw_report *report) {
+    struct making m = {.make = make_form, .bytes = bsonraw_some_bytes(bytes), .len = len, .max_bytes = max_bytes, .max_depth = max_depth};
+    if (form == NULL) return BSONRAW_NULL;
+    *form = NULL;
+    return BSONRAW_LACKS(bytes, len) ? BSONRAW_NULL : make_of_document(&m, 1, form, report);
+}
+
+/* A document is rarely longer than twice its text, but for arrays of short numbers. */
+int32_t bsonraw_from_json_new(const char *text, size_t len, size_t max_bytes, size_t max_depth, uint8_t **document,
+                              struct bsonraw_json_report *report) {
+    static const struct bsonraw_json_report at_first = {0, 0, 1, 1, 0, 0};
+    struct making m = {.make = make_document, .bytes = bsonraw_some_bytes(BSONRAW_BYTES(text)), .len = len, .max_bytes = max_bytes,
+                       .max_depth = max_depth};
+    size_t most = max_bytes < LONGEST ? max_bytes : LONGEST;
+    int32_t status;
+    if (document == NULL) return BSONRAW_NULL;
+    *document = NULL;
+    if (BSONRAW_LACKS(text, len)) return BSONRAW_NULL;
+    status = make_new(&m, (len < most / 2 ? 2 * len : most) + 16, document);
+    if (status == BSONRAW_NO_MEMORY && m.json_report.line == 0) m.json_report = at_first;
+    if (report != NULL) *report = m.json_report;
+    return status;
 }
 
 /* ---- a builder that grows ---- */

@@ -175,6 +175,72 @@ static void look_at_dots(void) {
     is_text(bsonraw_iter_key(&it, bytes, sizeof bytes), ".");
 }
 
+/* What is in new memory, which is given back. */
+static void is_made(void *made, uint64_t made_len, const char *wanted, size_t len, const char *name) {
+    expect(made != NULL && made_len == len && memcmp(made, wanted, len) == 0, name, "another one");
+    free(made);
+}
+
+#define IS_MADE(made, count, literal, name) is_made(made, count, literal, sizeof(literal) - 1, name)
+
+static void look_at_new_forms(void) {
+    static const uint8_t one[] = "\23\0\0\0\20a\0\1\0\0\0\20a\0\2\0\0\0", list[] = "\20\0\0\0\4\0\11\0\0\0\12\0\12\0\0";
+    uint8_t *form = (uint8_t *)1;
+    struct bsonraw_report r;
+    is(bsonraw_canonical_new(one, 19, 19, 1, &form, &r), BSONRAW_OK, "a form");
+    IS_MADE(form, r.count, "\14\0\0\0\20a\0\2\0\0\0\0", "a form");
+    is(bsonraw_canonical_new(list, 16, 16, 2, &form, &r), BSONRAW_OK, "a longer form");
+    IS_MADE(form, r.count, "\22\0\0\0\4\0\13\0\0\0\12\60\0\12\61\0\0\0", "a longer form");
+    is(bsonraw_canonical_new(list, 16, 16, 2, &form, NULL), BSONRAW_OK, "a form without a report");
+    IS_MADE(form, form[0], "\22\0\0\0\4\0\13\0\0\0\12\60\0\12\61\0\0\0", "a form without a report");
+    is(bsonraw_canonical_new(list, 16, 15, 2, &form, &r), BSONRAW_TOO_MANY_BYTES, "a limit of bytes");
+    expect(form == NULL && r.count == 0 && r.key_at == 16, "a limit of bytes", "another report");
+    is(bsonraw_canonical_new(list, 16, 16, 1, &form, &r), BSONRAW_TOO_DEEP, "a limit of levels");
+    expect(form == NULL && r.count == 0 && r.path_len == 1 && r.error.offset == 4, "a limit of levels", "another report");
+    is(bsonraw_canonical_new(list, 15, 15, 2, &form, &r), BSONRAW_NO_DOCUMENT, "no document");
+    expect(form == NULL && r.error.reason == BSONRAW_LENGTH_INCORRECT, "no document", "another report");
+    is(bsonraw_canonical_new(NULL, 0, 15, 2, &form, &r), BSONRAW_NO_DOCUMENT, "no bytes");
+    form = (uint8_t *)1;
+    is(bsonraw_canonical_new(NULL, 1, 15, 2, &form, &r), BSONRAW_NULL, "bytes of NULL");
+    expect(form == NULL, "bytes of NULL", "a form");
+    is(bsonraw_canonical_new(one, 19, 19, 1, NULL, &r), BSONRAW_NULL, "no place for a form");
+}
+
+static void look_at_new_texts(void) {
+    struct bsonraw_report r;
+    char *text = (char *)&r;
+    is(bsonraw_json_new(rarer, sizeof rarer, SIZE_MAX, 1, 0, 0, &text, &r), BSONRAW_OK, "a text");
+    IS_MADE(text, r.count + 1, "{\"t\":{\"$timestamp\":{\"t\":1,\"i\":2}},\"d\":{\"$numberDecimal\":\"1.5\"},\"b\":{\"$binary\":{\"base64\":\"eHk=\","
+                               "\"subType\":\"80\"}},\"r\":{\"$regularExpression\":{\"pattern\":\"^a\",\"options\":\"i\"}}}\0", "a text");
+    is(bsonraw_json_new((const uint8_t *)"\14\0\0\0\20a\0\1\0\0\0", 12, 12, 1, 7, 7, &text, NULL), BSONRAW_OK, "an indented text");
+    IS_MADE(text, strlen(text), "{\n  \"a\": {\"$numberInt\":\"1\"}\n}", "an indented text");
+    is(bsonraw_json_new(rarer, sizeof rarer, SIZE_MAX, 0, 0, 0, &text, &r), BSONRAW_TOO_DEEP, "no level");
+    expect(text == NULL && r.count == 0, "no level", "a text");
+    text = (char *)&r;
+    is(bsonraw_json_new(NULL, 1, SIZE_MAX, 9, 0, 0, &text, &r), BSONRAW_NULL, "bytes of NULL");
+    expect(text == NULL, "bytes of NULL", "a text");
+    is(bsonraw_json_new(rarer, sizeof rarer, SIZE_MAX, 9, 0, 0, NULL, &r), BSONRAW_NULL, "no place for a text");
+}
+
+static void look_at_new_documents(void) {
+    static const char list[] = "{\"a\":[1,1,1,1,1,1,1,1,1,1]}";
+    struct bsonraw_json_report r;
+    uint8_t *document = (uint8_t *)1;
+    is(bsonraw_from_json_new("{\"a\":1}?", 7, 12, 1, &document, &r), BSONRAW_OK, "a document");
+    IS_MADE(document, r.count, "\14\0\0\0\20a\0\1\0\0\0\0", "a document");
+    is(bsonraw_from_json_new(list, sizeof list - 1, SIZE_MAX, 2, &document, NULL), BSONRAW_OK, "a document that is longer than most");
+    expect(document[0] == 83 && document[4] == BSONRAW_TAG_ARRAY && memcmp(document + 74, "\20\71\0\1\0\0\0\0", 9) == 0, "a document that is longer than most", "another");
+    free(document);
+    is(bsonraw_from_json_new("{\"a\":\n", 6, 99, 1, &document, &r), BSONRAW_FAULT, "no document");
+    expect(document == NULL && r.reason == BSONRAW_JSON_END_OF_TEXT && r.line == 2 && r.column == 1 && r.count == 0, "no document", "another report");
+    is(bsonraw_from_json_new("{\"a\":1}", 7, 11, 1, &document, &r), BSONRAW_TOO_MANY_BYTES, "a limit of bytes");
+    is(bsonraw_from_json_new(NULL, 0, 11, 1, &document, &r), BSONRAW_FAULT, "no text");
+    document = (uint8_t *)1;
+    is(bsonraw_from_json_new(NULL, 1, 11, 1, &document, &r), BSONRAW_NULL, "a text of NULL");
+    expect(document == NULL, "a text of NULL", "a document");
+    is(bsonraw_from_json_new("{}", 2, 11, 1, NULL, &r), BSONRAW_NULL, "no place for a document");
+}
+
 static void look_at_places(void) {
     static uint8_t own[sizeof sample], id[12];
     char hex[25];
@@ -688,6 +754,9 @@ int main(void) {
     look_at_values();
     look_at_rarer();
     look_at_dots();
+    look_at_new_forms();
+    look_at_new_texts();
+    look_at_new_documents();
     look_at_places();
     look_at_order();
     look_at_many(&all);

@@ -1,5 +1,5 @@
 /* Each request for memory that a call makes, refused in turn, alone and with all that follow it: what comes with enough memory,
- * or BSONRAW_NO_MEMORY, and then the rooms are as they were. No call keeps a block, and all but nine ask for none. */
+ * or BSONRAW_NO_MEMORY, and then the rooms are as they were. No call keeps a block, and all but twelve ask for none. */
 #include "documents.h"
 
 #include <stdio.h>
@@ -159,9 +159,24 @@ static int32_t call_resync(const struct document *d, uint8_t *form, size_t form_
     return status;
 }
 
-/* The document that the text of this one writes, whose report is that of a whole document by its place alone. */
-static int32_t call_from_json(const struct document *d, uint8_t *form, size_t form_len, struct bsonraw_report *report, uint64_t *path,
-                              size_t path_room) {
+typedef int32_t reading(const uint8_t *text, size_t len, uint8_t *form, size_t form_len, struct bsonraw_json_report *report);
+
+/* What is said of a text, as the report of a whole document by its place alone. */
+static int32_t said(const struct document *d, int32_t status, const struct bsonraw_json_report *r, struct bsonraw_report *report) {
+    memset(report, 0, sizeof *report);
+    if (status == BSONRAW_NO_MEMORY) {
+        expect(r->count == 0 && r->line > 0 && r->column > 0 && r->offset <= ROOM && r->reason == 0 && r->wrapper == 0, d->name, "out of memory has no place");
+        report->key_at = d->len;
+    } else {
+        expect(status == BSONRAW_OK, d->name, "its text isn't read");
+        report->count = r->count, report->error.offset = r->offset;
+    }
+    return status;
+}
+
+/* The document that the text of this one writes. */
+static int32_t read_text(reading *read, const struct document *d, uint8_t *form, size_t form_len, struct bsonraw_report *report, uint64_t *path,
+                         size_t path_room) {
     static uint8_t text[ROOM];
     struct bsonraw_json_report r;
     size_t number = refused;
@@ -170,16 +185,62 @@ static int32_t call_from_json(const struct document *d, uint8_t *form, size_t fo
     status = bsonraw_json(d->bytes, d->len, 1 << 24, LEVELS, 1, 0, text, ROOM, report, path, path_room);
     if (status != BSONRAW_OK) return status;
     asked = 0, refused = number;
-    status = bsonraw_from_json(text, (size_t)report->count, 1 << 24, LEVELS, form, form_len, &r);
-    memset(report, 0, sizeof *report);
-    if (status == BSONRAW_NO_MEMORY) {
-        expect(r.count == 0 && r.line > 0 && r.column > 0 && r.offset <= ROOM && r.reason == 0 && r.wrapper == 0, d->name, "out of memory has no place");
-        report->key_at = d->len;
-    } else {
-        expect(status == BSONRAW_OK, d->name, "its text isn't read");
-        report->count = r.count, report->error.offset = r.offset;
-    }
+    return said(d, read(text, (size_t)report->count, form, form_len, &r), &r, report);
+}
+
+/* What is in new memory, which is given back. */
+static void give_back(uint8_t *own, int32_t status, uint64_t len, uint8_t *form, size_t form_len, const char *name) {
+    expect((own != NULL) == (status == BSONRAW_OK), name, "it is in no new memory");
+    if (own != NULL && len <= form_len) memcpy(form, own, (size_t)len);
+    free(own);
+}
+
+static int32_t call_new_form(const struct document *d, uint8_t *form, size_t form_len, struct bsonraw_report *report, uint64_t *path,
+                             size_t path_room) {
+    uint8_t *own = d->bytes;
+    int32_t status = bsonraw_canonical_new(d->bytes, d->len, 1 << 24, LEVELS, &own, report);
+    (void)path, (void)path_room;
+    give_back(own, status, report->count, form, form_len, d->name);
     return status;
+}
+
+static int32_t call_new_text(const struct document *d, uint8_t *form, size_t form_len, struct bsonraw_report *report, uint64_t *path,
+                             size_t path_room) {
+    char *own = NULL;
+    int32_t status = bsonraw_json_new(d->bytes, d->len, 1 << 24, LEVELS, 1, 1, &own, report);
+    (void)path, (void)path_room;
+    give_back((uint8_t *)own, status, report->count + 1, form, form_len, d->name);
+    return status;
+}
+
+static int32_t read_new(const uint8_t *text, size_t len, uint8_t *form, size_t form_len, struct bsonraw_json_report *report) {
+    uint8_t *own = NULL;
+    int32_t status = bsonraw_from_json_new((const char *)text, len, 1 << 24, LEVELS, &own, report);
+    give_back(own, status, report->count, form, form_len, "a document in new memory");
+    return status;
+}
+
+static int32_t read_into(const uint8_t *text, size_t len, uint8_t *form, size_t form_len, struct bsonraw_json_report *report) {
+    return bsonraw_from_json(text, len, 1 << 24, LEVELS, form, form_len, report);
+}
+
+static int32_t call_from_json(const struct document *d, uint8_t *form, size_t form_len, struct bsonraw_report *report, uint64_t *path,
+                              size_t path_room) {
+    return read_text(read_into, d, form, form_len, report, path, path_room);
+}
+
+static int32_t call_new_document(const struct document *d, uint8_t *form, size_t form_len, struct bsonraw_report *report, uint64_t *path,
+                                 size_t path_room) {
+    return read_text(read_new, d, form, form_len, report, path, path_room);
+}
+
+/* A document that is longer than most are by their texts. */
+static int32_t call_new_list(const struct document *d, uint8_t *form, size_t form_len, struct bsonraw_report *report, uint64_t *path,
+                             size_t path_room) {
+    static const char text[] = "{\"a\":[1,1,1,1,1,1,1,1,1,1]}";
+    struct bsonraw_json_report r;
+    (void)path, (void)path_room;
+    return said(d, read_new((const uint8_t *)text, sizeof text - 1, form, form_len, &r), &r, report);
 }
 
 /* The text in pieces, as far as it fits into the room. */
@@ -292,7 +353,7 @@ static void asks_for_nothing(const struct document *d) {
 
 int main(void) {
     static struct documents all;
-    size_t forms = 0, form_lens = 0, texts = 0, text_lens = 0, faults = 0, verdicts = 0, rows = 0, reads = 0, searches = 0, pieces = 0, values = 0;
+    size_t forms = 0, form_lens = 0, texts = 0, text_lens = 0, faults = 0, verdicts = 0, rows = 0, reads = 0, searches = 0, pieces = 0, values = 0, made_anew = 0;
     read_documents(&all);
     for (size_t at = 0; at < all.count; at++) {
         const struct document *d = &all.items[at];
@@ -307,9 +368,11 @@ int main(void) {
         searches += refuse_both_ways(d, call_resync);
         pieces += refuse_both_ways(d, call_pieces);
         values += refuse_both_ways(d, call_value);
+        made_anew += refuse_both_ways(d, call_new_form) > 0 && refuse_both_ways(d, call_new_text) > 0 && refuse_both_ways(d, call_new_document) > 0 &&
+                     refuse_both_ways(d, call_new_list) > 0;
         asks_for_nothing(d);
     }
-    expect(forms > 0 && form_lens > 0 && texts > 0 && text_lens > 0 && faults > 0 && verdicts > 0 && rows > 0 && reads > 0 && searches > 0 && pieces > 0 && values > 0,
+    expect(forms > 0 && form_lens > 0 && texts > 0 && text_lens > 0 && faults > 0 && verdicts > 0 && rows > 0 && reads > 0 && searches > 0 && pieces > 0 && values > 0 && made_anew > 0,
            "memory", "a call never ran out of it");
     look_at_text(500, 400000);
     look_at_text(12300, 20000);

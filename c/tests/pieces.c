@@ -21,13 +21,17 @@ static int32_t keep(void *context, const char *text, size_t len) {
     return BSONRAW_OK;
 }
 
-/* By the call that takes a room of char, beside a text that was given a room, or none. */
-static void compare_char(const struct document *d, uint32_t canonical, uint32_t indented, int32_t status, const struct bsonraw_report *wanted,
-                         const uint8_t *text) {
+/* In new memory, beside a text that was given a room, or none; and by the call that takes a room of char. */
+static void compare_new(const struct document *d, uint32_t canonical, uint32_t indented, int32_t status, const struct bsonraw_report *wanted,
+                        const uint8_t *text) {
     struct bsonraw_report r;
     uint64_t path[STEPS];
     size_t room = text == NULL ? 0 : (size_t)wanted->count + 1;
-    char *into = needed(room + 1);
+    char *own = (char *)&r, *into = needed(room + 1);
+    expect(bsonraw_json_new(d->bytes, d->len, 1 << 24, LEVELS, canonical, indented, &own, &r) == status, d->name, "another status of a new text");
+    expect(memcmp(&r, wanted, sizeof r) == 0, d->name, "another report of a new text");
+    expect(text == NULL ? own == NULL : own != NULL && memcmp(own, text, room) == 0, d->name, "another new text");
+    free(own);
     expect(bsonraw_json_text(d->bytes, d->len, 1 << 24, LEVELS, canonical, indented, into, room, &r, path, STEPS) == status, d->name, "another status with char");
     expect(memcmp(&r, wanted, sizeof r) == 0 && (text == NULL || memcmp(into, text, room) == 0), d->name, "another text with char");
     free(into);
@@ -43,7 +47,7 @@ static void compare(const struct document *d, uint32_t canonical, uint32_t inden
         expect(bsonraw_json_write(d->bytes, d->len, 1 << 24, LEVELS, canonical, indented, keep, &p, &r, other, STEPS) == status, d->name, "another status");
         expect(p.count == 0 && memcmp(&r, &wanted, sizeof r) == 0, d->name, "another report");
         expect(r.path_len > STEPS || memcmp(path, other, (size_t)r.path_len * sizeof *path) == 0, d->name, "another path");
-        compare_char(d, canonical, indented, status, &wanted, NULL);
+        compare_new(d, canonical, indented, status, &wanted, NULL);
         return;
     }
     text = needed((size_t)wanted.count + 1);
@@ -56,7 +60,7 @@ static void compare(const struct document *d, uint32_t canonical, uint32_t inden
     p.stop_at = p.count, p.count = p.len = 0;
     expect(bsonraw_json_write(d->bytes, d->len, 1 << 24, LEVELS, canonical, indented, keep, &p, &r, path, STEPS) == 77, d->name, "a stop isn't returned");
     expect(p.count == p.stop_at && r.count == 0, d->name, "it goes on behind a stop");
-    compare_char(d, canonical, indented, BSONRAW_OK, &wanted, text);
+    compare_new(d, canonical, indented, BSONRAW_OK, &wanted, text);
     free(text);
     free(p.text);
 }

@@ -41,6 +41,8 @@ static int use(int call, uint8_t *bytes, size_t len) {
     double real;
     const char *text;
     const uint8_t *part;
+    char *new_text;
+    uint8_t *made;
     size_t part_len;
     bsonraw_buffer_init(&b);
     switch (call) {
@@ -89,6 +91,9 @@ static int use(int call, uint8_t *bytes, size_t len) {
     case 42: (void)!bsonraw_get_binary(bytes, len, "a", &one, &part, &part_len); break;
     case 43: (void)!bsonraw_set_timestamp(bytes, len, "a", 1, 1); break;
     case 44: (void)!bsonraw_set_decimal128(bytes, 5, "a", end - 16); break;
+    case 45: (void)!bsonraw_json_new(bytes, len, 9, 9, 0, 0, &new_text, &r); break;
+    case 46: (void)!bsonraw_canonical_new(bytes, len, 9, 9, &made, &r); break;
+    case 47: (void)!bsonraw_from_json_new(room, len, 9, 9, &made, NULL); break;
     default: return 0;
     }
     return 1;
@@ -110,7 +115,7 @@ int main(void) {
     expect(is_touched(pages + 4096, 4096), "a right length", "it ends the process");
     expect(!is_touched(pages + 4096, 4097), "a length that is too long", "it isn't seen");
     expect(!is_touched(pages + 4095, 4096), "bytes that begin too early", "they aren't seen");
-    for (call = 0; call < 45; call++) {
+    for (call = 0; call < 48; call++) {
         expect(is_used(call, pages + 4096, 4096), "a right length", "it ends the process");
         expect(!is_used(call, pages + 4096, 4097), "a length that is too long", "it isn't seen");
     }

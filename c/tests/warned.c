@@ -10,6 +10,7 @@ void use(const uint8_t *bytes, size_t len) {
     const uint8_t *found;
     size_t found_len;
     uint32_t tag;
+    char *own;
     uint64_t path[4];
     int32_t number;
     struct bsonraw_builder b;
@@ -22,6 +23,6 @@ void use(const uint8_t *bytes, size_t len) {
     bsonraw_buffer_init(&grows);
     if (bsonraw_get(bytes, len, "a", &it) != BSONRAW_OK || bsonraw_check(bytes, len, 99, 9, &r, path, 4) != BSONRAW_OK) return;
     (void)!BSONRAW_FROM_JSON("{}", room, &told);
-    (void)eight, (void)pointer, (void)small, (void)hex, (void)text, (void)part, (void)number, (void)f, (void)found, (void)found_len, (void)tag;
+    (void)eight, (void)pointer, (void)small, (void)hex, (void)text, (void)part, (void)number, (void)f, (void)found, (void)found_len, (void)tag, (void)own;
     LINE
 }
