@@ -11,7 +11,7 @@ import time as clock
 import uuid as uuids
 from datetime import datetime, timedelta, timezone
 from decimal import ROUND_HALF_EVEN, Context, Decimal, Inexact, InvalidOperation, Overflow
-from typing import Any, Callable, List, Mapping, Optional, Tuple, Union
+from typing import Any, Callable, List, Mapping, Optional, Sequence, Tuple, Union
 
 from ._native import Pair, Raw
 
@@ -22,6 +22,16 @@ def _bytes_of(value: Any, name: str) -> bytes:
     if isinstance(value, (bytes, bytearray, memoryview)):
         return bytes(value)
     raise TypeError(f"{name} is made of bytes, not of {type(value).__name__}")
+
+
+def _parts_of(value: Any, mark: int, names: Sequence[str]) -> Optional[List[Any]]:
+    """Some parts of a value of this mark; None where it has another one, or lacks a part."""
+    try:
+        return [getattr(value, name) for name in names] if getattr(value, "_type_marker", None) == mark else None
+    except MemoryError:
+        raise
+    except Exception:  # whatever the class of others raises
+        return None
 
 
 def _seconds(value: datetime) -> int:
@@ -85,9 +95,10 @@ class _Ordered(Raw):
     _parts: Tuple[str, ...] = ()
 
     def _ordered(self, other: object, how: Callable[[Any, Any], bool]) -> bool:
-        if getattr(other, "_type_marker", None) != self._type_marker:
+        theirs = _parts_of(other, self._type_marker, self._parts)
+        if theirs is None:
             return NotImplemented
-        return how([getattr(self, part) for part in self._parts], [getattr(other, part) for part in self._parts])
+        return how([getattr(self, part) for part in self._parts], theirs)
 
     def __lt__(self, other: object) -> bool:
         return self._ordered(other, operator.lt)
@@ -112,8 +123,9 @@ class ObjectId(_Ordered):
     def __new__(cls, value: Union[bytes, str, ObjectId, None] = None) -> ObjectId:
         if value is None:
             return super().__new__(cls, int(clock.time()).to_bytes(4, "big") + _counter.next())
-        if getattr(value, "_type_marker", None) == 7:
-            value = value.binary  # type: ignore[union-attr]
+        parts = _parts_of(value, 7, ["binary"])
+        if parts is not None:
+            (value,) = parts
         raw = bytes.fromhex(value) if isinstance(value, str) else _bytes_of(value, "an ObjectId")
         if len(raw) != 12 or (isinstance(value, str) and len(value) != 24):
             raise ValueError(f"an ObjectId has 12 bytes, or 24 digits in hex, not {value!r}")
@@ -368,9 +380,7 @@ class Binary(bytes):
         return self._subtype
 
     def __eq__(self, other: object) -> bool:
-        if getattr(other, "_type_marker", None) != 5:
-            return False
-        return self.subtype == other.subtype and bytes.__eq__(self, other)  # type: ignore[attr-defined]
+        return [self.subtype] == _parts_of(other, 5, ["subtype"]) and bytes.__eq__(self, other) is True
 
     def __ne__(self, other: object) -> bool:
         return not self == other
@@ -410,9 +420,7 @@ class Code(str):
         return self._scope
 
     def __eq__(self, other: object) -> bool:
-        if getattr(other, "_type_marker", None) != 13:
-            return False
-        return str.__eq__(self, other) and self.scope == other.scope  # type: ignore[attr-defined]
+        return str.__eq__(self, other) is True and [self.scope] == _parts_of(other, 13, ["scope"])
 
     def __ne__(self, other: object) -> bool:
         return not self == other
@@ -485,7 +493,7 @@ class _End(_Only):
     _type_marker = 0
 
     def __eq__(self, other: object) -> bool:
-        return getattr(other, "_type_marker", None) == self._type_marker
+        return _parts_of(other, self._type_marker, []) is not None
 
     def __hash__(self) -> int:
         return hash(self._type_marker)

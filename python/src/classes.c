@@ -41,15 +41,20 @@ static void free_object(PyObject *self) {
 
 static void raw_dealloc(PyObject *self) { free_object(self); }
 
+/* Takes back the error of a value of others that can't be read: 0, or -1 where it is more than that, as without memory. */
+static int clear_unread(void) {
+    if (!PyErr_ExceptionMatches(PyExc_Exception) || PyErr_ExceptionMatches(PyExc_MemoryError)) return -1;
+    PyErr_Clear();
+    return 0;
+}
+
 /* Whether another value has the mark of this one. */
 static int has_mark_of(PyObject *self, PyObject *other, PyObject *name) {
     PyObject *mine = PyObject_GetAttr(self, name), *theirs = mine == NULL ? NULL : PyObject_GetAttr(other, name);
     int is_same = theirs == NULL ? -1 : PyObject_RichCompareBool(mine, theirs, Py_EQ);
     Py_XDECREF(mine);
     Py_XDECREF(theirs);
-    if (is_same >= 0 || !PyErr_ExceptionMatches(PyExc_Exception)) return is_same;
-    PyErr_Clear();
-    return 0;
+    return is_same < 0 ? clear_unread() : is_same;
 }
 
 /* The comparison with a value of another class: that with what the package makes of it, where it has the same of MongoDB's marks. */
@@ -62,11 +67,8 @@ static PyObject *compare_marked(PyObject *self, PyObject *other, int how, richcm
     if (is_same < 0) return NULL;
     if (is_same == 0) Py_RETURN_NOTIMPLEMENTED;
     made = PyObject_CallFunctionObjArgs(classes.convert, other, NULL);
-    if (made == NULL && PyErr_ExceptionMatches(PyExc_ValueError)) { /* such as a pattern that isn't UTF-8 */
-        PyErr_Clear();
-        Py_RETURN_NOTIMPLEMENTED;
-    }
-    if (made == NULL) return NULL;
+    if (made == NULL && clear_unread() < 0) return NULL; /* it lacks a part, or has one such as a pattern that isn't UTF-8 */
+    if (made == NULL) Py_RETURN_NOTIMPLEMENTED;
     if (Py_TYPE(made) == Py_TYPE(self)) result = compare(self, made, how);
     else Py_INCREF(result = Py_NotImplemented);
     Py_DECREF(made);

@@ -5,6 +5,7 @@ import dataclasses
 import datetime as times
 import decimal
 import enum
+import operator
 import pathlib
 import re
 import unittest
@@ -318,6 +319,24 @@ class Classes(unittest.TestCase):
             pattern, flags = b"\xff", 0
 
         self.assertEqual([ObjectId() == Broken(), Regex("a", "") == Lying(), Regex("a", "") != Lying()], [False, False, True])
+        self.assertEqual([Binary(b"a", 1) == Broken(), Code("f") != Broken(), MinKey() == Broken(), MaxKey() > Broken()], [False, True, False, True])
+
+    def test_a_mark_without_the_parts(self) -> None:
+        """A value of another class that has the mark of one is no value of it: it equals none, has no order, and makes no id."""
+        ours: List[Any] = [ObjectId(), Timestamp(1, 2), Regex("a", ""), Binary(b"a", 1), DatetimeMS(0), Decimal128("1"), Code("f"), Int64(5)]
+        theirs = [] if bson is None else [bson.ObjectId(), bson.Timestamp(1, 2), bson.Regex("a"), bson.Binary(b"a", 1), bson.Code("f"), bson.Int64(5)]
+        for value in ours + theirs:
+            other = type("Other", (), {"_type_marker": value._type_marker})()
+            self.assertEqual((value == other, value != other, other == value, value in [other]), (False, True, False, False), value)
+        for value in (ObjectId(), Timestamp(1, 2), *theirs[:2]):
+            other = type("Other", (), {"_type_marker": value._type_marker})()
+            for compare in (operator.lt, operator.le, operator.gt, operator.ge):
+                self.assertRaises(TypeError, compare, value, other)
+        for make in (ObjectId, *(() if bson is None else (bson.ObjectId,))):
+            self.assertRaises(TypeError, make, type("Other", (), {"_type_marker": 7})())
+            self.assertFalse(make.is_valid(type("Other", (), {"_type_marker": 7})()))
+        half = type("Half", (bytes,), {"_type_marker": 5, "subtype": 1}), type("Half", (str,), {"_type_marker": 13, "scope": None})
+        self.assertEqual((Binary(b"a", 1) == half[0](b"a"), Binary(b"a", 1) == half[0](b"b"), Code("f") == half[1]("f")), (True, False, True))
 
 
 class Scopes(unittest.TestCase):
