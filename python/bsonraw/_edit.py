@@ -2,6 +2,7 @@
 
 from __future__ import annotations
 
+import copyreg
 from operator import index
 from struct import pack
 from typing import TYPE_CHECKING, Any, Callable, Dict, Iterator, List, Mapping, Optional, SupportsIndex, Tuple, Union
@@ -176,16 +177,26 @@ class RawDocument(Mapping[str, Any]):
 
     __slots__ = ("_data",)
     _type_marker = 101
+    _data: Union[bytes, memoryview]
 
     def __init__(self, data: Buffer) -> None:
-        view = memoryview(data)  # type: ignore[arg-type]
-        self._data = view if type(view.obj) is bytes else memoryview(bytes(view))
-        elements(self._data)
+        given: Any = data
+        if type(given) is not bytes:
+            view = memoryview(given)
+            given = view if type(view.obj) is bytes else bytes(view)
+        elements(given)
+        self._data = given
 
     @property
     def raw(self) -> bytes:
         """The bytes."""
-        return bytes(self._data)
+        return self._data if isinstance(self._data, bytes) else bytes(self._data)
+
+    def __getstate__(self) -> Tuple[Optional[Dict[str, Any]], Dict[str, Any]]:
+        """What a copy and a pickle have: the bytes of this document alone, and what a class over this one has beside."""
+        names: List[str] = getattr(copyreg, "_slotnames")(type(self))
+        slots = {name: getattr(self, name) for name in names if hasattr(self, name)}
+        return getattr(self, "__dict__", None), {**slots, "_data": self.raw}
 
     def __getitem__(self, key: str) -> Any:
         element = get(self._data, key)

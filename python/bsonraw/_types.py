@@ -3,7 +3,7 @@
 from __future__ import annotations
 
 from enum import IntEnum
-from typing import TYPE_CHECKING, Any, Iterator, List, NamedTuple, Optional, Protocol, Tuple, Union
+from typing import TYPE_CHECKING, Any, Iterator, List, NamedTuple, Optional, Protocol, Tuple, Type, Union
 
 from ._native import fault_text
 
@@ -164,8 +164,9 @@ class BsonError(ValueError):
         super().__init__(text)
 
     def __reduce__(self) -> Tuple[Any, ...]:
-        numbers = self._numbers
-        return BsonError, (self.kind, self.reason, self.key, self.offset, self.path, self.keys, *numbers)
+        beside = {name: of for name, of in vars(self).items() if name != "_numbers" and name not in BsonError.__annotations__}
+        parts = (self.kind, self.reason, self.key, self.offset, self.path, self.keys, *self._numbers)
+        return type(self), parts, beside or None
 
 
 class Breach(NamedTuple):
@@ -215,7 +216,7 @@ class Forms(NamedTuple):
 
     def __reduce__(self) -> Tuple[Any, ...]:
         views = (self.data, self.ends, self.starts, self.own, self.hashes)
-        return _forms, (*map(bytes, views), self.canonical, self.faults)
+        return _forms, (*map(bytes, views), self.canonical, self.faults, type(self))
 
     def each(self) -> Iterator[memoryview]:
         """The forms one by one: views of data, no copies."""
@@ -226,11 +227,18 @@ class Forms(NamedTuple):
 
 
 def _forms(
-    data: bytes, ends: bytes, starts: bytes, own: bytes, hashes: bytes, canonical: int, faults: List[Tuple[int, BsonError]]
+    data: bytes,
+    ends: bytes,
+    starts: bytes,
+    own: bytes,
+    hashes: bytes,
+    canonical: int,
+    faults: List[Tuple[int, BsonError]],
+    kind: Type[Forms] = Forms,
 ) -> Forms:
     """Forms of what their pickle has."""
 
     def numbers(of: bytes) -> memoryview:
         return memoryview(of).cast("Q")
 
-    return Forms(memoryview(data), numbers(ends), numbers(starts), memoryview(own).cast("?"), numbers(hashes), canonical, faults)
+    return kind(memoryview(data), numbers(ends), numbers(starts), memoryview(own).cast("?"), numbers(hashes), canonical, faults)

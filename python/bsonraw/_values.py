@@ -2,6 +2,7 @@
 
 from __future__ import annotations
 
+import copyreg
 import operator
 import os
 import re
@@ -16,6 +17,7 @@ from typing import Any, Callable, List, Mapping, Optional, Sequence, Tuple, Unio
 from ._native import Pair, Raw
 
 _EPOCH = datetime(1970, 1, 1, tzinfo=timezone.utc)
+_PARTS = ("_subtype", "_scope")  # attributes that are made of what a class is called with
 
 
 def _bytes_of(value: Any, name: str) -> bytes:
@@ -34,6 +36,16 @@ def _parts_of(value: Any, mark: int, names: Sequence[str]) -> Optional[List[Any]
         return None
 
 
+def again(value: Any, kind: type, *parts: Any) -> Tuple[Any, ...]:
+    """What a pickle and a copy have of a value: its class and its parts, and what a class over ours has beside those."""
+    if type(value) is kind:
+        return kind, parts
+    attributes = {name: of for name, of in getattr(value, "__dict__", {}).items() if name not in _PARTS}
+    names: List[str] = getattr(copyreg, "_slotnames")(type(value))
+    slots = {name: getattr(value, name) for name in names if name not in _PARTS and hasattr(value, name)}
+    return getattr(copyreg, "__newobj__"), (type(value), *parts), (attributes, slots)
+
+
 def _seconds(value: datetime) -> int:
     aware = value if value.utcoffset() is not None else value.replace(tzinfo=timezone.utc)
     return (aware - _EPOCH) // timedelta(seconds=1)
@@ -49,7 +61,7 @@ class DatetimeMS(int):
         return f"DatetimeMS({int(self)})"
 
     def __reduce__(self) -> Tuple[Any, ...]:
-        return DatetimeMS, (int(self),)
+        return again(self, DatetimeMS, int(self))
 
     __str__ = int.__repr__
 
@@ -165,7 +177,7 @@ class ObjectId(_Ordered):
         return f"ObjectId('{self}')"
 
     def __reduce__(self) -> Tuple[Any, ...]:
-        return ObjectId, (self.binary,)
+        return again(self, ObjectId, self.binary)
 
 
 class Timestamp(_Ordered):
@@ -208,7 +220,7 @@ class Timestamp(_Ordered):
         return super().__eq__(other)
 
     def __reduce__(self) -> Tuple[Any, ...]:
-        return Timestamp, (self.time, self.increment)
+        return again(self, Timestamp, self.time, self.increment)
 
 
 # ---- decimals --------------------------------------------------------------------------------------------------------
@@ -289,7 +301,7 @@ class Decimal128(Raw):
         return f"Decimal128({str(self)!r})" if Decimal128(str(self)) == self else f"Decimal128({self.binary!r})"
 
     def __reduce__(self) -> Tuple[Any, ...]:
-        return Decimal128, (self.binary,)
+        return again(self, Decimal128, self.binary)
 
 
 # ---- texts and bytes -------------------------------------------------------------------------------------------------
@@ -342,7 +354,7 @@ class Regex(Pair):
         return f"Regex({self.pattern!r}, {self.options!r})"
 
     def __reduce__(self) -> Tuple[Any, ...]:
-        return Regex, (self.pattern, self.options)
+        return again(self, Regex, self.pattern, self.options)
 
 
 class Binary(bytes):
@@ -392,7 +404,7 @@ class Binary(bytes):
         return f"Binary({bytes(self)!r}, {self.subtype})"
 
     def __reduce__(self) -> Tuple[Any, ...]:
-        return Binary, (bytes(self), self.subtype)
+        return again(self, Binary, bytes(self), self.subtype)
 
 
 class Code(str):
@@ -431,7 +443,7 @@ class Code(str):
         return f"Code({self.code!r}, {self.scope!r})"
 
     def __reduce__(self) -> Tuple[Any, ...]:
-        return Code, (self.code, self.scope)
+        return again(self, Code, self.code, self.scope)
 
 
 class DBPointer(Pair):
@@ -456,7 +468,7 @@ class DBPointer(Pair):
         return f"DBPointer({self.namespace!r}, {self.id!r})"
 
     def __reduce__(self) -> Tuple[Any, ...]:
-        return DBPointer, (self.namespace, self.id)
+        return again(self, DBPointer, self.namespace, self.id)
 
 
 # ---- values of which there is one ------------------------------------------------------------------------------------

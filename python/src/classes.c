@@ -215,9 +215,12 @@ static PyObject *int64_repr(PyObject *self) {
 }
 
 static PyObject *int64_reduce(PyObject *self, PyObject *unused) {
-    PyObject *number = PyNumber_Long(self);
+    PyObject *number = PyNumber_Long(self), *reduced = NULL;
     (void)unused;
-    return number == NULL ? NULL : Py_BuildValue("O(N)", (PyObject *)classes.int64, number);
+    if (number != NULL && Py_TYPE(self) == classes.int64) reduced = Py_BuildValue("O(O)", (PyObject *)classes.int64, number);
+    else if (number != NULL) reduced = PyObject_CallFunctionObjArgs(classes.again, self, (PyObject *)classes.int64, number, NULL);
+    Py_XDECREF(number);
+    return reduced;
 }
 
 /* MongoDB's mark of an int of 64 bits, by which their encoder knows one. */
@@ -291,6 +294,7 @@ static const struct named names[] = {
     {"MaxKey", &classes.max_key_type, NULL},
     {"BsonError", &classes.error, NULL},
     {"breach", &classes.breach, NULL},
+    {"again", &classes.again, NULL},
     {"convert", &classes.convert, NULL},
     {"placed", &classes.placed, NULL},
 };

@@ -182,6 +182,7 @@ struct classes {
     PyTypeObject *undefined_type, *min_key_type, *max_key_type;
     PyObject *undefined, *min_key, *max_key;
     PyObject *error, *breach;
+    PyObject *again;            /* what a pickle has of a value of a class over ours */
     PyObject *convert;          /* a value of another class to one of these, for encoding; or NotImplemented */
     PyObject *placed;           /* an error of encoding with the place */
     PyObject *element_type[256]; /* by tag; NULL where there is none */

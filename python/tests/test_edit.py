@@ -4,7 +4,7 @@ import copy
 import pickle
 import random
 import unittest
-from typing import Any
+from typing import Any, List
 
 import bsonraw
 from bsonraw import REMOVE, BsonError, Code, Int64, Pairs, RawDocument
@@ -72,6 +72,16 @@ class Edit(unittest.TestCase):
         self.assertRaises(BsonError, bsonraw.edit, data, {"x\0": 1})
 
 
+class Named(RawDocument):
+    __slots__ = ("note",)
+
+
+class Kept(RawDocument):
+    def __init__(self, data: Any, name: str) -> None:
+        super().__init__(data)
+        self.name = name
+
+
 class Raw(unittest.TestCase):
     def test_as_a_mapping(self) -> None:
         value: Any = {"a": {"b": [1, {"c": 2}]}, "d": None}
@@ -92,6 +102,23 @@ class Raw(unittest.TestCase):
         self.assertEqual((document["c"], len(document), list(document)), (1, 1, ["c"]))
         self.assertEqual(bsonraw.encode(document), document.raw)
         self.assertEqual(bsonraw.encode(Pairs(RawDocument(document.raw).items())), bsonraw.encode({"c": 1}))
+
+    def test_copies_and_pickles(self) -> None:
+        """A copy is of the same class and has the same bytes and attributes; one of a nested document has that one's bytes alone."""
+        inner = bsonraw.encode({"b": 1})
+        data = bsonraw.encode({"a": Pairs([("b", 1)]), "c": "x" * 1000})
+        named, kept = Named(bytearray(data)), Kept(memoryview(data), name="n")
+        named.note = ["note"]
+        ways: List[Any] = [copy.copy, copy.deepcopy]
+        ways += [lambda value, number=number: pickle.loads(pickle.dumps(value, number)) for number in range(pickle.HIGHEST_PROTOCOL + 1)]
+        for way in ways:
+            for document, raw in ((RawDocument(data), data), (RawDocument(data)["a"], inner), (named, data), (kept, data)):
+                found = way(document)
+                self.assertEqual((type(found), found.raw, found == document, list(found)), (type(document), raw, True, list(document)))
+            self.assertEqual((way(named).note, way(kept).name, way(kept)["a"]["b"]), (["note"], "n", 1))
+        self.assertEqual((copy.copy(named).note is named.note, copy.deepcopy(named).note is named.note), (True, False))
+        self.assertLess(len(pickle.dumps(RawDocument(data)["a"])), 200)
+        self.assertIs(RawDocument(data).raw, data)
 
 
 if __name__ == "__main__":

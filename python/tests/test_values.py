@@ -111,6 +111,15 @@ TAKEN = [
 ]
 
 
+# Values of classes over ours, which are in this module for pickle's sake.
+OWN_ARGUMENTS = {
+    Binary: (b"ab", 128), Code: ("f", {"a": 1}), DatetimeMS: (1 << 60,), DBPointer: ("a.b", ID), Decimal128: ("1.5",), Int64: (1 << 40,),
+    ObjectId: (bytes(ID),), Regex: ("a", "ix"), Symbol: ("s",), Timestamp: (5, 6), Pairs: ([("a", 1), ("a", 2)],), BsonError: (1, 16, "a", 4, (0,), ("a",), 2),
+}
+OWN = {kind: type(f"Own{kind.__name__}", (kind,), {"__module__": __name__}) for kind in OWN_ARGUMENTS}
+globals().update({kind.__name__: kind for kind in OWN.values()})
+
+
 class Values(unittest.TestCase):
     def test_each_is_written_and_read_as_the_format_has_it(self) -> None:
         for value, data in ROWS:
@@ -183,6 +192,22 @@ class Classes(unittest.TestCase):
                 self.assertEqual((type(again), again), (type(value), value))
             if not isinstance(value, (dict, list)) and not (isinstance(value, Code) and value.scope):
                 self.assertEqual(hash(pickle.loads(pickle.dumps(value))), hash(value))
+
+    def test_classes_over_ours_stay_what_they_are(self) -> None:
+        """In copies and pickles, with what they have beside, as MongoDB's and most of Python's do."""
+        for kind, own in OWN.items():
+            value: Any = own(*OWN_ARGUMENTS[kind])
+            value.note = ["note"]
+            for number in range(pickle.HIGHEST_PROTOCOL + 1):
+                for found in (pickle.loads(pickle.dumps(value, number)), copy.copy(value), copy.deepcopy(value)):
+                    self.assertEqual((type(found), repr(found), found.note), (own, repr(value), ["note"]))
+                    self.assertTrue(kind is BsonError or found == value)
+            self.assertIs(copy.copy(value).note, value.note)
+
+    def test_a_pickle_of_ours_has_the_class_and_the_parts_alone(self) -> None:
+        self.assertEqual(ID.__reduce__(), (ObjectId, (bytes(ID),)))
+        self.assertEqual(Binary(b"a", 5).__reduce__(), (Binary, (b"a", 5)))
+        self.assertEqual(Int64(5).__reduce__(), (Int64, (5,)))
 
     def test_as_text(self) -> None:
         names = {name: getattr(bsonraw, name) for name in bsonraw.__all__}
