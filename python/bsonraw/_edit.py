@@ -3,6 +3,7 @@
 from __future__ import annotations
 
 import copyreg
+from itertools import takewhile
 from operator import index
 from struct import pack
 from typing import TYPE_CHECKING, Any, Callable, Dict, Iterator, List, Mapping, Optional, SupportsIndex, Tuple, Union
@@ -172,12 +173,15 @@ class RawDocument(Mapping[str, Any]):
     A document in it is one like it, over the same bytes. Of a repeated key it
     has the first value, as `get`. `encode` takes it, and MongoDB's does, too.
     Raises BsonError where the bytes are no document, and where a value is read
-    that is damaged or that damage is before.
+    that is damaged or that damage is before. Its offset and path are from the
+    outermost document on. A copy or a pickle of a document in another one has
+    that one's bytes alone, so that they are from there on.
     """
 
-    __slots__ = ("_data",)
+    __slots__ = ("_data", "_in")
     _type_marker = 101
     _data: Union[bytes, memoryview]
+    _in: Optional[Tuple[RawDocument, Element]]  # the document that it came from, and the element there
 
     def __init__(self, data: Buffer) -> None:
         given: Any = data
@@ -186,6 +190,7 @@ class RawDocument(Mapping[str, Any]):
             given = view if type(view.obj) is bytes else bytes(view)
         elements(given)
         self._data = given
+        self._in = None
 
     @property
     def raw(self) -> bytes:
@@ -196,22 +201,51 @@ class RawDocument(Mapping[str, Any]):
         """What a copy and a pickle have: the bytes of this document alone, and what a class over this one has beside."""
         names: List[str] = getattr(copyreg, "_slotnames")(type(self))
         slots = {name: getattr(self, name) for name in names if hasattr(self, name)}
-        return getattr(self, "__dict__", None), {**slots, "_data": self.raw}
+        return getattr(self, "__dict__", None), {**slots, "_data": self.raw, "_in": None}
+
+    def _from_outermost(self, error: BsonError) -> BsonError:
+        """The error with its place from the outermost document on."""
+        inner, offset = self, error.offset
+        path, keys = list(error.path[::-1]), list(error.keys[::-1])
+        while inner._in is not None:
+            inner, element = inner._in
+            offset = None if offset is None else element.offset + 2 + len(element.key.encode()) + offset
+            path.append(sum(1 for _ in takewhile(lambda one: one.offset < element.offset, elements(inner._data))))
+            keys.append(element.key)
+        if inner is self:
+            return error
+        return BsonError(error.kind, error.reason, error.key, offset, tuple(path[::-1]), tuple(keys[::-1]), *error._numbers)
 
     def __getitem__(self, key: str) -> Any:
-        element = get(self._data, key)
+        try:
+            element = get(self._data, key)
+            if element is not None and element.kind is not ElementType.DOCUMENT:
+                return element.value
+        except BsonError as error:
+            raise self._from_outermost(error) from None
         if element is None:
             raise KeyError(key)
-        return RawDocument(element.payload) if element.kind is ElementType.DOCUMENT else element.value
+        inner = RawDocument(element.payload)
+        inner._in = self, element
+        return inner
 
     def __contains__(self, key: object) -> bool:
-        return isinstance(key, str) and get(self._data, key) is not None
+        try:
+            return isinstance(key, str) and get(self._data, key) is not None
+        except BsonError as error:
+            raise self._from_outermost(error) from None
+
+    def _keys(self) -> Dict[str, None]:
+        try:
+            return dict.fromkeys(element.key for element in elements(self._data))
+        except BsonError as error:
+            raise self._from_outermost(error) from None
 
     def __iter__(self) -> Iterator[str]:
-        return iter(dict.fromkeys(element.key for element in elements(self._data)))
+        return iter(self._keys())
 
     def __len__(self) -> int:
-        return len({element.key for element in elements(self._data)})
+        return len(self._keys())
 
     def __repr__(self) -> str:
         return f"RawDocument({self.raw!r})"

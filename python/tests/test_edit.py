@@ -7,7 +7,7 @@ import unittest
 from typing import Any, List
 
 import bsonraw
-from bsonraw import REMOVE, BsonError, Code, Int64, Pairs, RawDocument
+from bsonraw import REMOVE, BsonError, Code, Int64, Pairs, RawDocument, Reason
 from made import all_made, framed
 
 
@@ -102,6 +102,30 @@ class Raw(unittest.TestCase):
         self.assertEqual((document["c"], len(document), list(document)), (1, 1, ["c"]))
         self.assertEqual(bsonraw.encode(document), document.raw)
         self.assertEqual(bsonraw.encode(Pairs(RawDocument(document.raw).items())), bsonraw.encode({"c": 1}))
+
+    def test_places_of_errors(self) -> None:
+        """They are from the outermost document's first byte on, as first_fault has them; in a copy from that one's."""
+        bad = framed(b"\x10x\0\1\0\0\0" + b"\x08c\0\2" + b"\x14d\0")
+        data = framed(b"\x0ay\0" + b"\x03\xc3\xa9\0" + framed(b"\x0az\0" + b"\x0az\0" + b"\x03b\0" + bad))
+        fault = bsonraw.first_fault(data)
+        self.assertEqual((fault.offset, fault.path, fault.keys), (data.index(b"\x08c\0"), (1, 2, 1), ("é", "b", "c")))
+        inner: Any = RawDocument(data)["é"]["b"]
+        self.assertEqual(inner["x"], 1)
+        with self.assertRaises(BsonError) as caught:
+            inner["c"]
+        self.assertEqual((caught.exception.args, caught.exception.__reduce__()), (fault.args, fault.__reduce__()))
+        stop = ("at offset 39: at key 'é.b.d': no kind has this tag: 20", 39, (1, 2, 2), ("é", "b", "d"), Reason.INVALID_TAG)
+        self.assertEqual(data[39:], b"\x14d\0" + bytes(3))
+        for read in (lambda: inner["q"], lambda: "q" in inner, lambda: list(inner), lambda: len(inner), lambda: dict(inner), lambda: inner == {}):
+            with self.assertRaises(BsonError) as caught:
+                read()
+            error = caught.exception
+            self.assertEqual((str(error), error.offset, error.path, error.keys, error.reason), stop)
+        for own in (copy.copy(inner), pickle.loads(pickle.dumps(inner)), RawDocument(inner.raw)):
+            with self.assertRaises(BsonError) as caught:
+                own["c"]
+            fault = bsonraw.first_fault(bad)
+            self.assertEqual((caught.exception.__reduce__(), fault.offset), (fault.__reduce__(), 11))
 
     def test_copies_and_pickles(self) -> None:
         """A copy is of the same class and has the same bytes and attributes; one of a nested document has that one's bytes alone."""
