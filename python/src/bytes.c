@@ -48,21 +48,29 @@ int bytes_open_view(struct bytes *bytes, PyObject *data) {
 
 #define BREATHS 10000000 /* nanoseconds */
 
-int breathe(struct breath *breath, size_t len) {
+/* Lets go of the lock for a moment, if the last one is long ago. */
+static void let_others_run(struct breath *breath) {
     struct timespec time;
     int64_t now;
+    if (clock_gettime(CLOCK_MONOTONIC, &time) != 0) return;
+    now = (int64_t)time.tv_sec * 1000000000 + time.tv_nsec;
+    if (breath->at == 0) breath->at = now;
+    if (now - breath->at < BREATHS) return;
+    breath->at = now;
+    Py_BEGIN_ALLOW_THREADS
+    Py_END_ALLOW_THREADS
+}
+
+int breathe(struct breath *breath, size_t len) {
+    int was_held, status;
     breath->unheard += len;
     if (breath->unheard <= LET_GO_OVER) return 0;
     breath->unheard = 0;
-    if (clock_gettime(CLOCK_MONOTONIC, &time) != 0) return PyErr_CheckSignals();
-    now = (int64_t)time.tv_sec * 1000000000 + time.tv_nsec;
-    if (breath->at == 0) breath->at = now;
-    if (now - breath->at >= BREATHS) {
-        breath->at = now;
-        Py_BEGIN_ALLOW_THREADS
-        Py_END_ALLOW_THREADS
-    }
-    return PyErr_CheckSignals();
+    was_held = collector_pause();
+    let_others_run(breath);
+    status = PyErr_CheckSignals();
+    collector_resume(was_held);
+    return status;
 }
 
 PyTypeObject *type_not_called(PyType_Spec *spec) {

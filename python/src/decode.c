@@ -439,10 +439,12 @@ static void levels_open(struct levels *levels) {
 static PyObject *nested_of(const struct maker *maker, const struct bsonraw_token *of, const struct bsonraw_token *first,
                            const struct bsonraw_token *end) {
     struct levels levels;
+    int is_held = collector_hold(maker->options);
     PyObject *value = NULL;
     levels_open(&levels);
     if (begin(maker, &levels, of, end) == 0) value = fill(maker, &levels, first);
     levels_close(&levels);
+    collector_free(is_held);
     return value;
 }
 
@@ -723,13 +725,16 @@ static PyObject *by_cursors(const struct maker *maker, const struct bsonraw_toke
     struct levels levels;
     struct cursors cursors = {NULL, 0, 0, {0, 0}, *maker->options};
     PyObject *value = NULL;
+    int is_held;
     if (maker->len > maker->options->max_bytes || maker->options->max_depth == 0) return NULL;
+    is_held = collector_hold(maker->options);
     levels_open(&levels);
     if (go_in(maker, &cursors, 0, (uint32_t)maker->len) && !has_small_ones(&cursors, (uint32_t)maker->len) &&
         begin(maker, &levels, of, NULL) == 0)
         value = fill_by_cursors(maker, &levels, &cursors);
     levels_close(&levels);
     PyMem_Free(cursors.at);
+    collector_free(is_held);
     return value;
 }
 

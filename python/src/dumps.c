@@ -65,37 +65,16 @@ int take_each(Documents *all, const struct options *options, document_taker *tak
     }
 }
 
-/* ---- the collector ---- */
-
-/* What is made isn't garbage, so that the collector need not look for some in it meanwhile. Whether it was on. */
-static int hold_collector(void) {
-#if PY_VERSION_HEX >= 0x030A0000
-    return PyGC_Disable();
-#else
-    return 0;
-#endif
-}
-
-static void free_collector(int was_on) {
-#if PY_VERSION_HEX >= 0x030A0000
-    if (was_on) PyGC_Enable();
-#else
-    (void)was_on;
-#endif
-}
-
 PyObject *made_of(PyObject *documents, struct options *options, PyObject *make(Documents *, const struct options *)) {
     Documents *all = documents_of(documents);
     PyObject *made = NULL;
     if (all != NULL && documents_begin(all) == 0) {
-        int was_on = hold_collector();
         all->is_busy = 1;
         all->max_bytes = options->max_bytes;
         options->is_of_dump = 1;
         made = make(all, options);
         documents_end(all);
         all->is_busy = 0;
-        free_collector(was_on);
     }
     options_end(options);
     return made;

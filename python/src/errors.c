@@ -17,6 +17,7 @@ static PyObject *or_none(PyObject *object) { return object == NULL ? Py_None : o
 static PyObject *error_new(struct fault *fault) {
     PyObject *error = NULL, *reason = fault->reason == 0 ? NULL : PyLong_FromUnsignedLong(fault->reason);
     if (!PyErr_Occurred()) {
+        int was_held = collector_pause();
         PyObject *empty = PyTuple_New(0);
         if (empty != NULL)
             error = PyObject_CallFunction(classes.error, "IOOOOOKK", (unsigned)fault->kind, or_none(reason),
@@ -24,6 +25,7 @@ static PyObject *error_new(struct fault *fault) {
                                           fault->keys ? fault->keys : empty, (unsigned long long)fault->number,
                                           (unsigned long long)fault->left);
         Py_XDECREF(empty);
+        collector_resume(was_held);
     }
     Py_XDECREF(reason);
     Py_XDECREF(fault->key);

@@ -13,7 +13,9 @@ static PyObject *with_slot(PyTypeObject *type, PyObject *name, PyObject *value) 
 static PyObject *uuid_type, *int_name, *safe_name, *unknown, *sixty_four;
 
 static int uuid_init(void) {
+    int was_held = collector_pause();
     PyObject *module = PyImport_ImportModule("uuid"), *safe = NULL;
+    collector_resume(was_held);
     if (module != NULL) safe = PyObject_GetAttrString(module, "SafeUUID");
     if (safe != NULL) unknown = PyObject_GetAttrString(safe, "unknown");
     int_name = PyUnicode_InternFromString("int");
@@ -73,7 +75,7 @@ static PyObject *foreign_id(PyObject *make, const uint8_t *at) {
 
 /* What a call makes of one or two parts. Takes these; the second may be NULL. */
 static PyObject *made_of_parts(PyObject *make, PyObject *first, PyObject *second) {
-    PyObject *made = first == NULL || PyErr_Occurred() ? NULL : PyObject_CallFunctionObjArgs(make, first, second, NULL);
+    PyObject *made = first == NULL || PyErr_Occurred() ? NULL : call_out(make, first, second);
     Py_XDECREF(first);
     Py_XDECREF(second);
     return made;
@@ -103,7 +105,7 @@ PyObject *foreign_leaf(PyObject *types, uint32_t tag, const uint8_t *at, size_t 
 PyObject *in_types(PyObject *types, uint32_t tag, PyObject *value) {
     PyObject *make = value == NULL ? NULL : maker_of(types, tag), *made;
     if (make == NULL) return value;
-    made = PyObject_CallFunctionObjArgs(make, value, NULL);
+    made = call_out(make, value, NULL);
     Py_DECREF(value);
     return made;
 }

@@ -242,6 +242,17 @@ PyObject *foreign_leaf(PyObject *types, uint32_t tag, const uint8_t *at, size_t 
 PyObject *foreign_document(PyObject *types, PyObject *document); /* takes it */
 PyObject *in_types(PyObject *types, uint32_t tag, PyObject *value); /* in place of ours, which it takes */
 
+/* ---- collector.c ---- */
+
+/* While containers of a dump's document are made: whether this call has the collector off, which ends with it. */
+int collector_hold(const struct options *options);
+void collector_free(int was_held);
+/* Around what lets go of the interpreter's lock, or runs code of others, in between. */
+int collector_pause(void);
+void collector_resume(int was_held);
+/* Calls what may be, or run, code of others; the second argument may be NULL. */
+PyObject *call_out(PyObject *call, PyObject *first, PyObject *second);
+
 /* ---- errors.c ---- */
 
 #define PATH_ROOM 64

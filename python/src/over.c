@@ -40,7 +40,7 @@ PyObject *binary_new(const uint8_t *at, size_t len, uint8_t subtype) {
 }
 
 PyObject *code_new(PyObject *code, PyObject *scope) {
-    PyObject *made = code == NULL || scope == NULL ? NULL : PyObject_CallFunctionObjArgs((PyObject *)classes.code, code, scope, NULL);
+    PyObject *made = code == NULL || scope == NULL ? NULL : call_out((PyObject *)classes.code, code, scope);
     Py_XDECREF(code);
     Py_XDECREF(scope);
     return made;

@@ -28,10 +28,12 @@ static inline int32_t flatten(const struct tokens *tokens, const struct bytes *b
 
 /* Without the interpreter's lock. */
 NOT_INLINE int32_t flatten_alone(const struct tokens *tokens, const struct bytes *bytes, struct told *told) {
+    int was_held = collector_pause();
     int32_t status;
     Py_BEGIN_ALLOW_THREADS
     status = flatten(tokens, bytes, told);
     Py_END_ALLOW_THREADS
+    collector_resume(was_held);
     return status;
 }
 

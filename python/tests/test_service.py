@@ -290,15 +290,106 @@ class Held(unittest.TestCase):
             is_on[0] = False
             thread.join()
 
-    def test_the_collector_is_on_again(self) -> None:
-        for was_on in (True, False):
-            (gc.enable if was_on else gc.disable)()
-            try:
-                bsonraw.decode_all(many(10))
-                self.assertRaises(BsonError, bsonraw.columns, b"\1\0\0\0\0")
+    def test_the_collector_is_as_others_have_it(self) -> None:
+        """No code of others finds it off that was on, wherever a call runs some; nor does a child that is forked there."""
+        seen: List[bool] = []
+
+        def look(*_: Any) -> None:
+            seen.append(gc.isenabled())
+
+        def fork(*_: Any) -> None:
+            child = os.fork()
+            if child == 0:
+                os._exit(0 if gc.isenabled() else 1)
+            seen.append(gc.isenabled() and os.waitpid(child, 0)[1] == 0)
+
+        class File(io.BytesIO):
+            def read(self, size: Any = -1) -> bytes:
+                fork()
+                return super().read(1000)
+
+            read1 = read
+
+        before = signal.signal(signal.SIGALRM, look)
+        self.addCleanup(signal.signal, signal.SIGALRM, before)
+        dump = many(50)
+        large = framed(b"".join(b"\4a%d\0" % number + framed(b"\x0a0\0" * 3) for number in range(50_000)))
+        code = bsonraw.encode({"a": bsonraw.Code("f"), "b": [{"c": bsonraw.Code("g", {"d": [1]})}]})
+        for read in (bsonraw.decode_all, bsonraw.columns):
+            read(File(dump))
+            read(framed(b"\4a\0" + framed(b"\x08a\0\2")) * 5, errors=fork)
+            for data in (many(30_000), large):
+                signal.setitimer(signal.ITIMER_REAL, 0.01, 0.01)
+                read(data)
+                signal.setitimer(signal.ITIMER_REAL, 0)
+        bsonraw.decode_all(dump, object_hook=look)
+        bsonraw.decode_all(dump, object_pairs_hook=look)
+        made = bsonraw.Code.__new__
+        try:
+            bsonraw.Code.__new__ = lambda *given: look() or made(*given)  # type: ignore[method-assign, assignment, func-returns-value]
+            bsonraw.decode_all(code * 20)
+        finally:
+            bsonraw.Code.__new__ = made  # type: ignore[method-assign]
+        self.assertEqual(set(seen), {True})
+        self.assertGreater(len(seen), 150)
+
+    def test_who_turns_the_collector_off_or_on_meanwhile_is_not_overruled(self) -> None:
+        def turned(turn: Callable[[], None]) -> Callable[[Any], None]:
+            return lambda _: turn()
+
+        damaged = framed(b"\x08a\0\2")
+        self.addCleanup(gc.enable)
+        for read in (bsonraw.decode_all, bsonraw.columns):
+            for was_on in (True, False):
+                (gc.enable if was_on else gc.disable)()
+                read(many(10))
+                self.assertRaises(BsonError, read, b"\1\0\0\0\0")
                 self.assertEqual(gc.isenabled(), was_on)
-            finally:
-                gc.enable()
+                for turn, is_on in ((gc.disable, False), (gc.enable, True)):
+                    (gc.enable if was_on else gc.disable)()
+                    read(many(10) + damaged + many(10), errors=turned(turn))
+                    self.assertEqual(gc.isenabled(), is_on)
+
+    def test_another_thread_and_the_collector(self) -> None:
+        """It sees it on all the time that a call runs, of many documents or of a large one; and turns it off for good."""
+        large = framed(b"".join(b"\4a%d\0" % number + framed(b"\x0a0\0" * 3) for number in range(100_000)))
+        self.addCleanup(gc.enable)
+        for data in (many(100_000), large):
+            seen: List[bool] = []
+            is_on = [True]
+
+            def look() -> None:
+                while is_on[0]:
+                    seen.append(gc.isenabled())
+                    time.sleep(0.0005)
+                gc.disable()
+
+            thread = threading.Thread(target=look)
+            gc.enable()
+            thread.start()
+            end = time.monotonic() + 60
+            while len(seen) < 10:
+                self.assertLess(time.monotonic(), end)
+                bsonraw.decode_all(data)
+            is_on[0] = False
+            bsonraw.decode_all(data)
+            thread.join()
+            self.assertEqual((set(seen), gc.isenabled()), ({True}, False))
+
+    @unittest.skipIf(sys.version_info < (3, 10), "the collector can't be turned off from C")
+    def test_the_collector_looks_through_no_document_that_is_being_made(self) -> None:
+        seen: List[Any] = []
+
+        def count(*given: Any) -> None:
+            seen.append(given)
+
+        gc.callbacks.append(count)
+        try:
+            made = bsonraw.decode_all(many(20_000))
+            count_of = len(seen)
+        finally:
+            gc.callbacks.remove(count)
+        self.assertEqual((len(made), count_of), (20_000, 0))
 
     def test_cycles_are_freed(self) -> None:
         class File(io.BytesIO):
