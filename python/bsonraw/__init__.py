@@ -216,7 +216,8 @@ def documents(source: Source, *, max_bytes: int = MAX_BYTES, resync: bool = Fals
 
 
 def decode_all(
-    source: Source,
+    data: Source,
+    codec_options: None = None,
     *,
     pairs: bool = False,
     types: Types = None,
@@ -240,7 +241,8 @@ def decode_all(
     have others passed over.
     """
     return _native.decode_all(
-        documents(source, resync=resync),
+        documents(data, resync=resync),
+        codec_options=codec_options,
         pairs=pairs,
         types=types,
         tz_aware=tz_aware,

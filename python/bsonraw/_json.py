@@ -48,12 +48,16 @@ def loads(
     object_pairs_hook: PairsHook = None,
     max_bytes: int = _MAX_BYTES,
     max_depth: int = _MAX_DEPTH,
+    json_options: None = None,
 ) -> Any:
     """The values of the document that a text of Extended JSON v2 writes.
 
     The text is read as `from_json` does, and the document as `decode` does,
     which has the same options. Of a repeated key the last value counts.
+    json_options, of MongoDB's loads, raises TypeError unless it is None.
     """
+    if json_options is not None:
+        raise TypeError('json_options aren\'t taken: in their place use tz_aware, uuid, types="bson" and object_hook')
     return _native.decode(
         from_json(text, max_bytes=max_bytes, max_depth=max_depth),
         pairs=pairs,

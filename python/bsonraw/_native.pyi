@@ -90,6 +90,7 @@ class Documents(Iterator[Tuple[int, bytes]]):
 
 def decode(
     data: Buffer,
+    codec_options: None = ...,
     *,
     pairs: bool = ...,
     types: Types = ...,
@@ -102,6 +103,8 @@ def decode(
 ) -> Any: ...
 def encode(
     document: Document,
+    check_keys: Literal[False] = ...,
+    codec_options: None = ...,
     *,
     default: Optional[Callable[[Any], Any]] = ...,
     max_bytes: Optional[int] = ...,
@@ -122,8 +125,9 @@ def documents(
 ) -> Documents: ...
 def from_json(text: Buffer, max_bytes: int, max_depth: int, /) -> Union[bytes, Tuple[str, int]]: ...
 def decode_all(
-    source: Documents,
+    data: Documents,
     *,
+    codec_options: None = ...,
     pairs: bool = ...,
     types: Types = ...,
     tz_aware: Optional[bool] = ...,

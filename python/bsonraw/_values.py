@@ -132,30 +132,30 @@ class ObjectId(_Ordered):
     _type_marker = 7
     _parts = ("binary",)
 
-    def __new__(cls, value: Union[bytes, str, ObjectId, None] = None) -> ObjectId:
-        if value is None:
+    def __new__(cls, oid: Union[bytes, str, ObjectId, None] = None) -> ObjectId:
+        if oid is None:
             return super().__new__(cls, int(clock.time()).to_bytes(4, "big") + _counter.next())
-        parts = _parts_of(value, 7, ["binary"])
+        parts = _parts_of(oid, 7, ["binary"])
         if parts is not None:
-            (value,) = parts
-        raw = bytes.fromhex(value) if isinstance(value, str) else _bytes_of(value, "an ObjectId")
-        if len(raw) != 12 or (isinstance(value, str) and len(value) != 24):
-            raise ValueError(f"an ObjectId has 12 bytes, or 24 digits in hex, not {value!r}")
+            (oid,) = parts
+        raw = bytes.fromhex(oid) if isinstance(oid, str) else _bytes_of(oid, "an ObjectId")
+        if len(raw) != 12 or (isinstance(oid, str) and len(oid) != 24):
+            raise ValueError(f"an ObjectId has 12 bytes, or 24 digits in hex, not {oid!r}")
         return super().__new__(cls, raw)
 
     @classmethod
-    def from_datetime(cls, time: datetime) -> ObjectId:
+    def from_datetime(cls, generation_time: datetime) -> ObjectId:
         """The least id of a time, to compare ids with; of a time without a zone it is taken for UTC."""
-        return cls(_seconds(time).to_bytes(4, "big") + bytes(8))
+        return cls(_seconds(generation_time).to_bytes(4, "big") + bytes(8))
 
     @classmethod
-    def is_valid(cls, value: Any) -> bool:
+    def is_valid(cls, oid: Any) -> bool:
         """Whether an id can be made of a value."""
         try:
-            cls(value)
+            cls(oid)
         except (TypeError, ValueError):
             return False
-        return value is not None
+        return oid is not None
 
     @property
     def binary(self) -> bytes:
@@ -190,9 +190,9 @@ class Timestamp(_Ordered):
     _type_marker = 17
     _parts = ("time", "inc")
 
-    def __new__(cls, time: Union[int, datetime], increment: int) -> Timestamp:
+    def __new__(cls, time: Union[int, datetime], inc: int) -> Timestamp:
         seconds = _seconds(time) if isinstance(time, datetime) else time
-        return super().__new__(cls, increment.to_bytes(4, "little") + seconds.to_bytes(4, "little"))
+        return super().__new__(cls, inc.to_bytes(4, "little") + seconds.to_bytes(4, "little"))
 
     @property
     def time(self) -> int:
@@ -315,19 +315,19 @@ def options_of(flags: int) -> str:
 
 
 class Regex(Pair):
-    """A regular expression: its pattern and its options, a text or flags of re."""
+    """A regular expression: its pattern and its options, as a text or as flags of re."""
 
     __slots__ = ()
     _type_marker = 11
 
-    def __new__(cls, pattern: str, options: Union[str, int] = "") -> Regex:
-        return super().__new__(cls, pattern, options_of(options) if isinstance(options, int) else options)
+    def __new__(cls, pattern: str, flags: Union[str, int] = "") -> Regex:
+        return super().__new__(cls, pattern, options_of(flags) if isinstance(flags, int) else flags)
 
     @classmethod
-    def from_native(cls, pattern: re.Pattern[Any]) -> Regex:
+    def from_native(cls, regex: re.Pattern[Any]) -> Regex:
         """Of what re.compile gave."""
-        text = pattern.pattern
-        return cls(text.decode() if isinstance(text, bytes) else text, pattern.flags)
+        text = regex.pattern
+        return cls(text.decode() if isinstance(text, bytes) else text, regex.flags)
 
     @property
     def pattern(self) -> str:
@@ -357,6 +357,11 @@ class Regex(Pair):
         return again(self, Regex, self.pattern, self.options)
 
 
+def _standard(uuid_representation: int, instead: str) -> None:
+    if uuid_representation != 4:
+        raise TypeError(f"uuid_representation is STANDARD, 4, and not {uuid_representation!r}: in its place use {instead}")
+
+
 class Binary(bytes):
     """Bytes of a subtype; those of subtype 0 are decoded to plain bytes. Equal to no plain bytes."""
 
@@ -371,12 +376,14 @@ class Binary(bytes):
         return self
 
     @classmethod
-    def from_uuid(cls, value: uuids.UUID) -> Binary:
-        """The Binary of subtype 4 of a UUID."""
-        return cls(value.bytes, 4)
+    def from_uuid(cls, uuid: uuids.UUID, uuid_representation: int = 4) -> Binary:
+        """The Binary of subtype 4 of a UUID; of MongoDB's representations that is STANDARD, and another one raises TypeError."""
+        _standard(uuid_representation, "Binary(uuid.bytes, subtype)")
+        return cls(uuid.bytes, 4)
 
-    def as_uuid(self) -> uuids.UUID:
+    def as_uuid(self, uuid_representation: int = 4) -> uuids.UUID:
         """The UUID of a Binary of subtype 4."""
+        _standard(uuid_representation, "uuid.UUID(bytes=binary.data)")
         if self.subtype != 4:
             raise ValueError(f"a Binary of subtype {self.subtype} isn't a UUID")
         return uuids.UUID(bytes=bytes(self))
@@ -408,17 +415,18 @@ class Binary(bytes):
 
 
 class Code(str):
-    """JavaScript, and the document that is its scope, or None."""
+    """JavaScript, and the document that is its scope, or None. Names are added to the scope."""
 
     __slots__ = ("_scope",)
     _scope: Any
     _type_marker = 13
 
-    def __new__(cls, code: str, scope: Optional[Union[Mapping[str, Any], Pairs]] = None) -> Code:
+    def __new__(cls, code: str, scope: Optional[Union[Mapping[str, Any], Pairs]] = None, **names: Any) -> Code:
         if not isinstance(code, str):
             raise TypeError(f"a Code is made of a str, not of {type(code).__name__}")
         self = super().__new__(cls, code)
-        self._scope = getattr(code, "scope", None) if scope is None else scope
+        own: Any = getattr(code, "scope", None) if scope is None else scope
+        self._scope = {**dict(own or {}), **names} if names else own
         return self
 
     @property

@@ -1,7 +1,7 @@
 /* What help() says of the calls. */
 
 PyDoc_STRVAR(decode_doc,
-"decode($module, data, *, pairs=False, types=None, tz_aware=None, uuid=False, object_hook=None, object_pairs_hook=None, "
+"decode($module, data, codec_options=None, *, pairs=False, types=None, tz_aware=None, uuid=False, object_hook=None, object_pairs_hook=None, "
 "max_bytes=16777216, max_depth=500)\n--\n\n"
 "The document as a dict, in the order of the bytes.\n"
 "\n"
@@ -16,17 +16,20 @@ PyDoc_STRVAR(decode_doc,
 "what comes in its place, the innermost first; one for object_pairs_hook is\n"
 "given the Pairs.\n"
 "\n"
+"codec_options, of MongoDB's decode, raises TypeError unless it is None.\n"
+"\n"
 "Raises BsonError for the first fault at any level, depth first, and where\n"
 "the document has more bytes or levels than allowed.");
 
-PyDoc_STRVAR(encode_doc, "encode($module, document, *, default=None, max_bytes=None, max_depth=500)\n--\n\n"
+PyDoc_STRVAR(encode_doc, "encode($module, document, check_keys=False, codec_options=None, *, default=None, max_bytes=None, max_depth=500)\n--\n\n"
 "The bytes of a document: of a mapping, or of Pairs.\n"
 "\n"
 "An int is written as int32 where it fits, else as int64; an Int64 always as\n"
 "int64. A datetime without a zone is taken for UTC. Classes of MongoDB's\n"
 "package, numbers of numpy, uuid.UUID and patterns of re are taken, too. A\n"
 "call for default, such as a Codec, makes a value that can be written of one\n"
-"that can't.\n"
+"that can't. MongoDB's check_keys and codec_options raise TypeError unless they\n"
+"are False and None.\n"
 "\n"
 "Raises TypeError for a value of another class, OverflowError for an int of\n"
 "over 64 bits, BsonError for a 0 in a key and for more bytes or levels than\n"

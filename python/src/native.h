@@ -334,7 +334,7 @@ PyObject *value_at(const struct bytes *bytes, const struct bsonraw_iter *iter, c
 #define MAX_DEPTH 500
 
 #define MOST_PLACES 2
-#define MOST_OPTIONS 12
+#define MOST_OPTIONS 13
 #define MOST_INDENT 16
 
 /* The arguments of a call: those that may be given by their places, and those that are given by their names alone. */
@@ -342,7 +342,8 @@ struct option;
 struct signature {
     const char *call;
     const char *places[MOST_PLACES];
-    const struct option *options[MOST_OPTIONS];
+    const struct option *options[MOST_OPTIONS]; /* NULL behind the last one */
+    int placed; /* how many of them may be given by their places, too */
 };
 extern const struct signature OF_DECODE, OF_ENCODE, OF_VALUE, OF_ELEMENTS, OF_GET, OF_FIND, OF_WALK, OF_CANONICAL, OF_CHECK,
     OF_FIRST_FAULT, OF_TO_JSON, OF_DECODE_ALL, OF_COLUMNS, OF_CANONICAL_ALL;

@@ -27,6 +27,30 @@ static int read_max_written(struct options *options, PyObject *given) {
     return given == Py_None ? 0 : read_max_bytes(options, given);
 }
 
+/* What MongoDB's calls of the same names take besides: None and False mean the same here, where they change nothing. */
+static int read_codec_options(PyObject *given, const char *instead) {
+    if (given == Py_None) return 0;
+    PyErr_Format(PyExc_TypeError, "codec_options aren't taken: in their place use %s", instead);
+    return -1;
+}
+
+static int read_decode_options(struct options *options, PyObject *given) {
+    (void)options;
+    return read_codec_options(given, "tz_aware, uuid, types=\"bson\" and object_hook");
+}
+
+static int read_encode_options(struct options *options, PyObject *given) {
+    (void)options;
+    return read_codec_options(given, "default; a UUID is written with subtype 4");
+}
+
+static int read_check_keys(struct options *options, PyObject *given) {
+    int flag = PyObject_IsTrue(given);
+    (void)options;
+    if (flag > 0) PyErr_SetString(PyExc_TypeError, "check_keys=True isn't taken: look before for keys that begin with $ or have a dot");
+    return flag == 0 ? 0 : -1;
+}
+
 static int is_text(PyObject *given, const char *text) {
     return PyUnicode_Check(given) && PyUnicode_CompareWithASCIIString(given, text) == 0;
 }
@@ -120,15 +144,17 @@ static const struct option {
   INDENT = {"indent", read_indent}, MISSING = {"missing", read_missing}, PAIRS = {"pairs", read_pairs}, UUID = {"uuid", read_uuid},
   TZ_AWARE = {"tz_aware", read_tz_aware}, TYPES = {"types", read_types}, DEFAULT = {"default", read_default},
   HOOK = {"object_hook", read_hook}, PAIRS_HOOK = {"object_pairs_hook", read_pairs_hook}, ERRORS = {"errors", read_errors},
-  PATHS = {"paths", read_paths}, TYPED = {"typed", read_typed};
+  PATHS = {"paths", read_paths}, TYPED = {"typed", read_typed}, CHECK_KEYS = {"check_keys", read_check_keys},
+  DECODE_OPTIONS = {"codec_options", read_decode_options}, ENCODE_OPTIONS = {"codec_options", read_encode_options};
 
 #define OF_VALUES &PAIRS, &TYPES, &TZ_AWARE, &UUID, &HOOK, &PAIRS_HOOK
 #define LIMITS &MAX_BYTES_OPTION, &MAX_DEPTH_OPTION
 
 /* ---- calls ---- */
 
-const struct signature OF_DECODE = {"decode", {"data"}, {OF_VALUES, LIMITS}};
-const struct signature OF_ENCODE = {"encode", {"document"}, {&DEFAULT, &MAX_WRITTEN, &MAX_DEPTH_OPTION}};
+const struct signature OF_DECODE = {"decode", {"data"}, {&DECODE_OPTIONS, OF_VALUES, LIMITS}, 1};
+const struct signature OF_ENCODE = {
+    "encode", {"document"}, {&CHECK_KEYS, &ENCODE_OPTIONS, &DEFAULT, &MAX_WRITTEN, &MAX_DEPTH_OPTION}, 2};
 const struct signature OF_VALUE = {"decode", {NULL}, {OF_VALUES, LIMITS}};
 const struct signature OF_ELEMENTS = {"elements", {"data"}, {NULL}};
 const struct signature OF_GET = {"get", {"data", "key"}, {NULL}};
@@ -138,7 +164,7 @@ const struct signature OF_CANONICAL = {"canonical", {"data"}, {LIMITS}};
 const struct signature OF_CHECK = {"check", {"data"}, {LIMITS}};
 const struct signature OF_FIRST_FAULT = {"first_fault", {"data"}, {LIMITS}};
 const struct signature OF_TO_JSON = {"to_json", {"data"}, {&STYLE, &INDENT, LIMITS}};
-const struct signature OF_DECODE_ALL = {"decode_all", {"source"}, {&ERRORS, OF_VALUES, LIMITS}};
+const struct signature OF_DECODE_ALL = {"decode_all", {"data"}, {&DECODE_OPTIONS, &ERRORS, OF_VALUES, LIMITS}};
 const struct signature OF_COLUMNS = {"columns", {"source"}, {&ERRORS, &MISSING, &PATHS, &TYPED, OF_VALUES, LIMITS}};
 const struct signature OF_CANONICAL_ALL = {"canonical_all", {"data"}, {&BEFORE, LIMITS}};
 
@@ -165,11 +191,13 @@ static int read_all(const struct signature *of, struct options *options, PyObjec
     Py_ssize_t number, named = names == NULL ? 0 : PyTuple_Size(names);
     int places = 0;
     while (places < MOST_PLACES && of->places[places] != NULL) places++;
-    if (count > places) {
-        PyErr_Format(PyExc_TypeError, "%s() takes %d positional arguments, and %zd were given", of->call, places, count);
+    if (count > places + of->placed) {
+        PyErr_Format(PyExc_TypeError, "%s() takes %d positional arguments, and %zd were given", of->call, places + of->placed, count);
         return -1;
     }
     for (number = 0; number < places; number++) data[number] = number < count ? args[number] : NULL;
+    for (number = places; number < count; number++)
+        if (of->options[number - places]->read(options, args[number]) < 0) return -1;
     for (number = 0; number < named; number++)
         if (take_named(of, options, data, PyTuple_GetItem(names, number), args[count + number]) < 0) return -1;
     for (number = 0; number < places; number++)

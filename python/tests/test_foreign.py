@@ -157,6 +157,45 @@ class Theirs(unittest.TestCase):
         self.assertEqual((Timestamp(1, 2) < bson.Timestamp(1, 3), MinKey() < 5, MaxKey() > "x"), (True, True, True))
 
 
+class Keywords(unittest.TestCase):
+    """Calls with the names that MongoDB's package has for their arguments."""
+
+    def test_classes(self) -> None:
+        unique, time = uuid.UUID(int=5), times.datetime(2001, 2, 3)
+        for name, given in (
+            ("ObjectId", {"oid": "0123456789abcdef01234567"}), ("ObjectId.from_datetime", {"generation_time": time}), ("ObjectId.is_valid", {"oid": "x"}),
+            ("Timestamp", {"time": 1, "inc": 2}), ("Timestamp", {"time": time, "inc": 2}), ("Regex", {"pattern": "a", "flags": "im"}),
+            ("Regex", {"pattern": "a", "flags": re.I | re.M}), ("Regex.from_native", {"regex": re.compile(b"a", re.M)}), ("Regex", {"pattern": "a"}),
+            ("Binary", {"data": b"a", "subtype": 5}), ("Binary.from_uuid", {"uuid": unique, "uuid_representation": 4}), ("Code", {"code": "f", "scope": {"a": 1}}),
+            ("Code", {"code": "f", "scope": {"a": 1}, "b": 2}), ("Code", {"code": "f", "b": 2}), ("Decimal128", {"value": "1.5"}),
+            ("Decimal128.from_bid", {"value": Decimal128("2").bid}),
+        ):
+            ours, theirs = operator.attrgetter(name)(bsonraw), bson and operator.attrgetter(name.replace("Decimal128", "decimal128.Decimal128"))(bson)
+            self.assertEqual(ours(**given), theirs(**given) if theirs else ours(**given), name)
+        self.assertEqual(Binary.from_uuid(unique).as_uuid(uuid_representation=4), unique)
+        with self.assertRaisesRegex(TypeError, r"use Binary\(uuid.bytes, subtype\)"):
+            Binary.from_uuid(unique, 3)
+        self.assertRaisesRegex(TypeError, "STANDARD", Binary(unique.bytes, 3).as_uuid, 3)
+
+    def test_calls(self) -> None:
+        data, options = bsonraw.encode({"a.b": 1}), object()
+        wanted = [bsonraw.decode(data)] * 4 + [[{"a.b": 1}]] * 3
+        none = bsonraw.decode(data, None), bsonraw.decode(data=data, codec_options=None), bsonraw.decode(bsonraw.encode({"a.b": 1}, False, None))
+        more = bsonraw.decode(bsonraw.encode(document={"a.b": 1}, check_keys=False, codec_options=None)), bsonraw.decode_all(data=data)
+        self.assertEqual([*none, *more, bsonraw.decode_all(data, None), bsonraw.decode_all(data, codec_options=None)], wanted)
+        self.assertEqual(bsonraw.loads("{}", json_options=None), {})
+        for call, given in ((bsonraw.decode, data), (bsonraw.decode_all, data)):
+            self.assertRaisesRegex(TypeError, "in their place use tz_aware, uuid", call, given, options)
+            self.assertRaisesRegex(TypeError, "in their place use tz_aware, uuid", call, given, codec_options=options)
+        self.assertRaisesRegex(TypeError, "in their place use default", bsonraw.encode, {}, codec_options=options)
+        self.assertRaisesRegex(TypeError, "in their place use default", bsonraw.encode, {}, False, options)
+        self.assertRaisesRegex(TypeError, "look before for keys", bsonraw.encode, {}, True)
+        self.assertRaisesRegex(TypeError, "look before for keys", bsonraw.encode, {}, check_keys=True)
+        self.assertRaisesRegex(TypeError, "in their place use tz_aware", bsonraw.loads, "{}", json_options=options)
+        self.assertRaises(TypeError, bsonraw.encode, {}, False, None, None)
+        self.assertRaises(TypeError, bsonraw.decode, data, None, None)
+
+
 class Hooks(unittest.TestCase):
     def test_the_innermost_first(self) -> None:
         data = bsonraw.encode({"a": [{"b": 1}, Code("f", {"c": 2})], "d": {}})
