@@ -5,6 +5,7 @@ use core::{fmt, str};
 use alloc::borrow::ToOwned;
 use alloc::string::{String, ToString};
 
+use crate::raw::Hex;
 use crate::{ffi, DateTime};
 
 /// Why a text is no id.
@@ -85,7 +86,7 @@ impl ObjectId {
 
     /// The bytes as 24 digits.
     pub fn to_hex(self) -> String {
-        self.to_string()
+        Hex(&self.id).to_string()
     }
 }
 
@@ -115,12 +116,12 @@ impl From<[u8; 12]> for ObjectId {
 
 impl fmt::Display for ObjectId {
     fn fmt(&self, f: &mut fmt::Formatter<'_>) -> fmt::Result {
-        self.id.iter().try_for_each(|byte| write!(f, "{byte:02x}"))
+        f.pad(&self.to_hex())
     }
 }
 
 impl fmt::Debug for ObjectId {
     fn fmt(&self, f: &mut fmt::Formatter<'_>) -> fmt::Result {
-        write!(f, "ObjectId(\"{self}\")")
+        f.debug_tuple("ObjectId").field(&Hex(&self.id)).finish()
     }
 }

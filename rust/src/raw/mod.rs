@@ -70,6 +70,8 @@
 //! elements.next();
 //! ```
 
+use core::fmt;
+
 /// The twelve getters of a view, each over its `get_with`.
 macro_rules! getters {
     ($at:ident: $of:ty) => {
@@ -132,13 +134,17 @@ pub use self::document_buf::RawDocumentBuf;
 pub use self::error::{Error, ErrorKind, Result, ValueAccessError, ValueAccessErrorKind, ValueAccessResult};
 pub use self::iter::{Iter, RawArrayIter, RawElement, RawIter};
 
-/// Prints bytes as the field `data`, in hex.
-struct Hex<'a>(&'a [u8]);
+/// Bytes that are printed in hex, and with `{:?}` in quotes.
+pub(crate) struct Hex<'a>(pub(crate) &'a [u8]);
 
-impl core::fmt::Debug for Hex<'_> {
-    fn fmt(&self, f: &mut core::fmt::Formatter<'_>) -> core::fmt::Result {
-        f.write_str("\"")?;
-        self.0.iter().try_for_each(|byte| write!(f, "{byte:02x}"))?;
-        f.write_str("\"")
+impl fmt::Display for Hex<'_> {
+    fn fmt(&self, f: &mut fmt::Formatter<'_>) -> fmt::Result {
+        self.0.iter().try_for_each(|byte| write!(f, "{byte:02x}"))
+    }
+}
+
+impl fmt::Debug for Hex<'_> {
+    fn fmt(&self, f: &mut fmt::Formatter<'_>) -> fmt::Result {
+        write!(f, "\"{self}\"")
     }
 }

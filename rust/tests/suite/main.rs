@@ -4,4 +4,5 @@ mod header;
 mod made;
 mod maker;
 mod plain;
+mod printed;
 mod rows;
