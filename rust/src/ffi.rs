@@ -1,13 +1,14 @@
 //! The one file with unsafe code: each call into C, and the three casts of bytes. What a call has to be given is said at the
 //! head of `bsonraw.h`, and every call here keeps it in the same way:
 //!
-//! - A pointer with its length is that of a slice, which is never null, lives for the call, and is initialised. What is written
-//!   is behind a `&mut`, so that it overlaps nothing else and no other thread touches it.
+//! - A pointer with its length is that of a slice, which is never null, lives for the call, and is initialised; or that of a buffer
+//!   with its capacity, where what isn't initialised is only written. What is written is behind a `&mut`, or in a buffer that is owned,
+//!   so that it overlaps nothing else and no other thread touches it.
 //! - A pointer to a struct or to a number is that of a reference, so it is aligned, and points to a `repr(C)` struct whose fields
 //!   are those of the header (`tests/suite/header.rs`). Any fields may be handed over.
 //!
-//! What the library returns is used without a second look where [`text`] shows what it judged to be UTF-8, and where [`append`] lets a
-//! buffer grow over what it wrote. All other offsets are used to slice, which is checked.
+//! What the library returns is used without a second look where [`text`] shows what it judged to be UTF-8, and where [`append`] and [`grown`]
+//! let a buffer grow over what it wrote. All other offsets are used to slice, which is checked.
 
 #![allow(unsafe_code)]
 
@@ -322,8 +323,7 @@ pub(crate) fn append(
     let (key, key_len) = (key.as_ptr(), key.len());
     let (one, one_len) = (one.as_ptr(), one.len());
     let (two, two_len) = (two.as_ptr(), two.len());
-    // SAFETY: as said at the head of this file, but that the room behind the bytes isn't initialised: it is written alone. With
-    // BSONRAW_OK it has the document, builder.len bytes of it.
+    // SAFETY: as said at the head of this file. With BSONRAW_OK the buffer has the document, builder.len bytes of it.
     unsafe {
         bsonraw_append(&mut builder, at, room, tag, key, key_len, one, one_len, two, two_len);
         let status = bsonraw_builder_end(&mut builder, at, room);
@@ -375,35 +375,50 @@ fn reported(mut call: impl FnMut(&mut bsonraw_report, &mut [u64]) -> i32) -> Rep
     Report { status, said, path }
 }
 
-/// So many blanks, if there is memory for them.
-fn blanks<T: Clone>(count: usize, blank: T) -> Option<Vec<T>> {
+/// An empty buffer with room for so many items, if there is memory for it.
+fn buffer<T>(room: usize) -> Option<Vec<T>> {
     let mut made = Vec::new();
-    made.try_reserve_exact(count).ok()?;
-    made.resize(count, blank);
+    made.try_reserve_exact(room).ok()?;
     Some(made)
 }
 
-/// Makes a call that fills a room, and makes it again where more room is wanted, with some behind it. The room has what the call
-/// put there. Without memory for it the report says so.
-fn filled<T: Clone>(
-    room: usize,
+/// The buffer with the items that are at its front.
+///
+/// # Safety
+///
+/// So many items are there.
+unsafe fn grown<T>(mut made: Vec<T>, count: usize) -> Vec<T> {
+    debug_assert!(count <= made.capacity());
+    // SAFETY: as the caller says.
+    unsafe { made.set_len(count) };
+    made
+}
+
+/// Makes a call that fills a room, and makes it again where more room is wanted, with some behind it. The items that it put there;
+/// none, where it fails. Without memory for the room the report says so.
+///
+/// # Safety
+///
+/// Where the call returns `BSONRAW_OK`, as many items as the report counts are at the front of the room.
+unsafe fn filled<T>(
+    mut room: usize,
     behind: usize,
-    blank: T,
-    mut call: impl FnMut(&mut [T], &mut bsonraw_report, &mut [u64]) -> i32,
+    mut call: impl FnMut(*mut T, usize, &mut bsonraw_report, &mut [u64]) -> i32,
 ) -> (Report, Vec<T>) {
-    let mut room = room;
     loop {
-        let Some(mut made) = blanks(room, blank.clone()) else {
+        let Some(mut made) = buffer(room) else {
             let said = bsonraw_report::default();
             return (Report { status: BSONRAW_NO_MEMORY, said, path: Vec::new() }, Vec::new());
         };
-        let report = reported(|said, path| call(&mut made, said, path));
+        let (to, len) = (made.as_mut_ptr(), made.capacity());
+        let report = reported(|said, path| call(to, len, said, path));
         let count = report.said.count as usize;
-        if report.status != BSONRAW_SMALL_BUFFER {
-            made.truncate(count);
-            return (report, made);
+        match report.status {
+            BSONRAW_SMALL_BUFFER => room = count + behind,
+            // SAFETY: the items are there, as the caller says.
+            BSONRAW_OK => return (report, unsafe { grown(made, count) }),
+            _ => return (report, made),
         }
-        room = count + behind;
     }
 }
 
@@ -437,11 +452,12 @@ pub(crate) fn check(bytes: &[u8], max_bytes: usize, max_depth: usize) -> Report 
 /// `bsonraw_canonical`, and the form.
 pub(crate) fn canonical(bytes: &[u8], max_bytes: usize, max_depth: usize) -> (Report, Vec<u8>) {
     let (at, len) = (bytes.as_ptr(), bytes.len());
-    filled(first_room(len, max_bytes, len), 0, 0, |form, said, path| {
-        let (to, room) = (form.as_mut_ptr(), form.len());
+    let call = |to, room, said: &mut _, path: &mut [u64]| {
         // SAFETY: as said at the head of this file.
         unsafe { bsonraw_canonical(at, len, max_bytes, max_depth, to, room, said, path.as_mut_ptr(), path.len()) }
-    })
+    };
+    // SAFETY: with BSONRAW_OK the form is at the front of the room, and count is how many bytes it has.
+    unsafe { filled(first_room(len, max_bytes, len), 0, call) }
 }
 
 /// An element of any level, in the bytes of the whole document.
@@ -469,11 +485,12 @@ impl<'a> Flat<'a> {
 pub(crate) fn flatten(bytes: &[u8], max_bytes: usize, max_depth: usize) -> (Report, Vec<Flat<'_>>) {
     let (at, len) = (bytes.as_ptr(), bytes.len());
     let room = first_room(len, max_bytes, len / 16 + 8);
-    let (mut report, tokens) = filled(room, 0, bsonraw_token::default(), |tokens, said, path| {
-        let (to, room) = (tokens.as_mut_ptr(), tokens.len());
+    let call = |to, room, said: &mut _, path: &mut [u64]| {
         // SAFETY: as said at the head of this file.
         unsafe { bsonraw_flatten(at, len, max_bytes, max_depth, to, room, said, path.as_mut_ptr(), path.len()) }
-    });
+    };
+    // SAFETY: with BSONRAW_OK count tokens are at the front of the room.
+    let (mut report, tokens) = unsafe { filled(room, 0, call) };
     let mut flats = Vec::new();
     if report.status == BSONRAW_OK {
         match flats.try_reserve_exact(tokens.len()) {
@@ -495,12 +512,13 @@ pub(crate) fn json(
     let (at, len) = (bytes.as_ptr(), bytes.len());
     let (canonical, indented) = (u32::from(canonical), u32::from(indented));
     let room = first_room(len, max_bytes, len.saturating_mul(2).saturating_add(64));
-    filled(room, 1, 0, |text, said, path| {
-        let (to, room) = (text.as_mut_ptr(), text.len());
+    let call = |to, room, said: &mut _, path: &mut [u64]| {
         let (path, steps) = (path.as_mut_ptr(), path.len());
         // SAFETY: as said at the head of this file.
         unsafe { bsonraw_json(at, len, max_bytes, max_depth, canonical, indented, to, room, said, path, steps) }
-    })
+    };
+    // SAFETY: with BSONRAW_OK the text is at the front of the room, and count is how many bytes it has.
+    unsafe { filled(room, 1, call) }
 }
 
 /// `bsonraw_from_json`, and the document.
@@ -509,18 +527,20 @@ pub(crate) fn from_json(text: &[u8], max_bytes: usize, max_depth: usize) -> (i32
     let mut said = bsonraw_json_report::default();
     let mut room = len.saturating_mul(2).saturating_add(64).min(max_bytes);
     loop {
-        let Some(mut made) = blanks(room, 0) else {
+        let Some(mut made) = buffer(room) else {
             let said = bsonraw_json_report { line: 1, column: 1, ..bsonraw_json_report::default() };
             return (BSONRAW_NO_MEMORY, said, Vec::new());
         };
-        let to = made.as_mut_ptr();
+        let (to, to_len) = (made.as_mut_ptr(), made.capacity());
         // SAFETY: as said at the head of this file.
-        let status = unsafe { bsonraw_from_json(at, len, max_bytes, max_depth, to, room, &mut said) };
-        if status != BSONRAW_SMALL_BUFFER {
-            made.truncate(said.count as usize);
-            return (status, said, made);
+        let status = unsafe { bsonraw_from_json(at, len, max_bytes, max_depth, to, to_len, &mut said) };
+        let count = said.count as usize;
+        match status {
+            BSONRAW_SMALL_BUFFER => room = count,
+            // SAFETY: the document is at the front of the room, and count is how many bytes it has.
+            BSONRAW_OK => return (status, said, unsafe { grown(made, count) }),
+            _ => return (status, said, made),
         }
-        room = said.count as usize;
     }
 }
 
