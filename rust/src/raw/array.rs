@@ -65,6 +65,12 @@ impl RawArray {
         }
     }
 
+    /// The values in order.
+    #[inline]
+    pub fn iter(&self) -> RawArrayIter<'_> {
+        RawArrayIter::new(self)
+    }
+
     getters!(index: usize);
 
     /// The bytes.
@@ -117,6 +123,6 @@ impl<'a> IntoIterator for &'a RawArray {
 
     #[inline]
     fn into_iter(self) -> RawArrayIter<'a> {
-        RawArrayIter::new(self)
+        self.iter()
     }
 }

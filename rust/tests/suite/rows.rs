@@ -409,7 +409,7 @@ fn appended() -> Vec<(RawDocumentBuf, &'static str)> {
     let regex = Regex { pattern: r"end\s*$".into(), options: "i".into() };
     vec![
         (rawdoc! { "b": old }, "15000000 05 6200 08000000 02 04000000 01020304 00"),
-        (rawdoc! { "ts": Timestamp { time: 649876543, increment: 9 } }, "11000000 11 747300 09000000 3f54bc26 00"),
+        (rawdoc! { "ts": Timestamp { time: 649_876_543, increment: 9 } }, "11000000 11 747300 09000000 3f54bc26 00"),
         (rawdoc! { "a": -1, "b": 123, "c": 0 }, "1a000000 10 6100 ffffffff 10 6200 7b000000 10 6300 00000000 00"),
         (rawdoc! { "regex": regex }, "16000000 0b 726567657800 656e645c732a2400 6900 00"),
         (rawdoc! { "a": 1, "a": 2 }, "13000000 10 6100 01000000 10 6100 02000000 00"),
@@ -734,6 +734,8 @@ fn arrays_are_found_by_their_views() {
     let set: HashSet<RawArrayBuf> = [list.clone(), view.to_owned(), other].into();
     assert_eq!(set.len(), 2);
     assert_eq!(set.get(view), Some(&list));
+    let values: Vec<_> = view.iter().chain(list.iter()).map(|value| value.unwrap().as_i32().unwrap()).collect();
+    assert_eq!(values, [1, 2, 1, 2]);
 }
 
 #[test]
