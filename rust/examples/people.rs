@@ -69,7 +69,7 @@ fn main() -> Result<(), Box<dyn std::error::Error>> {
             let _ = list.push(value.to_raw_bson());
         }
         let _ = copy.append("list", list);
-        println!("{:?}", copy);
+        println!("{copy:?}");
         rest = behind;
     }
     Ok(())

@@ -14,7 +14,7 @@
 
 use alloc::vec;
 use alloc::vec::Vec;
-use core::str;
+use core::{ptr, str};
 
 use crate::raw::{RawArray, RawDocument};
 use crate::sys::*;
@@ -32,14 +32,14 @@ const PATH_ROOM: usize = 32;
 #[inline]
 pub(crate) fn document(bytes: &[u8]) -> &RawDocument {
     // SAFETY: RawDocument is a transparent struct over [u8], so it has its layout, and any bytes may be in it.
-    unsafe { &*(bytes as *const [u8] as *const RawDocument) }
+    unsafe { &*(ptr::from_ref(bytes) as *const RawDocument) }
 }
 
 /// Shows a document as an array.
 #[inline]
 pub(crate) fn array(document: &RawDocument) -> &RawArray {
     // SAFETY: RawArray is a transparent struct over RawDocument, so it has its layout, and any document may be in it.
-    unsafe { &*(document as *const RawDocument as *const RawArray) }
+    unsafe { &*(ptr::from_ref(document) as *const RawArray) }
 }
 
 /// Shows bytes as the text that they are.
