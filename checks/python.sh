@@ -58,7 +58,7 @@ built() {
 tests() {
     package=$1
     shift
-    PYTHONPATH="$package:python/tests:examples" timeout 300 "$python" -W ignore -m unittest "$@" >"$work/said" 2>&1
+    PYTHONPATH="$package:python/tests:examples" timeout 900 "$python" -W ignore -m unittest "$@" >"$work/said" 2>&1
 }
 
 cp -r python "$work/python"

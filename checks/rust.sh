@@ -47,7 +47,7 @@ skip() {
 
 # in_crate COMMAND..: runs a command in the crate's copy
 in_crate() {
-    (cd "$work/rust" && timeout 300 "$@") >"$work/said" 2>&1
+    (cd "$work/rust" && timeout 900 "$@") >"$work/said" 2>&1
 }
 
 git ls-files -z --cached --others --exclude-standard rust | xargs -0 cp -P --parents -t "$work" || exit 1
