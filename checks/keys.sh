@@ -36,22 +36,38 @@ chosen() {
     "$work/chosen" | od -An -v -tx1 | tr -d ' \n'
 }
 
-# spent COMMAND LAST DOCUMENT: how many nanoseconds the least of three runs of the program took, whose last line is LAST; each
-# is cut off after twenty seconds, which is some hundred times as long as it takes
+# spent COMMAND LAST DOCUMENT: how many nanoseconds of a processor the least of three runs of the program took, whose last line is LAST; by
+# the clock other programs would count. Each is cut off after 20 seconds of a processor, which is some hundred times as long as it takes
 spent() {
-    least=
-    for _ in 1 2 3; do
-        begun=$(date +%s%N)
-        timeout 20 "$program" "$1" <"$work/$3" >"$work/said"
-        status=$?
-        took=$(($(date +%s%N) - begun))
-        if [ "$status" != 0 ] || [ "$(tail -n 1 "$work/said")" != "$2" ]; then
-            echo "keys: $1 of the keys $3 ends with status $status after $((took / 1000000)) ms" >&2
-            return 1
-        fi
-        [ -n "$least" ] && [ "$least" -le "$took" ] || least=$took
-    done
-    echo "$least"
+    python3 - "$program" "$1" "$2" "$work/$3" <<'END'
+import os
+import resource
+import subprocess
+import sys
+
+program, command, last, document = sys.argv[1:]
+
+
+def spent():
+    used = resource.getrusage(resource.RUSAGE_CHILDREN)
+    return used.ru_utime + used.ru_stime
+
+
+def limited():
+    resource.setrlimit(resource.RLIMIT_CPU, (20, 20))
+
+
+least = None
+for _ in range(3):
+    begun = spent()
+    with open(document, "rb") as given:
+        done = subprocess.run([program, command], stdin=given, stdout=subprocess.PIPE, text=True, preexec_fn=limited)
+    took = spent() - begun
+    if done.returncode != 0 or done.stdout.split("\n")[-2:] != [last, ""]:
+        sys.exit(f"keys: {command} of the keys {os.path.basename(document)} ends with status {done.returncode} after {took:.1f} s")
+    least = took if least is None else min(least, took)
+print(int(least * 1e9))
+END
 }
 
 document 1 >"$work/ordered" && document 76543 >"$work/mixed" && chosen >"$work/chosen_keys" || exit 1
