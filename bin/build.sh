@@ -57,9 +57,9 @@ crates() {
 # minutes_of CRATE: how many processor minutes its first proof takes, as far as it was measured
 minutes_of() {
     case $1 in
-    raw_tree | bytes_from_json) echo 10 ;;
-    raw_view | raw_bson | bsonraw_dump) echo 6 ;;
-    bson_model | bsonraw | bsonraw_c) echo 3 ;;
+    raw_tree) echo 10 ;;
+    raw_view | raw_bson | values_from_json | bytes_from_json | bsonraw_dump) echo 6 ;;
+    bson_model | key_set | bsonraw | bsonraw_c) echo 3 ;;
     *) echo 4 ;;
     esac
 }
