@@ -18,7 +18,7 @@ struct text {
 };
 
 static int print(const uint8_t *bytes, size_t len, uint32_t canonical, uint32_t indented, struct text *text) {
-    struct bsonraw_report report;
+    struct bsonraw_report report = {0};
     int32_t status = bsonraw_json(bytes, len, MOST_BYTES, MOST_LEVELS, canonical, indented, text->bytes, sizeof text->bytes, &report, NULL, 0);
     text->len = (size_t)report.count;
     return status == BSONRAW_OK;
