@@ -2,14 +2,21 @@
 # Builds the C library's archive, crates/bsonraw_c/out/libbsonraw_c.a. `rt ci` proves its crate and builds no archive, and
 # `rt lib` would prove the crates below once more, since it takes what only its own runs have kept. So on a fresh clone, where
 # `rt ci` has proved the crates below and maybe goes on with this one and others, the archive is built here over the libraries that this run
-# left, by the kit's compiler itself: that proves the crate alone. It does so in a folder of its own, from which all goes into out/ at the end.
+# left, by the kit's compiler itself: that proves the crate alone, but for what an earlier build on this machine proved of it and what is as it
+# was, as `rt ci` proves it from nothing. It does so in a folder of its own, from which all goes into out/ at the end.
 # Where `rt lib` has kept libraries, it builds the archive. In either case the library is laid out in the new folder as bin/install does it,
 # but for the programs.
 #
-#   checks/archive.sh FOLDER        behind the proof of the crates below by `rt ci`, with nothing changed since
+#   checks/archive.sh [--anew] FOLDER        behind the proof of the crates below by `rt ci`, with nothing changed since; with --anew
+#                                            nothing is taken of earlier builds
 set -u
 root=$(dirname "$(dirname "$(realpath "$0")")")
 me=checks/archive.sh
+proofs=${HOME:+$HOME/.cache/foyeranise/archive} # of earlier builds
+if [ "$1" = --anew ]; then
+    proofs=
+    shift
+fi
 laid=$(realpath -m "$1") || exit 1
 . "$root/bin/build.sh"
 . "$root/bin/release.sh"
@@ -24,10 +31,16 @@ fi
 room=$(mktemp -d) || exit 1
 trap 'rm -rf "$room"' EXIT
 trap 'exit 1' HUP INT TERM
-[ ! -d "$kept" ] || cp -a "$kept" "$room/incremental" || exit 1
+for folder in "$kept" "$proofs"; do
+    [ ! -d "$folder" ] || [ -e "$room/incremental" ] || cp -a "$folder" "$room/incremental" || exit 1
+done
 kept=$room/incremental
 archive=$room/libbsonraw_c.a
 baseline=$room/baseline/libbsonraw_c.a
 build_over bsonraw_c . src/lib.rt --crate-type staticlib --incremental "$kept" -o "$archive" && build_others && lay_out "$laid" "$laid" lib || exit 1
 rm -rf out/incremental out/baseline
-mv "$kept" "$archive" "${baseline%/*}" out
+mv "$kept" "$archive" "${baseline%/*}" out || exit 1
+[ -n "$proofs" ] || exit 0
+mkdir -p "${proofs%/*}" && cp -a out/incremental "$proofs.$$" && rm -rf "$proofs" && mv -T "$proofs.$$" "$proofs" && exit
+rm -rf "$proofs.$$"
+say "the proofs of this build aren't kept for the next"
