@@ -7,6 +7,7 @@
 #include <bsonraw.h>
 
 #include <array>
+#include <chrono>
 #include <cstddef>
 #include <cstring>
 #include <iterator>
@@ -39,6 +40,16 @@ private:
 };
 
 using oid = std::array<uint8_t, 12>;
+
+// Milliseconds from 1970 on.
+using date_time = std::chrono::time_point<std::chrono::system_clock, std::chrono::milliseconds>;
+
+// The bytes of a binary, which somebody else owns, and its subtype.
+struct binary {
+    uint8_t subtype = 0;
+    const uint8_t *data = nullptr;
+    size_t size = 0;
+};
 
 class view;
 
@@ -74,7 +85,7 @@ public:
         return {status, std::move(text)};
     }
     // The value where it is of the kind of T: int32_t, int64_t (an int32 too), double (an int32 or an int64 too), bool, std::string_view,
-    // oid, or view of a document or an array.
+    // oid, date_time, binary, or view of a document or an array.
     template <class T>
     result<T> as() const;
 
@@ -219,6 +230,16 @@ result<T> element::as() const {
         status = bsonraw_iter_oid(&it_, bytes_, len_, &id);
         if (id != nullptr) std::memcpy(own.data(), id, own.size());
         return {status, own};
+    } else if constexpr (std::is_same_v<T, date_time>) {
+        int64_t millis;
+        status = bsonraw_iter_date_time(&it_, bytes_, len_, &millis);
+        return {status, date_time(std::chrono::milliseconds(millis))};
+    } else if constexpr (std::is_same_v<T, binary>) {
+        uint32_t subtype;
+        binary own;
+        status = bsonraw_iter_binary(&it_, bytes_, len_, &subtype, &own.data, &own.size);
+        own.subtype = static_cast<uint8_t>(subtype);
+        return {status, own};
     } else {
         static_assert(std::is_same_v<T, view>, "no kind of BSON is this type");
         const uint8_t *part;
@@ -280,6 +301,8 @@ public:
         if (part.tag() == BSONRAW_TAG_ARRAY) return said(bsonraw_buffer_array(&buffer_, key.text(), part.data(), part.size()));
         return said(bsonraw_buffer_document(&buffer_, key.text(), part.data(), part.size()));
     }
+    buffer &append(key_text key, date_time time) noexcept { return append_date_time(key, time.time_since_epoch().count()); }
+    buffer &append(key_text key, const binary &part) noexcept { return append_binary(key, part.subtype, part.data, part.size); }
     buffer &append(const element &e) noexcept { return said(bsonraw_buffer_iter(&buffer_, &e.iter(), e.bytes(), e.len())); }
     buffer &append_date_time(key_text key, int64_t millis) noexcept { return said(bsonraw_buffer_date_time(&buffer_, key.text(), millis)); }
     buffer &append_binary(key_text key, uint8_t subtype, const void *data, size_t size) noexcept {
@@ -306,6 +329,21 @@ private:
     buffer &said(int32_t) noexcept { return *this; }
     bsonraw_buffer buffer_;
 };
+
+// The document that a text of Extended JSON writes, of any length; else the status and, where that is BSONRAW_FAULT, in *why the line, the
+// column and the reason.
+inline result<std::vector<uint8_t>> from_json(std::string_view text, bsonraw_json_report *why = nullptr, size_t max_depth = 500) {
+    std::vector<uint8_t> room(text.size() + 16);
+    bsonraw_json_report report = {};
+    int32_t status = BSONRAW_SMALL_BUFFER;
+    for (int turn = 0; turn < 2 && status == BSONRAW_SMALL_BUFFER; turn++) {
+        if (room.size() < report.count) room.resize(report.count);
+        status = bsonraw_from_json(reinterpret_cast<const uint8_t *>(text.data()), text.size(), 2147483647, max_depth, room.data(), room.size(), &report);
+    }
+    room.resize(status == BSONRAW_OK ? report.count : 0);
+    if (why != nullptr) *why = report;
+    return {status, std::move(room)};
+}
 
 } // namespace bsonraw
 

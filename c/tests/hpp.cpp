@@ -103,6 +103,20 @@ int main() {
     expect(copy.document() && copy.document()->size() == sizeof sample, "a buffer that was moved to");
     copy.reset().append("x", std::string_view("\xff")).end();
     expect(copy.status() == BSONRAW_FAULT && std::string_view(copy.document().text()) == "a fault", "a text that isn't UTF-8");
+    const bsonraw::date_time second{std::chrono::milliseconds(1000)};
+    auto read = bsonraw::from_json("{\"t\": {\"$date\": \"1970-01-01T00:00:01Z\"}, \"b\": {\"$binary\": {\"base64\": \"AQI=\", \"subType\": \"80\"}}}");
+    bsonraw::view dated(*read);
+    auto part = dated.get<bsonraw::binary>("b");
+    expect(read && dated.get<bsonraw::date_time>("t").value_or({}) == second && !dated.get<bsonraw::date_time>("b"), "a date");
+    expect(part && part->subtype == 128 && part->size == 2 && part->data[0] == 1 && part->data[1] == 2 && !dated.get<bsonraw::binary>("t"), "a binary");
+    copy.reset().append("t", second).append("b", *part).end();
+    expect(copy.document() && std::equal(read->begin(), read->end(), copy.document()->data(), copy.document()->data() + copy.document()->size()), "both again");
+    bsonraw_json_report why = {};
+    expect(bsonraw::from_json("{\"a\": [1, true],\n \"b\": tru}", &why).status() == BSONRAW_FAULT && why.line == 2, "where a text is wrong");
+    std::string zeros = "{\"d\":[0";
+    for (int count = 1; count < 100; count++) zeros += ",0";
+    auto large = bsonraw::from_json(zeros + "]}"); // of 207 bytes, with elements of seven bytes and of eight
+    expect(large && large->size() == 803 && bsonraw::view(*large).get<int32_t>("d.99").value_or(1) == 0, "a document that is longer than its text");
     std::printf("hpp: %d wrong\n", wrong);
     return wrong != 0;
 }
