@@ -415,7 +415,7 @@ class Binary(bytes):
 
 
 class Code(str):
-    """JavaScript, and the document that is its scope, or None. Names are added to the scope."""
+    """JavaScript, and the document that is its scope, or None. A scope is added to that of a Code, and names to both."""
 
     __slots__ = ("_scope",)
     _scope: Any
@@ -425,7 +425,8 @@ class Code(str):
         if not isinstance(code, str):
             raise TypeError(f"a Code is made of a str, not of {type(code).__name__}")
         self = super().__new__(cls, code)
-        own: Any = getattr(code, "scope", None) if scope is None else scope
+        inner: Any = getattr(code, "scope", None)
+        own: Any = scope if inner is None else inner if scope is None else {**dict(inner), **dict(scope)}
         self._scope = {**dict(own or {}), **names} if names else own
         return self
 

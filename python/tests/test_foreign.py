@@ -301,7 +301,10 @@ class Classes(unittest.TestCase):
         self.assertEqual((Binary(b"a", 0) == b"a", Code("a") == "a", len({Binary(b"a", 1), Binary(b"a", 1)})), (False, False, 1))
         self.assertEqual(sorted([5, MaxKey(), MinKey(), 2], key=lambda value: value), [MinKey(), 2, 5, MaxKey()])
         self.assertEqual([MinKey() < MinKey(), MinKey() <= MinKey(), MaxKey() > MaxKey(), MaxKey() >= MaxKey()], [False, True, False, True])
-        self.assertEqual([Code(Code("f", {"a": 1})).scope, Code(Code("f", {"a": 1}), {"b": 2}).scope], [{"a": 1}, {"b": 2}])
+        scoped = Code("f", {"a": 1})
+        made = [Code(scoped), Code(scoped, {"b": 2}), Code(scoped, {"a": 3}, b=4), Code(Code("f"), {"b": 2})]
+        self.assertEqual([code.scope for code in made], [{"a": 1}, {"a": 1, "b": 2}, {"a": 3, "b": 4}, {"b": 2}])
+        self.assertEqual(scoped.scope, {"a": 1})
         self.assertEqual((Regex("a", "ix").flags, Regex("a", Regex("a", "ix").flags).options), (2 + 64, "ix"))
 
     def test_what_is_made_of_something_else(self) -> None:
