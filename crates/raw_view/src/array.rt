@@ -57,8 +57,7 @@ impl<'a> RawArray<'a> {
     pub fn as_doc(self) -> RawDocument<'a>
         ensures { bytes_of result ≡ array_bytes_of self.entry }
     {
-        let RawArray { document } = self;
-        document
+        self.document
     }
 
     /// All bytes of the array, its header and its final 0 included.
