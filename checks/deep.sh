@@ -121,7 +121,7 @@ prints canon 1 "refused 6"
 
 lets_go trees a_million_levels_of_each_kind_come_back
 lets_go trees a_list_of_deep_documents_comes_back
-lets_go views a_deep_branch_among_others_is_let_go
+lets_go models a_deep_branch_among_others_is_let_go
 lets_go trees a_million_owned_levels_are_compared_and_printed
 lets_go trees a_million_levels_in_turn_come_back
 dropped=$requests
@@ -131,6 +131,6 @@ if [ "$dropped" != "$requests" ]; then
     failed=1
 fi
 ulimit -S -s 8192 || exit 1
-tried views levels_are_compared
-tried views levels_are_printed
+tried models levels_are_compared
+tried models levels_are_printed
 exit "$failed"

@@ -1,19 +1,15 @@
-//! With ample memory no call is out of memory: the checks of `memory`, and of views, without leave for it. A contract allows it at any
+//! With ample memory no call is out of memory: the checks of `memory` without leave for it. A contract allows it at any
 //! time where a call takes memory, so a body that gave up each time would be proved.
 
-use crate::fixtures::{ALL_KINDS, BOOLEAN_TWO, Checks, KEY_NOT_UTF8, NESTED_STOP, ONE_INT32, view};
-use crate::memory::{buffers, copies, errors, pairs, trees, validation, writing};
+use crate::fixtures::{ALL_KINDS, BOOLEAN_TWO, Checks, NESTED_STOP, ONE_INT32, view};
+use crate::memory::{buffers, copies, trees, validation, writing};
 use std::process::Abort;
 
 #[test]
-fn views_and_copies_with_ample_memory(rt: HostRuntime) {
+fn copies_with_ample_memory(rt: HostRuntime) {
     let checks = Checks::ample(rt.alloc());
-    checks.rows_to_a_key(&rt);
-    checks.rows_of_getters(&rt);
     assert!(rt;
-        errors::are_copied(checks, view(&rt, BOOLEAN_TWO))
-            && errors::is_text_copied(checks, view(&rt, KEY_NOT_UTF8))
-            && copies::are_copied(checks, view(&rt, ALL_KINDS))
+        copies::are_copied(checks, view(&rt, ALL_KINDS))
             && copies::has_fault(checks, view(&rt, BOOLEAN_TWO))
             && copies::is_made(checks, "a")
     );
@@ -40,7 +36,6 @@ fn trees_with_ample_memory(rt: HostRuntime) {
             && trees::are_parts_written(checks)
             && trees::are_values_right(checks, view(&rt, trees::PARTS))
             && trees::are_levels_form(checks, 499)
-            && pairs::is_ordered(checks)
             && writing::are_written(checks)
             && writing::is_nul_found(checks)
     );

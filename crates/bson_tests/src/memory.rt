@@ -4,13 +4,10 @@
 mod asserts;
 pub(crate) mod buffers;
 pub(crate) mod copies;
-pub(crate) mod errors;
 mod kinds;
 mod no_memory;
-pub(crate) mod pairs;
 mod parts;
 mod requests;
 pub(crate) mod trees;
 pub(crate) mod validation;
-mod views;
 pub(crate) mod writing;

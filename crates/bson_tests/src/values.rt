@@ -1,4 +1,3 @@
-use crate::checks::one_if;
 use crate::fixtures::*;
 use raw_bson::{ElementType, RawBson, Result};
 use std::alloc::Global;

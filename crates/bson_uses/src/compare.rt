@@ -6,6 +6,13 @@ use raw_bson::{Result, canonical_bytes};
 use std::alloc::Global;
 
 /// Whether two documents have the same tree, however they are written.
+/// ```
+/// // the numbers 1 and 2 under `a`, and 2 alone
+/// let twice = b"\x13\0\0\0\x10a\0\x01\0\0\0\x10a\0\x02\0\0\0\0";
+/// let once = b"\x0C\0\0\0\x10a\0\x02\0\0\0\0";
+/// assert!(rt; are_equal(alloc, twice, once)?);
+/// assert!(rt; !are_equal(alloc, twice, b"\x05\0\0\0\0")?);
+/// ```
 pub fn are_equal(alloc: Global, one: &[u8], other: &[u8]) -> Result<bool>
     ensures { IfOk result
         (λ same. (t u : Tree) → Reads one.now t → Reads other.now u → (IsTrue same ↔ (t ≡ u))) }
@@ -14,6 +21,11 @@ pub fn are_equal(alloc: Global, one: &[u8], other: &[u8]) -> Result<bool>
 }
 
 /// The canonical form of a document, and the canonical form of that, which is the same.
+/// ```
+/// let (once, twice) = normalised_twice(alloc, b"\x13\0\0\0\x10a\0\x01\0\0\0\x10a\0\x02\0\0\0\0")?;
+/// assert_eq!(rt; once.as_slice(), b"\x0C\0\0\0\x10a\0\x02\0\0\0\0".as_slice());
+/// assert_eq!(rt; twice.as_slice(), once.as_slice());
+/// ```
 pub fn normalised_twice(alloc: Global, bytes: &[u8]) -> Result<(Vec<u8>, Vec<u8>)>
     ensures { IfOk result (λ forms. forms.1.items ≡ forms.0.items) }
 {

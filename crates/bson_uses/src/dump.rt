@@ -32,6 +32,11 @@ impl<'a> Dump<'a> {
 }
 
 /// The documents that the bytes are, end to end, up to where there is none, and why; or out of memory.
+/// ```
+/// let dump = split_dump(alloc, b"\x05\0\0\0\0\x05\0\0\0\0\x05\0")?;
+/// assert!(rt; dump.documents.len() == 2 && dump.rest == b"\x05\0".as_slice());
+/// assert_eq!(rt; dump.error, Some(NoDocument::TooShort));
+/// ```
 pub fn split_dump<'a>(alloc: Global, bytes: &'a [u8]) -> Result<Dump<'a>>
     ensures pieces { IfOk result
         (λ dump. joined (map bytes_of dump.documents.items) ++ dump.rest.now ≡ bytes.now) }

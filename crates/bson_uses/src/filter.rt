@@ -46,6 +46,22 @@ impl From<Error> for Unmet {
 }
 
 /// What is asked of a value.
+/// ```
+/// let mut ada = RawDocumentBuf::new(alloc)?;
+/// ada.append("age", RawBson::Int32(36))?;
+/// let mut over = RawDocumentBuf::new(alloc)?;
+/// over.append("$gt", RawBson::Int32(21))?;
+/// let mut filter = RawDocumentBuf::new(alloc)?;
+/// filter.append_ref("age", RawBsonRef::from(&over))?;
+/// assert_eq!(rt; matches(alloc, ada.as_ref(), filter.as_ref()), Ok(()));
+/// let mut ages = RawArrayBuf::new(alloc)?;
+/// ages.push(RawBson::Int32(21))?;
+/// let mut among = RawDocumentBuf::new(alloc)?;
+/// among.append_ref("$in", RawBsonRef::from(&ages))?;
+/// let mut filter = RawDocumentBuf::new(alloc)?;
+/// filter.append_ref("age", RawBsonRef::from(&among))?;
+/// assert_eq!(rt; matches(alloc, ada.as_ref(), filter.as_ref()), Err(Unmet::Differs));
+/// ```
 #[derive(Clone, Copy)]
 pub enum Operator<'a> {
     /// whether it is a number over this
@@ -145,6 +161,17 @@ fn has(alloc: Global, document: RawDocument<'_>, key: &str, wanted: RawBsonRef<'
 }
 
 /// Whether the document is as the filter wants it, else the first thing that isn't, or the error that was met.
+/// ```
+/// let mut ada = RawDocumentBuf::new(alloc)?;
+/// ada.append_ref("name", RawBsonRef::String("Ada"))?;
+/// ada.append("age", RawBson::Int32(36))?;
+/// let mut bob = RawDocumentBuf::new(alloc)?;
+/// bob.append_ref("name", RawBsonRef::String("Bob"))?;
+/// assert_eq!(rt; matches(alloc, ada.as_ref(), ada.as_ref()), Ok(()));
+/// assert_eq!(rt; matches(alloc, ada.as_ref(), RawDocumentBuf::new(alloc)?.as_ref()), Ok(()));
+/// assert_eq!(rt; matches(alloc, ada.as_ref(), bob.as_ref()), Err(Unmet::Differs));
+/// assert_eq!(rt; matches(alloc, bob.as_ref(), ada.as_ref()), Err(Unmet::Differs));
+/// ```
 pub fn matches(alloc: Global, document: RawDocument<'_>, filter: RawDocument<'_>) -> Met
     ensures { Matches (bytes_of document.entry) (bytes_of filter.entry) result }
 {

@@ -19,6 +19,10 @@ fn plus_null(nulls: usize, value: RawBsonRef<'_>) -> usize
 }
 
 /// How many values of the document are null; or its first fault, nested documents aside.
+/// ```
+/// let document = RawDocument::from_bytes(b"\x0B\0\0\0\x0Aa\0\x0Ab\0\0")?;
+/// assert_eq!(rt; count_nulls(alloc, document)?, 2);
+/// ```
 pub fn count_nulls(alloc: Global, document: RawDocument<'_>) -> Result<usize>
     ensures { FoldsEach (λ e. e) CountsNull 0 (bytes_of document.entry) result }
 {

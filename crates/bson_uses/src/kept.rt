@@ -6,6 +6,12 @@ use raw_shelf::{PutError, Shelf};
 use std::alloc::Global;
 
 /// Keeps a document in its canonical form, unless a document of the same tree is there: whether none was.
+/// ```
+/// let mut shelf = Shelf::new(alloc);
+/// assert!(rt; keep(alloc, &mut shelf, b"\x13\0\0\0\x10a\0\x01\0\0\0\x10a\0\x02\0\0\0\0")?);
+/// assert!(rt; !keep(alloc, &mut shelf, b"\x0C\0\0\0\x10a\0\x02\0\0\0\0")?);
+/// assert!(rt; keep(alloc, &mut shelf, b"\x05\0\0\0\0")? && shelf.len() == 2);
+/// ```
 pub fn keep(alloc: Global, shelf: &mut Shelf, bytes: &[u8]) -> Result<bool>
     ensures kept { IfOk result (λ is_new. IsKept shelf.old bytes.now is_new shelf.new) }
     ensures left { OnErr result (shelf.new ≡ shelf.old) }

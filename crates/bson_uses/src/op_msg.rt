@@ -8,6 +8,14 @@ use raw_bson::{Error, NoDocument, RawDocument, Reason, Result};
 use std::alloc::Global;
 
 /// A part of a message.
+/// ```
+/// // a sequence `docs` of two documents, a body, and a checksum
+/// let bytes = b"\x35\0\0\0\x02\0\0\0\x01\0\0\0\xDD\x07\0\0\x01\0\0\0\x01\x16\0\0\0docs\0\x05\0\0\0\0\x08\0\0\0\x0Aa\0\0\0\x05\0\0\0\0\x01\x02\x03\x04";
+/// let message = read_message(alloc, bytes)?;
+/// let sections = message.sections.as_slice();
+/// assert!(rt; matches!(sections, [Section::Sequence("docs", documents), Section::Body(_)] if documents.len() == 2));
+/// assert!(rt; message.response_to == 1 && message.checksum == b"\x01\x02\x03\x04".as_slice());
+/// ```
 #[derive(Drop)]
 pub enum Section<'a> {
     /// one document
@@ -150,6 +158,13 @@ fn all_sections<'a>(alloc: Global, mut rest: &'a [u8]) -> Read<Vec<Section<'a>>>
 }
 
 /// The message that these bytes are.
+/// ```
+/// // the command `{ping: 1, $db: "admin"}` under the number 7, as MongoDB's package for Python writes it
+/// let ping = b"\x33\0\0\0\x07\0\0\0\0\0\0\0\xDD\x07\0\0\0\0\0\0\0\x1E\0\0\0\x10ping\0\x01\0\0\0\x02$db\0\x06\0\0\0admin\0\0";
+/// let message = read_message(alloc, ping)?;
+/// assert!(rt; message.request_id == 7 && message.response_to == 0 && message.flags == 0 && message.checksum.is_empty());
+/// assert!(rt; matches!(message.sections.as_slice(), [Section::Body(body)] if body.get_str(alloc, "$db").ok() == Some("admin")));
+/// ```
 pub fn read_message<'a>(alloc: Global, bytes: &'a [u8]) -> Read<Message<'a>>
     ensures message { IfOk result (IsMessage bytes.now) }
     ensures refused { IfErr result (RefusesMessage bytes.now) }
@@ -173,6 +188,12 @@ pub fn read_message<'a>(alloc: Global, bytes: &'a [u8]) -> Read<Message<'a>>
 }
 
 /// The message of this number with the document; or too long, or out of memory.
+/// ```
+/// let body = RawDocument::from_bytes(b"\x1E\0\0\0\x10ping\0\x01\0\0\0\x02$db\0\x06\0\0\0admin\0\0")?;
+/// let message = message_of(alloc, 7, body)?;
+/// let head = b"\x33\0\0\0\x07\0\0\0\0\0\0\0\xDD\x07\0\0\0\0\0\0\0";
+/// assert!(rt; message.starts_with(head) && &message[21..] == body.as_bytes());
+/// ```
 pub fn message_of(alloc: Global, request_id: i32, body: RawDocument<'_>) -> Result<Vec<u8>>
     ensures message { IfOk result (λ m. m.items ≡ message_bytes request_id (bytes_of body.entry)) }
     ensures refused { IfErr result (RefusesLength (length (bytes_of body.entry))) }

@@ -12,6 +12,9 @@ pub const MOST: Limits = Limits {
 };
 
 /// The tree of a document from outside, or why it isn't taken.
+/// ```
+/// assert_eq!(rt; received(alloc, b"\x0C\0\0\0\x10a\0\x02\0\0\0\0")?.len(), 1);
+/// ```
 pub fn received(alloc: Global, bytes: &[u8]) -> Result<Document>
     ensures taken { IfOk result (λ d. IsTaken bytes.now (tree_of_document d)) }
     ensures turned_away { IfErr result (IsTurnedAway bytes.now) }

@@ -9,6 +9,12 @@ use std::alloc::Global;
 
 /// The value under these keys, one below the other; without a key it is this value itself. Below a value that is no
 /// document there is none.
+/// ```
+/// let document = RawDocument::from_bytes(b"\x10\0\0\0\x03a\0\x08\0\0\0\x0Ab\0\0\0")?;
+/// let here = RawBsonRef::Document(document);
+/// assert_eq!(rt; find_path(alloc, here, &["a", "b"])?, Some(RawBsonRef::Null));
+/// assert_eq!(rt; find_path(alloc, here, &["a", "c"])?, None);
+/// ```
 pub fn find_path<'a>(
     alloc: Global,
     here: RawBsonRef<'a>,

@@ -123,6 +123,12 @@ fn with_document(
 }
 
 /// The tally of a dump.
+/// ```
+/// // the number 7 under `n`; a repeated key, which isn't canonical; and the number once more
+/// let dump = b"\x10\0\0\0\x12n\0\x07\0\0\0\0\0\0\0\0\x13\0\0\0\x10a\0\x01\0\0\0\x10a\0\x02\0\0\0\0\x10\0\0\0\x12n\0\x07\0\0\0\0\0\0\0\0";
+/// let tally = tally_of(alloc, dump, "n", MOST);
+/// assert!(rt; matches!(tally, Ok(Tally { documents: 3, canonical: 2, sum: 14 })));
+/// ```
 pub fn tally_of(alloc: Global, bytes: &[u8], key: &str, limits: Limits) -> Result<Tally, TallyError>
     ensures counted { IfOk result (λ t. ReadsDump (Steps limits key.now) none bytes.now t []) }
     ensures refused { IfErr result (RefusesTally limits key.now bytes.now) }

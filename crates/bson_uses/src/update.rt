@@ -55,6 +55,13 @@ fn change_of<'a, 'p, 'k>(
 
 /// A copy of the document in which each value under these keys, one below the other, is this one; all other bytes are
 /// as they were. Where nothing is under the keys it has the same elements.
+/// ```
+/// // under `b` the number 2 under `c`, and under `d` a boolean that is neither 0 nor 1
+/// let bytes = b"\x1F\0\0\0\x10a\0\x01\0\0\0\x03b\0\x10\0\0\0\x10c\0\x02\0\0\0\x08d\0\x02\0\0";
+/// let set = set_path(alloc, RawDocument::from_bytes(bytes)?, &["b", "c"], RawBsonRef::Null)?;
+/// let wanted = b"\x1B\0\0\0\x10a\0\x01\0\0\0\x03b\0\x0C\0\0\0\x0Ac\0\x08d\0\x02\0\0";
+/// assert_eq!(rt; set.as_bytes(), wanted.as_slice());
+/// ```
 pub fn set_path(
     alloc: Global,
     document: RawDocument<'_>,

@@ -116,6 +116,12 @@ fn fields_of(alloc: Global, document: RawDocument<'_>) -> Result<Fields, NotUser
 }
 
 /// Ok where the document is a user: `_id`, `email`, maybe `age`, each once, and nothing else.
+/// ```
+/// let user = b"\x23\0\0\0\x07_id\0\0\0\0\0\0\0\0\0\0\0\0\0\x02email\0\x02\0\0\0x\0\0";
+/// assert_eq!(rt; check_user(alloc, RawDocument::from_bytes(user)?), Ok(()));
+/// let other = RawDocument::from_bytes(b"\x08\0\0\0\x0Aa\0\0")?;
+/// assert_eq!(rt; check_user(alloc, other), Err(NotUser::OtherField));
+/// ```
 pub fn check_user(alloc: Global, document: RawDocument<'_>) -> Result<(), NotUser>
     ensures { ChecksUser (bytes_of document.entry) result }
 {

@@ -5,8 +5,9 @@ use std::fmt;
 /// Why a document wasn't put on a shelf, which is then as it was.
 /// ```
 /// let twice = Vec::from_slice(alloc, b"\x13\0\0\0\x10a\0\x01\0\0\0\x10a\0\x02\0\0\0\0")?;
-/// let put = Shelf::new(alloc).put(RawDocumentBuf::from_bytes(twice)?);
-/// assert!(rt; matches!(put, Err(PutError::Breach(Breach { cause: Cause::RepeatedKey, .. }))));
+/// let error = Shelf::new(alloc).put(RawDocumentBuf::from_bytes(twice)?).unwrap_err();
+/// assert_eq!(rt; format!(in alloc; "{error}")?.as_str(), "not canonical: repeated-key at 1");
+/// assert_eq!(rt; format!(in alloc; "{error:?}")?.as_str(), "Breach(Breach { path: [1], cause: RepeatedKey })");
 /// ```
 #[derive(Debug, PartialEq, Eq, Drop)]
 pub enum PutError {

@@ -72,6 +72,15 @@ impl Shelf {
     }
 
     /// How many documents there are.
+    /// ```
+    /// let mut shelf = Shelf::new(alloc);
+    /// for number in 0..100 {
+    ///     let mut document = RawDocumentBuf::new(alloc)?;
+    ///     document.append("n", RawBson::Int32(number))?;
+    ///     shelf.put(document)?;
+    /// }
+    /// assert_eq!(rt; shelf.len(), 100);
+    /// ```
     pub fn len(&self) -> usize
         ensures len { result ≡ length self.now }
         ensures shelf { IsShelf self.now }

@@ -1,5 +1,5 @@
 use crate::fixtures::*;
-use crate::memory::copies::first_element;
+use crate::memory::asserts::OwnedChecks;
 use raw_bson::{
     BinarySubtype, RawArrayBuf, RawBinaryRef, RawBson, RawBsonRef, RawDocument, RawDocumentBuf,
     RawElement, Result, ToRawBson,

@@ -1,4 +1,5 @@
 use crate::fixtures::*;
+use crate::memory::asserts::OwnedChecks;
 use crate::memory::kinds::has_memory;
 use raw_bson::{ElementType, RawBson, RawBsonRef, RawDocument, RawElement, ToRawBson};
 use std::alloc::{AllocError, Global};
@@ -57,19 +58,6 @@ pub(crate) fn are_copied(checks: Checks, document: RawDocument<'_>) -> bool {
             && let_go!(made = elements.next(); is_item_copied(checks, &made, *kind));
     }
     are_right
-}
-
-fn element_of<'a>(item: &Option<raw_bson::Result<RawElement<'a>>>) -> Option<RawElement<'a>> {
-    match item {
-        Some(Ok(element)) => Some(*element),
-        _ => None,
-    }
-}
-
-/// The first element of a document.
-pub(crate) fn first_element(alloc: Global, view: RawDocument<'_>) -> Option<RawElement<'_>> {
-    let mut iter = view.iter_elements(alloc);
-    let_go!(item = iter.next(); element_of(&item))
 }
 
 /// Whether the result is the fault of the boolean of the byte 2, or out of memory.

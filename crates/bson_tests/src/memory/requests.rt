@@ -1,4 +1,5 @@
 use crate::fixtures::*;
+use crate::memory::asserts::OwnedChecks;
 use raw_bson::{RawBson, RawBsonRef, RawDocumentBuf, Result};
 use std::alloc::Global;
 use std::process::Abort;

@@ -1,4 +1,5 @@
 use crate::fixtures::*;
+use crate::memory::asserts::OwnedChecks;
 use crate::memory::parts::is_part;
 use raw_bson::{
     Bson, Document, Limits, RawBson, RawBsonRef, RawDocument, RawDocumentBuf, RawElement, Result,

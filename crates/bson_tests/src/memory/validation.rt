@@ -1,4 +1,5 @@
 use crate::fixtures::*;
+use crate::memory::asserts::OwnedChecks;
 use raw_bson::{Breach, Cause, Limits, RawDocument, Result, validate};
 use raw_form::{
     Barrier, FlattenError, Place, PlacedBreach, ValidateError, canonical_within,

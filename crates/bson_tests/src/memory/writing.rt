@@ -1,4 +1,5 @@
 use crate::fixtures::{Checks, EMPTY, is_refused, let_go};
+use crate::memory::asserts::OwnedChecks;
 use raw_bson::{Bson, Document, Reason, Result, encode, encode_list};
 use std::alloc::Global;
 

@@ -1,7 +1,14 @@
-use crate::fixtures::{B_ALONE, buffer_of};
-use raw_bson::RawDocumentBuf;
+use raw_bson::{RawBson, RawDocumentBuf, Result};
 use raw_shelf::{PutError, Shelf};
+use std::alloc::Global;
 use std::process::Abort;
+
+/// The number 2 under `b`.
+fn two_under_b(alloc: Global) -> Result<RawDocumentBuf> {
+    let mut document = RawDocumentBuf::new(alloc)?;
+    document.append("b", RawBson::Int32(2))?;
+    Ok(document)
+}
 
 /// Whether the put into the empty shelf stores the document, or runs out of memory and leaves the shelf empty.
 fn is_stored(shelf: &mut Shelf, document: RawDocumentBuf) -> bool {
@@ -14,7 +21,7 @@ fn is_stored(shelf: &mut Shelf, document: RawDocumentBuf) -> bool {
 // `bin/test` runs this with each request for memory refused in turn, alone.
 #[test]
 fn put_or_out_of_memory(rt: HostRuntime) {
-    if let Ok(document) = buffer_of(rt.alloc(), B_ALONE) {
+    if let Ok(document) = two_under_b(rt.alloc()) {
         assert!(rt; is_stored(&mut Shelf::new(rt.alloc()), document));
     }
 }

@@ -1,7 +1,10 @@
-//! What is printed of errors and of kinds.
+//! What is printed of errors, of kinds, of bytes and of parts of values.
 
 use crate::fixtures::*;
-use raw_view::{ElementType, Error, ErrorKind, RawArray, RawDocument, ValueAccessErrorKind};
+use bson_model::NoMemory;
+use raw_view::{
+    ElementType, Error, ErrorKind, RawArray, RawDbPointerRef, RawDocument, ValueAccessErrorKind,
+};
 use std::alloc::Global;
 use std::process::Abort;
 
@@ -172,4 +175,27 @@ fn every_kind_has_its_name_as_debug_text(rt: HostRuntime) {
     for (row, (kind, name)) in NAMES.iter().enumerate() {
         require_row(&rt, has_debug_text(rt.alloc(), kind, name), "names", row);
     }
+}
+
+/// Bytes with digits of each half of a byte.
+const DIGITS: &[u8] = b"\x0C\0\0\0\x03a\0\xFF\xFE\xAB\xCD\0";
+
+#[test]
+fn bytes_have_hexadecimal_digits(rt: HostRuntime) {
+    let text = "RawArray { data: \"0c000000036100fffeabcd00\" }";
+    assert!(rt; has_debug_text(rt.alloc(), &view_of_array(&rt, DIGITS), text));
+}
+
+const POINTER: &str =
+    "RawDbPointerRef { namespace: \"db.c\", id: ObjectId { bytes: [12, 11, 10, 9, 8, 7, 6, 5, 4, 3, 2, 1] } }";
+
+/// Whether a pointer and `NoMemory` have their texts.
+fn are_parts_printed(alloc: Global) -> bool {
+    has_debug_text(alloc, &RawDbPointerRef::new("db.c", pointed()), POINTER)
+        && has_debug_text(alloc, &NoMemory, "NoMemory")
+}
+
+#[test]
+fn parts_of_values_have_a_debug_text(rt: HostRuntime) {
+    assert!(rt; are_parts_printed(rt.alloc()));
 }

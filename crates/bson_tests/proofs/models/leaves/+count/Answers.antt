@@ -1,6 +1,6 @@
 use Rattle.std.proofs.Common.{sym, arith}
 use Rattle.bson_model.proofs.Face.{value_smaller}
-use Rattle.bson_tests.proofs.views.leaves.+count.Goals as goal
+use Rattle.bson_tests.proofs.models.leaves.+count.Goals as goal
 
 pub leaves_of_document-leaves_of_value-requires : goal.leaves_of_document-leaves_of_value-requires
 leaves_of_document-leaves_of_value-requires t c =

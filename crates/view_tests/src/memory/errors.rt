@@ -1,5 +1,6 @@
 use crate::fixtures::*;
-use raw_bson::{DoubleBits, Error, RawBsonRef, RawDocument, ValueAccessError, ValueAccessResult};
+use bson_model::DoubleBits;
+use raw_view::{Error, RawBsonRef, RawDocument, ValueAccessError, ValueAccessResult};
 use std::alloc::AllocError;
 use std::process::Abort;
 
@@ -20,7 +21,7 @@ fn is_copied(checks: Checks, error: &Error) -> bool {
 }
 
 /// Whether the look-up has an error, which is copied.
-fn has_a_copy(checks: Checks, answer: &raw_bson::Result<Option<RawBsonRef<'_>>>) -> bool {
+fn has_a_copy(checks: Checks, answer: &raw_view::Result<Option<RawBsonRef<'_>>>) -> bool {
     match answer {
         Ok(_) => false,
         Err(error) => is_copied(checks, error),

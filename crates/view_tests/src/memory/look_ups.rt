@@ -1,5 +1,5 @@
 use crate::fixtures::*;
-use raw_bson::{
+use raw_view::{
     RawArray, RawBsonRef, RawDocument, Result, ValueAccessErrorKind, ValueAccessResult,
 };
 use std::alloc::Global;

@@ -1,9 +1,7 @@
-//! The `Debug` texts: those that Rust's `derive` gives, and of views and buffers their bytes as hexadecimal digits.
+//! The `Debug` texts of values and trees: those that Rust's `derive` gives, and of views and buffers their bytes as hexadecimal digits.
 
 use crate::fixtures::*;
-use bson_model::NoMemory;
-use raw_bson::{RawBson, RawBsonRef, Result, ToRawBson};
-use raw_view::{ElementType, RawDbPointerRef};
+use raw_bson::{ElementType, RawBson, RawBsonRef, Result, ToRawBson};
 use std::alloc::Global;
 use std::process::Abort;
 
@@ -69,15 +67,6 @@ fn values_have_debug_texts(rt: HostRuntime) {
     }
 }
 
-/// Bytes with digits of each half of a byte.
-const DIGITS: &[u8] = b"\x0C\0\0\0\x03a\0\xFF\xFE\xAB\xCD\0";
-
-#[test]
-fn bytes_have_hexadecimal_digits(rt: HostRuntime) {
-    let text = "RawArray { data: \"0c000000036100fffeabcd00\" }";
-    assert!(rt; has_debug_text(rt.alloc(), &view_of_array(&rt, DIGITS), text));
-}
-
 /// The tree of the document of all kinds.
 const TREE: &str = "Document { pairs: {\
 \"a\": Double(DoubleBits(4609434218613702656)), \
@@ -110,18 +99,4 @@ fn is_tree_printed(alloc: Global, bytes: &[u8], text: &str) -> bool {
 #[test]
 fn a_tree_has_a_debug_text(rt: HostRuntime) {
     assert!(rt; is_tree_printed(rt.alloc(), ALL_KINDS, TREE));
-}
-
-const POINTER: &str =
-    "RawDbPointerRef { namespace: \"db.c\", id: ObjectId { bytes: [12, 11, 10, 9, 8, 7, 6, 5, 4, 3, 2, 1] } }";
-
-/// Whether a pointer and `NoMemory` have their texts.
-fn are_parts_printed(alloc: Global) -> bool {
-    has_debug_text(alloc, &RawDbPointerRef::new("db.c", pointed()), POINTER)
-        && has_debug_text(alloc, &NoMemory, "NoMemory")
-}
-
-#[test]
-fn parts_of_values_have_a_debug_text(rt: HostRuntime) {
-    assert!(rt; are_parts_printed(rt.alloc()));
 }

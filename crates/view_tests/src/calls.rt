@@ -1,4 +1,3 @@
-use crate::checks::one_if;
 use crate::fixtures::*;
 use raw_view::{RawBsonRef, RawDocument};
 use std::alloc::Global;

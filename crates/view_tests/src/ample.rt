@@ -1,0 +1,18 @@
+//! With ample memory no call is out of memory: the checks of `memory` without leave for it. A contract allows it at any time where a
+//! call takes memory, so a body that gave up each time would be proved.
+
+use crate::fixtures::{BOOLEAN_TWO, Checks, KEY_NOT_UTF8, view};
+use crate::memory::{errors, pairs};
+use std::process::Abort;
+
+#[test]
+fn views_with_ample_memory(rt: HostRuntime) {
+    let checks = Checks::ample(rt.alloc());
+    checks.rows_to_a_key(&rt);
+    checks.rows_of_getters(&rt);
+    assert!(rt;
+        errors::are_copied(checks, view(&rt, BOOLEAN_TWO))
+            && errors::is_text_copied(checks, view(&rt, KEY_NOT_UTF8))
+            && pairs::is_ordered(checks)
+    );
+}
