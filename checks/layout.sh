@@ -20,11 +20,10 @@ said() {
 }
 
 # aborting FOLDER: the files outside of tests that may end the process. A test's file is, or is below, a module under
-# cfg(test), or in a crate of tests.
+# cfg(test).
 aborting() {
     grep -rl --include='*.rt' 'process::Abort' "$1"/crates/*/src | while IFS= read -r file; do
         crate=${file%%/src/*}
-        case $crate in *_tests) continue ;; esac
         path=/${file#*/src/}
         for module in $(grep -rhA1 '^#\[cfg(test)\]' "$crate/src" | sed -n 's/^mod \(.*\);$/\1/p'); do
             case $path in */"$module".rt | */"$module"/*) continue 2 ;; esac

@@ -3,10 +3,12 @@
 mod breaches;
 mod levels;
 mod owned_values;
+mod required;
 
 pub use breaches::{BREACHES, breach};
 pub use levels::{
     AMONG_OTHERS, IN_A_DOCUMENT, IN_A_SCOPE, IN_AN_ARRAY, Level, levels_inside, nested,
 };
 pub use owned_values::{array_of, document_of, is_same, owned, tree_of};
+pub use required::{require_row, view, view_of_array};
 pub use view_tests::fixtures::*;

@@ -189,9 +189,8 @@ fn command_of<'a>(name: &str, matches: &ArgMatches<'a>) -> Option<Command<'a>> {
     }
 }
 
-/// What the words of a command line ask for.
-pub fn parsed<'a>(alloc: Global, words: &'a [String]) -> Result<Option<Task<'a>>, Error> {
-    let matches = command_line(alloc, VERSION)?.try_get_matches_from(words)?;
+/// What the matches of a command line ask for.
+fn task_in<'a>(alloc: Global, matches: &ArgMatches<'a>) -> Result<Option<Task<'a>>, Error> {
     let Some((name, inner)) = matches.subcommand() else {
         return Ok(None);
     };
@@ -200,4 +199,10 @@ pub fn parsed<'a>(alloc: Global, words: &'a [String]) -> Result<Option<Task<'a>>
         None => text_task(alloc, inner)?,
     };
     Ok(Some(task))
+}
+
+/// What the words of a command line ask for.
+pub fn parsed<'a>(alloc: Global, words: &'a [String]) -> Result<Option<Task<'a>>, Error> {
+    let matches = command_line(alloc, VERSION)?.try_get_matches_from(words)?;
+    task_in(alloc, &matches)
 }

@@ -1,8 +1,9 @@
 //! With ample memory no call is out of memory: the checks of `memory` without leave for it. A contract allows it at any time where a
 //! call takes memory, so a body that gave up each time would be proved.
 
-use crate::fixtures::{BOOLEAN_TWO, Checks, KEY_NOT_UTF8, view};
+use crate::fixtures::{BOOLEAN_TWO, Checks, KEY_NOT_UTF8};
 use crate::memory::{errors, pairs};
+use crate::required::view;
 use std::process::Abort;
 
 #[test]

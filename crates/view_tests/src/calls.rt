@@ -1,4 +1,5 @@
 use crate::fixtures::*;
+use crate::required::view;
 use raw_view::{RawBsonRef, RawDocument};
 use std::alloc::Global;
 use std::process::Abort;

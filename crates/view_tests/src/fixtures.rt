@@ -4,7 +4,6 @@ mod checks;
 mod documents;
 mod faults;
 mod let_go;
-mod required;
 mod results;
 mod values;
 
@@ -20,7 +19,6 @@ pub use documents::{
 pub use faults::{
     Fault, NEGATIVE_AT_A, NOT_UTF8, NOT_UTF8_AT_A, OVERFLOWED, TWO_AT_0, TWO_AT_A, ZERO_IS_NO_TAG,
 };
-pub use required::{require_row, view, view_of_array};
 pub use results::{
     has_debug_text, has_display_text, has_error_texts, has_texts, is_printed, is_said, one_if_got,
 };

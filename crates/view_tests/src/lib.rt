@@ -15,6 +15,8 @@ mod memory;
 #[cfg(test)]
 mod reasons;
 #[cfg(test)]
+mod required;
+#[cfg(test)]
 mod tables;
 #[cfg(test)]
 mod texts;

@@ -1,4 +1,5 @@
 use crate::fixtures::*;
+use crate::required::view;
 use bson_model::DoubleBits;
 use raw_view::{Error, RawBsonRef, RawDocument, ValueAccessError, ValueAccessResult};
 use std::alloc::AllocError;

@@ -1,4 +1,5 @@
 use crate::fixtures::*;
+use crate::required::view;
 use raw_view::{
     RawArray, RawBsonRef, RawDocument, Result, ValueAccessErrorKind, ValueAccessResult,
 };

@@ -1,4 +1,5 @@
 use crate::fixtures::*;
+use crate::required::{view, view_of_array};
 use raw_view::{ElementType, RawArray, RawDocument};
 use std::alloc::Global;
 use std::process::Abort;
