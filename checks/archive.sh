@@ -32,7 +32,8 @@ room=$(mktemp -d) || exit 1
 trap 'rm -rf "$room"' EXIT
 trap 'exit 1' HUP INT TERM
 for folder in "$kept" "$proofs"; do
-    [ ! -d "$folder" ] || [ -e "$room/incremental" ] || cp -a "$folder" "$room/incremental" || exit 1
+    # (another run may put its own in their place meanwhile)
+    [ ! -d "$folder" ] || [ -e "$room/incremental" ] || cp -a "$folder" "$room/incremental" || rm -rf "$room/incremental"
 done
 kept=$room/incremental
 archive=$room/libbsonraw_c.a
