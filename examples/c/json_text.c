@@ -2,11 +2,12 @@
 #include <bsonraw.h>
 #include <stdio.h>
 
-static uint8_t bytes[1 << 20], text[1 << 24];
+static uint8_t bytes[1 << 20];
+static char text[1 << 24];
 
 int main(void) {
     struct bsonraw_report r;
     size_t len = fread(bytes, 1, sizeof bytes, stdin);
-    if (bsonraw_json(bytes, len, sizeof bytes, 100, 0, 0, text, sizeof text, &r, NULL, 0) != BSONRAW_OK) return 1;
-    return puts((char *)text) < 0;
+    if (bsonraw_json_text(bytes, len, sizeof bytes, 100, 0, 0, text, sizeof text, &r, NULL, 0) != BSONRAW_OK) return 1;
+    return puts(text) < 0;
 }
