@@ -2,8 +2,8 @@
 # Builds the C library's archive, crates/bsonraw_c/out/libbsonraw_c.a. `rt ci` proves its crate and builds no archive, and
 # `rt lib` would prove the crates below once more, since it takes what only its own runs have kept. So on a fresh clone, where
 # `rt ci` has proved the crates below and maybe goes on with this one and others, the archive is built here over the libraries that this run
-# left, by the kit's compiler itself: that proves the crate alone, but for what an earlier build on this machine proved of it and what is as it
-# was, as `rt ci` proves it from nothing. It does so in a folder of its own, from which all goes into out/ at the end.
+# left, by the kit's compiler itself: that proves of the crate alone what no earlier build on this machine proved; `rt ci` proves it from
+# nothing. It does so in a folder of its own, from which all goes into out/ at the end.
 # Where `rt lib` has kept libraries, it builds the archive. In either case the library is laid out in the new folder as bin/install does it,
 # but for the programs.
 #
