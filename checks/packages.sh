@@ -28,8 +28,10 @@ for debian in "$@"; do
     esac
 done
 work=$(mktemp -d) || exit 1
-trap 'rm -rf "$work"' EXIT
+trap 'join; rm -rf "$work"' EXIT
 try="$work/new user"
+debs=$work/debs # where the Debian packages are unpacked
+lanes=
 made=$work/made
 made_for_arm=$work/made_for_arm
 skipped=
@@ -42,6 +44,30 @@ fails() {
 
 skip() {
     skipped="$skipped${skipped:+, }$1"
+}
+
+# lane TRY..: runs these one after the other, beside what else runs, in a shell with a scratch folder of its own
+lane() {
+    lanes="$lanes $1"
+    mkdir "$work/$1" || exit 1
+    (
+        work=$work/$1
+        skipped=
+        for try_this in "$@"; do "$try_this"; done
+        printf %s "$skipped" >"$work/skipped"
+        exit "$failed"
+    ) >"$work/$1.said" 2>&1 </dev/null &
+    echo $! >"$work/$1.process"
+}
+
+# join: waits for the lanes, and tells what they wrote and what they left out
+join() {
+    for name in $lanes; do
+        wait "$(cat "$work/$name.process")" || failed=1
+        cat "$work/$name.said" >&2
+        [ ! -s "$work/$name/skipped" ] || skip "$(cat "$work/$name/skipped")"
+    done
+    lanes=
 }
 
 # put FOLDER: the files of this repository as they are here, and what was built
@@ -162,13 +188,18 @@ try_unproved() {
     claims "$1" '\bprove[ds]\b|\bproofs?\b|\btested\b' 'was not seen|was seen|nothing (of that )?is proved|would be proved|PROVED says|/PROVED\b| PROVED$|proves and installs|unproved'
 }
 
-# make_all FOLDER [FLAG..]: makes twice the same bytes, later and in another folder the second time, where the machine has settings of its own; the
-# names say that they are unproved
+# make_all FOLDER [FLAG..]: makes twice the same bytes, a second later and in another folder the second time, where the machine has settings of its
+# own; the names say that they are unproved
 make_all() {
     folder=$1
     shift
-    bin/package "$@" --unproved "$folder" >/dev/null && clone "$work/another clone" && sleep 1 &&
-        CFLAGS=-g LDFLAGS=-Wl,--build-id=none TZ=X-13 "$work/another clone/bin/package" "$@" --unproved $by_key "$work/again" >/dev/null || exit 1
+    clone "$work/another clone" || exit 1
+    bin/package "$@" --unproved "$folder" >/dev/null &
+    first=$!
+    sleep 1
+    CFLAGS=-g LDFLAGS=-Wl,--build-id=none TZ=X-13 "$work/another clone/bin/package" "$@" --unproved $by_key "$work/again" >/dev/null
+    second=$?
+    wait "$first" && [ "$second" = 0 ] || exit 1
     diff -r -x SHA256SUMS.asc "$folder" "$work/again" >&2 || fails "one commit gives other bytes the second time"
     [ -z "$by_key" ] || gpg --batch --quiet --verify "$work/again/SHA256SUMS.asc" "$work/again/SHA256SUMS" 2>"$work/said_by_gpg" ||
         fails "the signature isn't good: $(cat "$work/said_by_gpg")"
@@ -279,9 +310,21 @@ lists_all() {
     sed '1,/^sha256 of what is shipped:$/d; s/^[^ ]*  //' "$2" | LC_ALL=C sort | diff - "$work/there" >&2 || fails "$2 doesn't list each file"
 }
 
-try_archive() {
+# Unpacks what was made, but for the wheels.
+unpack() {
     prepare "$try" && tar -C "$try" -xf "$made"/*-linux.tar.gz || exit 1
     archive=$(echo "$try"/bsonraw-*-linux)
+    for source in "$made"/*.tar.gz; do
+        case $source in *-linux.tar.gz) ;; *) break ;; esac
+    done
+    if ! command -v dpkg-deb >/dev/null; then
+        skip "dpkg-deb"
+        return
+    fi
+    for package in "$made"/*.deb; do dpkg-deb -x "$package" "$debs" || exit 1; done
+}
+
+try_archive() {
     lists_all "$archive" "$archive/PROVED"
     finds_changes "$archive" "$archive/PROVED"
     has_licences "$archive/LICENCES" $crates
@@ -336,9 +379,6 @@ print(bsonraw.to_json(bsonraw.canonical(sys.stdin.buffer.read())))' <"$work/euro
 
 # The Python package as source.
 try_source() {
-    for source in "$made"/*.tar.gz; do
-        case $source in *-linux.tar.gz) ;; *) break ;; esac
-    done
     tar -C "$work" -xf "$source" || exit 1
     folder=$work/$(basename "$source" .tar.gz)
     lists_all "$folder" "$folder/PROVED"
@@ -371,7 +411,7 @@ try_arm() {
     done
     try_unproved "$made_for_arm"
     (cd "$work/arm_root" && find . -type f) | while IFS= read -r file; do
-        [ ! -e "$work/root/$file" ] || cmp "$work/root/$file" "$work/arm_root/$file" || exit 1
+        [ ! -e "$debs/$file" ] || cmp "$debs/$file" "$work/arm_root/$file" || exit 1
     done || fails "packages of both machines have one file in two forms, so that they can't be installed together"
     ! command -v lintian >/dev/null || lintian --allow-root --fail-on error,warning "$made_for_arm"/*.deb >&2 ||
         fails "lintian has something against the Debian packages for ARM"
@@ -395,23 +435,20 @@ try_crate() {
 }
 
 try_packages() {
-    if ! command -v dpkg-deb >/dev/null; then
-        skip "dpkg-deb"
-        return
-    fi
-    for package in "$made"/*.deb; do dpkg-deb -x "$package" "$work/root" || exit 1; done
-    for package in "$work"/root/usr/share/doc/*; do
-        finds_changes "$work/root" "$package/PROVED.amd64"
+    [ -d "$debs" ] || return
+    for package in "$debs"/usr/share/doc/*; do
+        finds_changes "$debs" "$package/PROVED.amd64"
         has_licences "$package/copyright" $crates
     done
-    names_functions "$work/root/usr/lib/x86_64-linux-gnu/libbsonraw.so" "$work/root/usr/lib/debug" $gdb
+    names_functions "$debs/usr/lib/x86_64-linux-gnu/libbsonraw.so" "$debs/usr/lib/debug" $gdb
     needs=$(for package in "$made"/libbsonraw2_*.deb "$made"/bsonraw_*.deb; do dpkg-deb -f "$package" Depends; done | sed 's/.*libc6 (>= \(.*\)).*/\1/')
     # shellcheck disable=SC2086 # two versions
     tr -s '\n ' '  ' <README.md | grep -q "$(printf 'The library needs glibc %s or later, the programs %s,' $needs)" ||
         fails "README doesn't say which glibc is needed: $needs"
-    library=$work/root/usr/lib/x86_64-linux-gnu
-    env -i PATH=/usr/bin:/bin $has_compiler PKG_CONFIG_PATH="$library/pkgconfig" PKG_CONFIG_SYSROOT_DIR="$work/root" \
-        LD_LIBRARY_PATH="$library" sh "$try/try-release.sh" "$work/root/usr/bin" "$said" || fails "the Debian packages don't do"
+    library=$debs/usr/lib/x86_64-linux-gnu
+    prepare "$work/new user"
+    env -i PATH=/usr/bin:/bin $has_compiler PKG_CONFIG_PATH="$library/pkgconfig" PKG_CONFIG_SYSROOT_DIR="$debs" \
+        LD_LIBRARY_PATH="$library" sh "$work/new user/try-release.sh" "$debs/usr/bin" "$said" || fails "the Debian packages don't do"
     if ! command -v lintian >/dev/null; then
         skip lintian
         return
@@ -428,7 +465,8 @@ try_wheels() {
     fi
     [ "$(find "$made" -name 'bsonraw-*-cp311-abi3-*.manylinux2014_x86_64.whl' | wc -l)" = 1 ] || fails "the package's wheel isn't of manylinux2014"
     env -i PATH=/usr/bin:/bin "$work/venv/bin/pip" install --quiet --no-index --disable-pip-version-check "$made"/*.whl || fails "pip doesn't install the wheels"
-    env -i PATH=/usr/bin:/bin PYTHON="$work/venv/bin/python" sh "$try/try-release.sh" "$work/venv/bin" "$said" || fails "the wheels don't do"
+    prepare "$work/new user"
+    env -i PATH=/usr/bin:/bin PYTHON="$work/venv/bin/python" sh "$work/new user/try-release.sh" "$work/venv/bin" "$said" || fails "the wheels don't do"
     for info in "$work"/venv/lib/python3*/site-packages/bsonraw*.dist-info; do
         finds_changes "$(dirname "$info")" "$info/PROVED"
         has_licences "$info/licenses/LICENCES" $crates
@@ -504,17 +542,16 @@ else
 fi
 gdb=$(command -v gdb) || skip gdb
 said=$(root=$PWD && . bin/release.sh && echo "bsonraw-dump $version ($(crates_commit))")
+lane try_record
 make_all "$made"
 [ -z "$by_key" ] || gpgconf --kill all
 by_key=
-try_record
+unpack
+lane try_archive try_source try_crate
+lane try_packages
+lane try_wheels try_old_processors
 try_unproved "$made"
-try_archive
-try_source
-try_crate
-try_packages
-try_wheels
-try_old_processors
+join
 if [ "${1-}" != --short ]; then
     try_builds
     [ $# -gt 0 ] || set -- bullseye-amd64 bookworm-amd64 trixie-amd64 bookworm-arm64 trixie-arm64

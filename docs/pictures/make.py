@@ -183,6 +183,7 @@ GIVES = {
     "json_round_trip": "that what is printed is read back",
     "bsonraw": "the program for one document in hex",
     "dump_lines": "what is found in a document, in lines",
+    "dump_elements": "elements, shown and picked",
     "dump_input": "inputs as they are read",
     "dump_files": "files, and what is told of them",
     "dump_cli": "the command line",

@@ -15,11 +15,11 @@ ghost use Rattle.bsonraw_c.specs.FromJson.{
 
 use crate::codes::Status;
 use crate::room::put;
-use crate::text_place::{count_characters, count_line_feeds, last_line};
 use bson_from_json::{JsonError, JsonReason, Wrapper, from_json};
 use raw_bson::Limits;
 use std::alloc::Global;
 use std::str;
+use values_from_json::place::{count_characters, count_line_feeds, last_line};
 
 /// How many bytes a document has that was read from a text; or why none is read, and where in the text.
 #[repr(C)]

@@ -24,7 +24,6 @@ mod reader;
 mod report;
 mod resync;
 mod room;
-mod text_place;
 mod texts;
 mod value;
 mod version;

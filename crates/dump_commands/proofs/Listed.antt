@@ -11,7 +11,7 @@ use Rattle.raw_view.specs.declared.error.ErrorKind.{ErrorKind}
 use Rattle.raw_view.specs.declared.error.ErrorKind.TheVariants as kind
 use Rattle.dump_lines.specs.Find.{Account}
 use Rattle.dump_commands.specs.Reporting.{ListsFront}
-use Rattle.dump_commands.specs.Listing.{HasLinesFront, Lists, ListsDocument}
+use Rattle.dump_elements.specs.Listing.{HasLinesFront, Lists, ListsDocument}
 use Rattle.dump_lines.specs.Told.{head_text, line}
 
 -- the lines of a level are written

@@ -12,16 +12,16 @@ use Rattle.raw_tree.specs.CanonicalForm.{IsCanonicalForm}
 use Rattle.raw_tree.specs.declared.reader.limits.Limits.{Limits}
 use Rattle.dump_commands.specs.Fields.{KeepsWritten}
 use Rattle.dump_lines.specs.Fronts.{AppendsFront, WritesFront}
-use Rattle.dump_commands.specs.Making.{IsMade, Emits, Makes, MakesJson, MakesPicked, Writes, spelled}
+use Rattle.dump_commands.specs.Making.{IsMade, IsPickedAs, IsPrinted, Emits, Makes, MakesJson, MakesPicked, Writes, spelled}
 use Rattle.dump_lines.proofs.Face.{front_behind, front_first}
-use Rattle.dump_commands.specs.Pick.{IsPicked, IsPickedAs, IsPrinted}
+use Rattle.dump_elements.specs.Pick.{IsPicked}
 use Rattle.dump_commands.specs.Unique.{CountsOne, Made, firsts_of, has_digest, kept_of, known_behind, knows, made_as, origins_of, placed, plain, written_of}
 use Rattle.dump_commands.specs.declared.command.Command.{Command}
 use Rattle.dump_commands.specs.declared.command.Command.TheVariants as command
 use Rattle.dump_commands.specs.declared.command.Spelling.{Spelling}
 use Rattle.dump_commands.specs.declared.kept.Kept.{Kept}
 use Rattle.dump_lines.specs.declared.origin.Origin.{Origin}
-use Rattle.dump_commands.specs.declared.pick.Picking.{Picking}
+use Rattle.dump_commands.specs.declared.command.Picking.{Picking}
 use Rattle.dump_commands.proofs.Repeating.{firsts_none, repeats_none}
 use Rattle.dump_lines.specs.declared.find.Finding.{Finding}
 use Rattle.dump_lines.specs.declared.find.Finding.TheVariants as finding

@@ -3,8 +3,6 @@ pub mod Summary
 pub mod Counting
 pub mod Unique
 pub mod Fields
-pub mod Pick
-pub mod Listing
 pub mod Making
 pub mod Reporting
 pub mod Binary

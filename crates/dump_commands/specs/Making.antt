@@ -1,12 +1,12 @@
 -- What a command makes of a document in which something is found, and what is written and kept of that.
-use Rattle.std.specs.Prelude.{◌≡◌, ℕ, ◌+◌, List, [], ◌∷◌, ◌++◌, Option, codes, length}
+use Rattle.std.specs.Prelude.{◌≡◌, ℕ, ◌+◌, List, [], ◌∷◌, ◌++◌, Option, None, Some, codes, length}
 use Rattle.std.specs.Io.KnownBytes.{Appends}
 use Rattle.std.specs.Option.{option_map}
 use Rattle.raw_tree.specs.CanonicalForm.{IsCanonicalForm}
 use Rattle.bson_json.specs.Json.{IsJson}
 use Rattle.values_to_json.specs.declared.style.Style as json
-use Rattle.dump_commands.specs.Pick.{IsPickedAs}
-use Rattle.dump_commands.specs.declared.pick.Picking.{Picking}
+use Rattle.dump_elements.specs.Pick.{IsPicked}
+use Rattle.dump_commands.specs.declared.command.Picking.{Picking}
 use Rattle.dump_commands.specs.Unique.{Made, firsts_behind, firsts_of, kept_of, known_behind, knows, made_as, placed_at, plain, repeat_at, repeats_of, written_of}
 use Rattle.dump_lines.specs.Origins.{Origin, origin_of}
 use Rattle.dump_commands.specs.declared.command.Command.{Command}
@@ -34,6 +34,15 @@ MakesJson style b finding.Damaged made = made ≡ []
 MakesJson style b finding.TooDeep made = made ≡ []
 MakesJson style b finding.Unvalidated made = made ≡ []
 MakesJson style b _ made = (text : List ℕ) × IsJson style b text × (made ≡ plain (text ++ codes "\n") ∷ [])
+
+-- the document, or where a style is given its text as Extended JSON, and a line feed
+abbrev pub IsPrinted : Option json.Style → List ℕ → List ℕ → Type 0
+IsPrinted None document made = made ≡ document
+IsPrinted (Some style) document made = (text : List ℕ) × IsJson style document text × (made ≡ text ++ codes "\n")
+
+-- what is written of the document b
+abbrev pub IsPickedAs : Picking → List ℕ → List ℕ → Type 0
+IsPickedAs picking b made = (document : List ℕ) × IsPicked b picking.paths.now document × IsPrinted picking.style document made
 
 -- the document that is picked of a piece b in which this is found, unless it is damaged or too deep, or isn't judged; or its line
 abbrev pub MakesPicked : Picking → List ℕ → Finding → List Made → Type 0

@@ -1,7 +1,7 @@
 -- What a command reports of a document in which something is found, and fronts of that.
 use Rattle.std.specs.Prelude.{◌≡◌, ℕ, List, [], ◌++◌, Option, None, Some, flat_map, ◌⊎◌}
 use Rattle.dump_lines.specs.Find.{Account}
-use Rattle.dump_commands.specs.Listing.{ListsDocument, HasListingFront}
+use Rattle.dump_elements.specs.Listing.{ListsDocument, HasListingFront}
 use Rattle.dump_lines.specs.Told.{line, repeat_line, report_line, head_text}
 use Rattle.dump_lines.specs.Origins.{Repeat}
 use Rattle.dump_commands.specs.declared.command.Command.{Command}

@@ -4,7 +4,6 @@
 ghost use Rattle.std.specs.Prelude.{MatchBool};
 ghost use Rattle.dump_commands.specs.Binary.{MakesBson, MakesNoBson};
 
-use crate::pick::Picking;
 use bson_json::Style;
 
 /// What `unique` writes of a document.
@@ -14,6 +13,15 @@ pub enum Spelling {
     Canonical,
     /// its bytes, as they are
     Original,
+}
+
+/// Which elements are picked, and how they are written.
+#[derive(Clone, Copy)]
+pub struct Picking<'a> {
+    /// paths with commas between them; the steps of each have dots between them
+    pub paths: &'a str,
+    /// how their document is printed as Extended JSON; `None`: as it is
+    pub style: Option<Style>,
 }
 
 /// What is asked of the documents of an input.

@@ -5,8 +5,7 @@ ghost use Rattle.std.specs.Prelude.{◌≡◌, ℕ, List, Option, [], ◌∷◌,
 ghost use Rattle.std.specs.Io.KnownBytes.{Appends};
 ghost use Rattle.dump_commands.specs.Findings.{FindsFor};
 ghost use Rattle.dump_lines.specs.Fronts.{AppendsFront, WritesFront};
-ghost use Rattle.dump_commands.specs.Making.{IsMade, Emits, Puts};
-ghost use Rattle.dump_commands.specs.Pick.{IsPickedAs};
+ghost use Rattle.dump_commands.specs.Making.{IsMade, IsPickedAs, Emits, Puts};
 ghost use Rattle.dump_commands.specs.Fields.{CountsFields, IsCounted, KeepsWritten};
 ghost use Rattle.dump_lines.specs.Find.{Account};
 ghost use Rattle.dump_commands.specs.Unique.{CountsOne, knows, made_as, written_of};
@@ -19,11 +18,11 @@ ghost use Rattle.bson_json.specs.Json.{IsJson};
 ghost use Rattle.dump_commands.specs.declared.command.Command.TheVariants.{Unique};
 ghost use Rattle.dump_commands.specs.declared.command.Spelling as spells;
 
-use crate::command::{Command, Spelling};
+use crate::command::{Command, Picking, Spelling};
 use crate::fields::tokens_of;
 use crate::kept::{Added, Kept};
-use crate::pick::{Picking, picked};
 use bson_json::{Style as JsonStyle, WriteJsonError, write_json};
+use dump_elements::pick::picked;
 use dump_lines::failure::Failure;
 use dump_lines::find::Finding;
 use dump_lines::origin::Origin;

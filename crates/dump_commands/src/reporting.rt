@@ -6,7 +6,7 @@ ghost use Rattle.std.specs.Option.{option_copied, option_map};
 ghost use Rattle.std.specs.Io.KnownBytes.{Appends};
 ghost use Rattle.dump_lines.specs.Fronts.{AppendsFront};
 ghost use Rattle.dump_commands.specs.Reporting.{ListsFront, ReportsFront, Reports, lines_of_repeats};
-ghost use Rattle.dump_commands.specs.Listing.{ListsDocument};
+ghost use Rattle.dump_elements.specs.Listing.{ListsDocument};
 ghost use Rattle.dump_lines.specs.Find.{account_of};
 ghost use Rattle.dump_commands.specs.Unique.{repeat_at};
 ghost use Rattle.dump_lines.specs.Origins.{origin_of};
@@ -17,8 +17,8 @@ ghost use Rattle.dump_commands.specs.Reporting as says;
 
 use crate::command::Command;
 use crate::counts::Counts;
-use crate::listing::list_levels;
 use crate::summary::{summary, summary_object};
+use dump_elements::listing::list_levels;
 use dump_lines::failure::Failure;
 use dump_lines::find::{Finding, Found, Told};
 use dump_lines::object::{repeat_object, told_object};

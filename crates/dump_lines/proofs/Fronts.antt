@@ -1,7 +1,7 @@
 -- What a writer holds of which a front was written.
-use Rattle.std.proofs.Common.{◌≡◌, ◌++◌, ◌-◌, ℕ, List, [], ◌∷◌, Option, Result, Ok, Err, OnErr, sym, refl, take, drop, ap, ◌∙◌, append_assoc, append-nil, length, length-drop, take-append-drop}
-use Rattle.std.specs.Io.KnownBytes.{Appends, Keeps}
-use Rattle.std.proofs.KnownBytes.{Appends-kept, Appends-nil, Appends-trans}
+use Rattle.std.proofs.Common.{◌≡◌, ◌++◌, ℕ, List, [], Option, Result, Ok, Err, OnErr, sym, refl, ap, ◌∙◌, append_assoc, append-nil}
+use Rattle.std.specs.Io.KnownBytes.{Appends}
+use Rattle.std.proofs.KnownBytes.{Appends-nil, Appends-trans}
 use Rattle.dump_lines.specs.Fronts.{AppendsFront}
 
 pub on_err : {A E : Type 0} (r : Result A E) (P Q : Type 0) → (P → Q) → OnErr r P → OnErr r Q
@@ -41,27 +41,3 @@ front_behind a b c x y put h = record {
   whole = ap (λ (z : List ℕ). x ++ z) h.whole ∙ sym (append_assoc x h.front h.behind);
   put = Appends-trans a b c x h.front put h.put;
 }
-
--- a front of the bytes is written, and this is left
-pub record IsAhead (old new : Option (List ℕ)) (bytes rest : List ℕ) : Type 0 where
-  pub front : List ℕ
-  pub whole : bytes ≡ front ++ rest
-  pub put : Appends old new front
-
-pub ahead_more : (a b c : Option (List ℕ)) (bytes rest left : List ℕ) (n : ℕ) → IsAhead a b bytes rest → Appends b c (take n rest) → left ≡ drop n rest → IsAhead a c bytes left
-ahead_more a b c bytes rest left n h put is = record {
-  front = h.front ++ take n rest;
-  whole = h.whole ∙ ap (λ (z : List ℕ). h.front ++ z) (sym (take-append-drop n rest) ∙ ap (λ (z : List ℕ). take n rest ++ z) (sym is)) ∙ sym (append_assoc h.front (take n rest) left);
-  put = Appends-trans a b c h.front (take n rest) h.put put;
-}
-
-pub ahead_kept : (a b c : Option (List ℕ)) (bytes rest : List ℕ) → IsAhead a b bytes rest → Keeps b c → IsAhead a c bytes rest
-ahead_kept a b c bytes rest h kept = record { front = h.front; whole = h.whole; put = Appends-kept a b c h.front h.put kept }
-
-take_length : (b : List ℕ) → take (length b) b ≡ b
-take_length [] = refl
-take_length (x ∷ b) = ap (λ (l : List ℕ). x ∷ l) (take_length b)
-
--- what is left behind a place
-pub rest_whole : (b : List ℕ) (i : ℕ) → take (length b - i) (drop i b) ≡ drop i b
-rest_whole b i = ap (λ (k : ℕ). take k (drop i b)) (sym (length-drop i b)) ∙ take_length (drop i b)

@@ -7,8 +7,8 @@ ghost use Rattle.dump_lines.specs.Fronts.{AppendsFront};
 ghost use Rattle.dump_lines.specs.Failing.{IsReading};
 
 use crate::failure::Failure;
-use std::io;
-use std::io::{ErrorKind, Write};
+use std::io::Write;
+use values_to_json::put::put_all;
 
 /// Writes these bytes, as `write_all` does: what it leaves behind an error is a front of them. Most commands write none of most
 /// documents.
@@ -21,29 +21,5 @@ pub fn put<W: Write>(writer: &mut W, bytes: &[u8]) -> Result<(), Failure>
     if bytes.is_empty() {
         return Ok(());
     }
-    put_all(writer, bytes)
-}
-
-#[inline(never)]
-fn put_all<W: Write>(writer: &mut W, bytes: &[u8]) -> Result<(), Failure>
-    ensures written { OnOk result (Appends (W.contents writer.old) (W.contents writer.new) bytes.now) }
-    ensures front { OnErr result (AppendsFront (W.contents writer.old) (W.contents writer.new) bytes.now) }
-    ensures failed { IfErr result (λ failure. ¬ IsReading failure) }
-{
-    let mut rest = bytes;
-    'calls: for _ in 0..u64::MAX {
-        if rest.is_empty() {
-            return Ok(());
-        }
-        match writer.write(rest) {
-            Ok(0) => return Err(Failure::Writing(io::Error::from(ErrorKind::WriteZero))),
-            Ok(len) => rest = &rest[len..],
-            Err(error) => {
-                if error.kind() != ErrorKind::Interrupted {
-                    return Err(Failure::Writing(error));
-                }
-            }
-        }
-    }
-    Err(Failure::Writing(io::Error::from(ErrorKind::TimedOut)))
+    put_all(writer, bytes).map_err(Failure::Writing)
 }

@@ -7,6 +7,5 @@ mod rest;
 mod run;
 
 pub use batch::{Job, run_all};
-pub use dump_commands::command::{Command, Spelling};
-pub use dump_commands::pick::Picking;
+pub use dump_commands::command::{Command, Picking, Spelling};
 pub use portion::Portion;

@@ -3,7 +3,8 @@ use Rattle.std.specs.Prelude.{◌≡◌, ◌⊎◌, ◌<◌, ◌≤◌, ◌+◌,
 use Rattle.bson_model.specs.Tree.{Tree, Entries, leaf, array, document, code_with_scope, no_entry, entry_then, trees, entries}
 use Rattle.raw_view.specs.Frame.ElementSteps.{frame_of}
 use Rattle.raw_view.specs.Errors.{IsOutOfMemory, key_of}
-use Rattle.raw_view.specs.Frame.Format.{string_payload}
+use Rattle.raw_view.specs.Frame.Format.{element_of, string_payload, tagged}
+use Rattle.raw_view.specs.Frame.Kind.{tag_of}
 use Rattle.raw_view.specs.Frame.Number.{max_length}
 use Rattle.raw_view.specs.declared.element.RawElement.{RawElement}
 use Rattle.raw_view.specs.declared.element_type.ElementType.{ElementType}
@@ -13,6 +14,10 @@ use Rattle.raw_view.specs.declared.error.ErrorKind.TheVariants.{MalformedValue}
 use Rattle.raw_view.specs.declared.error.Reason.TheVariants.{TooLong}
 use Rattle.raw_view.specs.declared.level.Holder.{Holder}
 use Rattle.raw_view.specs.declared.level.Holder.TheVariants as holder
+use Rattle.raw_view.specs.declared.level.RawLevel.{RawLevel}
+use Rattle.raw_view.specs.Meaning.{Means, kind_of_raw, value}
+use Rattle.raw_view.specs.Meaning.Value.{held_value}
+use Rattle.raw_tree.specs.Encoding.{kind_of_tree, tree_payload}
 use Rattle.raw_tree.specs.Payload.{unset}
 use Rattle.raw_tree.specs.Members.{numbered, with_len}
 use Rattle.raw_tree.specs.Reading.{ReadsAs, ReadsRest, FrameStandsFor}
@@ -96,6 +101,15 @@ TakesNext ms None k left = ms ≡ no_entry
 TakesNext ms (Some m) k left =
     (t : Tree) × (rest : Entries) × (ms ≡ entry_then (member_key m) t rest) × FrameStandsFor (frame_of m.element) t × IsLeft k left rest
     × (IsTrue m.is_known → IsOwnForm (frame_of m.element))
+
+-- the member is written of this tree, and where it's told so, as it is
+abbrev pub IsMemberOf : Member → Tree → Type 0
+IsMemberOf m t = FrameStandsFor (frame_of m.element) t × (IsTrue m.is_known → IsOwnForm (frame_of m.element))
+
+-- the element that is written of the member is put behind the others; or of one whose value holds this level its tag and its key
+abbrev pub PutsMember : Member → Tree → Option RawLevel → (old new : List ℕ) → Type 0
+PutsMember m t None old new = new ≡ old ++ element_of (kind_of_tree t) (member_key m) (tree_payload t)
+PutsMember m t (Some h) old new = Means (frame_of m.element) (value (held_value h)) × (new ≡ old ++ tagged (tag_of (kind_of_raw (held_value h))) (member_key m) [])
 
 -- the same level, behind its next member
 pub record IsLater (level new : Rewritten) : Type 0 where

@@ -8,7 +8,7 @@ mod decimal;
 mod error;
 mod fault;
 mod leaves;
-mod place;
+pub mod place;
 mod source;
 mod wrapper;
 

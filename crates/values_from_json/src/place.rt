@@ -3,7 +3,7 @@ ghost use Rattle.std.specs.Prelude.{◌≡◌, ◌+◌};
 ghost use Rattle.values_from_json.specs.Place.{IsLastLine, characters, line_feeds};
 
 /// How many line feeds there are.
-pub(crate) fn count_line_feeds(text: &[u8]) -> usize
+pub fn count_line_feeds(text: &[u8]) -> usize
     ensures { result ≡ line_feeds text.now }
 {
     let mut count = 0;
@@ -16,7 +16,7 @@ pub(crate) fn count_line_feeds(text: &[u8]) -> usize
 }
 
 /// How many characters begin.
-pub(crate) fn count_characters(text: &[u8]) -> usize
+pub fn count_characters(text: &[u8]) -> usize
     ensures { result ≡ characters text.now }
 {
     let mut count = 0;
@@ -29,7 +29,7 @@ pub(crate) fn count_characters(text: &[u8]) -> usize
 }
 
 /// What is behind the last line feed.
-pub(crate) fn last_line(text: &[u8]) -> &[u8]
+pub fn last_line(text: &[u8]) -> &[u8]
     ensures { IsLastLine text.now result.now }
 {
     let mut start = 0;

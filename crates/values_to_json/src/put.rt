@@ -12,7 +12,7 @@ use std::io::Write;
 const BLOCK: usize = 64;
 
 /// Writes these bytes, as `write_all` does: what it leaves behind an error is a front of them.
-pub(crate) fn put_all<W: Write>(out: &mut W, bytes: &[u8]) -> io::Result<()>
+pub fn put_all<W: Write>(out: &mut W, bytes: &[u8]) -> io::Result<()>
     ensures written { OnOk result (Appends (W.contents out.old) (W.contents out.new) bytes.now) }
     ensures front { OnErr result (AppendsFront (W.contents out.old) (W.contents out.new) bytes.now) }
 {

@@ -1,14 +1,14 @@
 -- What the loop that rewrites keeps, and what it tells where it ends.
-use Rattle.std.proofs.Common.{Result, Ok, Err, IfErr, IsErrAnd, ◌≡◌, ◌∙◌, ◌≤◌, ◌+◌, ◌++◌, ◌∷◌, [], inl, inr, ℕ, List, Option, Some, length, arith, ap, refl, sym, length-append, reverse}
+use Rattle.std.proofs.Common.{Result, Ok, Err, IfErr, IsErrAnd, IsTrue, ◌⊎◌, ◌≡◌, ◌∙◌, ◌≤◌, ◌+◌, ◌++◌, ◌∷◌, [], inl, inr, ℕ, List, Option, None, Some, length, arith, ap, refl, sym, length-append, reverse}
 use Rattle.std.proofs.lemmas.List.{reverse-append}
 use Rattle.bson_model.specs.Tree.{no_entry}
-use Rattle.raw_form.proofs.canonical.Common.{Begun, Error, FailsFor, HasCode, Holder, HoldsTrees, IsFormOf, IsLater, IsLeft, IsSingle, IsWriting, IsWrittenAs, Means, RawLevel, RawValue, Reads, ReadsAs, RefusesFormOf, StandsFor, TakesNext, Tree, begun_at, bytes_of, element_of, encoded_len, ended, ended_by, frame_of, header_len, held_opening, held_value, holding, Leaf, kind_of_leaf, kind_of_raw, kind_of_tree, leaf, leaf_in_order, leaf_payload, left_in, left_with, length-tree_payload, max_length, member_key, members, entries_len, one_value_of, opening, opening_len, room_left, tag_of, tagged, tree_payload, value, writing_ends, writing_inside, writing_leaf}
+use Rattle.raw_form.proofs.canonical.Common.{Begun, Error, FailsFor, HasCode, Holder, HoldsTrees, IsFormOf, IsLater, IsLeft, IsMemberOf, IsPlain, IsSingle, IsWriting, IsWrittenAs, Means, PutsMember, RawLevel, RawValue, Reads, ReadsAs, RefusesFormOf, StandsFor, TakesNext, Tree, begun_at, bytes_of, element_of, encoded_len, ended, ended_by, frame_of, header_len, held_opening, held_value, holding, Leaf, kind_of_leaf, kind_of_raw, kind_of_tree, leaf, leaf_in_order, leaf_payload, left_in, left_with, length-tree_payload, max_length, member_key, members, entries_len, one_value_of, opening, opening_len, room_left, tag_of, tagged, tree_payload, value, writing_ends, writing_inside, writing_leaf}
 use Rattle.raw_form.specs.declared.rewritten.Rewritten.{Rewritten}
 use Rattle.raw_view.specs.declared.element_type.ElementType.{ElementType}
 use Rattle.raw_form.specs.declared.rewritten.Member.{Member}
 use Rattle.raw_view.specs.Meaning as raw
 use Rattle.raw_view.specs.declared.level.Holder.TheVariants as holder
-use Rattle.raw_form.proofs.rewritten.Members.{read_pairs, shows_leaf}
+use Rattle.raw_form.proofs.rewritten.Members.{plain_own, read_pairs, shows_leaf}
 
 -- trees that values stand for
 
@@ -23,6 +23,35 @@ code_so t len start b h = grind arith
 
 opening_within : (t : Tree) → HoldsTrees t → length (opening t) + 1 ≤ encoded_len t
 opening_within t h = grind (arith, length-append)
+
+-- members
+
+-- what the element means stands for the tree that is written of it
+pub value_stands : (m : Member) (t : Tree) → IsMemberOf m t → (v : RawValue) → Means (frame_of m.element) (value v) → StandsFor ReadsAs v t
+value_stands m t ((w, says, stands), own) v means = rw (one_value_of (frame_of m.element) w v says means) at stands
+
+-- the tree is written as the element is read
+pub own_of : (m : Member) (t : Tree) → IsMemberOf m t → IsTrue m.is_known ⊎ IsPlain (frame_of m.element).kind → IsWrittenAs (frame_of m.element).kind (frame_of m.element).payload t
+own_of m t (stands, own) (inl known) = own known t stands
+own_of m t (stands, own) (inr plain) = plain_own (frame_of m.element) plain m.element.framed t stands
+
+-- or as the leaf of a value that holds no level
+pub leaf_of : (m : Member) (t : Tree) → IsMemberOf m t → (v : RawValue) → IsSingle v → Means (frame_of m.element) (value v)
+    → (l : Leaf) × (v ≡ raw.single l) × IsWrittenAs (kind_of_leaf (leaf_in_order l)) (leaf_payload (leaf_in_order l)) t
+leaf_of m t is v holds_none means =
+    let (l, single) = shows_leaf v holds_none in
+    let leaf_is : t ≡ leaf (leaf_in_order l) = rw single at (value_stands m t is v means) in
+    (l, single, (ap tree_payload leaf_is, ap kind_of_tree leaf_is))
+
+module _ (m : Member) (t : Tree) (k : ElementType) (key p : List ℕ) (key_is : key ≡ member_key m) (written : IsWrittenAs k p t) where
+  pub put_as : (old new : List ℕ) → new ≡ old ++ element_of k key p → new ≡ old ++ element_of (kind_of_tree t) (member_key m) (tree_payload t)
+  put_as old new e = rw (written.1, written.0, ← key_is) e
+
+  -- too many bytes for its element
+  pub fails_as : {A : Type 0} (r : Result A Error) (e : Error) (n : ℕ) → IsErrAnd r (λ x. x ≡ e) → FailsFor (n + (2 + length key + length p)) e
+      → IfErr r (FailsFor (n + (2 + length (member_key m) + encoded_len t)))
+  fails_as (Ok x) e n same fails = tt
+  fails_as (Err x) e n same fails = rw (same, ← key_is, ← length-tree_payload t, written.0) fails
 
 -- levels
 
@@ -81,57 +110,45 @@ module _ {b : List ℕ} {ws : List Rewritten} {level : Rewritten} {out : List �
           let writing = rw outer_is at (writing_ends is.writing none) in
           record { tree = is.tree; read = is.read; outer = rest; here = x; waits = waits; begun = begun; writing = rw ended_is writing }
 
--- the next member of the level, and the key under which it is written; the level is behind it
-pub record IsMember (b : List ℕ) (ws : List Rewritten) (out : List ℕ) (new : Rewritten) (m : Member) (key : List ℕ) : Type 0 where
+-- the next member of the level; the level is behind it
+pub record IsMember (b : List ℕ) (ws : List Rewritten) (out : List ℕ) (new : Rewritten) (m : Member) : Type 0 where
   pub level : Rewritten
   pub is : IsRewriting b ws level out
   pub later : IsLater level new
   pub next : TakesNext is.here.left (Some m) new.keys new.elements
-  pub key_is : key ≡ member_key m
 
-module _ {b : List ℕ} {ws : List Rewritten} {out : List ℕ} {new : Rewritten} {m : Member} {key : List ℕ} (member : IsMember b ws out new m key) where
+module _ {b : List ℕ} {ws : List Rewritten} {out : List ℕ} {new : Rewritten} {m : Member} (member : IsMember b ws out new m) where
   open member use {is, next}
+
+  pub of_tree : IsMemberOf m next.0
+  of_tree = (next.3, next.5)
 
   passed_on : IsBegun new (left_with is.here next.1)
   passed_on = record { start_is = member.later.start_is ∙ is.begun.start_is; code = code_has is member.later; left = next.4 }
 
-  member_len : entries_len is.here.left ≡ (2 + length key + encoded_len next.0) + entries_len next.1
-  member_len = rw (next.2, member.key_is) refl
-
-  pub stands : (v : RawValue) → Means (frame_of m.element) (value v) → StandsFor ReadsAs v next.0
-  stands v means = rw (one_value_of (frame_of m.element) next.3.0 v next.3.1 means) at next.3.2
-
-  -- the tree of a value that holds no level
-  pub leaf_written : (v : RawValue) → IsSingle v → Means (frame_of m.element) (value v)
-      → (l : Leaf) × (v ≡ raw.single l) × IsWrittenAs (kind_of_leaf (leaf_in_order l)) (leaf_payload (leaf_in_order l)) next.0
-  leaf_written v holds_none means =
-      let (l, single) = shows_leaf v holds_none in
-      let leaf_is : next.0 ≡ leaf (leaf_in_order l) = rw single at (stands v means) in
-      (l, single, (ap tree_payload leaf_is, ap kind_of_tree leaf_is))
+  pub put_fits : length out + (2 + length (member_key m) + encoded_len next.0) ≤ encoded_len is.tree
+  put_fits =
+      let len : entries_len is.here.left ≡ (2 + length (member_key m) + encoded_len next.0) + entries_len next.1 = rw next.2 refl in
+      omega (arith, room is, len)
 
   -- it is put as a whole
-  module _ (k : ElementType) (p : List ℕ) (written : IsWrittenAs k p next.0) where
-    pub put_fits : length out + (2 + length key + length p) ≤ encoded_len is.tree
-    put_fits = omega (arith, room is, member_len, length-tree_payload next.0, ap length written.0)
-
-    pub rewriting_put : (more : List ℕ) → more ≡ out ++ element_of k key p → IsRewriting b ws new more
-    rewriting_put more e =
-        let more_is : more ≡ out ++ element_of (kind_of_tree next.0) (member_key m) (tree_payload next.0) = rw (written.1, written.0, ← member.key_is) e in
-        let writing = writing_leaf is.writing next.2 in
-        record { tree = is.tree; read = is.read; outer = is.outer; here = left_with is.here next.1; waits = is.waits; begun = passed_on; writing = rw more_is writing }
-
-  pub head_fits : length out + (2 + length key) ≤ encoded_len is.tree
-  head_fits = omega (arith, room is, member_len)
+  pub rewriting_put : {held : Option RawLevel} → ((h : RawLevel) → held ≡ Some h → ⊥) → (more : List ℕ) → PutsMember m next.0 held out more → IsRewriting b ws new more
+  rewriting_put {held = (Some h)} none more put = absurd (none h refl)
+  rewriting_put {held = None} none more e =
+      record { tree = is.tree; read = is.read; outer = is.outer; here = left_with is.here next.1; waits = is.waits; begun = passed_on; writing = rw e (writing_leaf is.writing next.2) }
 
   -- or it holds a level
-  module _ (h : RawLevel) (means : Means (frame_of m.element) (value (held_value h))) {head : List ℕ} (head_is : head ≡ out ++ tagged (tag_of (kind_of_raw (held_value h))) key []) where
+  module _ (h : RawLevel) (means : Means (frame_of m.element) (value (held_value h))) {head : List ℕ} (head_is : head ≡ out ++ tagged (tag_of (kind_of_raw (held_value h))) (member_key m) []) where
+    pub stands : StandsFor ReadsAs (held_value h) next.0
+    stands = value_stands m next.0 of_tree (held_value h) means
+
     made : HoldsTrees next.0 × (opening next.0 ≡ held_opening h.holder) × (kind_of_tree next.0 ≡ kind_of_raw (held_value h))
-    made = held_tree h.holder (bytes_of h.document) next.0 (stands (held_value h) means)
+    made = held_tree h.holder (bytes_of h.document) next.0 stands
 
     pub inside_fits : length head + length (held_opening h.holder) ≤ encoded_len is.tree
     inside_fits =
-        let head_len : length head ≡ length out + (2 + length key) = rw head_is (grind (arith, length-append)) in
-        omega (arith, room is, member_len, head_len, ap length made.1, opening_within next.0 made.0)
+        let head_len : length head ≡ length out + (2 + length (member_key m)) = rw head_is (grind (arith, length-append)) in
+        omega (arith, put_fits, head_len, ap length made.1, opening_within next.0 made.0)
 
     pub rewriting_inside : (inner : Rewritten) (more : List ℕ) → inner.start ≡ length head → more ≡ head ++ held_opening h.holder
         → HasCode next.0 inner.code_len × IsLeft inner.keys inner.elements (members next.0) → IsRewriting b (ws ++ new ∷ []) inner more
@@ -145,5 +162,5 @@ module _ {b : List ℕ} {ws : List Rewritten} {out : List ℕ} {new : Rewritten}
           here = begun_at next.0 (length head);
           waits = rw (reverse-append ws (new ∷ [])) (left_with is.here next.1, is.outer, refl, passed_on, is.waits);
           begun = begun;
-          writing = rw opened (writing_inside is.writing next.2 head made.0 (rw (made.2, ← member.key_is) head_is));
+          writing = rw opened (writing_inside is.writing next.2 head made.0 (rw made.2 head_is));
         }

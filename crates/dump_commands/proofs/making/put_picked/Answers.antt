@@ -3,7 +3,8 @@ use Rattle.raw_view.specs.Document.{bytes_of}
 use Rattle.std.specs.Io.KnownBytes.{Appends}
 use Rattle.bson_json.specs.Json.{IsJson}
 use Rattle.dump_lines.specs.Fronts.{AppendsFront, WritesFront}
-use Rattle.dump_commands.specs.Pick.{IsPicked, IsPickedAs, IsPrinted}
+use Rattle.dump_elements.specs.Pick.{IsPicked}
+use Rattle.dump_commands.specs.Making.{IsPickedAs, IsPrinted}
 use Rattle.dump_commands.specs.Unique.{CountsOne}
 use Rattle.dump_lines.proofs.Face.{on_err, on_ok}
 use Rattle.dump_commands.proofs.Writing.{front_picked, is_picked_as}

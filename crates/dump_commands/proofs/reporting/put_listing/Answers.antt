@@ -4,7 +4,7 @@ use Rattle.std.specs.Option.{option_map}
 use Rattle.raw_view.specs.Document.{bytes_of}
 use Rattle.raw_view.specs.Frame.Envelope.{IsEnvelope}
 use Rattle.dump_lines.specs.Find.{account_of}
-use Rattle.dump_commands.specs.Listing.{ListsDocument}
+use Rattle.dump_elements.specs.Listing.{ListsDocument}
 use Rattle.dump_lines.specs.Told.{head_text, line}
 use Rattle.dump_lines.specs.Fronts.{AppendsFront}
 use Rattle.dump_commands.specs.Reporting.{ListsFront}

@@ -1,0 +1,5 @@
+//! The elements of a document: those of every level, a line each, and the document of those that paths name.
+#![tactic(auto)]
+
+pub mod listing;
+pub mod pick;
