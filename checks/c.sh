@@ -20,40 +20,14 @@ cd "$(dirname "$(realpath "$0")")/.." || exit 1
 work=$(mktemp -d) || exit 1
 trap 'rm -rf "$work"' EXIT
 ulimit -c 0 # a test that fails may abort, and leaves no core file
-kit=$(dirname "$(rt doc)")/toolchain
+me=c
 prefix=${1-$work/prefix}
 pages='README.md CONTRIBUTING.md docs/*.md examples/*.md'
-warnings='-Wall -Wextra -Wpedantic -Wconversion -Wshadow -Wstrict-prototypes -Wmissing-prototypes -Werror'
 skipped=
-failed=0
-
-fails() {
-    echo "c: $*" >&2
-    failed=1
-}
+. checks/c_programs.sh
 
 skip() {
     skipped="$skipped${skipped:+, }$1"
-}
-
-# compile FLAGS..: the kit's compiler with the tests' headers
-compile() {
-    "$kit/bin/clang" -nostdinc -isystem c/tests/headers "-I$prefix/include" "$@"
-}
-
-# link LIBRARY PROGRAM OBJECT..: links with this library of the prefix, against the kit's C library
-link() {
-    library=$1
-    program=$2
-    shift 2
-    "$kit/bin/ld.lld" -pie -dynamic-linker /lib64/ld-linux-x86-64.so.2 -rpath "$prefix/lib" -o "$program" \
-        "$kit/lib/Scrt1.o" "$kit/lib/crti.o" "$kit/lib/crtbeginS.o" "$@" "$prefix/lib/$library" \
-        "$kit/lib/libc.so.6" "$kit/lib/libc_nonshared.a" "$kit/lib/crtendS.o" "$kit/lib/crtn.o"
-}
-
-# The functions that the header declares before daily use and that are proved, one a line.
-proved() {
-    sed -n '/---- daily use/q; /BSONRAW_\(INLINE\|LOCAL\)/!s/^[A-Za-z].* \(bsonraw_[a-z0-9_]*\)(.*/\1/p' c/bsonraw.h | sort
 }
 
 # All functions of the header, one a line: these, those for daily use, and the inline ones, which the library exports, too.
@@ -234,32 +208,6 @@ run_programs() {
     printf '\33\0\0\0\2hi\0\6\0\0\0y\47all\0\20ho\0\2\0\0\0\0' | cmp -s - "$work/said" || fails "merge doesn't keep what isn't laid over"
 }
 
-# levels N: a document of so many levels, each but the innermost holding the next under the empty key
-levels() {
-    awk -v n="$1" 'BEGIN {
-        printf "levels:%d ", n
-        for (inside = n - 1; inside >= 0; inside--) {
-            size = 5 + 7 * inside
-            printf "%02x%02x0000%s", size % 256, int(size / 256), inside ? "0300" : "00"
-        }
-        for (inside = 1; inside < n; inside++) printf "00"
-        print ""
-    }'
-}
-
-# The documents that tests in Rattle share, those of c/tests/documents.txt, each with a fault, the examples, and some of many levels:
-# a name and hex digits a line.
-documents() {
-    levels 40
-    levels 500
-    levels 501
-    LC_ALL=C awk -f c/tests/documents.awk crates/view_tests/src/fixtures/documents.rt
-    cat c/tests/documents.txt
-    for document in examples/*.hex; do
-        echo "$(basename "$document") $(tr -d ' \r\n' <"$document" | tr '[:upper:]' '[:lower:]')"
-    done
-}
-
 # prints COMMAND HEX WANTED: whether the library's result is what is in this file, with the status as its last line
 prints() {
     { printf '%s' "$2" | "$work/print" "$1"; echo "status $?"; } >"$work/output"
@@ -282,103 +230,6 @@ look_at_output() {
     echo "$(wc -l <"$work/documents") documents are printed as by the program"
 }
 
-# build FILE..: compiles and links the programs of c/tests with both libraries, as NAME and NAME.shared
-build() {
-    for name in "$@"; do
-        # shellcheck disable=SC2086
-        compile -std=c99 $warnings -O1 -fPIE -c -o "$work/$name.o" "c/tests/$name.c" || return 1
-    done
-    for name in agree buffers build daily from_json large memory numbers pieces reasons resync slips texts threads touch unchecked; do
-        link libbsonraw.a "$work/$name" "$work/$name.o" "$work/documents.o" || return 1
-        link libbsonraw.so "$work/$name.shared" "$work/$name.o" "$work/documents.o" || return 1
-    done
-    link libbsonraw.a "$work/print" "$work/print.o"
-}
-
-# The tests notice each mistake of c/tests/wrong.c, which calls the right functions under other names.
-notices_mistakes() {
-    ln -s "$kit/bin/clang" "$work/llvm-objcopy" && cp "$prefix/lib/libbsonraw.a" "$prefix/lib/wrong.a" || return 1
-    for name in $(proved); do
-        "$work/llvm-objcopy" --redefine-sym "$name=right_${name#bsonraw_}" "$prefix/lib/wrong.a" || return 1
-    done
-    mistake=0
-    for name in buffers threads buffers buffers memory reasons memory agree agree agree agree agree agree agree build build build agree buffers agree agree agree buffers texts texts threads agree agree build agree agree resync resync from_json from_json memory daily daily daily pieces pieces pieces pieces; do
-        mistake=$((mistake + 1))
-        # shellcheck disable=SC2086
-        compile -std=c99 $warnings -DMISTAKE=$mistake -O1 -fPIE -c -o "$work/wrong.o" c/tests/wrong.c &&
-            link wrong.a "$work/wrong" "$work/$name.o" "$work/documents.o" "$work/wrong.o" || return 1
-        [ "$name" = agree ] && fewer=20000 || fewer=
-        "$work/wrong" ${fewer:+"$fewer"} <"$work/documents" >/dev/null 2>&1 && fails "$name doesn't notice mistake $mistake of c/tests/wrong.c"
-    done
-    rm "$prefix/lib/wrong.a"
-}
-
-# inlines FILE [OTHER]: the inline functions of a header, one a line; or those in which the other differs from it, and - for other lines
-inlines() {
-    awk -v other="${2-}" '
-        { match($0, /[^ ]/) }
-        name == "" && (/^BSONRAW_(USE BSONRAW_)?(INLINE|LOCAL) / ||
-                       (FILENAME ~ /hpp$/ && /^ *[a-zA-Z~].*\).*\{/ && !/^ *(if|for|else|return|static_assert)/)) {
-            name = FNR ": " $0
-            column = RSTART
-            if (other == "") print name
-        }
-        other != "" { getline line <other; if (line != $0) print name == "" ? "-" : name }
-        RSTART == column && /\}( \/\/.*)?$/ { name = "" }' "$1" | sort -u
-}
-
-# build_edited FOLDER FILE TEST: builds the test over what is in the folder, in which this file has an edit; it is compiled as C++ for
-# the header of that, with LeakSanitizer if it is there
-build_edited() {
-    if [ "$2" = bsonraw.hpp ]; then
-        # shellcheck disable=SC2086 # a list of flags
-        c++ -std=c++17 ${sanitized:+-fsanitize=leak} -w "-I$1" -o "$1/test" "c/tests/$3.cpp" "$prefix/lib/libbsonraw.a" 2>/dev/null
-        return
-    fi
-    # (an edit of daily.c leaves the test as it is built)
-    if [ "$2" = daily.c ]; then
-        source=$1/daily.c built=$work/$3.o
-    else
-        source=c/tests/$3.c built=
-    fi
-    "$kit/bin/clang" -nostdinc -isystem c/tests/headers "-I$1" -Ic/tests -std=gnu99 -O1 -w -fPIE -c -o "$1/edited.o" "$source" &&
-        link libbsonraw.a "$1/test" "$1/edited.o" ${built:+"$built"} "$work/documents.o"
-}
-
-# try_edit FOLDER FILE TEST EDIT: says so if the test doesn't notice what sed makes of this file of c; in FOLDER is what it needs, and
-# the function that is changed
-try_edit() {
-    mkdir "$1" && cp c/bsonraw.h c/bsonraw.hpp c/daily.c "$1" && sed -i "$4" "$1/$2" || return 1
-    ! cmp -s "c/$2" "$1/$2" || echo "this changes nothing in c/$2: $4"
-    inlines "c/$2" "$1/$2" >"$1/changed"
-    [ "$3" = agree ] && fewer=20000 || fewer=
-    build_edited "$1" "$2" "$3" || { echo "this doesn't compile in c/$2: $4"; return; }
-    timeout 60 "$1/test" ${fewer:+"$fewer"} <"$work/documents" >/dev/null 2>&1 && echo "$3 doesn't notice this in c/$2: $4"
-    rm "$1"/test
-}
-
-# And each mistake of c/tests/mistakes.txt: a file of c, the test that has to notice it, and what sed makes of the file. Each inline
-# function of the headers has one that changes it alone.
-notices_edits() {
-    mkdir "$work/edited" || return 1
-    count=0
-    while read -r file name edit; do
-        [ "$file" != bsonraw.hpp ] || [ -n "$has_cxx" ] || continue
-        count=$((count + 1))
-        try_edit "$work/edited/$count" "$file" "$name" "$edit" &
-        [ $((count % $(nproc))) != 0 ] || wait
-    done <c/tests/mistakes.txt >"$work/unnoticed"
-    wait
-    [ ! -s "$work/unnoticed" ] || fails "$(cat "$work/unnoticed")"
-    for name in bsonraw.h ${has_cxx:+bsonraw.hpp}; do
-        inlines "c/$name"
-    done >"$work/inlines"
-    for changed in "$work"/edited/*/changed; do
-        [ "$(wc -l <"$changed")" != 1 ] || cat "$changed"
-    done | sort -u | grep -vxF -f - "$work/inlines" >"$work/lacking" && fails "these have no mistake of their own in c/tests/mistakes.txt: $(cat "$work/lacking")"
-    echo "$count mistakes in what is written in C are noticed"
-}
-
 # Reasons and causes have the words of bsonraw-dump.
 look_at_words() {
     {
@@ -396,7 +247,7 @@ look_at_words() {
 }
 
 run_tests() {
-    for name in agree buffers build daily from_json large memory numbers pieces reasons resync slips texts threads touch unchecked; do
+    for name in $programs; do
         for program in "$name" "$name.shared"; do
             "$work/$program" <"$work/documents" >"$work/said" || fails "$program ends with status $?"
             cat "$work/said"
@@ -713,10 +564,9 @@ look_at_libraries
 look_at_header
 look_at_examples
 run_programs || fails "the programs of examples/c don't compile"
-if build documents agree buffers build daily from_json large memory numbers pieces reasons resync slips texts threads touch unchecked print; then
+# shellcheck disable=SC2086 # programs
+if build documents $programs print; then
     look_at_output
-    notices_mistakes || fails "the tests don't compile with a mistake"
-    notices_edits || fails "the tests don't compile with an edit"
     look_at_words || fails "a reason or a cause has other words than in bsonraw-dump"
     run_tests
     look_at_old_processors

@@ -7,7 +7,7 @@ use Rattle.raw_resync.specs.declared.work.Work.{Work}
 use Rattle.raw_tree.specs.declared.reader.limits.Limits.{Limits}
 use Rattle.dump_lines.specs.Fronts.{AppendsFront, HasFront}
 use Rattle.dump_commands.specs.Reporting.{lines_of_repeats}
-use Rattle.dump_runs.specs.Halting.{Halts, IsNextPiece, HaltsAhead, HaltsIn, HaltsInGap, HaltsInside, HaltsLeaving, HaltsNext, HaltsOne}
+use Rattle.dump_runs.specs.Halting.{Halts, IsNextPiece, HaltsAhead, HaltsBelieved, HaltsIn, HaltsInGap, HaltsInside, HaltsLeaving, HaltsNext, HaltsOne}
 use Rattle.dump_input.specs.Reading.{TellsNext, ahead_of}
 use Rattle.dump_input.specs.Resync.{IsBelieved, TellsPart}
 use Rattle.dump_runs.specs.Run.{Passed, PassesAll, MayPassOne, Part, bytes_of_parts, work_behind}
@@ -26,7 +26,7 @@ use Rattle.dump_lines.specs.declared.style.Style.{Style}
 use Rattle.dump_input.specs.declared.window.Next.TheVariants as next
 use Rattle.dump_input.specs.declared.window.Window.{Window}
 use Rattle.dump_runs.proofs.Findings.{finds_sound}
-use Rattle.dump_input.proofs.Face.{tells_document}
+use Rattle.dump_input.proofs.Face.{tells_document, tells_taken}
 use Rattle.dump_runs.proofs.Passing.{HasPassed, gap_of, input_behind}
 
 -- what was read is in front of the input
@@ -85,6 +85,15 @@ module _ {limits : Limits} (c : Command) (style : Style) (resync : Bool) (name :
       let sound : resync ≡ true → IsSound limits (take len (ahead_of y)) = λ asked. finds_sound c (take len (ahead_of y)) f told t.is.1 found (clean (ap not asked)) in
       halts_taken (not resync) (subst (λ (u : Work). TellsPart limits resync r r' x y v u (next.Document len)) (sym is) (tells_document resync r r' x y v len work sound t))
       (inr (f, told, found, clean, inside))
+
+-- or of what is taken as its length is believed
+module _ {limits : Limits} (c : Command) (style : Style) (resync : Bool) (name : List ℕ) {r r' d d' w w' : Option (List ℕ)} {x y : Window} {v : Work} (k : Kept) {len : ℕ} where
+  pub halts_believed : resync ≡ true → IsWork v → TellsNext limits.bytes r r' x y 0 (next.Document len) → HaltsBelieved limits c style name len r' y v k d d' w w'
+      → HaltsNext limits c style resync name r x v k d d' w w'
+  halts_believed asked work t (inl same) = inl same
+  halts_believed asked work t (inr (q, z, u, doubts, halts)) =
+      let part = subst (λ (b : Bool). TellsPart limits b r q x z v u (next.Document len)) (sym asked) (tells_taken r r' q x y z v u len work t doubts) in
+      halts_taken c style resync name d d' w w' k true part halts
 
 -- what is next isn't passed
 module _ {limits : Limits} {c : Command} {style : Counts → Style} {resync : Bool} {name : List ℕ} {r r' d d' w w' : Option (List ℕ)} {n n' : Counts} {k k' : Kept} where

@@ -245,6 +245,11 @@ module _ {limits : Limits} {c : Command} {style : Style} {name : List ℕ} {r r'
       finds_sound c (take len (ahead_of y)) p.outcome.finding p.passed.0.0 t.is.1 p.passed.0.1 (p.clean (ap not asked)) in
       (not resync, y, tells_document resync r r' x y v len work sound t, p)
 
+-- nothing is done, and then nothing
+pub still_nothing : {d d' d'' w w' w'' : Option (List ℕ)} {n n' n'' : Counts} {k k' k'' : Kept}
+    → WritesNothing d d' w w' n n' k k' → WritesNothing d' d'' w' w'' n' n'' k' k'' → WritesNothing d d'' w w'' n n'' k k''
+still_nothing first then = (then.0 ∙ first.0, then.1 ∙ first.1, then.2 ∙ first.2, then.3 ∙ first.3)
+
 -- the one whose length is believed
 module _ {limits : Limits} {c : Command} {style : Style} {name : List ℕ} {len : ℕ} {y z : Window} {d d' d'' w w' w'' : Option (List ℕ)} {n n' n'' : Counts} {k k' k'' : Kept} where
   pub front_passed : (is : Bool)

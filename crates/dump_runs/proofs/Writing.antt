@@ -10,7 +10,6 @@ use Rattle.dump_commands.specs.Unique.{Made, first_made, if_new, kept_of, known_
 use Rattle.dump_lines.specs.Origins as says
 use Rattle.dump_commands.specs.declared.command.Command.{Command}
 use Rattle.dump_commands.specs.declared.kept.Kept.{Kept}
-use Rattle.dump_lines.specs.declared.origin.Origin.{Origin}
 use Rattle.dump_commands.specs.declared.paths.Paths.{Paths}
 use Rattle.dump_lines.specs.declared.find.Finding.{Finding}
 

@@ -1,5 +1,5 @@
 -- How it is told that no document begins at a place: in words, as an object of JSON, or not at all.
-use Rattle.std.specs.Prelude.{ℕ, List, [], ◌∷◌, ◌++◌, Bool, true, false, Option, None, Some, codes, decimal, length}
+use Rattle.std.specs.Prelude.{ℕ, List, [], ◌∷◌, ◌++◌, Bool, true, false, Option, None, Some, codes, decimal}
 use Rattle.std.specs.Fmt.{signed_decimal}
 use Rattle.json.specs.Token.{Token, key, string, number}
 use Rattle.dump_input.specs.declared.ending.Ending.{Ending}

@@ -1,5 +1,5 @@
 -- What two writers hold behind a run over an input that fails: what parts of it give, and a front of what comes behind them.
-use Rattle.std.specs.Prelude.{◌≡◌, ◌⊎◌, ◌++◌, ℕ, List, Bool, true, false, Option, Some, IfSome, drop, fold, length}
+use Rattle.std.specs.Prelude.{◌≡◌, ◌⊎◌, ◌++◌, ℕ, List, Bool, true, false, Option, Some, IfSome, drop, fold, length, take}
 use Rattle.std.specs.Io.KnownBytes.{Appends, Consumes}
 use Rattle.raw_resync.specs.Seeking.{no_work}
 use Rattle.raw_resync.specs.declared.work.Work.{Work}
@@ -10,7 +10,7 @@ use Rattle.dump_commands.specs.Findings.{FindsFor}
 use Rattle.dump_commands.specs.Fields.{tabled, with_document}
 use Rattle.dump_lines.specs.Fronts.{AppendsFront, HasFront, WritesFront}
 use Rattle.dump_input.specs.Reading.{ahead_of}
-use Rattle.dump_input.specs.Resync.{IsBelieved, SkipsTo, Spends}
+use Rattle.dump_input.specs.Resync.{Doubts, IsBelieved, SkipsTo, Spends}
 use Rattle.dump_commands.specs.Making.{Makes, Writes, IsMade}
 use Rattle.dump_commands.specs.Reporting.{Reports, lines_of_repeats, ReportsFront}
 use Rattle.dump_runs.specs.Run.{AreParts, Gap, IsGap, Part, bytes_of_parts, count_part, fields_of_parts, forms_of_parts, lines_of_parts, made_of_parts, repeats_of_parts, work_behind}
@@ -89,6 +89,14 @@ HaltsOne limits any c style name offset b kept out_old out_new report_old report
     ((out_new ≡ out_old) × (report_new ≡ report_old))
     ⊎ ((found : Finding) × (told : Option Account) × FindsFor limits c b found told × (any ≡ false → ¬ MayBeDamaged found)
     × HaltsInside c style name offset b found told kept out_old out_new report_old report_new)
+
+-- the same of the piece of so many bytes at the bytes ahead, where its length is believed
+abbrev pub HaltsBelieved : Limits → Command → Style → List ℕ → (len : ℕ) → (read_old : Option (List ℕ)) → (window_old : Window) → (work_old : Work) → Kept
+    → (out_old out_new report_old report_new : Option (List ℕ)) → Type 0
+HaltsBelieved limits c style name len read_old window_old work_old kept out_old out_new report_old report_new =
+    ((out_new ≡ out_old) × (report_new ≡ report_old))
+    ⊎ ((read : Option (List ℕ)) × (window : Window) × (work : Work) × Doubts limits read_old read window_old window work_old work len false
+    × HaltsOne limits true c style name window.offset (take len (ahead_of window)) kept out_old out_new report_old report_new)
 
 -- the same of the piece that is next in all that was to be read
 abbrev pub HaltsNext : Limits → Command → Style → (resync : Bool) → List ℕ → (read_old : Option (List ℕ)) → (window_old : Window) → (work_old : Work) → Kept

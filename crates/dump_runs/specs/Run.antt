@@ -4,7 +4,7 @@ use Rattle.std.specs.Io.KnownBytes.{Appends, Consumes, IsAtEnd}
 use Rattle.raw_tree.specs.declared.reader.limits.Limits.{Limits}
 use Rattle.dump_input.specs.Cut.{IsPiece, EndsWith}
 use Rattle.dump_input.specs.Reading.{IsReadBehind, IsWindow, ahead_of}
-use Rattle.dump_input.specs.Resync.{BreaksWith, IsBelieved, IsNextPlace, SkipsTo, Spends, TellsPart}
+use Rattle.dump_input.specs.Resync.{BreaksWith, Doubts, IsBelieved, IsNextPlace, SkipsTo, Spends, TellsPart}
 use Rattle.raw_resync.specs.Seeking.{no_work}
 use Rattle.dump_input.specs.declared.window.Drained.{Drained}
 use Rattle.dump_input.specs.declared.window.Next.{Next}
@@ -288,6 +288,15 @@ MayPassFront limits any c style name len window_old window_new out_old out_new r
     PassesFront limits any c style name len window_old window_new out_old out_new report_old report_new counts_old counts_new kept_old kept_new
 MayPassFront limits any c style name len window_old window_new out_old out_new report_old report_new counts_old counts_new kept_old kept_new false =
     (any ≡ false) × (window_new ≡ window_old) × WritesNothing out_old out_new report_old report_new counts_old counts_new kept_old kept_new
+
+-- it is passed, whatever its damage, as its length is believed; or it isn't, and nothing is done
+abbrev pub PassesBelieved : Limits → Command → Style → List ℕ → (len : ℕ) → (read_old read_new : Option (List ℕ)) → (window_old window_new : Window) → (work_old work_new : Work)
+    → (out_old out_new report_old report_new : Option (List ℕ)) → (counts_old counts_new : Counts) → (kept_old kept_new : Kept) → Bool → Type 0
+PassesBelieved limits c style name len read_old read_new window_old window_new work_old work_new out_old out_new report_old report_new counts_old counts_new kept_old kept_new true =
+    (window : Window) × Doubts limits read_old read_new window_old window work_old work_new len false
+    × PassesFront limits true c style name len window window_new out_old out_new report_old report_new counts_old counts_new kept_old kept_new
+PassesBelieved limits c style name len read_old read_new window_old window_new work_old work_new out_old out_new report_old report_new counts_old counts_new kept_old kept_new false =
+    Doubts limits read_old read_new window_old window_new work_old work_new len true × WritesNothing out_old out_new report_old report_new counts_old counts_new kept_old kept_new
 
 -- what is next was told, and was passed where it is a document
 abbrev pub PassesNext : Limits → Command → Style → (resync : Bool) → List ℕ → (read_old read_new : Option (List ℕ)) → (window_old window_new : Window) → (work_old work_new : Work)

@@ -7,10 +7,10 @@ ghost use Rattle.dump_input.specs.Cut.{EndsWith, IsPiece};
 ghost use Rattle.dump_input.specs.Reading.{GoesAhead, IsReadBehind, IsWindow, Stays, ahead_of};
 ghost use Rattle.raw_resync.specs.Seeking.{IsWork};
 ghost use Rattle.dump_lines.specs.Fronts.{AppendsFront};
-ghost use Rattle.dump_runs.specs.Halting.{HaltsInGap, HaltsLeaving, HaltsNext, HaltsOne};
+ghost use Rattle.dump_runs.specs.Halting.{HaltsBelieved, HaltsInGap, HaltsLeaving, HaltsNext, HaltsOne};
 ghost use Rattle.dump_runs.specs.Portion.{EndsPortion, HaltsPortion, PassesPortion};
 ghost use Rattle.dump_runs.specs.Endings.{ending_line};
-ghost use Rattle.dump_runs.specs.Run.{FailsAt, IsLeft, Leaves, MayPassFront, MayPassOne, PassesGap, PassesNext, WritesNothing, findings_of, style_at};
+ghost use Rattle.dump_runs.specs.Run.{FailsAt, IsLeft, Leaves, MayPassFront, MayPassOne, PassesBelieved, PassesGap, PassesNext, WritesNothing, findings_of, style_at};
 ghost use Rattle.dump_lines.specs.Failing.{IsReading};
 
 use crate::portion::Portion;
@@ -296,11 +296,41 @@ fn pass_next<'a, R: Read, D: Write, W: Write>(
     if pass_front(alloc, asked, any, len, window, out, report, counts, kept)? {
         return Ok(next);
     }
-    if is_doubted(alloc, reader, window, asked.limits, len, work)? {
-        return Ok(Next::End(Ending::WrongLength(len)));
+    if pass_believed(
+        alloc, asked, len, reader, window, work, out, report, counts, kept,
+    )? {
+        return Ok(next);
     }
-    pass_front(alloc, asked, true, len, window, out, report, counts, kept)?;
-    Ok(next)
+    Ok(Next::End(Ending::WrongLength(len)))
+}
+
+/// Passes the document of so many bytes in front of the bytes ahead, which may be damaged, where its length is believed, and returns whether
+/// it is.
+fn pass_believed<'a, R: Read, D: Write, W: Write>(
+    alloc: Global,
+    asked: Asked<'a>,
+    len: usize,
+    reader: &mut R,
+    window: &mut Window,
+    work: &mut Work,
+    out: &mut D,
+    report: &mut W,
+    counts: &mut Counts,
+    kept: &mut Kept<'a>,
+) -> Result<bool, Failure>
+    requires { IsWindow window.old × IsWork work.old × (len ≤ length (ahead_of window.old)) × IsPiece asked.limits.bytes (take len (ahead_of window.old)) }
+    ensures passed { IfOk result (PassesBelieved asked.entry.limits asked.entry.command asked.entry.style asked.entry.name.now len (R.remaining reader.old) (R.remaining reader.new)
+        window.old window.new work.old work.new (D.contents out.old) (D.contents out.new) (W.contents report.old) (W.contents report.new) counts.old counts.new kept.old kept.new) }
+    ensures halts { OnErr result (HaltsBelieved asked.entry.limits asked.entry.command asked.entry.style asked.entry.name.now len (R.remaining reader.old) window.old work.old kept.old
+        (D.contents out.old) (D.contents out.new) (W.contents report.old) (W.contents report.new)) }
+    ensures uncounted { OnErr result (counts.new ≡ counts.old) }
+    ensures fails { IfErr result (λ failure. IsReading failure → Stays (R.remaining reader.old) (R.remaining reader.new) window.old window.new
+        × WritesNothing (D.contents out.old) (D.contents out.new) (W.contents report.old) (W.contents report.new) counts.old counts.new kept.old kept.new) }
+{
+    if is_doubted(alloc, reader, window, asked.limits, len, work)? {
+        return Ok(false);
+    }
+    pass_front(alloc, asked, true, len, window, out, report, counts, kept)
 }
 
 /// Passes the document of so many bytes in front of the bytes ahead, and returns whether it did: one that may be damaged is passed
