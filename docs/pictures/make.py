@@ -187,6 +187,7 @@ GIVES = {
     "dump_input": "inputs as they are read",
     "dump_files": "files, and what is told of them",
     "dump_cli": "the command line",
+    "dump_kept": "what is kept of documents",
     "dump_commands": "what each command makes of a document",
     "dump_runs": "runs over dumps",
     "text_runs": "runs over texts",

@@ -9,7 +9,7 @@ use Rattle.values_to_json.specs.declared.style.Style as json
 use Rattle.dump_commands.specs.Binary.{MakesBson, MakesNoBson}
 use Rattle.dump_elements.specs.Pick.{IsPicked}
 use Rattle.dump_commands.specs.Making.{IsPrinted}
-use Rattle.dump_commands.specs.Unique.{Made, plain}
+use Rattle.dump_kept.specs.Forms.{Made, plain}
 use Rattle.dump_commands.specs.declared.command.Command.{Command}
 use Rattle.dump_commands.specs.declared.command.Command.TheVariants as command
 use Rattle.dump_commands.specs.declared.command.Spelling.{Spelling}

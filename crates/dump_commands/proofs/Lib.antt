@@ -1,9 +1,7 @@
-mod Digesting
 pub mod Repeating
 pub mod Writing
 mod Listed
 mod Reported
-mod Tabled
-mod Prefixes
+mod Counted
 mod Endings
 pub mod Face

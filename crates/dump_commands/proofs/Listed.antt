@@ -1,5 +1,5 @@
 -- What a piece whose levels are listed has written.
-use Rattle.std.proofs.Common.{◌≡◌, ℕ, List, [], ◌∷◌, ◌++◌, Option, subst, refl, inl, inr}
+use Rattle.std.proofs.Common.{ℕ, List, [], ◌++◌, Option, refl, inl, inr}
 use Rattle.std.specs.Io.KnownBytes.{Appends}
 use Rattle.std.proofs.KnownBytes.{Appends-nil, Appends-trans}
 use Rattle.dump_lines.specs.Fronts.{AppendsFront}

@@ -1,6 +1,7 @@
 -- That nothing repeats where nothing is made.
-use Rattle.std.proofs.Common.{◌≡◌, List, [], refl}
-use Rattle.dump_commands.specs.Unique.{Firsts, firsts_behind, repeats_of}
+use Rattle.std.proofs.Common.{◌≡◌, [], refl}
+use Rattle.dump_kept.specs.Forms.{Firsts}
+use Rattle.dump_commands.specs.Unique.{firsts_behind, repeats_of}
 use Rattle.dump_commands.specs.declared.command.Command.{Command}
 use Rattle.dump_commands.specs.declared.command.Command.TheVariants as command
 

@@ -10,16 +10,18 @@ use Rattle.bson_json.specs.declared.error.WriteJsonError.TheVariants as error
 use Rattle.values_to_json.specs.declared.style.Style as json
 use Rattle.raw_tree.specs.CanonicalForm.{IsCanonicalForm}
 use Rattle.raw_tree.specs.declared.reader.limits.Limits.{Limits}
-use Rattle.dump_commands.specs.Fields.{KeepsWritten}
+use Rattle.dump_kept.proofs.Face.{known_same}
+use Rattle.dump_kept.specs.Fields.{KeepsWritten}
 use Rattle.dump_lines.specs.Fronts.{AppendsFront, WritesFront}
 use Rattle.dump_commands.specs.Making.{IsMade, IsPickedAs, IsPrinted, Emits, Makes, MakesJson, MakesPicked, Writes, spelled}
 use Rattle.dump_lines.proofs.Face.{front_behind, front_first}
 use Rattle.dump_elements.specs.Pick.{IsPicked}
-use Rattle.dump_commands.specs.Unique.{CountsOne, Made, firsts_of, has_digest, kept_of, known_behind, knows, made_as, origins_of, placed, plain, written_of}
+use Rattle.dump_kept.specs.Forms.{CountsOne, Made, firsts_of, knows, made_as, origins_of, plain}
+use Rattle.dump_commands.specs.Unique.{kept_of, known_behind, written_of}
 use Rattle.dump_commands.specs.declared.command.Command.{Command}
 use Rattle.dump_commands.specs.declared.command.Command.TheVariants as command
 use Rattle.dump_commands.specs.declared.command.Spelling.{Spelling}
-use Rattle.dump_commands.specs.declared.kept.Kept.{Kept}
+use Rattle.dump_kept.specs.declared.kept.Kept.{Kept}
 use Rattle.dump_lines.specs.declared.origin.Origin.{Origin}
 use Rattle.dump_commands.specs.declared.command.Picking.{Picking}
 use Rattle.dump_commands.proofs.Repeating.{firsts_none, repeats_none}
@@ -39,9 +41,6 @@ writes_none c out k = record {
   is_known = nothing_known c (knows k);
   is_counted = let none : length (kept_of c (knows k) []) ≡ 0 = ap length (nothing_kept c (knows k)) in omega arith;
 }
-
-known_same : (k k' : Kept) (d : List ℕ) → k'.forms ≡ k.forms → knows k' d ≡ knows k d
-known_same k k' d same = ap (λ forms. has_digest forms d) same
 
 -- the same is written and known where no more is counted
 pub writes_kept : (c : Command) (made : List Made) (d d' : Option (List ℕ)) (k k' k'' : Kept) → Writes c made d d' k k' → KeepsWritten k' k'' → Writes c made d d' k k''

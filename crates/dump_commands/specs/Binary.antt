@@ -2,7 +2,7 @@
 use Rattle.std.specs.Prelude.{◌≡◌, ℕ, List, [], ◌∷◌, ◌++◌}
 use Rattle.raw_view.specs.Frame.Envelope.{IsEnvelope}
 use Rattle.dump_commands.specs.Making.{Makes}
-use Rattle.dump_commands.specs.Unique.{Made, made_as, plain}
+use Rattle.dump_kept.specs.Forms.{Made, made_as, plain}
 use Rattle.dump_commands.specs.declared.command.Command.{Command}
 use Rattle.dump_lines.specs.declared.find.Finding.TheVariants as finding
 

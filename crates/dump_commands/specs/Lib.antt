@@ -2,7 +2,7 @@ pub mod Findings
 pub mod Summary
 pub mod Counting
 pub mod Unique
-pub mod Fields
+pub mod Counted
 pub mod Making
 pub mod Reporting
 pub mod Binary

@@ -7,12 +7,13 @@ use Rattle.bson_json.specs.Json.{IsJson}
 use Rattle.values_to_json.specs.declared.style.Style as json
 use Rattle.dump_elements.specs.Pick.{IsPicked}
 use Rattle.dump_commands.specs.declared.command.Picking.{Picking}
-use Rattle.dump_commands.specs.Unique.{Made, firsts_behind, firsts_of, kept_of, known_behind, knows, made_as, placed_at, plain, repeat_at, repeats_of, written_of}
+use Rattle.dump_kept.specs.Forms.{firsts_of, knows, Made, made_as, placed_at, plain, repeat_at, written_count}
+use Rattle.dump_commands.specs.Unique.{firsts_behind, kept_of, known_behind, repeats_of, written_of}
 use Rattle.dump_lines.specs.Origins.{Origin, origin_of}
 use Rattle.dump_commands.specs.declared.command.Command.{Command}
 use Rattle.dump_commands.specs.declared.command.Command.TheVariants as command
 use Rattle.dump_commands.specs.declared.command.Spelling.TheVariants as spelling
-use Rattle.dump_commands.specs.declared.kept.Kept.{Kept}
+use Rattle.dump_kept.specs.declared.kept.Kept.{Kept}
 use Rattle.dump_lines.specs.declared.origin.Origin as origin
 use Rattle.dump_lines.specs.declared.find.Finding.{Finding}
 use Rattle.dump_lines.specs.declared.find.Finding.TheVariants as finding
@@ -75,7 +76,7 @@ IsMade c b found kept text = (made : List Made) × Makes c b found made × (text
 pub record Writes (c : Command) (made : List Made) (out_old out_new : Option (List ℕ)) (kept_old kept_new : Kept) : Type 0 where
   pub is_written : Appends out_old out_new (written_of c (knows kept_old) made)
   pub is_known : (d : List ℕ) → knows kept_new d ≡ known_behind c (knows kept_old) made d
-  pub is_counted : kept_new.count ≡ kept_old.count + length (kept_of c (knows kept_old) made)
+  pub is_counted : written_count kept_new ≡ written_count kept_old + length (kept_of c (knows kept_old) made)
 
 -- These documents are made of the one at this place, which is kept where the digest of their form has none; and it repeats the first
 -- with that digest, if one came before.

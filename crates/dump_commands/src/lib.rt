@@ -3,10 +3,7 @@
 
 pub mod command;
 pub mod counts;
-mod fields;
 pub mod finding;
-pub mod kept;
 pub mod making;
-pub mod paths;
 pub mod reporting;
 mod summary;

@@ -6,9 +6,11 @@ ghost use Rattle.std.specs.Io.KnownBytes.{Appends};
 ghost use Rattle.dump_commands.specs.Findings.{FindsFor};
 ghost use Rattle.dump_lines.specs.Fronts.{AppendsFront, WritesFront};
 ghost use Rattle.dump_commands.specs.Making.{IsMade, IsPickedAs, Emits, Puts};
-ghost use Rattle.dump_commands.specs.Fields.{CountsFields, IsCounted, KeepsWritten};
+ghost use Rattle.dump_commands.specs.Counted.{CountsFields, IsCounted};
+ghost use Rattle.dump_kept.specs.Fields.{KeepsCounted, KeepsWritten};
 ghost use Rattle.dump_lines.specs.Find.{Account};
-ghost use Rattle.dump_commands.specs.Unique.{CountsOne, knows, made_as, written_of};
+ghost use Rattle.dump_kept.specs.Forms.{CountsOne, knows, made_as};
+ghost use Rattle.dump_commands.specs.Unique.{written_of};
 ghost use Rattle.dump_lines.specs.Origins.{origin_of};
 ghost use Rattle.dump_lines.specs.Failing.{IsReading};
 ghost use Rattle.dump_commands.specs.Making as says;
@@ -19,10 +21,10 @@ ghost use Rattle.dump_commands.specs.declared.command.Command.TheVariants.{Uniqu
 ghost use Rattle.dump_commands.specs.declared.command.Spelling as spells;
 
 use crate::command::{Command, Picking, Spelling};
-use crate::fields::tokens_of;
-use crate::kept::{Added, Kept};
 use bson_json::{Style as JsonStyle, WriteJsonError, write_json};
 use dump_elements::pick::picked;
+use dump_kept::kept::{Added, Kept};
+use dump_kept::tokens_of;
 use dump_lines::failure::Failure;
 use dump_lines::find::Finding;
 use dump_lines::origin::Origin;
@@ -49,7 +51,7 @@ pub fn emit<'a, D: Write>(
     ensures written { IfOk result
         (Emits command.entry origin.entry bytes.now finding (D.contents out.old) (D.contents out.new) kept.old kept.new) }
     ensures front { OnErr result (WritesFront (IsMade command.entry bytes.now finding kept.old) (D.contents out.old) (D.contents out.new)) }
-    ensures paths { kept.new.paths ≡ kept.old.paths }
+    ensures table { KeepsCounted kept.old kept.new }
     ensures failed { IfErr result (λ failure. ¬ IsReading failure) }
 {
     match (command, finding) {
@@ -96,7 +98,7 @@ fn put_form<'a, D: Write>(
         (λ text. (form : List ℕ) × IsCanonicalForm bytes.now form
         × (text ≡ written_of command.entry (knows kept.old) (made_as (says.spelled command.entry bytes.now form) form ∷ [])))
         (D.contents out.old) (D.contents out.new)) }
-    ensures paths { kept.new.paths ≡ kept.old.paths }
+    ensures table { KeepsCounted kept.old kept.new }
     ensures failed { IfErr result (λ failure. ¬ IsReading failure) }
 {
     match canonical_within(alloc, bytes, limits) {
@@ -141,7 +143,7 @@ fn put_json<D: Write>(
         × Appends (D.contents out.old) (D.contents out.new) (text ++ codes "\n") × CountsOne kept.old kept.new) }
     ensures front { OnErr result (WritesFront
         (λ line. (text : List ℕ) × IsJson style bytes.now text × (line ≡ text ++ codes "\n")) (D.contents out.old) (D.contents out.new)) }
-    ensures paths { kept.new.paths ≡ kept.old.paths }
+    ensures table { KeepsCounted kept.old kept.new }
     ensures failed { IfErr result (λ failure. ¬ IsReading failure) }
 {
     let Ok(document) = RawDocument::from_bytes(bytes) else {
@@ -168,7 +170,7 @@ fn put_picked<D: Write>(
     ensures written { OnOk result ((made : List ℕ) × IsPickedAs picking.entry bytes.now made
         × Appends (D.contents out.old) (D.contents out.new) made × CountsOne kept.old kept.new) }
     ensures front { OnErr result (WritesFront (IsPickedAs picking.entry bytes.now) (D.contents out.old) (D.contents out.new)) }
-    ensures paths { kept.new.paths ≡ kept.old.paths }
+    ensures table { KeepsCounted kept.old kept.new }
     ensures failed { IfErr result (λ failure. ¬ IsReading failure) }
 {
     let Ok(document) = RawDocument::from_bytes(bytes) else {
@@ -198,7 +200,7 @@ fn put_document<'a, D: Write>(
     ensures written { IfOk result
         (Puts command.entry origin.entry (made_as document.now form.now ∷ []) (D.contents out.old) (D.contents out.new) kept.old kept.new) }
     ensures front { OnErr result (AppendsFront (D.contents out.old) (D.contents out.new) (written_of command.entry (knows kept.old) (made_as document.now form.now ∷ []))) }
-    ensures paths { kept.new.paths ≡ kept.old.paths }
+    ensures table { KeepsCounted kept.old kept.new }
     ensures failed { IfErr result (λ failure. ¬ IsReading failure) }
 {
     match command {
@@ -222,7 +224,7 @@ fn put_one<D: Write>(bytes: &[u8], out: &mut D, kept: &mut Kept<'_>) -> Result<(
     ensures written { OnOk result
         (Appends (D.contents out.old) (D.contents out.new) bytes.now × CountsOne kept.old kept.new) }
     ensures front { OnErr result (AppendsFront (D.contents out.old) (D.contents out.new) bytes.now) }
-    ensures paths { kept.new.paths ≡ kept.old.paths }
+    ensures table { KeepsCounted kept.old kept.new }
     ensures failed { IfErr result (λ failure. ¬ IsReading failure) }
 {
     put(out, bytes)?;
@@ -241,7 +243,7 @@ fn put_new<'a, D: Write>(
         → Puts (Unique spelling) origin.entry (made_as document.now form.now ∷ []) (D.contents out.old) (D.contents out.new) kept.old kept.new first) }
     ensures front { OnErr result ((spelling : spells.Spelling)
         → AppendsFront (D.contents out.old) (D.contents out.new) (written_of (Unique spelling) (knows kept.old) (made_as document.now form.now ∷ []))) }
-    ensures paths { kept.new.paths ≡ kept.old.paths }
+    ensures table { KeepsCounted kept.old kept.new }
     ensures failed { IfErr result (λ failure. ¬ IsReading failure) }
 {
     match kept.add(origin, form)? {

@@ -8,7 +8,7 @@ ghost use Rattle.dump_lines.specs.Fronts.{AppendsFront};
 ghost use Rattle.dump_commands.specs.Reporting.{ListsFront, ReportsFront, Reports, lines_of_repeats};
 ghost use Rattle.dump_elements.specs.Listing.{ListsDocument};
 ghost use Rattle.dump_lines.specs.Find.{account_of};
-ghost use Rattle.dump_commands.specs.Unique.{repeat_at};
+ghost use Rattle.dump_kept.specs.Forms.{repeat_at};
 ghost use Rattle.dump_lines.specs.Origins.{origin_of};
 ghost use Rattle.dump_lines.specs.Told.{line, head_text};
 ghost use Rattle.dump_commands.specs.Summary.{summary_line};

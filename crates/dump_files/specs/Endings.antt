@@ -1,5 +1,5 @@
 -- How runs end whose OUTPUT isn't written.
-use Rattle.std.specs.Prelude.{Option, None, Some}
+use Rattle.std.specs.Prelude.{Option, Some}
 use Rattle.dump_input.specs.declared.done.Done.{Done}
 use Rattle.dump_input.specs.declared.done.Lack.{Lack}
 use Rattle.dump_input.specs.declared.done.Lack.TheVariants as lack

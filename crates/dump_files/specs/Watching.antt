@@ -4,6 +4,10 @@ use Rattle.dump_lines.specs.Quoting.{quoted}
 use Rattle.dump_files.specs.declared.watch.About.{About}
 use Rattle.dump_files.specs.declared.watch.Watched.{Watched}
 
+-- the reader that is looked at
+abbrev pub reader_of : {R : Type 0} → Watched R → R
+reader_of w = w.reader
+
 -- Nothing of this reader was read, of which this is known. How far the reading has come is first shown after 8 MiB.
 pub record IsUnread {R : Type 0} (reader : R) (about : About) (w : Watched R) : Type 0 where
   pub same : w.reader ≡ reader

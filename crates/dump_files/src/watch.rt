@@ -5,7 +5,7 @@
 ghost use Rattle.std.specs.Prelude.{◌≡◌, ◌++◌, ◌*◌, ◌/◌, ◌^◌, ◌-◌, ℕ, IfOk, List, None, Some, max, min};
 ghost use Rattle.std.specs.Option.{option_copied};
 ghost use Rattle.dump_files.specs.Guess.{HintsAt, OpensWell};
-ghost use Rattle.dump_files.specs.Watching.{IsUnread, progress_line};
+ghost use Rattle.dump_files.specs.Watching.{IsUnread, progress_line, reader_of};
 
 use crate::guess::{hint, text_hint};
 use crate::tell::tell;
@@ -163,7 +163,7 @@ fn per_second(count: u64, millis: u64) -> u64
 }
 
 impl<R: Read> Read for Watched<'_, R> {
-    ghost remaining = { λ w. R.remaining w.reader };
+    ghost remaining = { λ w. R.remaining (reader_of w) };
 
     fn read(&mut self, buf: &mut [u8]) -> io::Result<usize> {
         let len = self.reader.read(buf)?;

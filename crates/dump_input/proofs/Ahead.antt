@@ -1,5 +1,6 @@
 -- Bytes that are read ahead.
-use Rattle.std.proofs.Common.{◌≡◌, ℕ, suc, ◌+◌, ◌-◌, ◌≤◌, List, [], ◌∷◌, ◌++◌, Option, None, Some, arith, length, length-drop, length-take-le, take, drop, min, sym, ap, ◌∙◌, refl, append-nil}
+use Rattle.std.proofs.Common.{◌≡◌, ℕ, suc, ◌+◌, ◌-◌, ◌≤◌, List, [], ◌∷◌, ◌++◌, Option, None, Some, IfSome, append_assoc, arith, length, length-drop, length-take-le, take, drop, min, sym, ap, ◌∙◌, refl, append-nil, subst}
+use Rattle.std.proofs.Math.Seq.{drop-append_seam}
 use Rattle.std.proofs.lemmas.List.{drop-take, drop-drop, length-take, take-append-drop, take-take}
 use Rattle.std.specs.Io.KnownBytes.{Consumes, IsAtEnd}
 use Rattle.dump_input.specs.Reading.{IsWindow, ReadsAhead, ahead_of}
@@ -51,3 +52,12 @@ front_kept x y kept = (drop (length x) y, sym (take-append-drop (length x) y) �
 pub nil_of_none : (s : List ℕ) → length s ≡ 0 → s ≡ []
 nil_of_none [] none = refl
 nil_of_none (x ∷ xs) none = let some : length (x ∷ xs) ≡ suc (length xs) = refl in absurd (omega arith)
+
+-- what is left of the input behind these bytes is in front of what is ahead
+pub input_behind : (bytes x : List ℕ) (r r' : Option (List ℕ)) (P : List ℕ → Type 0) → Consumes r r' (bytes ++ x) → ((s : List ℕ) → Consumes (Some s) r' x → P s)
+    → IfSome r (λ s. P (drop (length bytes) s))
+input_behind bytes x None r' P read holds = tt
+input_behind bytes x (Some s) None P read holds = absurd read
+input_behind bytes x (Some s) (Some rest) P read holds =
+    let behind : drop (length bytes) s ≡ x ++ rest = ap (drop (length bytes)) (read ∙ append_assoc bytes x rest) ∙ drop-append_seam bytes (x ++ rest) in
+    subst P (sym behind) (holds (x ++ rest) refl)

@@ -4,4 +4,5 @@ pub mod Going
 pub mod Skipping
 pub mod Deciding
 mod Scanning
+pub mod Portioning
 pub mod Face

@@ -4,7 +4,9 @@
 pub mod done;
 pub mod ending;
 pub mod inputs;
+pub mod portion;
 pub mod position;
+pub mod rest;
 pub mod resync;
 pub mod scan;
 pub mod status;

@@ -4,7 +4,7 @@
 ghost use Rattle.std.specs.Prelude.{◌≡◌, ◌≤◌, ◌<◌, IfErr, IfOk, MatchBool, length, take};
 ghost use Rattle.dump_input.specs.Cut.{IsPiece};
 ghost use Rattle.dump_input.specs.Reading.{GoesAhead, IsWindow, Stays, ahead_of};
-ghost use Rattle.dump_input.specs.Resync.{Doubts, SeesBehind, SeesInside, SkipsTo, TellsPart};
+ghost use Rattle.dump_input.specs.Resync.{Doubts, SeesBehind, SeesInside, SkipsTo};
 ghost use Rattle.dump_lines.specs.Failing.{IsReading};
 ghost use Rattle.raw_resync.specs.Seeking.{IsWork};
 

@@ -1,7 +1,7 @@
 //! What was read of an input, and isn't passed yet.
 #![tactic(auto)]
 
-ghost use Rattle.std.specs.Prelude.{◌≡◌, ◌+◌, ◌≤◌, ◌<◌, ◌^◌, ◌⊎◌, ℕ, List, MatchBool, Option, [], true, drop, length, take, IfErr, IfOk, OnErr, OnOk};
+ghost use Rattle.std.specs.Prelude.{◌≡◌, ◌+◌, ◌≤◌, ◌<◌, ◌^◌, ◌⊎◌, ℕ, List, MatchBool, Option, [], true, drop, length, IfErr, IfOk, OnErr, OnOk};
 ghost use Rattle.std.specs.Io.KnownBytes.{IsAtEnd};
 ghost use Rattle.dump_input.specs.Cut.{said_len, IsSoundLength};
 ghost use Rattle.dump_input.specs.Reading.{FillsBuffer, IsNextPiece, IsWindow, ReadsRest, SeesAhead, Stays, TellsNext, ahead_of, offset_of};

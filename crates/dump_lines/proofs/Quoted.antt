@@ -1,6 +1,6 @@
 -- Texts in quotes that need no escape.
 use Rattle.std.proofs.Common.{◌≡◌, ◌<◌, ◌++◌, ℕ, suc, List, [], ◌∷◌, ap, arith, flat_map, refl, sym, ◌∙◌}
-use Rattle.std.specs.Str.{chars, chars_after, continuation_len, lead_bits}
+use Rattle.std.specs.Str.{chars, chars_after, lead_bits}
 use Rattle.std.proofs.lemmas.Bool.{cond_below}
 use Rattle.dump_lines.specs.Quoting.{ArePlain, IsPlain, shown_char, shown_text}
 

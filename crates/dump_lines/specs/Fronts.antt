@@ -1,5 +1,5 @@
--- Fronts of bytes that a writer holds.
-use Rattle.std.specs.Prelude.{◌≡◌, ◌⊎◌, ◌++◌, ℕ, List, Option}
+-- Fronts of bytes that a writer holds, and documents one behind the other.
+use Rattle.std.specs.Prelude.{◌≡◌, ◌⊎◌, ◌++◌, ℕ, List, Option, flat_map}
 pub use Rattle.values_to_json.specs.Written.{AppendsFront}
 
 -- s begins with these bytes
@@ -9,3 +9,7 @@ HasFront s front = (rest : List ℕ) × (s ≡ front ++ rest)
 -- nothing is written, or a front of a text that is so
 abbrev pub WritesFront : (List ℕ → Type 0) → (old new : Option (List ℕ)) → Type 0
 WritesFront Is old new = (new ≡ old) ⊎ ((text : List ℕ) × Is text × AppendsFront old new text)
+
+-- documents one behind the other
+abbrev pub joined : List (List ℕ) → List ℕ
+joined documents = flat_map (λ d. d) documents

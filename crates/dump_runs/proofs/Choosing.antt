@@ -3,7 +3,8 @@ use Rattle.std.proofs.Common.{◌≡◌, ◌≢◌, ◌⊎◌, ℕ, ◌+◌, ◌
 use Rattle.std.proofs.KnownBytes.{Appends-nil, Consumes-nil}
 use Rattle.raw_tree.specs.declared.reader.limits.Limits.{Limits}
 use Rattle.dump_runs.specs.Halting.{Halts}
-use Rattle.dump_runs.specs.Portion.{AreAsked, EndsPortion, HaltsPortion, HasFailed, IsAllInFront, IsChosen, IsEnough, IsInFront, IsRunOver, PassesPortion, documents_of_parts}
+use Rattle.dump_runs.specs.Portion.{AreAsked, EndsPortion, HaltsPortion, HasFailed, IsChosen, IsEnough, IsRunOver, PassesPortion, documents_of_parts}
+use Rattle.dump_input.specs.InFront.{IsAllInFront, IsInFront}
 use Rattle.dump_input.specs.Reading.{IsWindow, ahead_of}
 use Rattle.dump_commands.specs.Counting.{count_finding, count_left}
 use Rattle.dump_runs.specs.Run.{EndsAs, Entry, FailsAt, Gap, Part, PassesAll, piece, gap, skipped, bytes_of_parts, count_part}
@@ -12,8 +13,8 @@ use Rattle.dump_commands.specs.declared.counts.Counts.{Counts}
 use Rattle.dump_lines.specs.declared.failure.ReadFailure.{ReadFailure}
 use Rattle.dump_lines.specs.declared.find.Finding.{Finding}
 use Rattle.dump_lines.specs.declared.find.Finding.TheVariants as finding
-use Rattle.dump_commands.specs.declared.kept.Kept.{Kept}
-use Rattle.dump_runs.specs.declared.portion.Portion.{Portion}
+use Rattle.dump_kept.specs.declared.kept.Kept.{Kept}
+use Rattle.dump_input.specs.declared.portion.Portion.{Portion}
 use Rattle.dump_input.specs.declared.ending.Ending.{Ending}
 use Rattle.dump_runs.specs.declared.run.Stop.{Stop}
 use Rattle.dump_runs.specs.declared.run.Stop.TheVariants as stop
@@ -22,11 +23,7 @@ use Rattle.dump_input.specs.declared.window.Window.{Window}
 use Rattle.dump_runs.proofs.Halting.{halts_here}
 use Rattle.dump_runs.proofs.Passing.{HasPassed, passed_none}
 use Rattle.raw_resync.specs.declared.work.Work.{Work}
-
--- what is so of all bytes
-pub some_any : (input : Option (List ℕ)) (P : List ℕ → Type 0) → ((s : List ℕ) → P s) → IfSome input P
-some_any None P all = tt
-some_any (Some s) P all = all s
+use Rattle.dump_input.proofs.Face.{some_any}
 
 -- nothing is in front
 pub in_front_none : (p : Portion) (most : ℕ) (input : Option (List ℕ)) → IsInFront p most input []

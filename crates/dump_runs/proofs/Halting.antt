@@ -12,13 +12,13 @@ use Rattle.dump_input.specs.Reading.{TellsNext, ahead_of}
 use Rattle.dump_input.specs.Resync.{IsBelieved, TellsPart}
 use Rattle.dump_runs.specs.Run.{Passed, PassesAll, MayPassOne, Part, bytes_of_parts, work_behind}
 use Rattle.dump_lines.specs.Origins.{origin_at}
-use Rattle.dump_commands.specs.Unique.{repeat_at}
-use Rattle.dump_runs.specs.Endings.{ending_line}
+use Rattle.dump_kept.specs.Forms.{repeat_at}
+use Rattle.dump_input.specs.Endings.{ending_line}
 use Rattle.dump_commands.specs.declared.command.Command.{Command}
 use Rattle.dump_commands.specs.declared.counts.Counts.{Counts}
 use Rattle.dump_input.specs.declared.ending.Ending.{Ending}
-use Rattle.dump_runs.specs.declared.rest.Rest.TheVariants as rest
-use Rattle.dump_commands.specs.declared.kept.Kept.{Kept}
+use Rattle.dump_input.specs.declared.rest.Rest.TheVariants as rest
+use Rattle.dump_kept.specs.declared.kept.Kept.{Kept}
 use Rattle.dump_runs.specs.declared.run.Asked.{Asked}
 use Rattle.dump_runs.specs.declared.run.Stop.TheVariants as stop
 use Rattle.dump_runs.specs.declared.run.Outcome.{Outcome}
@@ -26,8 +26,8 @@ use Rattle.dump_lines.specs.declared.style.Style.{Style}
 use Rattle.dump_input.specs.declared.window.Next.TheVariants as next
 use Rattle.dump_input.specs.declared.window.Window.{Window}
 use Rattle.dump_runs.proofs.Findings.{finds_sound}
-use Rattle.dump_input.proofs.Face.{tells_document, tells_taken}
-use Rattle.dump_runs.proofs.Passing.{HasPassed, gap_of, input_behind}
+use Rattle.dump_input.proofs.Face.{input_behind, tells_document, tells_taken}
+use Rattle.dump_runs.proofs.Passing.{HasPassed, gap_of}
 
 -- what was read is in front of the input
 pub read_front : (bytes x : List ℕ) (r r' : Option (List ℕ)) → Consumes r r' (bytes ++ x) → IfSome r (λ s. HasFront s bytes)

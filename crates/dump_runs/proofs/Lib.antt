@@ -5,5 +5,4 @@ mod Passing
 mod Stopping
 mod Halting
 mod Choosing
-mod Portioning
 mod Summing

@@ -1,19 +1,18 @@
 -- How what was passed grows by one more part.
 use Rattle.std.proofs.Common.{◌≡◌, ℕ, ◌+◌, List, [], ◌∷◌, ◌++◌, Bool, true, false, not, Option, None, Some, IfSome, cond, is_some, length, length-take-le, drop, take, flat_map, fold, sym, ap, ◌∙◌, subst, refl, append_assoc, append-nil, length-append, add_assoc, add-zero, zero-add}
-use Rattle.std.proofs.Math.Seq.{drop-append_seam}
 use Rattle.std.proofs.lemmas.List.{take-append-drop}
 use Rattle.std.specs.Io.KnownBytes.{Consumes, Appends}
 use Rattle.std.proofs.KnownBytes.{Appends-nil, Appends-trans}
 use Rattle.raw_tree.specs.declared.reader.limits.Limits.{Limits}
 use Rattle.dump_runs.proofs.Findings.{finds_sound}
-use Rattle.dump_input.proofs.Face.{place_since, tells_document, tells_other, read_behind}
+use Rattle.dump_input.proofs.Face.{input_behind, place_since, read_behind, tells_document, tells_other}
 use Rattle.dump_commands.proofs.Face.{firsts_none, repeats_none, writes_none}
 use Rattle.dump_runs.proofs.Repeating.{firsts_more, repeats_more}
 use Rattle.dump_runs.proofs.Writing.{writes_more}
 use Rattle.std.proofs.lemmas.Grind.{flat_map-append, fold-append}
 use Rattle.dump_input.specs.Cut.{IsPiece}
-use Rattle.dump_commands.specs.Fields.{Table, tabled, with_document}
-use Rattle.dump_runs.specs.Portion.{HasPassedFront}
+use Rattle.dump_kept.specs.Fields.{Table, tabled, with_document}
+use Rattle.dump_input.specs.InFront.{HasPassedFront}
 use Rattle.dump_input.specs.Reading.{ReadsAhead, TellsNext, ahead_of}
 use Rattle.dump_input.specs.Resync.{BreaksWith, IsBelieved, IsNextPlace, SkipsTo, Spends, TellsPart}
 use Rattle.raw_resync.specs.Resync.{IsSound}
@@ -22,15 +21,16 @@ use Rattle.raw_resync.specs.declared.work.Work.{Work}
 use Rattle.dump_commands.specs.Making.{Writes}
 use Rattle.dump_commands.specs.Reporting.{lines_of_repeats}
 use Rattle.dump_runs.specs.Run.{AreParts, Entry, Gap, IsEntry, IsGap, IsPart, IsTaken, Part, piece, gap, skipped, Passed, PassesFront, PassesGap, PassesNext, PassesOne, MayPassFront, WritesNothing, bytes_of_part, bytes_of_parts, made_of_part, made_of_parts, forms_of_part, forms_of_parts, lines_of_part, fields_of_part, fields_of_parts, repeats_of_part, count_entry, count_part, findings_in, findings_of, work_behind}
-use Rattle.dump_runs.specs.Endings.{ending_line}
-use Rattle.dump_commands.specs.Unique.{Firsts, Made, firsts_behind, firsts_of, placed_at, repeat_at, repeats_of}
+use Rattle.dump_input.specs.Endings.{ending_line}
+use Rattle.dump_kept.specs.Forms.{Firsts, Made, firsts_of, placed_at, repeat_at}
+use Rattle.dump_commands.specs.Unique.{firsts_behind, repeats_of}
 use Rattle.dump_lines.specs.Origins.{Origin, origin_at}
 use Rattle.dump_input.specs.declared.ending.Ending.{Ending}
-use Rattle.dump_runs.specs.declared.rest.Rest.TheVariants as rest
+use Rattle.dump_input.specs.declared.rest.Rest.TheVariants as rest
 use Rattle.dump_runs.specs.declared.run.Outcome.{Outcome}
 use Rattle.dump_commands.specs.declared.command.Command.{Command}
 use Rattle.dump_commands.specs.declared.counts.Counts.{Counts}
-use Rattle.dump_commands.specs.declared.kept.Kept.{Kept}
+use Rattle.dump_kept.specs.declared.kept.Kept.{Kept}
 use Rattle.dump_input.specs.declared.resync.Skip.{Skip}
 use Rattle.dump_lines.specs.declared.style.Style.{Style}
 use Rattle.dump_input.specs.declared.window.Next.{Next}
@@ -69,15 +69,6 @@ passed_none {limits = limits} {c = c} {style = style} {resync = resync} {name = 
   is_counted = refl;
   is_tabled = refl;
 }
-
--- what is left of the input behind these bytes is in front of what is ahead
-pub input_behind : (bytes x : List ℕ) (r r' : Option (List ℕ)) (P : List ℕ → Type 0) → Consumes r r' (bytes ++ x) → ((s : List ℕ) → Consumes (Some s) r' x → P s)
-    → IfSome r (λ s. P (drop (length bytes) s))
-input_behind bytes x None r' P read holds = tt
-input_behind bytes x (Some s) None P read holds = absurd read
-input_behind bytes x (Some s) (Some rest) P read holds =
-    let behind : drop (length bytes) s ≡ x ++ rest = ap (drop (length bytes)) (read ∙ append_assoc bytes x rest) ∙ drop-append_seam bytes (x ++ rest) in
-    subst P (sym behind) (holds (x ++ rest) refl)
 
 -- more is read ahead
 module _ {limits : Limits} {c : Command} {style : Counts → Style} {resync : Bool} {name x y : List ℕ} {r r' r'' d d' w w' : Option (List ℕ)} {n n' : Counts} {k k' : Kept} {ps : List Part} where

@@ -9,12 +9,13 @@ use Rattle.dump_lines.specs.Find.{Account}
 use Rattle.dump_runs.specs.Halting.{HaltsInside}
 use Rattle.dump_commands.specs.Making.{Emits}
 use Rattle.dump_commands.specs.Reporting.{Reports, lines_of_repeats}
-use Rattle.dump_commands.specs.Unique.{Firsts, Placed, first_at, firsts_behind, repeat_at, repeats, repeats_of, with_first}
+use Rattle.dump_kept.specs.Forms.{Firsts, Placed, first_at, repeat_at, repeats, with_first}
+use Rattle.dump_commands.specs.Unique.{firsts_behind, repeats_of}
 use Rattle.dump_lines.specs.Origins.{origin_of}
 use Rattle.dump_commands.specs.declared.command.Command.{Command}
 use Rattle.dump_commands.specs.declared.command.Command.TheVariants as command
 use Rattle.dump_lines.specs.declared.find.Finding.{Finding}
-use Rattle.dump_commands.specs.declared.kept.Kept.{Kept}
+use Rattle.dump_kept.specs.declared.kept.Kept.{Kept}
 use Rattle.dump_lines.specs.declared.origin.Origin.{Origin}
 use Rattle.dump_lines.specs.declared.style.Style.{Style}
 

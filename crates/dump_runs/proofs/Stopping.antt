@@ -8,14 +8,14 @@ use Rattle.dump_input.specs.Resync.{TellsPart}
 use Rattle.dump_commands.specs.Counting.{count_rest}
 use Rattle.dump_runs.specs.Run.{EndsRun, EndsAs, FailsAt, IsLeft, Leaves, PassesAll, EndsParts, bytes_of_parts, count_end, lines_of_parts}
 use Rattle.dump_input.specs.Cut.{EndsWith}
-use Rattle.dump_runs.specs.Endings.{ending_line}
+use Rattle.dump_input.specs.Endings.{ending_line}
 use Rattle.dump_commands.specs.declared.command.Command.{Command}
 use Rattle.dump_commands.specs.declared.counts.Counts.{Counts}
 use Rattle.dump_input.specs.declared.ending.Ending.{Ending}
 use Rattle.dump_input.specs.declared.ending.Ending.TheVariants as ending
-use Rattle.dump_runs.specs.declared.rest.Rest.TheVariants as rest
+use Rattle.dump_input.specs.declared.rest.Rest.TheVariants as rest
 use Rattle.dump_lines.specs.declared.failure.ReadFailure.{ReadFailure}
-use Rattle.dump_commands.specs.declared.kept.Kept.{Kept}
+use Rattle.dump_kept.specs.declared.kept.Kept.{Kept}
 use Rattle.raw_resync.specs.declared.work.Work.{Work}
 use Rattle.dump_runs.specs.declared.run.Stop.{Stop}
 use Rattle.dump_runs.specs.declared.run.Stop.TheVariants as stop

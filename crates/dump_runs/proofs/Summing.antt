@@ -16,7 +16,7 @@ use Rattle.dump_runs.specs.declared.batch.Totals.{Totals}
 use Rattle.dump_commands.specs.declared.counts.Counts.{Counts}
 use Rattle.dump_lines.specs.declared.failure.Failure.{Failure}
 use Rattle.dump_lines.specs.declared.failure.ReadFailure.{ReadFailure}
-use Rattle.dump_commands.specs.declared.kept.Kept.{Kept}
+use Rattle.dump_kept.specs.declared.kept.Kept.{Kept}
 use Rattle.dump_input.specs.declared.status.Status.{Status}
 use Rattle.dump_lines.proofs.Face.{front_none}
 use Rattle.dump_runs.proofs.Choosing.{halts_first}

@@ -4,13 +4,14 @@ use Rattle.std.specs.Io.KnownBytes.{Appends}
 use Rattle.std.proofs.KnownBytes.{Appends-trans}
 use Rattle.std.proofs.lemmas.Grind.{flat_map-append, fold-append}
 use Rattle.raw_tree.specs.declared.reader.limits.Limits.{Limits}
-use Rattle.dump_commands.specs.Fields.{CountsFields, table_of, with_document}
+use Rattle.dump_commands.specs.Counted.{CountsFields}
+use Rattle.dump_kept.specs.Fields.{KeepsCounted, Table, with_document}
 use Rattle.dump_commands.specs.Making.{Writes}
-use Rattle.dump_commands.specs.Unique.{Made, first_made, if_new, kept_of, known_behind, knows, with_made, written_of}
+use Rattle.dump_kept.specs.Forms.{Made, first_made, if_new, knows, with_made, written_count}
+use Rattle.dump_commands.specs.Unique.{kept_of, known_behind, written_of}
 use Rattle.dump_lines.specs.Origins as says
 use Rattle.dump_commands.specs.declared.command.Command.{Command}
-use Rattle.dump_commands.specs.declared.kept.Kept.{Kept}
-use Rattle.dump_commands.specs.declared.paths.Paths.{Paths}
+use Rattle.dump_kept.specs.declared.kept.Kept.{Kept}
 use Rattle.dump_lines.specs.declared.find.Finding.{Finding}
 
 -- the bytes of what is made
@@ -48,13 +49,13 @@ writes_more c xs ys d d' d'' k k' k'' first second =
       is_counted =
           let all : length (kept_of c (knows k) (xs ++ ys)) ≡ length (kept_of c (knows k) xs) + length (kept_of c behind ys) =
           ap length (kept_of-append c (knows k) xs ys) ∙ length-append (kept_of c (knows k) xs) (kept_of c behind ys) in
-          let one : k'.count ≡ k.count + length (kept_of c (knows k) xs) = first.is_counted in
-          let two : k''.count ≡ k'.count + length (kept_of c behind ys) =
-          second.is_counted ∙ ap (λ (known : List ℕ → Bool). k'.count + length (kept_of c known ys)) same in
+          let one : written_count k' ≡ written_count k + length (kept_of c (knows k) xs) = first.is_counted in
+          let two : written_count k'' ≡ written_count k' + length (kept_of c behind ys) =
+          second.is_counted ∙ ap (λ (known : List ℕ → Bool). written_count k' + length (kept_of c known ys)) same in
           omega arith;
     }
 
 -- the elements are counted that were counted before it was written
-pub counts_kept : (limits : Limits) (c : Command) (place : says.Origin) (b : List ℕ) (f : Finding) (k k' k'' : Kept) → k'.paths ≡ k.paths → CountsFields limits c place b f k' k''
+pub counts_kept : (limits : Limits) (c : Command) (place : says.Origin) (b : List ℕ) (f : Finding) (k k' k'' : Kept) → KeepsCounted k k' → CountsFields limits c place b f k' k''
     → CountsFields limits c place b f k k''
-counts_kept limits c place b f k k' k'' same (ds, has, added) = (ds, has, added ∙ ap (λ (p : Paths). fold with_document (table_of p) ds) same)
+counts_kept limits c place b f k k' k'' same (ds, has, added) = (ds, has, added ∙ ap (λ (t : Table). fold with_document t ds) same)

@@ -3,14 +3,13 @@ use Rattle.std.specs.Prelude.{◌≡◌, ◌⊎◌, ◌++◌, ◌∷◌, ◌-◌
 use Rattle.std.specs.Option.{option_map}
 use Rattle.std.specs.Io.KnownBytes.{Appends, Keeps}
 use Rattle.dump_lines.specs.Fronts.{AppendsFront}
-use Rattle.dump_commands.specs.Fields.{no_table, table_text, tabled}
+use Rattle.dump_kept.specs.Fields.{no_table, table_text, tabled}
 use Rattle.dump_runs.specs.Portion.{EndsPortion, HaltsPortion}
 use Rattle.dump_commands.specs.Counting.{count_left, no_counts, plus, AreInRange}
 use Rattle.dump_runs.specs.Run.{style_at}
 use Rattle.dump_runs.specs.Status.{IsFailureStatus, IsStatus}
 use Rattle.dump_commands.specs.Summary.{summary_line}
-use Rattle.dump_commands.specs.Unique.{firsts_of, knows, no_firsts}
-use Rattle.dump_input.specs.declared.done.Cut.{Cut}
+use Rattle.dump_kept.specs.Forms.{firsts_of, knows, no_firsts, written_count}
 use Rattle.dump_input.specs.declared.done.Done.{Done}
 use Rattle.dump_runs.specs.declared.batch.Job.{Job}
 use Rattle.dump_input.specs.declared.done.Lack.{Lack}
@@ -21,7 +20,7 @@ use Rattle.dump_commands.specs.declared.command.Command.TheVariants as command
 use Rattle.dump_commands.specs.declared.counts.Counts.{Counts}
 use Rattle.dump_lines.specs.declared.style.Style.{Style}
 use Rattle.dump_lines.specs.declared.failure.ReadFailure.{ReadFailure}
-use Rattle.dump_commands.specs.declared.kept.Kept.{Kept}
+use Rattle.dump_kept.specs.declared.kept.Kept.{Kept}
 use Rattle.dump_input.specs.declared.status.Status.{Status}
 use Rattle.dump_input.specs.Done.{CutInput, cut_of, input_of}
 
@@ -50,7 +49,7 @@ start_of out report kept = record { out = out; report = report; counts = no_coun
 -- no document was written, no digest is known, and no element was counted; places are kept where repeats are asked for, and so many
 -- paths at most
 pub record KeepsNothing (repeats : Bool) (paths : ℕ) (kept : Kept) : Type 0 where
-  pub none : kept.count ≡ 0
+  pub none : written_count kept ≡ 0
   pub unknown : (d : List ℕ) → knows kept d ≡ false
   pub firsts : firsts_of kept ≡ no_firsts repeats
   pub uncounted : tabled kept ≡ no_table paths
@@ -64,8 +63,8 @@ input_line job _ name n = []
 -- the line that tells what was counted of all; list has none, and fields has the lines of its paths before it
 abbrev pub all_line : Job → Command → Counts → Kept → List ℕ
 all_line job command.List n kept = []
-all_line job command.Fields n kept = table_text (tabled kept) ++ summary_line job.style None job.limit command.Fields n kept.count
-all_line job _ n kept = summary_line job.style None job.limit job.command n kept.count
+all_line job command.Fields n kept = table_text (tabled kept) ++ summary_line job.style None job.limit command.Fields n (written_count kept)
+all_line job _ n kept = summary_line job.style None job.limit job.command n (written_count kept)
 
 -- how many findings of an input are printed at most, before which so much was counted
 abbrev pub left_limit : Job → (before : Counts) → Option ℕ

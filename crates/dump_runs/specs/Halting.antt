@@ -7,22 +7,23 @@ use Rattle.raw_tree.specs.declared.reader.limits.Limits.{Limits}
 use Rattle.dump_input.specs.Cut.{EndsWith, IsPiece}
 use Rattle.dump_lines.specs.Find.{Account, MayBeDamaged}
 use Rattle.dump_commands.specs.Findings.{FindsFor}
-use Rattle.dump_commands.specs.Fields.{tabled, with_document}
+use Rattle.dump_kept.specs.Fields.{tabled, with_document}
 use Rattle.dump_lines.specs.Fronts.{AppendsFront, HasFront, WritesFront}
-use Rattle.dump_input.specs.Reading.{ahead_of}
+use Rattle.dump_input.specs.Reading.{ahead_of, offset_of}
 use Rattle.dump_input.specs.Resync.{Doubts, IsBelieved, SkipsTo, Spends}
 use Rattle.dump_commands.specs.Making.{Makes, Writes, IsMade}
 use Rattle.dump_commands.specs.Reporting.{Reports, lines_of_repeats, ReportsFront}
 use Rattle.dump_runs.specs.Run.{AreParts, Gap, IsGap, Part, bytes_of_parts, count_part, fields_of_parts, forms_of_parts, lines_of_parts, made_of_parts, repeats_of_parts, work_behind}
-use Rattle.dump_runs.specs.Endings.{ending_line, last_line}
-use Rattle.dump_commands.specs.Unique.{Made, firsts_behind, firsts_of, knows, placed_at, repeats_of, written_of}
+use Rattle.dump_input.specs.Endings.{ending_line, last_line}
+use Rattle.dump_kept.specs.Forms.{Made, firsts_of, knows, placed_at}
+use Rattle.dump_commands.specs.Unique.{firsts_behind, repeats_of, written_of}
 use Rattle.dump_lines.specs.Origins.{origin_at}
 use Rattle.dump_commands.specs.declared.command.Command.{Command}
 use Rattle.dump_commands.specs.declared.counts.Counts.{Counts}
 use Rattle.dump_input.specs.declared.ending.Ending.{Ending}
-use Rattle.dump_runs.specs.declared.rest.Rest.TheVariants as rest
+use Rattle.dump_input.specs.declared.rest.Rest.TheVariants as rest
 use Rattle.dump_lines.specs.declared.find.Finding.{Finding}
-use Rattle.dump_commands.specs.declared.kept.Kept.{Kept}
+use Rattle.dump_kept.specs.declared.kept.Kept.{Kept}
 use Rattle.dump_input.specs.declared.resync.Skip.{Skip}
 use Rattle.dump_lines.specs.declared.style.Style.{Style}
 use Rattle.dump_input.specs.declared.window.Window.{Window}
@@ -96,15 +97,15 @@ abbrev pub HaltsBelieved : Limits → Command → Style → List ℕ → (len : 
 HaltsBelieved limits c style name len read_old window_old work_old kept out_old out_new report_old report_new =
     ((out_new ≡ out_old) × (report_new ≡ report_old))
     ⊎ ((read : Option (List ℕ)) × (window : Window) × (work : Work) × Doubts limits read_old read window_old window work_old work len false
-    × HaltsOne limits true c style name window.offset (take len (ahead_of window)) kept out_old out_new report_old report_new)
+    × HaltsOne limits true c style name (offset_of window) (take len (ahead_of window)) kept out_old out_new report_old report_new)
 
 -- the same of the piece that is next in all that was to be read
 abbrev pub HaltsNext : Limits → Command → Style → (resync : Bool) → List ℕ → (read_old : Option (List ℕ)) → (window_old : Window) → (work_old : Work) → Kept
     → (out_old out_new report_old report_new : Option (List ℕ)) → Type 0
 HaltsNext limits c style resync name read_old window_old work_old kept out_old out_new report_old report_new =
     ((out_new ≡ out_old) × (report_new ≡ report_old))
-    ⊎ ((b : List ℕ) × IsPiece limits.bytes b × ((s : List ℕ) → Consumes (Some s) read_old (ahead_of window_old) → IsNextPiece limits resync s window_old.offset work_old b)
-    × HaltsIn limits c style name window_old.offset b kept out_old out_new report_old report_new)
+    ⊎ ((b : List ℕ) × IsPiece limits.bytes b × ((s : List ℕ) → Consumes (Some s) read_old (ahead_of window_old) → IsNextPiece limits resync s (offset_of window_old) work_old b)
+    × HaltsIn limits c style name (offset_of window_old) b kept out_old out_new report_old report_new)
 
 -- bytes at the bytes ahead aren't passed over, or a front of their line is written, or nothing
 abbrev pub HaltsInGap : Limits → Style → List ℕ → Ending → (read_old read_new : Option (List ℕ)) → (window_old window_new : Window) → (work_old work_new : Work)
@@ -112,7 +113,7 @@ abbrev pub HaltsInGap : Limits → Style → List ℕ → Ending → (read_old r
 HaltsInGap limits style name end read_old read_new window_old window_new work_old work_new report_old report_new =
     (report_new ≡ report_old)
     ⊎ ((skip : Skip) × SkipsTo limits read_old read_new window_old window_new work_old work_new skip
-    × AppendsFront report_old report_new (ending_line style name window_old.offset end (rest.PassedOver skip)))
+    × AppendsFront report_old report_new (ending_line style name (offset_of window_old) end (rest.PassedOver skip)))
 
 -- the line of what is left from the bytes ahead on isn't written, or a front of it
 abbrev pub HaltsLeaving : Limits → Style → List ℕ → Ending → (read_old read_new : Option (List ℕ)) → (window_old : Window) → (report_old report_new : Option (List ℕ)) → Type 0
@@ -120,4 +121,4 @@ HaltsLeaving limits style name end read_old read_new window_old report_old repor
     (report_new ≡ report_old)
     ⊎ ((more : List ℕ) × ((before : Option (List ℕ)) → Consumes before read_old (ahead_of window_old) → Consumes before read_new (ahead_of window_old ++ more))
     × EndsWith limits.bytes end (ahead_of window_old ++ more)
-    × AppendsFront report_old report_new (ending_line style name window_old.offset end (rest.NotRead (length (ahead_of window_old ++ more)))))
+    × AppendsFront report_old report_new (ending_line style name (offset_of window_old) end (rest.NotRead (length (ahead_of window_old ++ more)))))

@@ -1,4 +1,3 @@
-pub mod Endings
 pub mod Run
 pub mod Halting
 pub mod Portion

@@ -3,7 +3,7 @@ use Rattle.std.specs.Prelude.{◌≡◌, ℕ, ◌+◌, ◌-◌, List, [], ◌∷
 use Rattle.std.specs.Io.KnownBytes.{Appends, Consumes, IsAtEnd}
 use Rattle.raw_tree.specs.declared.reader.limits.Limits.{Limits}
 use Rattle.dump_input.specs.Cut.{IsPiece, EndsWith}
-use Rattle.dump_input.specs.Reading.{IsReadBehind, IsWindow, ahead_of}
+use Rattle.dump_input.specs.Reading.{IsReadBehind, IsWindow, ahead_of, offset_of}
 use Rattle.dump_input.specs.Resync.{BreaksWith, Doubts, IsBelieved, IsNextPlace, SkipsTo, Spends, TellsPart}
 use Rattle.raw_resync.specs.Seeking.{no_work}
 use Rattle.dump_input.specs.declared.window.Drained.{Drained}
@@ -12,18 +12,20 @@ use Rattle.dump_input.specs.declared.window.Next.TheVariants as next
 use Rattle.dump_input.specs.declared.window.Window.{Window}
 use Rattle.dump_lines.specs.Find.{Account, MayBeDamaged}
 use Rattle.dump_commands.specs.Findings.{FindsFor}
-use Rattle.dump_commands.specs.Fields.{CountsFields, Document, HasFields, tabled, with_document}
-use Rattle.dump_runs.specs.Endings.{ending_line, last_line}
+use Rattle.dump_commands.specs.Counted.{CountsFields, HasFields}
+use Rattle.dump_kept.specs.Fields.{Document, tabled, with_document}
+use Rattle.dump_input.specs.Endings.{ending_line, last_line}
 use Rattle.dump_lines.specs.Told.{with_left}
-use Rattle.dump_commands.specs.Unique.{Made, Placed, firsts_behind, firsts_of, placed_at, repeat_at, repeats_of}
+use Rattle.dump_kept.specs.Forms.{Made, Placed, firsts_of, placed_at, repeat_at}
+use Rattle.dump_commands.specs.Unique.{firsts_behind, repeats_of}
 use Rattle.dump_lines.specs.Origins.{Origin, Repeat, origin_at}
 use Rattle.dump_lines.specs.declared.failure.ReadFailure.{ReadFailure}
 use Rattle.dump_commands.specs.declared.command.Command.{Command}
 use Rattle.dump_commands.specs.declared.command.Command.TheVariants as command
 use Rattle.dump_commands.specs.declared.counts.Counts.{Counts}
-use Rattle.dump_commands.specs.declared.kept.Kept.{Kept}
+use Rattle.dump_kept.specs.declared.kept.Kept.{Kept}
 use Rattle.dump_input.specs.declared.ending.Ending.{Ending}
-use Rattle.dump_runs.specs.declared.rest.Rest.TheVariants as rest
+use Rattle.dump_input.specs.declared.rest.Rest.TheVariants as rest
 use Rattle.dump_input.specs.declared.resync.Skip.{Skip}
 use Rattle.raw_resync.specs.declared.work.Work.{Work}
 use Rattle.dump_lines.specs.declared.find.Finding.{Finding}
@@ -262,18 +264,18 @@ pub record PassesGap (limits : Limits) (style : Style) (name : List ℕ) (end : 
     (work_old work_new : Work) (report_old report_new : Option (List ℕ)) (counts_old counts_new : Counts) : Type 0 where
   pub skip : Skip
   pub skips : SkipsTo limits read_old read_new window_old window_new work_old work_new skip
-  pub told : Appends report_old report_new (ending_line style name window_old.offset end (rest.PassedOver skip))
+  pub told : Appends report_old report_new (ending_line style name (offset_of window_old) end (rest.PassedOver skip))
   pub is_counted : counts_new ≡ count_gap counts_old skip.count
 
 -- the document of so many bytes in front of the bytes ahead is passed, one that may be damaged only where any is
 pub record PassesFront (limits : Limits) (any : Bool) (c : Command) (style : Style) (name : List ℕ) (len : ℕ) (window_old window_new : Window)
     (out_old out_new report_old report_new : Option (List ℕ)) (counts_old counts_new : Counts) (kept_old kept_new : Kept) : Type 0 where
   pub window : IsWindow window_new
-  pub offset : window_new.offset ≡ window_old.offset + len
+  pub offset : offset_of window_new ≡ offset_of window_old + len
   pub ahead : ahead_of window_new ≡ drop len (ahead_of window_old)
   pub outcome : Outcome
   pub clean : any ≡ false → ¬ MayBeDamaged outcome.finding
-  pub passed : PassesOne limits c style name window_old.offset (take len (ahead_of window_old)) out_old out_new report_old report_new kept_old kept_new outcome
+  pub passed : PassesOne limits c style name (offset_of window_old) (take len (ahead_of window_old)) out_old out_new report_old report_new kept_old kept_new outcome
   pub is_counted : (e : Entry) → length e.bytes ≡ len → e.finding ≡ outcome.finding → e.findings ≡ findings_of c outcome → counts_new ≡ count_entry counts_old e
 
 -- nothing is written, reported or counted
@@ -314,8 +316,8 @@ abbrev pub EndsParts : Limits → (resync : Bool) → Stop → (from : ℕ) → 
 EndsParts limits resync stop.End from read_new window_new left = (left ≡ []) × IsAtEnd read_new
 EndsParts limits resync stop.Enough from read_new window_new left = Unit {0}
 EndsParts limits resync (stop.Left end) from read_new window_new left =
-    (left ≡ ahead_of window_new) × (window_new.offset ≡ from) × EndsWith limits.bytes end left × IsReadBehind end read_new × (resync ≡ false)
-EndsParts limits resync (stop.Failed at error) from read_new window_new left = (at ≡ from) × (window_new.offset + length (ahead_of window_new) ≡ from + length left)
+    (left ≡ ahead_of window_new) × (offset_of window_new ≡ from) × EndsWith limits.bytes end left × IsReadBehind end read_new × (resync ≡ false)
+EndsParts limits resync (stop.Failed at error) from read_new window_new left = (at ≡ from) × (offset_of window_new + length (ahead_of window_new) ≡ from + length left)
 
 -- reading fails, and the last part ended here
 abbrev pub FailsAt : ℕ → Stop → Type 0
@@ -346,6 +348,6 @@ pub record Leaves (limits : Limits) (style : Style) (name : List ℕ) (end : End
   pub is_read : (before : Option (List ℕ)) → Consumes before read_old (ahead_of window_old) → Consumes before read_new (ahead_of window_old ++ more)
   pub ends : EndsWith limits.bytes end (ahead_of window_old ++ more)
   pub to_end : IsNone failed → IsAtEnd read_new
-  pub fails : IfSome failed (λ failure. failure.at ≡ window_old.offset + length (ahead_of window_old ++ more))
-  pub told : Appends report_old report_new (ending_line style name window_old.offset end (rest.NotRead (length (ahead_of window_old ++ more))))
+  pub fails : IfSome failed (λ failure. failure.at ≡ offset_of window_old + length (ahead_of window_old ++ more))
+  pub told : Appends report_old report_new (ending_line style name (offset_of window_old) end (rest.NotRead (length (ahead_of window_old ++ more))))
   pub is_counted : counts_new ≡ count_rest counts_old (length (ahead_of window_old ++ more))

@@ -12,15 +12,15 @@ ghost use Rattle.dump_lines.specs.Failing.{IsReading};
 ghost use Rattle.dump_commands.specs.declared.command.Command.TheVariants.{Fields};
 ghost use Rattle.dump_runs.specs.Status.{HasDamage, IsFailureStatus, IsStatus};
 
-use crate::portion::Portion;
 use crate::run::{Asked, run};
 use dump_commands::command::Command;
 use dump_commands::counts::Counts;
-use dump_commands::kept::Kept;
 use dump_commands::reporting::put_summary;
 use dump_input::done::{Cut, Done, Lack, flush};
 use dump_input::inputs::Inputs;
+use dump_input::portion::Portion;
 use dump_input::status::Status;
+use dump_kept::kept::Kept;
 use dump_lines::failure::{Failure, in_range};
 use dump_lines::style::Style;
 use dump_lines::write::put;

@@ -2,10 +2,7 @@
 #![tactic(auto)]
 
 mod batch;
-mod portion;
-mod rest;
 mod run;
 
 pub use batch::{Job, run_all};
 pub use dump_commands::command::{Command, Picking, Spelling};
-pub use portion::Portion;

@@ -4,26 +4,26 @@
 ghost use Rattle.std.specs.Prelude.{◌≡◌, ℕ, [], ◌<◌, ◌≤◌, IfOk, IfErr, IfSome, IsNone, OnErr, OnOk, length, take};
 ghost use Rattle.std.specs.Io.KnownBytes.{Appends, Keeps};
 ghost use Rattle.dump_input.specs.Cut.{EndsWith, IsPiece};
-ghost use Rattle.dump_input.specs.Reading.{GoesAhead, IsReadBehind, IsWindow, Stays, ahead_of};
+ghost use Rattle.dump_input.specs.Reading.{GoesAhead, IsReadBehind, IsWindow, Stays, ahead_of, offset_of};
 ghost use Rattle.raw_resync.specs.Seeking.{IsWork};
 ghost use Rattle.dump_lines.specs.Fronts.{AppendsFront};
 ghost use Rattle.dump_runs.specs.Halting.{HaltsBelieved, HaltsInGap, HaltsLeaving, HaltsNext, HaltsOne};
 ghost use Rattle.dump_runs.specs.Portion.{EndsPortion, HaltsPortion, PassesPortion};
-ghost use Rattle.dump_runs.specs.Endings.{ending_line};
+ghost use Rattle.dump_input.specs.Endings.{ending_line};
 ghost use Rattle.dump_runs.specs.Run.{FailsAt, IsLeft, Leaves, MayPassFront, MayPassOne, PassesBelieved, PassesGap, PassesNext, WritesNothing, findings_of, style_at};
 ghost use Rattle.dump_lines.specs.Failing.{IsReading};
 
-use crate::portion::Portion;
-use crate::rest::{Rest, ending_object, ending_words};
 use dump_commands::command::Command;
 use dump_commands::counts::Counts;
 use dump_commands::finding::found_in;
-use dump_commands::kept::Kept;
 use dump_commands::making::{count_fields, emit};
 use dump_commands::reporting::{put_repeat, report_found};
 use dump_input::ending::Ending;
+use dump_input::portion::Portion;
+use dump_input::rest::{Rest, ending_object, ending_words};
 use dump_input::resync::{is_doubted, pass_over};
 use dump_input::window::{Drained, Next, Window, look_ahead};
+use dump_kept::kept::Kept;
 use dump_lines::failure::{Failure, ReadFailure, in_range};
 use dump_lines::find::Finding;
 use dump_lines::origin::Origin;
@@ -152,7 +152,7 @@ fn pass_all<'a, R: Read, D: Write, W: Write>(
     counts: &mut Counts,
     kept: &mut Kept<'a>,
 ) -> Result<Stop, Failure>
-    requires { IsWindow window.old × (ahead_of window.old ≡ []) × (window.old.offset ≡ 0) }
+    requires { IsWindow window.old × (ahead_of window.old ≡ []) × (offset_of window.old ≡ 0) }
     ensures passed { IfOk result (PassesPortion asked.entry.portion asked.entry.limits asked.entry.command (style_at asked.entry.style asked.entry.limit) asked.entry.resync asked.entry.name.now (R.remaining reader.old) (R.remaining reader.new)
         (D.contents out.old) (D.contents out.new) (W.contents report.old) (W.contents report.new) counts.old counts.new kept.old kept.new window.new) }
     ensures halts { OnErr result (HaltsPortion asked.entry.portion asked.entry.limits asked.entry.command (style_at asked.entry.style asked.entry.limit) asked.entry.resync asked.entry.name.now (R.remaining reader.old)
@@ -349,7 +349,7 @@ fn pass_front<'a, D: Write, W: Write>(
     requires { IsWindow window.old × (len ≤ length (ahead_of window.old)) × IsPiece asked.limits.bytes (take len (ahead_of window.old)) }
     ensures passed { IfOk result (MayPassFront asked.entry.limits any asked.entry.command asked.entry.style asked.entry.name.now len window.old window.new
         (D.contents out.old) (D.contents out.new) (W.contents report.old) (W.contents report.new) counts.old counts.new kept.old kept.new) }
-    ensures halts { OnErr result (HaltsOne asked.entry.limits any asked.entry.command asked.entry.style asked.entry.name.now window.old.offset (take len (ahead_of window.old)) kept.old
+    ensures halts { OnErr result (HaltsOne asked.entry.limits any asked.entry.command asked.entry.style asked.entry.name.now (offset_of window.old) (take len (ahead_of window.old)) kept.old
         (D.contents out.old) (D.contents out.new) (W.contents report.old) (W.contents report.new)) }
     ensures uncounted { OnErr result (counts.new ≡ counts.old) }
     ensures failed { IfErr result (λ failure. ¬ IsReading failure) }

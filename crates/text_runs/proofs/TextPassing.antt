@@ -6,10 +6,10 @@ use Rattle.std.proofs.lemmas.Grind.{flat_map-append, fold-append}
 use Rattle.std.proofs.lemmas.List.{take-append-drop, take-take}
 use Rattle.std.specs.Io.KnownBytes.{Appends, Consumes, IsAtEnd}
 use Rattle.std.proofs.KnownBytes.{Appends-nil, Appends-trans, Consumes-nil}
-use Rattle.dump_lines.specs.Fronts.{HasFront}
+use Rattle.dump_lines.specs.Fronts.{HasFront, joined}
 use Rattle.dump_input.specs.Reading.{IsWindow, ahead_of}
 use Rattle.text_runs.specs.TextReading.{Advances, FindsText, GoesOnTo, IsAhead, IsNextText, IsScanned, PassesGap}
-use Rattle.text_runs.specs.TextRun.{AreTexts, EndsAs, FailsAt, IsPassedOver, HaltsText, HaltsTexts, HasNoText, MeetsNoText, IsBegun, IsDocument, Becomes, IsRefused, IsTextPart, LastGoesOn, PassesBehind, PassesText, ReadsTexts, TellsNoText, TextPart, bytes_of, bytes_of_texts, count_text, joined, lines_of_texts, made_of_texts, style_of_fault, turn_behind_texts}
+use Rattle.text_runs.specs.TextRun.{AreTexts, EndsAs, FailsAt, IsPassedOver, HaltsText, HaltsTexts, HasNoText, MeetsNoText, IsBegun, IsDocument, Becomes, IsRefused, IsTextPart, LastGoesOn, PassesBehind, PassesText, ReadsTexts, TellsNoText, TextPart, bytes_of, bytes_of_texts, count_text, lines_of_texts, made_of_texts, style_of_fault, turn_behind_texts}
 use Rattle.dump_input.specs.Texts.{EndsGap, HasNoLine, IsOpen, IsTextOf, begins_line, first_position, position_behind, position_over, scanned, turn_behind_gap, turn_over}
 use Rattle.text_runs.specs.declared.cursor.Cursor.{Cursor}
 use Rattle.text_runs.specs.declared.cursor.NextText.{NextText}

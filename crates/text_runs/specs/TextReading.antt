@@ -1,7 +1,7 @@
 -- What reading an input of texts gives, where some of it is read ahead. No public contract cites this file.
 use Rattle.std.specs.Prelude.{◌≡◌, ◌⊎◌, ◌+◌, ◌^◌, ◌≤◌, ◌<◌, ℕ, List, [], ◌∷◌, ◌++◌, Bool, true, false, Option, None, Some, IfSome, drop, length, take}
 use Rattle.std.specs.Io.KnownBytes.{Consumes, IsAtEnd}
-use Rattle.dump_input.specs.Reading.{IsWindow, ReadsAhead, ahead_of}
+use Rattle.dump_input.specs.Reading.{IsWindow, ReadsAhead, ahead_of, offset_of}
 use Rattle.bson_from_json.specs.JsonReason.TheVariants as json
 use Rattle.dump_input.specs.Texts.{CantBe, HasBrace, HasNoLine, IsOpen, begins_line, may_begin, may_end, position_over, turn_behind, turn_over, ScansAhead}
 use Rattle.text_runs.specs.declared.cursor.Cursor.{Cursor}
@@ -13,7 +13,6 @@ use Rattle.text_runs.specs.declared.text_fault.TextReason.TheVariants as reason
 use Rattle.dump_input.specs.declared.turn.Turn.{Turn}
 use Rattle.dump_input.specs.declared.turn.Turn.TheVariants as turn
 use Rattle.bson_from_json.specs.JsonReason.{JsonReason}
-use Rattle.dump_input.specs.declared.scan.Scan.TheVariants as scan
 
 -- why not
 abbrev pub reason_between : Turn → JsonReason
@@ -25,7 +24,7 @@ reason_between _ = json.ExpectedDocument
 pub record LooksOn (old new : Option (List ℕ)) (cursor_old cursor_new : Cursor) : Type 0 where
   pub window : IsWindow cursor_new.window
   pub place : cursor_new.place ≡ cursor_old.place
-  pub offset : cursor_new.window.offset ≡ cursor_old.window.offset
+  pub offset : offset_of cursor_new.window ≡ offset_of cursor_old.window
   pub looks : ReadsAhead old new (ahead_of cursor_old.window) (ahead_of cursor_new.window)
 
 -- so it is, and so many bytes are ahead; or fewer, and the input is at its end
@@ -43,7 +42,7 @@ IsAhead new cursor (Some b) = (rest : List ℕ) × (ahead_of cursor.window ≡ b
 pub record Advances (old new : Option (List ℕ)) (cursor_old cursor_new : Cursor) (bytes : List ℕ) : Type 0 where
   pub window : IsWindow cursor_new.window
   pub place : cursor_new.place ≡ position_over cursor_old.place bytes
-  pub offset : cursor_new.window.offset ≡ cursor_old.window.offset + length bytes
+  pub offset : offset_of cursor_new.window ≡ offset_of cursor_old.window + length bytes
   pub is_read : (before : Option (List ℕ)) → Consumes before old (ahead_of cursor_old.window) → Consumes before new (bytes ++ ahead_of cursor_new.window)
 
 -- some bytes were passed, and others read
@@ -54,7 +53,7 @@ GoesOnTo old new cursor_old cursor_new = (bytes : List ℕ) × Advances old new 
 abbrev pub PassesAhead : (cursor_old cursor_new : Cursor) → ℕ → Type 0
 PassesAhead cursor_old cursor_new count =
     IsWindow cursor_new.window × (ahead_of cursor_new.window ≡ drop count (ahead_of cursor_old.window))
-    × (cursor_new.place ≡ position_over cursor_old.place (take count (ahead_of cursor_old.window))) × (cursor_new.window.offset ≡ cursor_old.window.offset + count)
+    × (cursor_new.place ≡ position_over cursor_old.place (take count (ahead_of cursor_old.window))) × (offset_of cursor_new.window ≡ offset_of cursor_old.window + count)
 
 -- what may be between documents was passed, up to a byte that can't be there
 pub record PassesBetween (old new : Option (List ℕ)) (cursor_old cursor_new : Cursor) (turn_old turn_new : Turn) (behind : Option ℕ) : Type 0 where

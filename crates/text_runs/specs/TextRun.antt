@@ -7,8 +7,8 @@ use Rattle.raw_tree.specs.WithinLimits.{ReadsWithin}
 use Rattle.bson_from_json.specs.Texts.{IsWritten, LeavesOpen, SaysNone}
 use Rattle.bson_from_json.specs.JsonReason.TheVariants as json
 use Rattle.dump_lines.specs.Find.{usual}
-use Rattle.dump_lines.specs.Fronts.{AppendsFront, HasFront}
-use Rattle.dump_input.specs.Reading.{IsWindow, ahead_of}
+use Rattle.dump_lines.specs.Fronts.{AppendsFront, HasFront, joined}
+use Rattle.dump_input.specs.Reading.{IsWindow, ahead_of, offset_of}
 use Rattle.dump_lines.specs.Failing.{IsReading}
 use Rattle.dump_lines.specs.Told.{with_left}
 use Rattle.text_runs.specs.TextFaults.{fault_line}
@@ -129,10 +129,6 @@ pub record IsTextPart (style : Style) (name : List ℕ) (input : Option (List �
 
 abbrev pub bytes_of_texts : List TextPart → List ℕ
 bytes_of_texts ps = flat_map bytes_of ps
-
--- the documents that are written, one behind the other
-abbrev pub joined : List (List ℕ) → List ℕ
-joined documents = flat_map (λ d. d) documents
 
 abbrev pub made_of_texts : List TextPart → List ℕ
 made_of_texts ps = flat_map (λ p. joined p.made) ps
@@ -269,7 +265,7 @@ pub record PassesText (style : Style) (name : List ℕ) (told : NextText) (curso
   pub lines : List ℕ
   pub ahead : ahead_of cursor_old.window ≡ text ++ ahead_of cursor_new.window
   pub place : cursor_new.place ≡ position_over cursor_old.place text
-  pub offset : cursor_new.window.offset ≡ cursor_old.window.offset + length text
+  pub offset : offset_of cursor_new.window ≡ offset_of cursor_old.window + length text
   pub is : Becomes style name cursor_old.place turn_old (ahead_of cursor_old.window) told what text made lines turn_new
   pub is_written : Appends out_old out_new (joined made)
   pub is_reported : Appends report_old report_new lines

@@ -2,7 +2,7 @@
 #![tactic(auto)]
 
 ghost use Rattle.std.specs.Prelude.{◌≡◌, ◌+◌, ◌≤◌, ◌<◌, ◌^◌, ◌⊎◌, [], length, IfErr, IfOk, OnErr, OnOk};
-ghost use Rattle.dump_input.specs.Reading.{IsWindow, ahead_of};
+ghost use Rattle.dump_input.specs.Reading.{IsWindow, ahead_of, offset_of};
 ghost use Rattle.dump_lines.specs.Failing.{IsReading};
 ghost use Rattle.text_runs.specs.TextReading.{FindsText, GoesOnTo, IsAhead, IsScanned, LooksFar, LooksOn, PassesAhead, PassesBetween, PassesGap, reason_between};
 ghost use Rattle.dump_input.specs.Texts.{IsFar, first_position};
@@ -45,7 +45,7 @@ impl Cursor {
         ensures window { IsWindow result.window }
         ensures nothing { ahead_of result.window ≡ [] }
         ensures place { result.place ≡ first_position }
-        ensures start { result.window.offset ≡ 0 }
+        ensures start { offset_of result.window ≡ 0 }
     {
         Cursor {
             window: Window::new(alloc),
@@ -78,7 +78,7 @@ impl Cursor {
     pub fn pass(&mut self, len: usize) -> Result<(), Failure>
         requires { IsWindow self.old.window × (len ≤ length (ahead_of self.old.window)) }
         ensures passed { OnOk result (PassesAhead self.old self.new len) }
-        ensures over { OnErr result ((2 ^ 64 ≤ self.old.window.offset + len) ⊎ IsFar self.old.place len) }
+        ensures over { OnErr result ((2 ^ 64 ≤ offset_of self.old.window + len) ⊎ IsFar self.old.place len) }
         ensures failed { IfErr result (λ failure. ¬ IsReading failure) }
     {
         self.place = self.place.over(&self.window.ahead()[..len])?;

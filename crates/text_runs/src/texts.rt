@@ -4,7 +4,7 @@
 ghost use Rattle.std.specs.Prelude.{◌≡◌, ◌≢◌, ◌⊎◌, ◌+◌, ◌^◌, ◌≤◌, ℕ, List, Option, [], length, take, IfErr, IfOk, MatchBool, OnErr, OnOk, true, false};
 ghost use Rattle.std.specs.Io.KnownBytes.{Appends};
 ghost use Rattle.dump_lines.specs.Fronts.{AppendsFront};
-ghost use Rattle.dump_input.specs.Reading.{IsWindow, ahead_of};
+ghost use Rattle.dump_input.specs.Reading.{IsWindow, ahead_of, offset_of};
 ghost use Rattle.dump_lines.specs.Failing.{IsReading};
 ghost use Rattle.text_runs.specs.TextFaults.{fault_line};
 ghost use Rattle.text_runs.specs.TextReading.{GoesOnTo, PassesAhead};
@@ -149,7 +149,7 @@ fn stops(keep_going: bool, went: Went) -> bool
 /// That reading failed, behind so many bytes.
 fn stopped(cursor: &Cursor, failure: Failure) -> Result<TextEnd, Failure>
     requires { IsReading failure → IsWindow cursor.now.window }
-    ensures stops { IfOk result (λ end. IsReading failure × FailsAt (cursor.now.window.offset + length (ahead_of cursor.now.window)) end) }
+    ensures stops { IfOk result (λ end. IsReading failure × FailsAt (offset_of cursor.now.window + length (ahead_of cursor.now.window)) end) }
     ensures failed { IfErr result (λ failure. ¬ IsReading failure) }
 {
     match failure {

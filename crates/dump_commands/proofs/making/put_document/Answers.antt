@@ -2,7 +2,8 @@ use Rattle.std.proofs.Common.{[], ◌∷◌, subst, sym}
 use Rattle.std.proofs.lemmas.Result.{IfOk-weaker}
 use Rattle.dump_lines.specs.Fronts.{AppendsFront}
 use Rattle.dump_commands.specs.Making.{Puts}
-use Rattle.dump_commands.specs.Unique.{knows, made_as, written_of}
+use Rattle.dump_kept.specs.Forms.{knows, made_as}
+use Rattle.dump_commands.specs.Unique.{written_of}
 use Rattle.dump_commands.specs.declared.command.Command.TheVariants.{Unique}
 use Rattle.dump_commands.specs.declared.command.Spelling.{Spelling}
 use Rattle.dump_lines.proofs.Face.{on_err}

@@ -37,4 +37,4 @@ returns g c =
     let new = g.D.Write.contents c.write_json.new.out in
     let same : bytes_of c.in-Ok.document ≡ b = c.in-Ok.ensures.same in
     let tells = subst (λ (x : List ℕ). TellsWriteError c.args.limits style x old new c.in-Err.field-0) same c.in-Err.ensures.err in
-    record { written = tt; front = json_failed c.args.limits style b old new c.in-Err.field-0 tells; paths = refl; failed = λ reading. reading }
+    record { written = tt; front = json_failed c.args.limits style b old new c.in-Err.field-0 tells; table = refl; failed = λ reading. reading }

@@ -5,7 +5,7 @@ use Rattle.bson_json.specs.Json.{IsJson}
 use Rattle.dump_lines.specs.Fronts.{AppendsFront, WritesFront}
 use Rattle.dump_elements.specs.Pick.{IsPicked}
 use Rattle.dump_commands.specs.Making.{IsPickedAs, IsPrinted}
-use Rattle.dump_commands.specs.Unique.{CountsOne}
+use Rattle.dump_kept.specs.Forms.{CountsOne}
 use Rattle.dump_lines.proofs.Face.{on_err, on_ok}
 use Rattle.dump_commands.proofs.Writing.{front_picked, is_picked_as}
 use Rattle.dump_commands.proofs.making.put_picked.Goals as goal
@@ -26,7 +26,7 @@ returns-in-None g c =
           (λ (put, counted). (document, is_picked_as picking None b document document c.in-None.is is refl, put, counted)) c.put_one.ensures.written;
       front = on_err c.put_one.result (AppendsFront old new document) (WritesFront (IsPickedAs picking b) old new)
           (λ front. front_picked picking None b document old new c.in-None.is is (inr (document, refl, front))) c.put_one.ensures.front;
-      paths = c.put_one.ensures.paths;
+      table = c.put_one.ensures.table;
       failed = c.put_one.ensures.failed;
     }
 
@@ -49,6 +49,6 @@ returns g c =
           c.put_json.ensures.written;
       front = on_err c.put_json.result (WritesFront (IsPrinted (Some style) document) old new) (WritesFront (IsPickedAs picking b) old new)
           (λ front. front_picked picking (Some style) b document old new c.in-Some.is is front) c.put_json.ensures.front;
-      paths = c.put_json.ensures.paths;
+      table = c.put_json.ensures.table;
       failed = c.put_json.ensures.failed;
     }

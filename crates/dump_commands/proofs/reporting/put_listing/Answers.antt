@@ -1,4 +1,4 @@
-use Rattle.std.proofs.Common.{rules, ◌≡◌, ◌++◌, ◌∙◌, [], List, ℕ, subst}
+use Rattle.std.proofs.Common.{rules, ◌≡◌, ◌++◌, ◌∙◌, List, ℕ, subst}
 use Rattle.std.specs.Io.KnownBytes.{Appends}
 use Rattle.std.specs.Option.{option_map}
 use Rattle.raw_view.specs.Document.{bytes_of}
@@ -6,7 +6,6 @@ use Rattle.raw_view.specs.Frame.Envelope.{IsEnvelope}
 use Rattle.dump_lines.specs.Find.{account_of}
 use Rattle.dump_elements.specs.Listing.{ListsDocument}
 use Rattle.dump_lines.specs.Told.{head_text, line}
-use Rattle.dump_lines.specs.Fronts.{AppendsFront}
 use Rattle.dump_commands.specs.Reporting.{ListsFront}
 use Rattle.dump_commands.proofs.Listed.{IsPartly, IsWritten, listed_behind, listed_nothing, lists_behind, lists_first}
 use Rattle.dump_lines.proofs.Face.{front_none, on_any, on_err, on_ok}

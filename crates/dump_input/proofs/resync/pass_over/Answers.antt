@@ -1,7 +1,6 @@
 use Rattle.std.proofs.Common.{◌≡◌, ◌+◌, ◌-◌, ◌<◌, ◌≤◌, ◌∙◌, [], ◌&&◌, add_assoc, arith, ap, length, refl, subst, sym, not}
 use Rattle.dump_input.specs.Reading.{ahead_of}
 use Rattle.raw_resync.specs.declared.search.Places.{Places}
-use Rattle.raw_resync.specs.declared.search.Sought.TheVariants as sought
 use Rattle.dump_lines.proofs.Face.{if_err_reading}
 use Rattle.dump_input.proofs.Skipping.{IsSearched, goes_ahead, not_true, passes_more, searched_none, searched_on, searched_to, seeks_ahead}
 use Rattle.dump_input.proofs.resync.pass_over.Goals as goal

@@ -2,10 +2,9 @@ use Rattle.std.proofs.Common.{◌≡◌, ◌∙◌, List, None, ap, subst, ℕ}
 use Rattle.std.proofs.KnownBytes.{Appends-trans}
 use Rattle.std.specs.Io.KnownBytes.{Appends}
 use Rattle.dump_lines.specs.Fronts.{AppendsFront}
-use Rattle.dump_commands.specs.Fields.{table_of, table_text, tabled}
+use Rattle.dump_kept.specs.Fields.{table_text, tabled}
 use Rattle.dump_commands.specs.Summary.{summary_line}
 use Rattle.dump_commands.specs.declared.command.Command.TheVariants as command
-use Rattle.dump_commands.specs.declared.paths.Paths.{Paths}
 use Rattle.dump_lines.proofs.Face.{front_behind, front_first, on_any, on_err, on_ok}
 use Rattle.dump_runs.proofs.batch.put_fields.Goals as goal
 
@@ -14,7 +13,7 @@ returns-in_err-put-clause-front g c =
     let w = g.W.Write.contents c.args.report.now in
     let w' = g.W.Write.contents c.put.new.writer in
     let text : c.deref.result.now ≡ table_text (tabled c.args.totals.now.kept) =
-    c.deref.ensures.value ∙ c.in_ok-lines.ensures.lines ∙ ap (λ (p : Paths). table_text (table_of p)) c.paths.ensures in
+    c.deref.ensures.value ∙ c.in_ok-lines.ensures.lines ∙ ap table_text c.paths.ensures in
     on_any _ _ (front_first w w' _ _ (subst (λ (x : List ℕ). AppendsFront w w' x) text c.in_err-put.ensures.front))
 
 pub returns-clause-written : goal.returns-clause-written
@@ -23,7 +22,7 @@ returns-clause-written g c =
     let w' = g.W.Write.contents c.put.new.writer in
     let w'' = g.W.Write.contents c.put_summary.new.report in
     let text : c.deref.result.now ≡ table_text (tabled c.args.totals.now.kept) =
-    c.deref.ensures.value ∙ c.in_ok-lines.ensures.lines ∙ ap (λ (p : Paths). table_text (table_of p)) c.paths.ensures in
+    c.deref.ensures.value ∙ c.in_ok-lines.ensures.lines ∙ ap table_text c.paths.ensures in
     let lines = subst (λ (x : List ℕ). Appends w w' x) text c.in_ok-put.ensures.written in
     on_ok c.put_summary.result _ _
     (λ put. Appends-trans w w' w'' _ _ lines
@@ -35,7 +34,7 @@ returns-clause-front g c =
     let w' = g.W.Write.contents c.put.new.writer in
     let w'' = g.W.Write.contents c.put_summary.new.report in
     let text : c.deref.result.now ≡ table_text (tabled c.args.totals.now.kept) =
-    c.deref.ensures.value ∙ c.in_ok-lines.ensures.lines ∙ ap (λ (p : Paths). table_text (table_of p)) c.paths.ensures in
+    c.deref.ensures.value ∙ c.in_ok-lines.ensures.lines ∙ ap table_text c.paths.ensures in
     let lines = subst (λ (x : List ℕ). Appends w w' x) text c.in_ok-put.ensures.written in
     on_err c.put_summary.result _ _
     (λ front. front_behind w w' w'' _ _ lines

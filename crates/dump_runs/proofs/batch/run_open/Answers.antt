@@ -3,7 +3,7 @@ use Rattle.dump_runs.specs.Batch.{IsRun, left_limit}
 use Rattle.dump_runs.specs.Portion.{EndsPortion, HaltsPortion}
 use Rattle.dump_runs.specs.Run.{style_at}
 use Rattle.dump_commands.specs.declared.counts.Counts.{Counts}
-use Rattle.dump_commands.specs.declared.kept.Kept.{Kept}
+use Rattle.dump_kept.specs.declared.kept.Kept.{Kept}
 use Rattle.dump_lines.proofs.Face.{on_any}
 use Rattle.dump_runs.proofs.Summing.{Ran, halts_run}
 use Rattle.dump_runs.proofs.batch.run_open.Goals as goal

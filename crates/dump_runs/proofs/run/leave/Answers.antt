@@ -2,8 +2,8 @@ use Rattle.std.proofs.Common.{rules, ◌≡◌, ◌+◌, ◌++◌, IfSome, inr, 
 use Rattle.std.specs.Io.KnownBytes.{Appends}
 use Rattle.dump_input.specs.Reading.{ahead_of}
 use Rattle.dump_commands.specs.Counting.{count_rest}
-use Rattle.dump_runs.specs.Endings.{ending_line}
-use Rattle.dump_runs.specs.declared.rest.Rest.TheVariants as rest
+use Rattle.dump_input.specs.Endings.{ending_line}
+use Rattle.dump_input.specs.declared.rest.Rest.TheVariants as rest
 use Rattle.dump_lines.specs.declared.failure.ReadFailure.{ReadFailure}
 use Rattle.dump_lines.proofs.Face.{front_whole, on_any}
 use Rattle.dump_runs.proofs.run.leave.Goals as goal

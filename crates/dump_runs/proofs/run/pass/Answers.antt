@@ -6,7 +6,7 @@ use Rattle.dump_lines.specs.declared.origin.Origin.{Origin}
 use Rattle.dump_commands.specs.Making.{Places}
 use Rattle.dump_commands.specs.Reporting.{lines_of_repeats}
 use Rattle.dump_lines.specs.Origins.{origin_at, origin_of}
-use Rattle.dump_commands.specs.Unique.{origins_of, repeat_at}
+use Rattle.dump_kept.specs.Forms.{origins_of, repeat_at}
 use Rattle.dump_commands.proofs.Face.{writes_kept}
 use Rattle.dump_runs.proofs.Writing.{counts_kept}
 use Rattle.dump_lines.proofs.Face.{front_whole, on_any}
@@ -56,7 +56,7 @@ returns-clause-passed g c =
     let written = writes_kept asked.command made (g.D.Write.contents c.args.out.now) (g.D.Write.contents c.emit.new.out) k k' k'' writes (count, forms) in
     let first = option_map origin_of c.in_ok-first.first in
     let placed : Places asked.command (origin_at asked.name.now c.args.offset) made k k'' first = record { placed = ap origins_of forms ∙ places.placed; repeats = places.repeats } in
-    let counted = counts_kept asked.limits asked.command (origin_at asked.name.now c.args.offset) c.args.bytes.now found.finding k k' k'' c.emit.ensures.paths c.in_ok-count_fields.ensures.counted in
+    let counted = counts_kept asked.limits asked.command (origin_at asked.name.now c.args.offset) c.args.bytes.now found.finding k k' k'' c.emit.ensures.table c.in_ok-count_fields.ensures.counted in
     (search rules, ((_, c.in_ok-found.ensures, (made, makes, written, (first, placed, c.is_some.ensures ∙ some_mapped c.in_ok-first.first, (lines, reports, put)))), counted))
 
 -- all of it was written and reported before the elements were to be counted

@@ -7,10 +7,8 @@ use Rattle.dump_commands.specs.declared.counts.Counts.{Counts}
 use Rattle.dump_runs.specs.declared.run.Asked.{Asked}
 use Rattle.dump_input.specs.declared.window.Next.{Next}
 use Rattle.raw_resync.specs.Seeking.{IsWork, no_work}
-use Rattle.dump_runs.proofs.Portioning.{goes_none}
-use Rattle.dump_input.specs.declared.window.Next.TheVariants as next
 use Rattle.dump_runs.proofs.Choosing.{chosen_front, chosen_gap, chosen_piece, documents_between, halts_first, halts_portion, has_failed, stops_enough, stops_portion, where_false, where_true}
-use Rattle.dump_input.proofs.Face.{goes_ahead, passes_none}
+use Rattle.dump_input.proofs.Face.{goes_ahead, goes_none, passes_none}
 use Rattle.dump_lines.proofs.Face.{if_ok, on_any}
 use Rattle.dump_runs.proofs.Halting.{halts_gap, halts_here, halts_next}
 use Rattle.dump_runs.proofs.Passing.{has_passed_ahead, has_passed_front, has_passed_gap, has_passed_same, has_passed_none}

@@ -1,7 +1,7 @@
 use Rattle.std.proofs.Common.{ℕ, inr, subst}
 use Rattle.std.specs.Io.KnownBytes.{Appends}
-use Rattle.dump_runs.specs.Endings.{ending_line}
-use Rattle.dump_runs.specs.declared.rest.Rest.TheVariants as rest
+use Rattle.dump_input.specs.Endings.{ending_line}
+use Rattle.dump_input.specs.declared.rest.Rest.TheVariants as rest
 use Rattle.dump_lines.proofs.Face.{front_whole, on_any}
 use Rattle.dump_runs.proofs.run.pass_gap.Goals as goal
 

@@ -1,0 +1,5 @@
+mod Digesting
+mod Tabled
+mod Prefixes
+pub mod Known
+pub mod Face

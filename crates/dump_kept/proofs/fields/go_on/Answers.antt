@@ -1,0 +1,34 @@
+use Rattle.std.proofs.Common.{◌≡◌, ◌+◌, ◌++◌, ◌∙◌, List, ap, sym, take, ℕ}
+use Rattle.dump_kept.specs.Fields.{Around, path_of}
+use Rattle.dump_lines.proofs.Face.{on_ok}
+use Rattle.dump_kept.proofs.Prefixes.{gone_on, innermost_left, last_of}
+use Rattle.dump_kept.proofs.fields.go_on.Goals as goal
+
+pub returns-clause-levels : goal.returns-clause-levels
+returns-clause-levels c =
+    let few = c.truncate.new.self.items in
+    let last : c.innermost-level.result ≡ last_of few = c.innermost-level.ensures ∙ ap last_of c.deref.ensures.value in
+    on_ok c.push_bytes.result _ _
+    (λ put. (gone_on c.args.path.now.items c.push_bytes.new.text.items c.truncate-2.new.self.items c.step.result.now c.args.levels.now.items few
+    (c.args.token.depth + 1) c.requires c.truncate.ensures.items last c.truncate-2.ensures.items put).0) c.push_bytes.ensures
+
+pub returns-clause-kept : goal.returns-clause-kept
+returns-clause-kept c =
+    let few = c.truncate.new.self.items in
+    let last : c.innermost-level.result ≡ last_of few = c.innermost-level.ensures ∙ ap last_of c.deref.ensures.value in
+    on_ok c.push_bytes.result _ _
+    (λ put. (gone_on c.args.path.now.items c.push_bytes.new.text.items c.truncate-2.new.self.items c.step.result.now c.args.levels.now.items few
+    (c.args.token.depth + 1) c.requires c.truncate.ensures.items last c.truncate-2.ensures.items put).1) c.push_bytes.ensures
+
+pub returns-clause-path : goal.returns-clause-path
+returns-clause-path c =
+    let few = c.truncate.new.self.items in
+    let path = c.args.path.now.items in
+    let levels = c.args.levels.now.items in
+    let t = c.args.token in
+    let level = c.innermost-level.result in
+    let last : level ≡ last_of few = c.innermost-level.ensures ∙ ap last_of c.deref.ensures.value in
+    let around = innermost_left path levels few level (t.depth + 1) c.truncate.ensures.items last in
+    on_ok c.push_bytes.result _ _
+    (λ put. put ∙ ap (λ (cut : List ℕ). cut ++ c.step.result.now) c.truncate-2.ensures.items ∙ ap (λ (s : List ℕ). take level.prefix path ++ s) c.step.ensures
+    ∙ sym (ap (λ (a : Around). path_of c.args.bytes.now a t) around)) c.push_bytes.ensures
