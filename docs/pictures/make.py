@@ -191,6 +191,7 @@ GIVES = {
     "dump_commands": "what each command makes of a document",
     "dump_runs": "runs over dumps",
     "text_runs": "runs over texts",
+    "dump_tasks": "what a command line asks for",
     "bsonraw_dump": "the program for dumps",
     "bsonraw_c": "the library for C, and so for Python and Rust",
     "bson_uses": "proved callers, to copy from",

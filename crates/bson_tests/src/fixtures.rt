@@ -1,4 +1,4 @@
-//! What the tests share: besides what `view_tests` has, breaches, levels, and an owned value of each kind.
+//! What the tests share: besides what `view_fixtures` has, breaches, levels, and an owned value of each kind.
 
 mod breaches;
 mod levels;
@@ -11,10 +11,10 @@ pub use levels::{
 };
 pub use owned_values::{array_of, document_of, is_same, owned, tree_of};
 pub use required::{require_row, view, view_of_array};
-pub use view_tests::fixtures::{
+pub(crate) use view_fixtures::let_go;
+pub use view_fixtures::{
     ALL_KINDS, BOOLEAN_TWO, Checks, EMPTY, GREETING, KINDS, NESTED_STOP, OLD_BINARY, ONE_INT32,
     REPEATED_KEY, SWALLOWED_TERMINATOR, SWALLOWED_TERMINATOR_PUSHED, THREE_INT32, TWO_AT_A,
     borrowed, first_element, has_debug_text, has_texts, is_fault, is_printed, is_refused, is_said,
     one_if, one_if_got,
 };
-pub(crate) use view_tests::let_go;

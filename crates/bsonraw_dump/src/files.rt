@@ -1,8 +1,7 @@
 //! Runs a command over files.
 #![tactic(auto)]
 
-use crate::args::{Task, parsed};
-use crate::reading::Reading;
+use crate::version::VERSION;
 use dump_cli::{Prompt, Words, copied, expanded, given_words};
 use dump_files::files::{Files, Unread, are_one, node_of};
 use dump_files::findings::Findings;
@@ -14,11 +13,25 @@ use dump_lines::failure::Failure;
 use dump_lines::find::most_allowed;
 use dump_lines::style::Style;
 use dump_runs::{Command, run_all};
+use dump_tasks::{Reading, Task, parsed};
 use std::alloc::{AllocError, Global};
 use std::fs::File;
 use std::io;
 use std::io::{BufWriter, ErrorKind, IsTerminal, Write};
 use text_runs::run_texts;
+
+/// What is asked of inputs.
+#[derive(Drop)]
+struct Run<'a> {
+    /// what they hold, and what is asked of them
+    reading: Reading<'a>,
+    /// the file that is written in place of standard output
+    output: Option<&'a str>,
+    /// what is read; `-` is standard input
+    inputs: Vec<&'a str>,
+    /// which of them can't be opened
+    unread: Unread<'a>,
+}
 
 /// Does what the arguments ask for.
 pub fn all(rt: &HostRuntime) -> Status {
@@ -29,7 +42,7 @@ pub fn all(rt: &HostRuntime) -> Status {
     if let Some(wrong) = &words.wrong {
         return misplaced(rt, wrong.as_str());
     }
-    match parsed(rt.alloc(), &words.words) {
+    match parsed(rt.alloc(), VERSION, &words.words) {
         Ok(Some(task)) => with_words(rt, &task, &words),
         Ok(None) => Status::Usage,
         Err(error) if error.use_stderr() => refused(rt, &words, &error),
@@ -50,7 +63,7 @@ fn refused(rt: &HostRuntime, words: &Words, error: &clap::Error) -> Status {
         tell_words(rt, Style::Words, "not enough memory");
         return Status::Memory;
     };
-    match parsed(rt.alloc(), &shown) {
+    match parsed(rt.alloc(), VERSION, &shown) {
         Err(error) => printed(rt, &error, Status::Usage),
         Ok(_) => {
             tell_words(
@@ -102,7 +115,7 @@ fn with_names(rt: &HostRuntime, task: &Task<'_>, words: &Words) -> Result<Status
     }
     Ok(start(
         rt,
-        &Task {
+        &Run {
             reading: task.reading,
             output: task.output,
             inputs,
@@ -114,27 +127,27 @@ fn with_names(rt: &HostRuntime, task: &Task<'_>, words: &Words) -> Result<Status
     ))
 }
 
-/// Does a task.
-fn start(rt: &HostRuntime, task: &Task<'_>) -> Status {
-    if let Some(name) = task.output {
-        return into_file(rt, task, name);
+/// Does what is asked of these inputs.
+fn start(rt: &HostRuntime, run: &Run<'_>) -> Status {
+    if let Some(name) = run.output {
+        return into_file(rt, run, name);
     }
-    if task.reading.writes_documents() && rt.stdout().is_terminal() {
+    if run.reading.writes_documents() && rt.stdout().is_terminal() {
         let words = "standard output is a terminal; redirect it, or name an OUTPUT by -o";
-        tell_words(rt, task.reading.style(), words);
+        tell_words(rt, run.reading.style(), words);
         return Status::Usage;
     }
     let Ok(mut out) = BufWriter::with_capacity(rt.alloc(), BLOCK, rt.stdout()) else {
-        tell_words(rt, task.reading.style(), "not enough memory");
+        tell_words(rt, run.reading.style(), "not enough memory");
         return Status::Memory;
     };
-    match task.reading.command() {
+    match run.reading.command() {
         Some(Command::Check | Command::Count | Command::Fields) => {
             let is_file = node_of(rt, "/dev/stdout").is_some();
             let mut out = Prompt::new(rt, out, !is_file);
-            each(rt, task, &mut io::sink(), &mut out).status
+            each(rt, run, &mut io::sink(), &mut out).status
         }
-        Some(Command::List) => each(rt, task, &mut io::sink(), &mut out).status,
+        Some(Command::List) => each(rt, run, &mut io::sink(), &mut out).status,
         Some(
             Command::Canon
             | Command::Sound
@@ -147,12 +160,12 @@ fn start(rt: &HostRuntime, task: &Task<'_>) -> Status {
                 writer: rt.stderr(),
                 is_apart: !are_one(rt, "/dev/stdout", "/dev/stderr"),
             };
-            each(rt, task, &mut out, &mut findings).status
+            each(rt, run, &mut out, &mut findings).status
         }
     }
 }
 
-impl<'a> Fill<'a> for Task<'a> {
+impl<'a> Fill<'a> for Run<'a> {
     fn style(&self) -> Style {
         self.reading.style()
     }
@@ -173,35 +186,35 @@ impl<'a> Fill<'a> for Task<'a> {
 /// Runs the command over each input, and tells a failure.
 fn each<'a, D: Write, W: Write>(
     rt: &HostRuntime,
-    task: &Task<'a>,
+    run: &Run<'a>,
     data: &mut D,
     report: &mut W,
 ) -> Done<'a> {
-    let inputs = files_of(&*rt, &*task);
-    let done = match task.reading {
-        Reading::Dumps(job) => run_all(rt.alloc(), job, &inputs, &task.inputs, data, report),
-        Reading::Texts(job) => run_texts(rt.alloc(), job, &inputs, &task.inputs, data, report),
+    let inputs = files_of(&*rt, &*run);
+    let done = match run.reading {
+        Reading::Dumps(job) => run_all(rt.alloc(), job, &inputs, &run.inputs, data, report),
+        Reading::Texts(job) => run_texts(rt.alloc(), job, &inputs, &run.inputs, data, report),
     };
     if let Some(Lack::Failed(failure)) = &done.lack {
-        tell_failure(rt, task, failure);
+        tell_failure(rt, run, failure);
     }
     done
 }
 
-fn files_of<'a>(rt: &'a HostRuntime, task: &'a Task<'_>) -> Files<'a> {
-    let is_redirected = task.output.is_none();
+fn files_of<'a>(rt: &'a HostRuntime, run: &'a Run<'_>) -> Files<'a> {
+    let is_redirected = run.output.is_none();
     let is_apart = matches!(
-        task.reading.command(),
+        run.reading.command(),
         Some(Command::Check | Command::Count | Command::Fields)
     ) || !is_redirected
         || !rt.stdout().is_terminal();
     Files {
         rt,
-        style: task.reading.style(),
+        style: run.reading.style(),
         shows: is_apart
             && rt.stderr().is_terminal()
-            && !matches!(task.reading.style(), Style::Quiet),
-        most: match task.reading {
+            && !matches!(run.reading.style(), Style::Quiet),
+        most: match run.reading {
             Reading::Dumps(job) => Some(job.limits.bytes.max(most_allowed().bytes)),
             Reading::Texts(_) => None,
         },
@@ -211,20 +224,20 @@ fn files_of<'a>(rt: &'a HostRuntime, task: &'a Task<'_>) -> Files<'a> {
             None
         },
         unread: Unread {
-            names: task.unread.names,
-            words: task.unread.words,
+            names: run.unread.names,
+            words: run.unread.words,
         },
     }
 }
 
 /// Tells why a run failed. A pipe whose reader is gone ends it quietly.
-fn tell_failure(rt: &HostRuntime, task: &Task<'_>, failure: &Failure) {
-    let style = task.reading.style();
+fn tell_failure(rt: &HostRuntime, run: &Run<'_>, failure: &Failure) {
+    let style = run.reading.style();
     match failure {
         Failure::Memory => tell_words(rt, style, "not enough memory"),
         Failure::Writing(error) | Failure::Reading(error) => {
             if error.kind() != ErrorKind::BrokenPipe {
-                let output = task.output.unwrap_or("standard output");
+                let output = run.output.unwrap_or("standard output");
                 tell(rt, style, output, None, error);
             }
         }

@@ -1,9 +1,7 @@
 //! Checks dumps, files of BSON documents one behind the other, and writes their documents anew.
 #![tactic(auto)]
 
-mod args;
 mod files;
-mod reading;
 mod version;
 
 use std::process::ExitCode;

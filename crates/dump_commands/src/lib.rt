@@ -4,6 +4,7 @@
 pub mod command;
 pub mod counts;
 pub mod finding;
+pub mod job;
 pub mod making;
 pub mod reporting;
 mod summary;

@@ -9,7 +9,7 @@ use Rattle.dump_runs.specs.Portion.{EndsPortion, HaltsPortion}
 use Rattle.dump_commands.specs.Counting.{no_counts, plus}
 use Rattle.dump_runs.specs.Status.{IsFailureStatus, IsStatus}
 use Rattle.dump_input.specs.declared.done.Cut.{Cut}
-use Rattle.dump_runs.specs.declared.batch.Job.{Job}
+use Rattle.dump_commands.specs.declared.job.Job.{Job}
 use Rattle.dump_input.specs.declared.done.Lack.{Lack}
 use Rattle.dump_input.specs.declared.done.Lack.TheVariants as lack
 use Rattle.dump_runs.specs.declared.batch.Totals.{Totals}

@@ -11,7 +11,7 @@ use Rattle.dump_runs.specs.Status.{IsFailureStatus, IsStatus}
 use Rattle.dump_commands.specs.Summary.{summary_line}
 use Rattle.dump_kept.specs.Forms.{firsts_of, knows, no_firsts, written_count}
 use Rattle.dump_input.specs.declared.done.Done.{Done}
-use Rattle.dump_runs.specs.declared.batch.Job.{Job}
+use Rattle.dump_commands.specs.declared.job.Job.{Job}
 use Rattle.dump_input.specs.declared.done.Lack.{Lack}
 use Rattle.dump_input.specs.declared.done.Lack.TheVariants as lack
 use Rattle.dump_runs.specs.declared.batch.Totals.{Totals}

@@ -15,39 +15,16 @@ ghost use Rattle.dump_runs.specs.Status.{HasDamage, IsFailureStatus, IsStatus};
 use crate::run::{Asked, run};
 use dump_commands::command::Command;
 use dump_commands::counts::Counts;
+use dump_commands::job::Job;
 use dump_commands::reporting::put_summary;
 use dump_input::done::{Cut, Done, Lack, flush};
 use dump_input::inputs::Inputs;
-use dump_input::portion::Portion;
 use dump_input::status::Status;
 use dump_kept::kept::Kept;
 use dump_lines::failure::{Failure, in_range};
-use dump_lines::style::Style;
 use dump_lines::write::put;
-use raw_tree::Limits;
 use std::alloc::Global;
 use std::io::{ErrorKind, Write};
-
-/// What is asked of inputs.
-#[derive(Clone, Copy)]
-pub struct Job<'a> {
-    /// what is asked of their documents
-    pub command: Command<'a>,
-    /// how what is found is printed
-    pub style: Style,
-    /// whether bytes are passed over where no document begins
-    pub resync: bool,
-    /// what a document may cost
-    pub limits: Limits,
-    /// which documents of each are asked for
-    pub portion: Portion,
-    /// whether documents that repeat the form of another are told
-    pub repeats: bool,
-    /// of how many paths elements are counted at most
-    pub paths: usize,
-    /// at most so many findings are printed
-    pub limit: Option<u64>,
-}
 
 /// What came of the inputs so far.
 #[derive(Drop)]

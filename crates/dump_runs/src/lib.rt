@@ -4,5 +4,6 @@
 mod batch;
 mod run;
 
-pub use batch::{Job, run_all};
+pub use batch::run_all;
 pub use dump_commands::command::{Command, Picking, Spelling};
+pub use dump_commands::job::Job;

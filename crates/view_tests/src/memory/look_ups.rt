@@ -1,5 +1,6 @@
 use crate::fixtures::*;
 use crate::required::view;
+use crate::tables::{rows_of_getters, rows_to_a_key};
 use raw_view::{
     RawArray, RawBsonRef, RawDocument, Result, ValueAccessErrorKind, ValueAccessResult,
 };
@@ -13,8 +14,8 @@ use std::test::Fail;
 #[test]
 fn rows_or_out_of_memory(rt: HostRuntime) {
     let checks = Checks::refusable(rt.alloc());
-    checks.rows_to_a_key(&rt);
-    checks.rows_of_getters(&rt);
+    rows_to_a_key(checks, &rt);
+    rows_of_getters(checks, &rt);
 }
 
 /// Whether the result is out of memory, with the empty key, and its text says so.

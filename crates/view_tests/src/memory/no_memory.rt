@@ -1,5 +1,6 @@
 use crate::fixtures::*;
 use crate::required::{view, view_of_array};
+use crate::tables::{rows_without_a_key, values_of_getters};
 use raw_view::{ElementType, RawArray, RawDocument};
 use std::alloc::Global;
 use std::process::Abort;
@@ -27,9 +28,9 @@ fn is_framed(alloc: Global, greeting: RawDocument<'_>) -> bool {
 #[test]
 fn reading_takes_no_memory(rt: HostRuntime) {
     let checks = Checks::ample(rt.alloc());
-    checks.rows_without_a_key(&rt);
+    rows_without_a_key(checks, &rt);
     assert!(rt;
-        checks.values_of_getters(view(&rt, ALL_KINDS)) == 24
+        values_of_getters(checks, view(&rt, ALL_KINDS)) == 24
             && is_framed(rt.alloc(), view(&rt, GREETING))
             && are_found(
                 rt.alloc(),

@@ -2,26 +2,17 @@
 #![tactic(auto)]
 
 use crate::reading::Reading;
-use crate::version::VERSION;
 use clap::{ArgMatches, Error};
 use dump_cli::command_line;
-use dump_files::files::Unread;
+use dump_commands::command::{Command, Picking, Spelling};
+use dump_commands::job::Job;
 use dump_input::portion::Portion;
 use dump_lines::find::most_allowed;
 use dump_lines::style::Style;
-use dump_runs::{Command, Job, Picking, Spelling};
 use raw_tree::Limits;
 use std::alloc::Global;
 use text_runs::TextJob;
 use values_to_json::{Format, Layout, Style as JsonStyle};
-
-/// Which inputs can't be opened: none, as far as the arguments tell.
-fn none_unread<'a>() -> Unread<'a> {
-    Unread {
-        names: &[],
-        words: "",
-    }
-}
 
 /// What the arguments ask for.
 #[derive(Drop)]
@@ -32,8 +23,6 @@ pub struct Task<'a> {
     pub output: Option<&'a str>,
     /// what is read; nothing and `-` are standard input
     pub inputs: Vec<&'a str>,
-    /// which inputs can't be opened
-    pub unread: Unread<'a>,
 }
 
 /// Elements of so many paths are counted where no number is given.
@@ -145,7 +134,6 @@ fn task_of<'a>(
         }),
         output,
         inputs: inputs_of(alloc, matches)?,
-        unread: none_unread(),
     })
 }
 
@@ -170,7 +158,6 @@ fn text_task<'a>(alloc: Global, matches: &ArgMatches<'a>) -> Result<Task<'a>, Er
         }),
         output: matches.get_str("output").filter(|name| *name != "-"),
         inputs: inputs_of(alloc, matches)?,
-        unread: none_unread(),
     })
 }
 
@@ -202,8 +189,12 @@ fn task_in<'a>(alloc: Global, matches: &ArgMatches<'a>) -> Result<Option<Task<'a
     Ok(Some(task))
 }
 
-/// What the words of a command line ask for.
-pub fn parsed<'a>(alloc: Global, words: &'a [String]) -> Result<Option<Task<'a>>, Error> {
-    let matches = command_line(alloc, VERSION)?.try_get_matches_from(words)?;
+/// What the words of a command line ask for, of the program of this version.
+pub fn parsed<'a>(
+    alloc: Global,
+    version: &'a str,
+    words: &'a [String],
+) -> Result<Option<Task<'a>>, Error> {
+    let matches = command_line(alloc, version)?.try_get_matches_from(words)?;
     task_in(alloc, &matches)
 }

@@ -2,14 +2,15 @@
 #![tactic(auto)]
 
 ghost use Rattle.std.specs.Prelude.{◌≡◌, MatchBool, MatchOption};
-ghost use Rattle.bsonraw_dump.specs.Asked as says;
-ghost use Rattle.bsonraw_dump.specs.Asked.{WritesBson, WritesNoBson};
-ghost use Rattle.dump_runs.specs.declared.batch.Job.{Job};
-ghost use Rattle.bsonraw_dump.specs.declared.reading.Reading.TheVariants.{Dumps, Texts};
+ghost use Rattle.dump_tasks.specs.Asked as says;
+ghost use Rattle.dump_tasks.specs.Asked.{WritesBson, WritesNoBson};
+ghost use Rattle.dump_commands.specs.declared.job.Job.{Job};
+ghost use Rattle.dump_tasks.specs.declared.reading.Reading.TheVariants.{Dumps, Texts};
 ghost use Rattle.text_runs.specs.declared.texts_batch.TextJob.{TextJob};
 
+use dump_commands::command::Command;
+use dump_commands::job::Job;
 use dump_lines::style::Style;
-use dump_runs::{Command, Job};
 use text_runs::TextJob;
 
 /// What the inputs of a run hold, and what is asked of them.

@@ -1,7 +1,7 @@
 -- What is asked of the inputs of a run: how it is told what is found in them, and what is written.
 use Rattle.std.specs.Prelude.{ℕ, List, codes}
-use Rattle.bsonraw_dump.specs.declared.reading.Reading.{Reading}
-use Rattle.bsonraw_dump.specs.declared.reading.Reading.TheVariants as reading
+use Rattle.dump_tasks.specs.declared.reading.Reading.{Reading}
+use Rattle.dump_tasks.specs.declared.reading.Reading.TheVariants as reading
 use Rattle.dump_lines.specs.declared.style.Style.{Style}
 use Rattle.dump_commands.specs.Binary.{MakesBson, MakesNoBson}
 
