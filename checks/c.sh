@@ -1,7 +1,7 @@
 #!/bin/sh
 # The C library as bin/install puts it into a folder, used from C. The compiler and the C library are the kit's, with headers
 # of the tests' own, so that nothing else has to be there. Where the machine has a compiler and headers, pkg-config or a
-# formatter of manual pages, it is tried with these too; what was left out since one is missing is said in the last line.
+# formatter of manual pages, it is tried with these too; what was skipped since one is missing is said in the last line.
 #
 #   checks/c.sh [PREFIX]     PREFIX: where bin/install put the library; without it, that is done first
 #
@@ -23,12 +23,8 @@ ulimit -c 0 # a test that fails may abort, and leaves no core file
 me=c
 prefix=${1-$work/prefix}
 pages='README.md CONTRIBUTING.md docs/*.md examples/*.md'
-skipped=
+. checks/skips.sh
 . checks/c_programs.sh
-
-skip() {
-    skipped="$skipped${skipped:+, }$1"
-}
 
 # All functions of the header, one a line: these, those for daily use, and the inline ones, which the library exports, too.
 declared() {
@@ -258,7 +254,7 @@ run_tests() {
 # Where an emulator is there, a part of the comparison on processors that lack SSSE3 and SSE4.1, for which there is a build of its own.
 look_at_old_processors() {
     if ! command -v qemu-x86_64 >/dev/null; then
-        skip "processors without SSE4.1, since qemu-x86_64 isn't there"
+        skip "processors without SSE4.1 (qemu-user)"
         return
     fi
     for processor in qemu64 core2duo; do
@@ -288,7 +284,7 @@ fuzz() {
             2>/dev/null && break
     done
     if [ ! -x "$work/fuzzer" ]; then
-        skip "the fuzzer, since no clang has libFuzzer"
+        skip "the fuzzer (clang, libclang-rt-14-dev)"
         return
     fi
     mkdir "$work/seeds" && (cd "$work/seeds" && split -l 1 -a 3 - text) <c/tests/fuzz/texts.txt
@@ -316,7 +312,7 @@ compile_as_shown() {
 # Where libbson is there: documents that are built and read beside it.
 run_beside() {
     if ! pkg-config --exists libbson-1.0 2>/dev/null; then
-        skip libbson
+        skip "libbson (libbson-dev)"
         return
     fi
     for name in build_beside beside; do

@@ -6,10 +6,8 @@
 set -u
 
 cd "$(dirname "$(realpath "$0")")/.." || exit 1
-if ! command -v cc >/dev/null; then
-    echo "from_json.sh: nothing is tried, since cc isn't there"
-    exit 0
-fi
+. checks/skips.sh
+command -v cc >/dev/null || skip_all "a C compiler (gcc)"
 work=$(mktemp -d) || exit 1
 trap 'rm -rf "$work"' EXIT
 count=20000

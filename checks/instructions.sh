@@ -6,10 +6,8 @@
 # the counts, and what the C library of the machine has for memory.
 set -u
 cd "$(dirname "$(realpath "$0")")/.." || exit 1
-if ! command -v valgrind >/dev/null; then
-    echo "instructions.sh: valgrind isn't there: no instructions are counted"
-    exit 0
-fi
+. checks/skips.sh
+command -v valgrind >/dev/null || skip_all "valgrind"
 write=
 [ "${1-}" != --write ] || { write=1 && shift; }
 work=$(mktemp -d) || exit 1

@@ -3,16 +3,14 @@
 # values, relaxed and canonical, and says how long both take for a typical document. The seed of the documents is drawn, and said;
 # SEED sets it. PROGRAM is the proved one of
 # crates/bsonraw_dump unless it is given. checks/json_documents.py makes the documents and names each kind of difference with the
-# rule that settles it; any other is a failure. Debian's libbson-dev has libbson; where it isn't, nothing is compared.
+# rule that settles it; any other is a failure. Debian's libbson-dev has libbson; where it isn't, the script is skipped.
 # json_util.dumps is measured, too, where PYTHON, python3 unless it is given, has MongoDB's package.
 set -u
 
 root=$(dirname "$(dirname "$(realpath "$0")")")
+. "$root/checks/skips.sh"
+pkg-config --exists libbson-1.0 2>/dev/null && command -v cc >/dev/null || skip_all "libbson (libbson-dev, pkg-config, gcc)"
 program=$(realpath "${1:-$root/crates/bsonraw_dump/out/bsonraw_dump}")
-if ! pkg-config --exists libbson-1.0 || ! command -v cc >/dev/null; then
-    echo "json.sh: nothing is compared, since libbson-dev or cc isn't there"
-    exit 0
-fi
 work=$(mktemp -d) || exit 1
 trap 'rm -rf "$work"' EXIT
 seed=${SEED:-$(od -An -N3 -tu4 /dev/urandom | tr -d " ")}

@@ -10,6 +10,7 @@ trap 'rm -rf "$work"' EXIT
 ulimit -c 0 # a test that fails may abort, and leaves no core file
 me=mistakes
 prefix=${1-$work/prefix}
+. checks/skips.sh
 . checks/c_programs.sh
 
 # The tests notice each mistake of c/tests/wrong.c, which calls the right functions under other names.
@@ -110,5 +111,5 @@ if build documents $programs print; then
 else
     fails "the tests don't compile"
 fi
-[ -n "$has_cxx" ] || echo "mistakes: left out: bsonraw.hpp, since there is no C++ compiler"
+[ -n "$has_cxx" ] || skip "bsonraw.hpp, without a C++ compiler (g++)"
 exit "$failed"

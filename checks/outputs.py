@@ -356,7 +356,10 @@ def main(words: List[str]) -> int:
         ):
             trial(runs)
     for what in left_out:
-        print("outputs: left out:", what)
+        print("outputs: skipped:", what)
+        if "SKIPS" in os.environ:
+            with open(os.environ["SKIPS"], "a", encoding="utf-8") as skips:
+                skips.write(f"outputs: {what}\n")
     return 1 if failed else 0
 
 

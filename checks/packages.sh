@@ -17,7 +17,7 @@
 # nothing. The Python package is built there from its source, over the library's packages. Debian 11 has an older C library than the
 # programs need, and an older Python than the wheel.
 #
-# What was left out since a tool is missing is said in the last line.
+# What was skipped since a tool is missing is said in the last line.
 set -u
 cd "$(dirname "$(realpath "$0")")/.." || exit 1
 . checks/debian.sh
@@ -34,16 +34,12 @@ debs=$work/debs # where the Debian packages are unpacked
 lanes=
 made=$work/made
 made_for_arm=$work/made_for_arm
-skipped=
+. checks/skips.sh
 failed=0
 
 fails() {
     echo "packages: $*" >&2
     failed=1
-}
-
-skip() {
-    skipped="$skipped${skipped:+, }$1"
 }
 
 # lane TRY..: runs these one after the other, beside what else runs, in a shell with a scratch folder of its own
@@ -60,12 +56,12 @@ lane() {
     echo $! >"$work/$1.process"
 }
 
-# join: waits for the lanes, and tells what they wrote and what they left out
+# join: waits for the lanes, and says what they wrote and what they skipped
 join() {
     for name in $lanes; do
         wait "$(cat "$work/$name.process")" || failed=1
         cat "$work/$name.said" >&2
-        [ ! -s "$work/$name/skipped" ] || skip "$(cat "$work/$name/skipped")"
+        [ ! -s "$work/$name/skipped" ] || skipped="$skipped${skipped:+, }$(cat "$work/$name/skipped")"
     done
     lanes=
 }
@@ -122,23 +118,23 @@ makes() {
 }
 
 try_record() {
-    well='bin/test 5 passed, 0 failed'
+    well='bin/test 5 passed, 0 failed, 0 skipped'
     copy "$work/copy" || exit 1
     refuses "nothing says that bin/test passed"
     refuses "nothing says that checks/arm.sh passed" "--target aarch64"
     record "$work/copy" passed "$well"
     sed -i 's/^commit ./commit x/' "$work/copy/out/passed"
     refuses "bin/test passed for another commit"
-    record "$work/copy" passed 'bin/test 5 passed, 1 failed'
+    record "$work/copy" passed 'bin/test 5 passed, 1 failed, 0 skipped'
     refuses "one of bin/test's parts failed"
     record "$work/copy" passed 'bin/test'
     refuses "bin/test has no result"
     record "$work/copy" passed "$well (bsonraw and the crates below alone: not the gate)"
     refuses "bin/test passed for one crate"
-    record "$work/copy" passed 'bin/test 0 passed, 0 failed'
+    record "$work/copy" passed 'bin/test 0 passed, 0 failed, 0 skipped'
     refuses "bin/test had nothing that could pass"
-    record "$work/copy" passed 'bin/test 5 passed, 1 failed
-bin/test 5 passed, 0 failed'
+    record "$work/copy" passed "bin/test 5 passed, 1 failed, 0 skipped
+$well"
     refuses "bin/test has two results"
     record "$work/copy" passed "$well"
     echo >>"$work/copy/crates/bsonraw_dump/out/bsonraw_dump"
@@ -148,6 +144,13 @@ bin/test 5 passed, 0 failed'
     refuses "a file was changed since"
     (cd "$work/copy" && git checkout -q README.md)
     makes proved
+    record "$work/copy" passed 'bin/test 5 passed, 0 failed, 1 skipped
+skipped rust: cargo of 1.81 or later'
+    makes skipped
+    tar -xOf "$work"/skipped/*-linux.tar.gz --wildcards '*/PROVED' >"$work/said"
+    grep -qx 'skipped rust: cargo of 1.81 or later' "$work/said" && grep -q 'all is tested but for what is named as skipped' "$work/said" ||
+        fails "PROVED doesn't say what was skipped"
+    record "$work/copy" passed "$well"
     refuses "nothing says that bin/install proved it" --untested
     claims "$work/proved" 'was not seen|no proof|no test' "it has no test"
     touch "$work/now" && (root=$work/copy && . bin/build.sh && for name in $crates; do note_built "$name" "$work/now" || exit 1; done) || exit 1
@@ -557,5 +560,5 @@ if [ "${1-}" != --short ]; then
     [ $# -gt 0 ] || set -- bullseye-amd64 bookworm-amd64 trixie-amd64 bookworm-arm64 trixie-arm64
     try_debians "$@"
 fi
-echo "packages: left out: ${skipped:-nothing}"
+echo "packages: skipped: ${skipped:-nothing}"
 exit "$failed"

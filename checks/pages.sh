@@ -1,7 +1,7 @@
 #!/bin/sh
 # The commands that the pages show do what the pages say, in a copy of this repository. A block `sh` with a block `text` behind it prints
 # that; a block that calls bin/bsonraw has one. Any other command has to end well, behind those of README, which install everything.
-# pages.py says how. What was left out, since a tool is missing, is said in the last line.
+# pages.py says how. What was skipped, since a tool is missing, is said in the last line.
 #
 #   checks/pages.sh            with what bin/install built here, and `--unproved` left away, since checks/examples.sh tries that
 #   checks/pages.sh --fresh    with nothing built, as a newcomer types them: for a release; half an hour to an hour
@@ -35,11 +35,11 @@ for name in greeting nested; do xxd -r -p "examples/$name.hex" >"dump/shop/$name
 cat dump/shop/*.bson | gzip >orders.bson.gz || exit 1
 
 without=
-skipped=
+. checks/skips.sh
 
-# skip WHAT TEXT: leaves out the lines that have this text
-skip() {
-    skipped="$skipped${skipped:+, }$1"
+# skip_lines WHAT TEXT: skips the lines that have this text
+skip_lines() {
+    skip "$1"
     without="$without${without:+,}$2"
 }
 
@@ -48,11 +48,11 @@ mkdir "$work/bin" || exit 1
 for python in python3 /usr/bin/python3; do
     "$python" -c 'import ensurepip, setuptools, wheel' 2>/dev/null && ln -sf "$(command -v "$python")" "$work/bin/python3" && break
 done
-[ -e "$work/bin/python3" ] || skip "the Python package, without setuptools or wheel" "bsonraw/bin/,venv"
-"$work/bin/python3" -c 'import dask.distributed' 2>/dev/null || skip Dask "--workers 4"
-command -v jq >/dev/null || skip jq jq
+[ -e "$work/bin/python3" ] || skip_lines "the Python package, without setuptools or wheel" "bsonraw/bin/,venv"
+"$work/bin/python3" -c 'import dask.distributed' 2>/dev/null || skip_lines Dask "--workers 4"
+command -v jq >/dev/null || skip_lines jq jq
 minor=$(cargo --version 2>/dev/null | sed -n 's/^cargo 1\.\([0-9]*\)\..*/\1/p')
-[ "${minor:-0}" -ge 81 ] || skip cargo "cargo"
+[ "${minor:-0}" -ge 81 ] || skip_lines cargo "cargo"
 
 export HOME="$work/home" PATH="$work/home/.local/bin:$work/bin:$PATH" CARGO_NET_OFFLINE=true
 export CARGO_HOME="${CARGO_HOME-$home/.cargo}" RUSTUP_HOME="${RUSTUP_HOME-$home/.rustup}"
@@ -66,5 +66,5 @@ fi
 grep ': [0-9]* lines are typed$' "$work/said"
 # shellcheck disable=SC2086
 python3 -B checks/pages.py run $as_typed $pages || failed=1
-[ -z "$skipped" ] || echo "pages: left out: $skipped"
+[ -z "$skipped" ] || echo "pages: skipped: $skipped"
 exit "$failed"

@@ -1,10 +1,11 @@
 #!/bin/sh
 # The pictures of docs/pictures/ are those that make.py makes of the examples, crates.txt and the tables of SPEED.md, and nothing in
-# them runs over an edge. crates.svg, which graphviz draws, has the crates, the edges and the texts of crates.txt. It needs Python 3, and
-# looks at nothing where that isn't there.
+# them runs over an edge. crates.svg, which graphviz draws, has the crates, the edges and the texts of crates.txt. Where Python 3
+# isn't there, the script is skipped.
 set -u
 cd "$(dirname "$(realpath "$0")")/.." || exit 1
-command -v python3 >/dev/null || exit 0
+. checks/skips.sh
+command -v python3 >/dev/null || skip_all "Python 3 (python3)"
 work=$(mktemp -d) || exit 1
 trap 'rm -rf "$work"' EXIT
 compared="bytes rescue speed"

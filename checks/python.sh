@@ -1,7 +1,7 @@
 #!/bin/sh
 # The Python package: it is built without the net into a folder of its own, tested, and its examples are run. Where CPython
-# 3.8 with its headers, setuptools or a C compiler isn't there, it says so and passes. MongoDB's package, mypy and Dask are
-# used where they are there; what is left out is said.
+# 3.8 with its headers, setuptools or a C compiler isn't there, the script is skipped. MongoDB's package, mypy and Dask are
+# used where they are there; what is skipped is said.
 #
 #   checks/python.sh [PREFIX]     PREFIX: where bin/install put header and library; without it, a new one
 #   PYTHON=python3.12 checks/python.sh [PREFIX]
@@ -34,10 +34,8 @@ done
 python=${python:-python3}
 missing=$(lacks "$python")
 command -v cc >/dev/null || missing="a C compiler"
-if [ -n "$missing" ]; then
-    echo "python: the package isn't built and tried, since there is no $(echo "$missing" | head -1)"
-    exit 0
-fi
+. checks/skips.sh
+[ -z "$missing" ] || skip_all "$(echo "$missing" | head -1)"
 
 prefix=${1-$work/prefix}
 if [ $# = 0 ]; then
@@ -101,7 +99,7 @@ if "$python" -m pip --version >/dev/null 2>&1; then
         exit 1
     fi
 else
-    echo "python: pip isn't there, so it isn't tried"
+    skip "pip"
 fi
 if grep -rn ctypes python/bsonraw python/src python/setup.py python/pyproject.toml >&2; then
     echo "python: ctypes is back" >&2
@@ -123,7 +121,8 @@ done
 
 failed=0
 tests "$work/package" discover -s python/tests -v || failed=1
-sed -n "s/^\(.*\) \.\.\. skipped [\"']\(.*\)[\"']$/python: \1 is left out: \2/p" "$work/said"
+sed -n "s/^\(.*\) \.\.\. skipped [\"']\(.*\)[\"']$/\1: \2/p" "$work/said" >"$work/left"
+while IFS= read -r test; do skip "$test"; done <"$work/left"
 if [ "$failed" = 1 ]; then
     grep -v ' \.\.\. ok$' "$work/said" >&2
     exit 1
@@ -140,7 +139,7 @@ if command -v mypy >/dev/null; then
     MYPYPATH=$work/package mypy --strict --no-error-summary --cache-dir "$work/mypy" --ignore-missing-imports \
         --follow-imports silent examples/*.py python/tests/typed.py || exit 1
 else
-    echo "python: mypy isn't there, so the annotations aren't looked at"
+    skip "mypy, for the annotations (mypy)"
 fi
 
 PYTHONPATH="$work/package" "$python" examples/greeting.py <examples/greeting.hex >"$work/output" 2>&1

@@ -43,7 +43,7 @@ if [ -f "$asan" ] && CC=clang LDSHARED="clang -shared" BSONRAW_CFLAGS="-fsanitiz
     grep -A30 'ERROR: AddressSanitizer' "$work/said" >&2 && failed=1
     [ "$failed" = 1 ] || echo "python_long: nothing was found by AddressSanitizer"
 else
-    echo "python_long: a clang with AddressSanitizer isn't there, so it isn't tried"
+    echo "python_long: skipped: a clang with AddressSanitizer"
 fi
 
 for other in "$@"; do

@@ -1,7 +1,7 @@
 #!/bin/sh
 # The crate for Rust, without the net, in a folder of its own: format, lints, pages, tests with the examples in its comments, and
-# those of docs/RUST.md; and a new user's crate that takes it by `cargo add --path`. Where cargo of 1.81 or later isn't there, it
-# says so and passes; what else is left out is said, too.
+# those of docs/RUST.md; and a new user's crate that takes it by `cargo add --path`. Where cargo of 1.81 or later isn't there, the
+# script is skipped; what else is skipped is said, too.
 #
 #   checks/rust.sh [PREFIX]     PREFIX: where bin/install put header and library; without it, a new one
 #
@@ -14,14 +14,9 @@ trap 'rm -rf "$work"' EXIT
 
 # The second number of a version of 1.
 minor=$(cargo --version 2>/dev/null | sed -n 's/^cargo 1\.\([0-9]*\)\..*/\1/p')
-if [ "${minor:-0}" -lt 81 ]; then
-    echo "rust: the crate isn't built and tried, since there is no cargo of 1.81 or later"
-    exit 0
-fi
-if ! command -v cc >/dev/null; then
-    echo "rust: the crate isn't built and tried, since there is no C compiler to link with"
-    exit 0
-fi
+. checks/skips.sh
+[ "${minor:-0}" -ge 81 ] || skip_all "cargo of 1.81 or later"
+command -v cc >/dev/null || skip_all "a C compiler to link with (gcc)"
 
 prefix=${1-$work/prefix}
 if [ $# = 0 ]; then
@@ -33,16 +28,11 @@ if ! BSONRAW_PREFIX=$(realpath "$prefix") || [ ! -f "$BSONRAW_PREFIX/lib/libbson
 fi
 export BSONRAW_PREFIX CARGO_NET_OFFLINE=true CARGO_TARGET_DIR="$work/target" RUSTFLAGS="-D warnings" RUSTDOCFLAGS="-D warnings"
 export CARGO_TERM_COLOR=never CARGO_INCREMENTAL=0 CARGO_PROFILE_DEV_DEBUG=line-tables-only CARGO_PROFILE_DEV_OPT_LEVEL=1
-skipped=
 
 fails() {
     [ ! -s "$work/said" ] || cat "$work/said" >&2
     echo "rust: $*" >&2
     exit 1
-}
-
-skip() {
-    skipped="$skipped${skipped:+, }$1"
 }
 
 # in_crate COMMAND..: runs a command in the crate's copy
@@ -118,4 +108,4 @@ if [ -n "${BSONRAW_BESIDE-}" ]; then
 else
     skip "the crate bson"
 fi
-echo "rust: left out: ${skipped:-nothing}"
+echo "rust: skipped: ${skipped:-nothing}"

@@ -3,14 +3,12 @@
 # Python: the same documents, byte for byte, and none of the same texts, but for what the rules of checks/json_texts.py say. Then texts
 # that are cut off at each byte, or have another byte there: checks/json_places.py says which place of each is refused. PREFIX is
 # where bin/install put the library; without it, that is done first. The seed is drawn, and said; SEED sets it, and COUNT how many texts
-# there are. Debian's libbson-dev has libbson; where it isn't, nothing is compared. Debian's python3-bson has the package; where that
-# isn't, it is left out.
+# there are. Debian's libbson-dev has libbson; where it isn't, the script is skipped. Debian's python3-bson has the package; where that
+# isn't, it is skipped.
 set -u
 cd "$(dirname "$(realpath "$0")")/.." || exit 1
-if ! pkg-config --exists libbson-1.0 || ! command -v cc >/dev/null; then
-    echo "texts.sh: nothing is compared, since libbson-dev or cc isn't there"
-    exit 0
-fi
+. checks/skips.sh
+pkg-config --exists libbson-1.0 2>/dev/null && command -v cc >/dev/null || skip_all "libbson (libbson-dev, pkg-config, gcc)"
 work=$(mktemp -d) || exit 1
 trap 'rm -rf "$work"' EXIT
 seed=${SEED:-$(od -An -N3 -tu4 /dev/urandom | tr -d " ")}
@@ -29,7 +27,7 @@ cc -O2 -Wall -Wextra -o "$work/texts" "-I$prefix/include" checks/texts.c "$prefi
 if [ -n "${package-}" ]; then
     "$python" -B checks/json_texts.py package "$work/made" >"$package" || exit 1
 else
-    echo "texts.sh: MongoDB's package is left out, since it isn't there"
+    skip "MongoDB's package for Python (python3-bson)"
 fi
 if ! "$python" -B checks/json_texts.py compare "$work/made" "$work/ours" "$work/libbson" ${package:+"$package"}; then
     echo "texts.sh: a reader differs, seed $seed" >&2
@@ -57,4 +55,4 @@ if "$python" -B checks/json_places.py compare "$work/made" "$work/changed" "$wor
     echo "texts.sh: another place is taken for the same" >&2
     exit 1
 fi
-echo "texts.sh: all passed, seed $seed"
+echo "texts.sh: all passed, seed $seed; skipped: ${skipped:-nothing}"
