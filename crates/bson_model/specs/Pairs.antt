@@ -27,7 +27,7 @@ module _ {T : Type 0} where
   with_pair key value [] = (key, value) ∷ []
   with_pair key value (pair ∷ pairs) = if bytes_eq key pair.0 then (pair.0, value) ∷ pairs else pair ∷ with_pair key value pairs
 
-  -- no key is there twice
+  -- no key occurs twice
   abbrev pub HasDistinctKeys : List (List ℕ × T) → Type 0
   HasDistinctKeys pairs = IsDistinct bytes_eq (keys_of pairs)
 

@@ -1,3 +1,4 @@
+//! Binary values: bytes with a subtype.
 ghost use Rattle.std.specs.Prelude.{◌≡◌};
 ghost use Rattle.bson_model.specs.Subtype.{subtype_of, subtype_byte};
 

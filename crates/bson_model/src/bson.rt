@@ -1,3 +1,4 @@
+//! Values and documents as trees.
 ghost use Rattle.std.specs.Prelude.{◌≡◌, ◌≢◌, ◌↔◌, ◌<◌, ◌+◌, ◌^◌, [], length, All, IsTrue, IsSome, IsOk, IfOk, OnOk};
 ghost use Rattle.std.specs.Prelude.{OnErr, IfSome, map, option_copied, option_map, slice_get};
 ghost use Rattle.std.specs.Str.{IsUtf8};

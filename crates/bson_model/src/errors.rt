@@ -1,3 +1,4 @@
+//! The one error of this crate: out of memory.
 ghost use Rattle.std.specs.Prelude.{◌≡◌, Some, codes};
 
 use std::alloc::{AllocError, AllocFailed};

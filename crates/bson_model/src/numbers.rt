@@ -1,3 +1,4 @@
+//! Doubles and decimals, by their bits and bytes.
 ghost use Rattle.std.specs.Prelude.{◌≡◌, false, is_nan, from_bits, to_bits};
 ghost use Rattle.std.specs.Float.{binary64};
 ghost use Rattle.bson_model.specs.Bytes.{AreBytesOf};

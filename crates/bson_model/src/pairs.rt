@@ -1,3 +1,4 @@
+//! The pairs of a document, in a box that an empty document lacks.
 ghost use Rattle.std.specs.Prelude.{◌≡◌, ◌≢◌, ◌&&◌, ◌<◌, ◌+◌, ◌^◌, [], ◌∷◌, length, nat_eq, All, IsSome, IsOk, IfOk, OnOk};
 ghost use Rattle.std.specs.Prelude.{OnErr, IfSome, map, option_copied, option_map, slice_get};
 ghost use Rattle.std.specs.Cmp.Lexicographic.{pointwise, lists_per, lists_equiv};

@@ -1,3 +1,4 @@
+//! The iterator over the pairs of a document.
 ghost use Rattle.std.specs.Prelude.{◌≡◌};
 ghost use Rattle.bson_model.specs.Tree.{pairs_of};
 

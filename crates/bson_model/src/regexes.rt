@@ -1,3 +1,4 @@
+//! Regular expressions, and the order of their options.
 ghost use Rattle.std.specs.Prelude.{◌≡◌, ◌↔◌, IsTrue, IfOk};
 ghost use Rattle.std.specs.String.{string_bytes};
 ghost use Rattle.bson_model.specs.Options.{sorted_options, OptionsAscend, OrdersOptions};

@@ -1,3 +1,4 @@
+//! Dates and timestamps.
 ghost use Rattle.std.specs.Prelude.{◌≡◌};
 ghost use Rattle.bson_model.specs.Scalars.{millis_of_date_time};
 
