@@ -57,8 +57,8 @@ leaf_in_order-same l h o = grind (arith, sorted_options-same)
 
 -- trees
 
--- What holds of the payload of a tree: it is bytes, has the shape of the tree's kind whatever follows it, and means a
--- canonical value that stands for the tree.
+-- What holds of the payload of a tree: it is bytes, has the shape of the tree's kind whatever follows it, and means a canonical value that
+-- stands for the tree.
 record IsReturned (t : Tree) : Type 0 where
   bytes : AreBytes (tree_payload t)
   shape : (r : List ℕ) → HasShape (kind_of_tree t) (tree_payload t) r
@@ -93,8 +93,7 @@ pairs_are : (es : Entries) → (entries (pairs_in es) ≡ es) × (keys_of (pairs
 pairs_are no_entry = (refl, refl)
 pairs_are (entry_then key t es) = let rest = pairs_are es in (ap (λ (x : Entries). entry_then key t x) rest.0, ap (λ (x : List (List ℕ)). key ∷ x) rest.1)
 
--- written elements are bytes; followed by a 0 they have a walk, whose frames have these keys, stand for the pairs and
--- are canonical
+-- written elements are bytes; followed by a 0 they have a walk, whose frames have these keys, stand for the pairs and are canonical
 record AreWritten (es : Entries) : Type 0 where
   bytes : AreBytes (entries_bytes es)
   walk : IsWalk (entries_bytes es ++ 0 ∷ []) (frames_in es) Done

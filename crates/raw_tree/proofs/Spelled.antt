@@ -60,8 +60,7 @@ tree_spelled N C spelled s f r v t at m h c =
     let whole = value_spelled f.kind f.payload r v at.payload_is m in
     (tree.0 ∙ whole.0, tree.1 ∙ whole.1)
 
--- the elements of pairs that are read along a walk, followed by the final 0, are the bytes of the walk; their keys are
--- those of its frames
+-- the elements of pairs that are read along a walk, followed by the final 0, are the bytes of the walk; their keys are those of its frames
 walk_spelled : (N : Sort → List ℕ → Tree → Type 0) (C : Sort → List ℕ → Type 0) → AreSpelled N C
     → (s : List ℕ) (frames : List Frame) (pairs : List (List ℕ × Tree)) → IsWalk s frames Done → StandForEach N frames pairs → AreFramesCanonical C frames
     → (entries_bytes (entries pairs) ++ 0 ∷ [] ≡ s) × (map (λ f. f.key) frames ≡ keys_of pairs)

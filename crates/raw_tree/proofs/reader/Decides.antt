@@ -1,5 +1,4 @@
--- The outcome of bytes with an envelope to a depth: a tree, or a first barrier; and how many frames are in them, or
--- come before the fault.
+-- The outcome of bytes with an envelope to a depth: a tree, or a first barrier; and how many frames are in them, or come before the fault.
 use Rattle.std.proofs.Common.{◌≡◌, ◌⊎◌, inl, inr, ◌≤◌, ◌<◌, ◌+◌, ◌*◌, ◌++◌, ◌∷◌, [], ℕ, zero, suc, List, Option, None, Some, length, drop, arith, refl, length-drop}
 use Rattle.raw_tree.proofs.Common.{AreBytes, Tree, IsEnvelope, Frame, IsFrame, IsStop, IsWalk, End, Done, Stopped, LeadsTo, RawValue, KeyedFault, Means, Meaning, value, faulty, Barrier, FirstFaultWithin}
 use Rattle.raw_tree.proofs.Common.{fault_of, too_deep, too_many_bytes, CountsIn, CountsFrames, CountsToFaultAt, HasFrameCountUpTo, HasFramesToFault, HasFramesToFaultUpTo, HasFramesUntilFault, HoldsAs, IsSingle}
@@ -18,8 +17,8 @@ use Rattle.raw_tree.proofs.reader.OneTree.{deep_long, first_fault, never_too_man
 abbrev HasWalk : List ℕ → Type 0
 HasWalk s = (frames : List Frame) × (end : End) × IsWalk s frames end
 
--- The frames of the bytes b before s were passed. They stand for the pairs, with at most `inside` levels inside, and
--- are n with all frames inside them. The walk continues.
+-- The frames of the bytes b before s were passed. They stand for the pairs, with at most `inside` levels inside, and are n with all frames
+-- inside them. The walk continues.
 pub record Passed (inside : ℕ) (b s : List ℕ) (pairs : List (List ℕ × Tree)) (n : ℕ) : Type 0 where
   pub frames : List Frame
   pub leads : LeadsTo (drop 4 b) frames s
@@ -48,8 +47,7 @@ walk_behind s f r (g ∷ gs, end, w) at = (gs, end, rw (one_frame s g f w.0 r w.
 
 -- the outcome of bytes
 
--- to this depth bytes are read as a tree and n frames are in them; or they have this first barrier, and n frames up to
--- it if it is a fault
+-- to this depth bytes are read as a tree and n frames are in them; or they have this first barrier, and n frames up to it if it is a fault
 abbrev pub IsOutcome : ℕ → Sort → List ℕ → Option Barrier → ℕ → Type 0
 IsOutcome depth sort b None n = (t : Tree) × ReadsUpTo depth sort b t × HasFrameCountUpTo depth b n
 IsOutcome depth sort b (Some x) n = FirstFaultWithin depth b x × ((fault : KeyedFault) → x ≡ fault_of fault → HasFramesToFault b n)
@@ -95,8 +93,7 @@ pub record IsAhead (s : List ℕ) (f : Frame) (v : RawValue) (r : List ℕ) : Ty
   pub frame : IsFrame s f r
   pub means : Means f (value v)
 
--- the value stands for the tree, and m frames are in it; the frame has at least two bytes for each of these and for
--- itself
+-- the value stands for the tree, and m frames are in it; the frame has at least two bytes for each of these and for itself
 pub record Stands (inside : ℕ) (s : List ℕ) (v : RawValue) (r : List ℕ) (t : Tree) (m : ℕ) : Type 0 where
   pub tree : StandsFor (ReadsUpTo inside) v t
   pub counts : CountsIn (HasFrameCountUpTo inside) (value v) m

@@ -1,5 +1,5 @@
--- Depths: all bytes with an envelope have exactly one depth. Bytes are read within n levels if and only if they are
--- read and are at most n deep.
+-- Depths: all bytes with an envelope have exactly one depth. Bytes are read within n levels if and only if they are read and are at most n
+-- deep.
 use Rattle.std.proofs.Common.{◌≡◌, ◌≤◌, ◌∷◌, [], ℕ, max, zero, suc, List, length, arith, refl, sym, ◌∙◌}
 use Rattle.raw_tree.proofs.Common.{le-max_left, le-max_right, max-le, Tree, Frame, Done, RawValue, Meaning, value, AllHaveOneDepth, IsSoDeep}
 use Rattle.raw_tree.proofs.Common.{IsGreatestDepth, HasDepthUpTo, HasDepth, Sort, StandsFor, StandForEach, ReadsUpTo, ReadsAs}

@@ -1,5 +1,5 @@
--- The number of frames in bytes. All bytes with an envelope have exactly one, as they have exactly one depth, and at
--- most one up to the first fault.
+-- The number of frames in bytes. All bytes with an envelope have exactly one, as they have exactly one depth, and at most one up to the
+-- first fault.
 use Rattle.std.proofs.Common.{◌≡◌, inl, inr, ◌≤◌, ◌+◌, ◌*◌, ◌++◌, ◌∷◌, [], ℕ, max, zero, suc, List, length, drop, arith, refl, sym, ◌∙◌, length-drop}
 use Rattle.raw_tree.proofs.Common.{AreBytes, IsEnvelope, Frame, IsFrame, IsWalk, End, KeyedFault, Meaning, Means, AllHaveOneFrameCount, CountsIn, BarsFront, fault_of, CountsFrames, HasFrameCountUpTo}
 use Rattle.raw_tree.proofs.Common.{HasFrameCount, CountsToFaultAt, HasFramesToFaultUpTo, HasFramesToFault, HasFramesUntilFault, IsSoDeep, IsGreatestDepth, HasDepthUpTo, ReadsAs, FirstFault}

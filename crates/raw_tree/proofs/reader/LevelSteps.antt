@@ -1,5 +1,5 @@
--- The steps of a loop over levels: an element is put, or its level waits for it; a level that was read goes to the one
--- that waits; a fault, out of memory or the end is returned; and less remains.
+-- The steps of a loop over levels: an element is put, or its level waits for it; a level that was read goes to the one that waits; a fault,
+-- out of memory or the end is returned; and less remains.
 use Rattle.std.proofs.Common.{◌≡◌, inl, inr, ◌<◌, ◌≤◌, ◌+◌, ◌-◌, ◌/◌, take, length-take, ◌++◌, ◌∷◌, [], ℕ, suc, List, Option, None, Some, Result, Ok, Err, IfOk, IfErr, length, drop, arith, ap, refl, ◌∙◌, subst, length-drop, length-append, sum_by, reverse, Bor}
 use Rattle.std.proofs.lemmas.List.{length-reverse, reverse-append}
 use Rattle.raw_tree.proofs.Common.{sum_by_push, Tree, tree_of, Bson, IsEnvelope, bytes_of, frame_of, IsOutOfMemory, Frame, RawValue, KeyedFault, BorrowedError, Barrier, max_length, value_of}
@@ -73,8 +73,8 @@ module _ {s : List ℕ} {old : Option (List ℕ)} (left : old ≡ Some s) (new :
 
 -- the levels
 
--- The state of the loop. It reads the nested bytes u to a depth; some levels wait, and the innermost one is read. They
--- have passed n frames.
+-- The state of the loop. It reads the nested bytes u to a depth; some levels wait, and the innermost one is read. They have passed n
+-- frames.
 pub record AreReading (depth : ℕ) (u : Nested) (ws : List Waiting) (level : Level) (n : ℕ) : Type 0 where
   pub inside : ℕ
   pub inner : Nested × ℕ

@@ -1,5 +1,4 @@
--- What a loop over elements preserves: nested bytes are shorter, some number of levels suffices, frames stand for
--- trees.
+-- What a loop over elements preserves: nested bytes are shorter, some number of levels suffices, frames stand for trees.
 use Rattle.std.proofs.Common.{◌≡◌, ◌≤◌, ◌+◌, ◌++◌, ◌∷◌, [], ℕ, zero, suc, List, length, drop, arith, ap, refl, length-append}
 use Rattle.raw_tree.proofs.Common.{Tree, Entries, document, IsEnvelope, Frame, IsFrame, HasShape, IsWalk, Done, RawValue, Means, MeansValue, value, ElementType, Sort}
 use Rattle.raw_tree.proofs.Common.{as_document, tree_of_pairs, StandsFor, StandForEach, ReadsUpTo, ReadsAs, Holds, HoldsAs}

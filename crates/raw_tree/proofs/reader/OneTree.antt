@@ -1,5 +1,5 @@
--- Reading is determined. Bytes are read as at most one tree, have at most one first fault, and never both. The same
--- holds of trees and barriers within a depth. To a depth greater than the length nothing is too deep.
+-- Reading is determined. Bytes are read as at most one tree, have at most one first fault, and never both. The same holds of trees and
+-- barriers within a depth. To a depth greater than the length nothing is too deep.
 use Rattle.std.proofs.Common.{◌≡◌, inl, inr, ◌≤◌, ◌++◌, ◌∷◌, [], ℕ, zero, suc, List, length, drop, ap, sym, ◌∙◌, arith, length-drop}
 use Rattle.raw_tree.proofs.Common.{Tree, Frame, IsFrame, IsStop, IsWalk, Done, LeadsTo, RawValue, KeyedFault, Means, value, faulty, Barrier, too_deep, too_many_bytes, fault_of, IsFaultWith, BarsFrame}
 use Rattle.raw_tree.proofs.Common.{BarsFront, FirstFaultWithin, Sort, StandsFor, StandForEach, ReadsUpTo, ReadsAs, Holds, FirstFaultUpTo, FirstFault, FirstFaultOfValue}

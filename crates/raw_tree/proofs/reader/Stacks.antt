@@ -1,5 +1,5 @@
--- What a loop over levels knows of the bytes. Each level has passed frames that stand for the pairs that it has
--- drafted. Each but the innermost waits for the value of the frame after those.
+-- What a loop over levels knows of the bytes. Each level has passed frames that stand for the pairs that it has drafted. Each but the
+-- innermost waits for the value of the frame after those.
 use Rattle.std.proofs.Common.{◌≡◌, Option, None, Some, ◌+◌, ◌∷◌, [], ℕ, suc, List, length, arith, ap, refl, map, Bor, zip}
 use Rattle.raw_tree.proofs.Common.{length-map, nil_from_length, Tree, code_with_scope, entries, tree_of, with_trees, pairs_of, Bson, Document, bytes_of, Frame, RawValue}
 use Rattle.raw_tree.proofs.Common.{HoldsAs, sort_of, held_value, holding, AreDrafted, ClosesAs, Barrier, Holds, Contents, Draft, Holder, Level, Nested, Waiting}
@@ -33,9 +33,8 @@ held_as h d = grind arith
 
 -- a level
 
--- A level that reads the nested bytes; the pair has the number of frames of the outermost bytes that are counted
--- before them. The level has passed frames that stand for the pairs that it has drafted; n frames are counted up to
--- there.
+-- A level that reads the nested bytes; the pair has the number of frames of the outermost bytes that are counted before them. The level has
+-- passed frames that stand for the pairs that it has drafted; n frames are counted up to there.
 pub record IsReading (inside : ℕ) (i : Nested × ℕ) (level : Level) (n : ℕ) : Type 0 where
   pub pairs : List (List ℕ × Tree)
   pub rest : List ℕ
@@ -64,8 +63,8 @@ pub record IsWaiting (inside : ℕ) (o : Nested × ℕ) (w : Waiting) (i : Neste
   pub key_is : w.key.now ≡ frame.key
   pub total : i.1 ≡ n + 1
 
--- Nested bytes have this first barrier; or they have an outcome after at least this many frames. The frames are
--- counted from the outermost bytes.
+-- Nested bytes have this first barrier; or they have an outcome after at least this many frames. The frames are counted from the outermost
+-- bytes.
 abbrev pub IsTold : Option Barrier → ℕ → ℕ → Nested × ℕ → Type 0
 IsTold None n depth i = (m : ℕ) × (n ≡ i.1 + m) × HasOutcome depth (sort_of i.0.holder) (bytes_of i.0.document) m
 IsTold (Some x) n depth i = (m : ℕ) × (n ≡ i.1 + m) × IsOutcome depth (sort_of i.0.holder) (bytes_of i.0.document) (Some x) m
@@ -81,8 +80,8 @@ told_inside {o = o} is (v, before) front more (Some x) all (m, same, h) =
     let d = bytes_of v.document in
     (is.here + 1 + m, omega (arith, same, more, is.total), barred_inside is.passed front.1 (sort_of o.0.holder) (sort_of v.holder) d x m (held_holds v.holder d) h)
 
--- The waiting levels, the innermost first: each waits for the one before it, and the first waits for i, inside of
--- which `inside` levels may be. The outermost is o.
+-- The waiting levels, the innermost first: each waits for the one before it, and the first waits for i, inside of which `inside` levels may
+-- be. The outermost is o.
 abbrev pub AreWaiting : (inside : ℕ) → Nested × ℕ → List Waiting → Nested × ℕ → Type 0
 AreWaiting inside o [] i = o ≡ i
 AreWaiting inside o (w ∷ ws) i = (m : Nested × ℕ) × IsWaiting (suc inside) m w i × AreWaiting (suc inside) o ws m

@@ -1,5 +1,4 @@
--- What a caller knows if a validation within limits didn't return `Ok(None)`: the document isn't canonical within
--- them.
+-- What a caller knows if a validation within limits didn't return `Ok(None)`: the document isn't canonical within them.
 use Rattle.std.proofs.Common.{◌≡◌, ℕ, List, Option, Some, Ok, Err}
 use Rattle.raw_tree.proofs.Common.{Limits}
 use Rattle.raw_tree.proofs.walk.Common.{AllAreValidatedOneWayWithin, IsCanonicalWithin, Place, PlacedBreach, TellsViolation, ValidateError}

@@ -1,5 +1,4 @@
--- Levels that are being validated: what is known of each, and that a violation of the innermost is one of the
--- document.
+-- Levels that are being validated: what is known of each, and that a violation of the innermost is one of the document.
 use Rattle.std.proofs.Common.{◌≡◌, ◌∙◌, ◌++◌, ◌∷◌, [], inl, inr, ℕ, suc, List, Option, None, Some, length, drop, arith, ap, refl, sym, Bor, length-append}
 use Rattle.std.proofs.lemmas.List.{same_from_push}
 use Rattle.raw_tree.proofs.Common.{AreFramesCanonical, AreKeysCanonical, Cause, Done, Frame, HoldsAs, IsCanonicalUpTo, IsValueCanonical, LeadsTo, Meaning, Means, RawValue, Sort, as_document}
@@ -29,8 +28,7 @@ pub record Keyed : Type 0 where
 abbrev pub whole_keyed : Keyed
 whole_keyed = record { sort = as_document; below = []; outer = [] }
 
--- the keys and values of some frames of a level are canonical, with at most `inside` levels inside; and how their keys
--- are kept
+-- the keys and values of some frames of a level are canonical, with at most `inside` levels inside; and how their keys are kept
 pub record IsValidated (outer : List KeysSoFar) (listed : List (Bor (List ℕ))) (k : KeysSoFar) (inside : ℕ) (i : Span Keyed) (frames : List Frame) : Type 0 where
   pub outer_is : outer ≡ i.known.outer
   pub keys : HasKeysSoFar k listed i.known.sort i.known.below (keys_of_frames frames)

@@ -1,5 +1,5 @@
--- The levels of a walk, whatever is known of them: how they continue, and that what is at the front of the innermost
--- is at the front of the document.
+-- The levels of a walk, whatever is known of them: how they continue, and that what is at the front of the innermost is at the front of the
+-- document.
 use Rattle.std.proofs.Common.{◌≡◌, ◌∙◌, ◌≤◌, ◌<◌, ◌+◌, ◌-◌, ◌++◌, ◌∷◌, [], ℕ, suc, List, Option, Some, length, drop, append_assoc, arith, ap, refl, sym, subst, length-append, length-drop}
 use Rattle.std.proofs.lemmas.List.{same_from_push}
 use Rattle.raw_tree.proofs.Common.{Frame, Holds, IsFrame, LeadsTo, Means, RawElement, RawValue, bytes_of, frame_of, value}
@@ -129,8 +129,7 @@ module _ {K : Type 0} {Behind : ℕ → Wait K → Span K → Type 0} {Fact : �
       rw (at.levels.stored, at.offset_is) (outermost_behind Behind known document at.levels.inside at.levels.waits at.levels.here at.frames at.rest (record { number = level.number; key = key })
       at.levels.held at.reaches at.number_is)
 
-  -- what is at the front of the rest of the innermost level is at the front of the document, at the offset of that
-  -- rest
+  -- what is at the front of the rest of the innermost level is at the front of the document, at the offset of that rest
   pub front_outward : {Tells : ℕ → Span K → List Step → ℕ → Type 0} → IsOutward Behind (bytes_of document) Tells → (step : Step)
       → ((here : ℕ) → BeginsAt at.levels.here.bytes at.rest here → Tells (suc at.levels.inside) at.levels.here (step ∷ []) here)
       → Tells (suc most) (whole_span known document) (at_path ++ step ∷ []) level.offset

@@ -1,5 +1,4 @@
--- Lists of visits: one more is appended to the list so far; a document has at most one list; and a document that is
--- read has one.
+-- Lists of visits: one more is appended to the list so far; a document has at most one list; and a document that is read has one.
 use Rattle.std.proofs.Common.{◌≡◌, ◌∙◌, ◌+◌, ◌-◌, ◌++◌, ◌∷◌, [], ℕ, zero, suc, List, drop, length, arith, ap, refl, sym, subst, append_assoc, append-nil}
 use Rattle.raw_tree.proofs.Common.{Done, Frame, Holds, IsFrame, IsSingle, IsWalk, LeadsTo, Means, RawValue, ReadsUpTo, Sort, StandForEach, StandsFor, Tree, as_array, as_document, code_with_scope, leaf, leaf_in_order, tree_of_pairs, value}
 use Rattle.raw_tree.proofs.walk.Common.{AreHeld, HasSeen, HasVisits, IsEntered, IsHeld, Span, Visit, VisitsEach, VisitsLevel, VisitsValue, Wait, end_of, enter, leave, offset_in, size_of, whole}

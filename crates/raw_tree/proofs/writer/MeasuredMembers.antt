@@ -1,5 +1,5 @@
--- A container is measured member by member. What is counted so far and what the remaining members take make the whole.
--- The whole has no 0 in a C string if and only if the remaining members have none.
+-- A container is measured member by member. What is counted so far and what the remaining members take make the whole. The whole has no 0
+-- in a C string if and only if the remaining members have none.
 use Rattle.std.proofs.Common.{◌≡◌, ◌↔◌, ◌<◌, ◌-◌, ◌^◌, ℕ, ◌+◌, List, [], ◌∷◌, length, min, Option, Some, arith}
 use Rattle.raw_tree.proofs.Common.{NulFree, Leaf, IsNulFree, nul_free_parts, InEntries, Tree, Entries, no_entry, entry_then, leaf, RawValue, single, encoded_len, entries_len, Measures, members, opening_len, IsLeafOf}
 use Rattle.raw_tree.proofs.Common.{HoldsTrees}

@@ -1,5 +1,4 @@
--- The members of trees: those that remain after the first, their bytes, the number of these, and whether a C string in
--- them contains a 0.
+-- The members of trees: those that remain after the first, their bytes, the number of these, and whether a C string in them contains a 0.
 use Rattle.std.proofs.Common.{◌≡◌, ◌↔◌, ℕ, ◌+◌, List, [], ◌∷◌, ◌++◌, decimal, map, reverse, None, Some, slice_get, refl, ap, arith}
 use Rattle.std.proofs.lemmas.List.{drop_all, drop_more, reverse-append}
 use Rattle.std.proofs.lemmas.Option.{get_or_from_slice_get, slice_get_cases, slice_get_within}

@@ -1,5 +1,5 @@
--- A container is written member by member. What is written so far, with what the remaining members will add and with
--- the lengths that will be set, is its payload.
+-- A container is written member by member. What is written so far, with what the remaining members will add and with the lengths that will
+-- be set, is its payload.
 use Rattle.std.proofs.Common.{◌≡◌, ◌≤◌, ◌-◌, ℕ, ◌+◌, List, [], ◌∷◌, ◌++◌, length, take, drop, pos, refl, ap, ◌∙◌, append_assoc, length-append, length-take, length-drop, arith, Result, Err, IfErr, Vec, Global}
 use Rattle.raw_tree.proofs.Common.{take-append_seam, drop-append-add, Tree, Entries, no_entry, entry_then, IsNulFree, IsOutOfMemory, Error, string_payload, element_of, tagged, framed, scoped_payload}
 use Rattle.raw_tree.proofs.Common.{tag_of, max_length, le32, kind_of_tree, tree_payload, entries_bytes, encoded_len, entries_len, IsRefused, unset, members, tree_of_container, opening, opening_len}

@@ -79,8 +79,7 @@ length_or_not z bytes =
       | inr l ↦ is_length (take 4 z) _ (read_front z _ bytes l refl)
     ]
 
--- A kind whose payload begins with a length: a payload of it is at the front if and only if that length fits, and this
--- is decided.
+-- A kind whose payload begins with a length: a payload of it is at the front if and only if that length fits, and this is decided.
 by_length :
     (kind : ElementType) (z : List ℕ) (Fits : ℕ → Type 0) → AreBytes z →
     ((n : ℕ) → Fits n ⊎ ¬ Fits n) →

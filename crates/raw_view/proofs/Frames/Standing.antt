@@ -1,5 +1,4 @@
--- The payload of an element has the shape of its kind before any following bytes, unless it is a short code with
--- scope.
+-- The payload of an element has the shape of its kind before any following bytes, unless it is a short code with scope.
 use Rattle.std.proofs.Common.{◌≡◌, ◌≤◌, ◌<◌, ◌++◌, ◌∷◌, [], ◌∙◌, ℕ, List, length, ap, refl, inl, inr, arith, length-append}
 use Rattle.std.proofs.Math.Logic.{∥∥₁_elim}
 use Rattle.std.proofs.Props.{props}
