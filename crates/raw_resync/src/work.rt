@@ -1,6 +1,6 @@
 //! The cost of searches.
 
-/// What the searches of an input have cost so far. The numbers are too large for any sum to overflow.
+/// What the searches of an input have cost so far. The fields are wide enough for any sum.
 #[derive(Clone, Copy, Debug, PartialEq, Eq)]
 pub struct Work {
     /// how many bytes were charged
