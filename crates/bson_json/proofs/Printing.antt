@@ -16,8 +16,7 @@ single_has format (raw.document d) = ([], refl)
 single_has format (raw.array d) = ([], refl)
 single_has format (raw.scoped code d) = ([], refl)
 
--- A place in a text: levels of these sorts wait for the innermost, the outermost first; the sort of the innermost, and whether nothing of
--- it was printed yet.
+-- A place in a text: the sorts of the waiting levels, the outermost first; the sort of the innermost; and whether nothing of it was printed yet.
 pub record Place : Type 0 where
   pub waits : List Sort
   pub sort : Sort
@@ -26,7 +25,7 @@ pub record Place : Type 0 where
 abbrev pub place : List Sort → Sort → Bool → Place
 place os o first = record { waits = os; sort = o; first = first }
 
--- the place after a level of this sort, which is in the last waiting level; if none waits, the text stays in that level
+-- the place after a level of this sort: in the last waiting level, or still in this one if none waits
 abbrev pub around : List Sort → Sort → Place
 around [] o = place [] o false
 around (p ∷ []) o = place [] p false
