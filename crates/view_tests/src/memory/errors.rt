@@ -1,3 +1,4 @@
+//! Copies of errors.
 use crate::fixtures::*;
 use crate::required::view;
 use bson_model::DoubleBits;
@@ -7,7 +8,7 @@ use std::process::Abort;
 
 // Each copy is equal, or there is none because memory ran out. An error without a key has no memory of its own, and is copied in any run.
 
-/// Whether this is a copy, or memory ran out, which it may for what has some of its own.
+/// Whether this is a copy, or memory ran out, which is possible only for what has memory of its own.
 fn is_copy<T: PartialEq>(copy: &Result<T, AllocError>, copied: &T, may_fail: bool) -> bool {
     match copy {
         Ok(copy) => copy == copied,
@@ -47,7 +48,7 @@ fn has_access_copies(checks: Checks, answer: &ValueAccessResult<DoubleBits>) -> 
     }
 }
 
-/// Whether the error of this key, under which there is no double, is copied.
+/// Whether the error of a getter for this key, which has no double, is copied.
 fn is_no_double_copied(checks: Checks, document: RawDocument<'_>, key: &str) -> bool {
     let_go!(made = document.get_f64(checks.alloc, key); has_access_copies(checks, &made))
 }
