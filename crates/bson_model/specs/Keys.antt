@@ -7,7 +7,7 @@ use Rattle.std.specs.declared.alloc.Global.{Global}
 use Rattle.bson_model.specs.declared.keys.Held.{Held}
 use Rattle.bson_model.specs.declared.keys.Held.TheVariants.{Few, Many}
 
--- the texts that are held, in either form
+-- the held texts, in a list or in a set
 abbrev pub texts_of : Held → List (String Global)
 texts_of (Few texts) = texts.items
 texts_of (Many set) = set.keys

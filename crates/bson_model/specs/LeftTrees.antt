@@ -4,7 +4,7 @@ use Rattle.std.specs.Option.{option_to_list}
 use Rattle.bson_model.specs.Tree.{Tree, Trees, Entries, leaf, array, document, code_with_scope, no_tree, tree_then, no_entry, entry_then, items_in, pairs_in, tree_of}
 use Rattle.bson_model.specs.declared.bson.Bson.{Bson}
 
--- the trees right inside a tree, in order
+-- the trees directly inside a tree, in order
 abbrev pub members : Tree → List Tree
 members (leaf l) = []
 members (array ts) = items_in ts

@@ -1,4 +1,4 @@
--- What holds of every part of a tree, and the trees that come back after they are written and read.
+-- What holds of every part of a tree, and the trees that are the same after they are written and read.
 use Rattle.std.specs.Prelude.{ℕ, ◌<◌, ◌^◌, List, [], ◌∷◌, FitsSigned}
 use Rattle.std.specs.Int.{w32, w64}
 use Rattle.std.specs.List.{IsDistinct}
@@ -79,7 +79,7 @@ well_formed_parts = record { of_leaf = IsLeafInRange; of_code = IsUtf8; of_key =
 abbrev pub IsWellFormed : Tree → Type 0
 IsWellFormed = Everywhere well_formed_parts
 
--- no 0 is in the pattern and the options of a regular expression
+-- the pattern and the options of a regular expression contain no 0
 abbrev pub IsLeafNulFree : Leaf → Type 0
 IsLeafNulFree (regular_expression pattern options) = NulFree pattern × NulFree options
 IsLeafNulFree _ = Unit {0}
@@ -92,7 +92,7 @@ nul_free_parts = record { of_leaf = IsLeafNulFree; of_code = Whatever; of_key = 
 abbrev pub IsNulFree : Tree → Type 0
 IsNulFree = Everywhere nul_free_parts
 
--- the options of a regular expression never descend
+-- the options of a regular expression ascend, perhaps with repeats
 abbrev pub DoLeafOptionsAscend : Leaf → Type 0
 DoLeafOptionsAscend (regular_expression pattern options) = OptionsAscend options
 DoLeafOptionsAscend _ = Unit {0}

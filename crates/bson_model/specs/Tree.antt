@@ -11,7 +11,7 @@ use Rattle.bson_model.specs.declared.bson.Bson as b
 use Rattle.bson_model.specs.declared.bson.Bson.{Bson, Row_of-Bson, end_of-Bson, more_of-Bson}
 
 mutual
-  -- a value that holds no others, a list, pairs of a key and a tree, or code beside such pairs
+  -- a value that holds no others, a list, pairs of a key and a tree, or code with such pairs
   pub data Tree : Type 0 where
     leaf : Leaf → Tree
     array : Trees → Tree

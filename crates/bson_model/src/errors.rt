@@ -5,7 +5,7 @@ use std::alloc::{AllocError, AllocFailed};
 use std::error::Error;
 use std::fmt;
 
-/// A call asked for memory and there was none.
+/// A call requested memory and there was none.
 #[derive(Debug, PartialEq, Eq, Drop)]
 pub struct NoMemory;
 

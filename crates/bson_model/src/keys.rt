@@ -22,7 +22,7 @@ pub(crate) enum Held {
     Many(IndexSet<String>),
 }
 
-/// Texts in the order in which they came, none twice.
+/// Texts in the order in which they came, no text twice.
 #[derive(Drop)]
 pub(crate) struct Keys {
     held: Held,
@@ -94,8 +94,8 @@ impl Keys {
         self.index_of(key).is_some()
     }
 
-    /// Puts a text last, unless it is there, and returns its place and whether it is new. It fails only for a text that
-    /// is not there, and then changes nothing.
+    /// Puts a text last, unless it is there, and returns its place and whether it is new. It can fail only for a
+    /// new text; then it changes nothing.
     #[inline(always)]
     pub(crate) fn insert(&mut self, key: String) -> Result<(usize, bool), NoMemory>
         ensures index { IfOk result (λ r. r.0 ≡ position_or_len (has_bytes (string_bytes key)) self.old) }
@@ -159,7 +159,7 @@ fn insert_among(texts: &mut Vec<String>, key: String) -> Result<(usize, bool), N
     Ok((index, true))
 }
 
-/// The set of these texts, for which it has room.
+/// The set of these texts. It has room for them.
 #[inline(never)]
 fn hashed(mut set: IndexSet<String>, texts: Vec<String>) -> IndexSet<String>
     requires empty { set.keys ≡ [] }

@@ -10,7 +10,7 @@ pub use crate::ranges::{attest_bytes, attest_u32, attest_u64};
 
 /// Whether two values have the same tree, which is what `==` returns. Programs never need it; proofs do.
 ///
-/// No clause says so: it takes the stack that `==` takes.
+/// Not in the contract: it takes the stack that `==` takes.
 pub fn is_same_tree(a: &Bson, b: &Bson) -> bool
     ensures { IsTrue result ↔ (tree_of a.now ≡ tree_of b.now) }
 {
@@ -20,7 +20,7 @@ pub fn is_same_tree(a: &Bson, b: &Bson) -> bool
 /// Whether two documents have the same tree, which is what `==` returns: the same keys with the same trees in
 /// the same order. Programs never need it; proofs do.
 ///
-/// No clause says so: it takes the stack that `==` takes.
+/// Not in the contract: it takes the stack that `==` takes.
 pub fn is_same_document(left: &Document, right: &Document) -> bool
     ensures { IsTrue result ↔ (tree_of_document left.now ≡ tree_of_document right.now) }
 {
@@ -31,7 +31,7 @@ pub fn is_same_document(left: &Document, right: &Document) -> bool
 /// and a Decimal128 sixteen. Texts and keys are UTF-8. No key occurs twice in a document. No other call of
 /// the libraries calls this. Programs never need it; proofs do.
 ///
-/// No clause says so: it reads the whole value, takes no memory, and calls itself for each level.
+/// Not in the contract: it reads the whole value, takes no memory, and calls itself for each level.
 #[cycle(attest)]
 pub fn attest_value(value: &Bson)
     ensures { IsWellFormed (tree_of value.now) }
@@ -77,7 +77,7 @@ pub fn attest_value(value: &Bson)
 
 /// The trees of a list are well formed. Programs never need it; proofs do.
 ///
-/// No clause says so: it reads the whole list, as `attest_value` does each value, and takes no memory.
+/// Not in the contract: it reads the whole list, as `attest_value` does each value, and takes no memory.
 #[cycle(attest)]
 pub fn attest_list(values: &[Bson])
     ensures { IsWellFormed (tree_of_list values.now) }
@@ -89,7 +89,7 @@ pub fn attest_list(values: &[Bson])
 
 /// The tree of a document is well formed. Programs never need it; proofs do.
 ///
-/// No clause says so: it reads the whole document, as `attest_value` does each value, and takes no memory.
+/// Not in the contract: it reads the whole document, as `attest_value` does each value, and takes no memory.
 #[cycle(attest)]
 pub fn attest_document(document: &Document)
     ensures { IsWellFormed (tree_of_document document.now) }

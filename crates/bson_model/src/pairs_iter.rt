@@ -5,7 +5,7 @@ ghost use Rattle.bson_model.specs.Tree.{pairs_of};
 use crate::bson::{Bson, Document};
 use std::marker::Model;
 
-/// The pairs of a document, in order. A clause sees the pairs that are left.
+/// The pairs of a document, in order. A clause sees the remaining pairs.
 #[derive(Drop)]
 pub struct DocumentIter<'a> {
     document: &'a Document,

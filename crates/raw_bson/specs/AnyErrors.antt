@@ -1,4 +1,4 @@
--- The error that those of reading and writing and of typed access turn into.
+-- The error that every other error turns into.
 use Rattle.std.specs.Prelude.{◌≡◌, ℕ, List, Option, Some}
 use Rattle.raw_view.specs.Errors.Access.{IsSameAccess, key_asked}
 use Rattle.raw_view.specs.Errors.{IsOutOfMemory, IsSameError, key_of}

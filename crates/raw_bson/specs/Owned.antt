@@ -36,6 +36,6 @@ abbrev pub count_in : RawBson → Option ℕ
 count_in (own.Array x) = Some x.count
 count_in _ = None
 
--- two values of one variant with the same fields
+-- the two values are of one variant with the same fields
 abbrev pub IsSameOwned : RawBson → RawBson → Type 0
 IsSameOwned x y = (owned_value y ≡ owned_value x) × (count_in y ≡ count_in x)

@@ -23,7 +23,7 @@ pub struct Part<'a> {
     pub is_last: bool,
     /// where in the input they begin
     pub at: u64,
-    /// the limits of a document without damage
+    /// the limits of an undamaged document
     pub limits: Limits,
 }
 

@@ -10,7 +10,7 @@ use Rattle.raw_bson.specs.Tree.{Tree}
 use Rattle.raw_shelf.specs.declared.put_error.PutError.{PutError}
 use Rattle.raw_shelf.specs.declared.put_error.PutError.TheVariants as error
 
--- none of these documents is read as a tree that this one is read as
+-- this document is read as no tree that one of these documents is read as
 abbrev pub HasAnotherTree : List ℕ → List (List ℕ) → Type 0
 HasAnotherTree d others = (t : Tree) (other : List ℕ) → Contains others other → Reads d t → ¬ Reads other t
 

@@ -136,8 +136,8 @@ pub fn document_from_raw_counted(
     (tree, steps)
 }
 
-/// The values of an array in order, without its keys. It fails as `document_from_raw` does, and the same
-/// holds of every array. BSON 1.1, `array`.
+/// The values of an array in order, without its keys. It fails as `document_from_raw` does, and what holds of
+/// every document there holds of every array here. BSON 1.1, `array`.
 /// ```
 /// let array = RawArray::from_doc(RawDocument::from_bytes(b"\x13\0\0\0\x10a\0\x01\0\0\0\x10b\0\x02\0\0\0\0")?);
 /// let list = list_from_raw(alloc, array)?;

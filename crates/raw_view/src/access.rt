@@ -32,7 +32,7 @@ pub enum ValueAccessErrorKind {
     OutOfMemory,
 }
 
-/// Why a typed getter has no value, and the key, or the index in decimal, that was asked for.
+/// Why a typed getter has no value, with the key or the index in decimal that was asked for.
 /// ```
 /// let document = RawDocument::from_bytes(b"\x0C\0\0\0\x10a\0\x01\0\0\0\0")?;
 /// let Err(error) = document.get_str(alloc, "a") else { unreachable!() };

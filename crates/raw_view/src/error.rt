@@ -128,7 +128,7 @@ pub enum ErrorKind {
     },
     /// A text isn't UTF-8.
     Utf8EncodingError(Utf8Error),
-    /// Memory ran out, for the key that the error should carry or for the result.
+    /// Memory ran out, for the key of the error or for the result.
     OutOfMemory,
 }
 

@@ -4,7 +4,7 @@ ghost use Rattle.raw_view.specs.Meaning.Value.{HoldsLevel, value_of};
 use crate::bson_ref::RawBsonRef;
 use crate::document::RawDocument;
 
-/// What a level is inside: a document, an array, or this code, whose scope it is.
+/// What holds a level: a document, an array, or this code, whose scope the level is.
 #[derive(Clone, Copy, Debug, PartialEq, Eq)]
 pub enum Holder<'a> {
     /// a nested document

@@ -52,7 +52,7 @@ abbrev mutual
   IsWhole (json.object ms) es = AreMembers ms es
   IsWhole _ es = ⊥
 
-  -- an object of one member that writes a value which holds no others
+  -- an object of one member that writes a value, where the value holds no others
   pub WrapsOne : Members → Tree → Type 0
   WrapsOne (member key j no_members) t = (l : Leaf) × IsWrapped key j l × (t ≡ leaf l)
   WrapsOne _ t = ⊥

@@ -1,5 +1,5 @@
--- Numbers. Extended JSON v2, "Special rules for parsing JSON numbers": a number without a fraction and an exponent has the smallest BSON
--- integer type that holds it; every other number is a Double. An integer of more than 64 bits has no meaning.
+-- Numbers, by the "Special rules for parsing JSON numbers" of Extended JSON v2. A number without a fraction and an exponent has the
+-- smallest BSON integer type that holds it; every other number is a Double. An integer of more than 64 bits has no meaning.
 use Rattle.std.specs.Prelude.{◌≡◌, ◌⊎◌, ◌==◌, ◌||◌, Bool, ℕ, ℤ, pos, true, List, Some, codes, Float, to_bits, FitsSigned}
 use Rattle.std.specs.List.{list_any}
 use Rattle.std.specs.Int.{w32, w64}

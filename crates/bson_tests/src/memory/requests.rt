@@ -76,7 +76,7 @@ fn is_turned(checks: Checks, value: RawBson, want: RawBsonRef<'_>) -> bool {
     let_go!(made = turned(checks.alloc, value); checks.is_value(&made, want))
 }
 
-/// One request for the text, and none for what it becomes; none for a number.
+/// One request for the text, and none for the tree that it becomes; none for a number.
 #[test]
 fn a_text_that_becomes_a_tree_asks_for_nothing(rt: HostRuntime) {
     let checks = Checks::ample(rt.alloc());

@@ -164,7 +164,7 @@ fn there_and_back(alloc: Global, element: RawElement<'_>) -> Result<Bson> {
     there(alloc, element)?.into_bson(alloc)
 }
 
-/// Whether the element and its value become the tree under its key, and that the value and the tree again.
+/// Whether the element and its value become the tree under its key, and the tree becomes the value and the tree again.
 fn is_element_right(checks: Checks, element: RawElement<'_>, value: RawBsonRef<'_>) -> bool {
     let key = element.key();
     let_go!(made = bson_from_element(checks.alloc, element); is_part_made(checks, key, &made))

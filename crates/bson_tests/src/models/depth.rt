@@ -1,4 +1,5 @@
-//! Documents of many levels. `bin/test` also runs the first of these on a stack of 256 KiB, and sees that all is released.
+//! Documents of many levels. `bin/test` also runs the first of these on a stack of 256 KiB, and checks that all
+//! memory is released.
 
 use crate::fixtures::*;
 use bson_model::Document;

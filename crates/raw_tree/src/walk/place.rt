@@ -16,7 +16,7 @@ use crate::walk::room::put_at;
 use raw_view::{Error, RawDocument, Result};
 use std::alloc::Global;
 
-/// A step of a path: which element of its level it is.
+/// A step of a path: an element of a level.
 #[derive(Clone, Copy, Debug, PartialEq, Eq)]
 pub struct PathStep<'a> {
     /// the number of the element in its level, counted from 0; for a stop, the number of elements before it

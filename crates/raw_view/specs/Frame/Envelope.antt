@@ -5,7 +5,7 @@ use Rattle.raw_view.specs.Frame.Number.{IsLe32}
 use Rattle.raw_view.specs.declared.error.Reason.{Reason}
 use Rattle.raw_view.specs.declared.error.Reason.TheVariants as reason
 
--- the elements are bytes; there are at least five; the first four are the length of the whole; the last is 0
+-- every element is a byte; there are at least five; the first four are the length of the whole; the last is 0
 pub record IsEnvelope (b : List ℕ) : Type 0 where
   pub bytes : AreBytes b
   pub enough : 5 ≤ length b

@@ -6,7 +6,8 @@ use raw_view::{Error, RawBsonRef, RawDocument, ValueAccessError, ValueAccessResu
 use std::alloc::AllocError;
 use std::process::Abort;
 
-// Each copy is equal, or there is none because memory ran out. An error without a key has no memory of its own, and is copied in any run.
+// Each copy is equal, or there is none because memory ran out. An error without a key has no memory of its own, so
+// its copy always succeeds.
 
 /// Whether this is a copy, or memory ran out, which is possible only for what has memory of its own.
 fn is_copy<T: PartialEq>(copy: &Result<T, AllocError>, copied: &T, may_fail: bool) -> bool {
@@ -53,14 +54,14 @@ fn is_no_double_copied(checks: Checks, document: RawDocument<'_>, key: &str) -> 
     let_go!(made = document.get_f64(checks.alloc, key); has_access_copies(checks, &made))
 }
 
-/// Whether errors of a boolean of the byte 2 are copied, and that of a key that isn't there.
+/// Whether the errors for a boolean of the byte 2 and for a missing key are copied.
 pub(crate) fn are_copied(checks: Checks, two: RawDocument<'_>) -> bool {
     is_fault_copied(checks, two, "a")
         && is_no_double_copied(checks, two, "a")
         && is_no_double_copied(checks, two, "b")
 }
 
-/// Whether that of a text that isn't UTF-8 is, which has no key.
+/// The same of the error for a text that isn't UTF-8, which has no key.
 pub(crate) fn is_text_copied(checks: Checks, document: RawDocument<'_>) -> bool {
     is_fault_copied(checks, document, "a") && is_no_double_copied(checks, document, "a")
 }
