@@ -87,7 +87,7 @@ IsLeft (keys.Numbers n) left ms = (n + left_of left < 2 ^ 64) × (pairs : List (
 IsLeft (keys.Distinct n) left ms = (pairs : List (List ℕ × Tree)) × IsRest left pairs × (ms ≡ entries pairs) × AreLeftOwn n left
 IsLeft (keys.Repeated last) left ms = IsLeftAt last.value ms
 
--- the key under which a member is written
+-- the decimal of the number if there is one, otherwise the key
 abbrev pub numbered_key : Option ℕ → List ℕ → List ℕ
 numbered_key None key = key
 numbered_key (Some n) key = decimal n

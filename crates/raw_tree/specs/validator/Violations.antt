@@ -25,7 +25,7 @@ pub data Violation : Type 0 where
 -- Violations and their places. `Passes` says which nested bytes are canonical, and `Nested` which violation nested
 -- bytes have and where.
 module _ (Passes : Sort → List ℕ → Type 0) (Nested : Sort → List ℕ → Violation → List Step → ℕ → Type 0) where
-  -- the violation of the nested bytes d in the frame at the front of s; this step leads to it, and q follows it
+  -- the violation of the nested bytes d in the frame at the front of s, to which this step leads and which q follows
   abbrev pub ValidatesNestedAt : (b s : List ℕ) → Step → (q : List ℕ) → Sort → List ℕ → Violation → List Step → ℕ → Type 0
   ValidatesNestedAt b s step q sort d x path offset =
       (steps : List Step) × (inside : ℕ) × Nested sort d x steps inside × (path ≡ step ∷ steps) × IsOffsetOf b s d q steps inside offset
