@@ -50,8 +50,8 @@ module _ (Nested : ℕ → List ℕ → List Token → Type 0) where
   AreTokens depth offset [] ts = ts ≡ []
   AreTokens depth offset (f ∷ fs) ts = (first rest : List Token) × AreTokensOf depth offset f first × AreTokens depth (offset + size_of f) fs rest × (ts ≡ first ++ rest)
 
--- The tokens of the bytes b. They begin at this offset, are inside `depth` levels, and have at most n levels, b being the first. The tokens
--- are those of the frames of their walk, which ends at the final 0.
+-- The tokens of the bytes b: those of the frames of their walk, which ends at the final 0. The bytes begin at this offset, are inside
+-- `depth` levels, and have at most n levels, b being the first.
 abbrev pub HasTokens : ℕ → ℕ → ℕ → List ℕ → List Token → Type 0
 HasTokens zero depth start b ts = ⊥
 HasTokens (suc n) depth start b ts = (frames : List Frame) × IsWalk (drop 4 b) frames Done × AreTokens (HasTokens n (suc depth)) depth (start + 4) frames ts
