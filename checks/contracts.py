@@ -1,8 +1,8 @@
-"""Writes docs/CONTRACTS.md: a row for each public item of the crates that a user names, with a link to its file.
+"""Writes docs/CONTRACTS.md: a row for each public item of the crates that a user names, with a link to its file, and a
+row for each file of specs/ with words that clauses of these items, of the programs and of the exported functions for C cite,
+or the definitions of such words.
 
     contracts.py FOLDER           prints the page for the crates below FOLDER/crates
-    contracts.py --words FOLDER   prints each file of specs/ whose words clauses of these items, of the programs and of the
-                                  exported functions for C cite, or the definitions of such words
 
 It relies on the layout that `rt fmt` gives. An item that a crate passes on and that is nowhere is an error.
 """
@@ -21,6 +21,8 @@ PROGRAMS = {
     "dump_commands/src/reporting.rt": ["put_summary"],
     "dump_runs/src/batch.rt": ["run_all"],
     "dump_runs/src/run.rt": ["run"],
+    "text_runs/src/texts.rt": ["read_texts"],
+    "text_runs/src/texts_batch.rt": ["run_texts"],
 }
 KINDS = "fn|struct|enum|type|const|trait"
 
@@ -136,7 +138,7 @@ class Words:
             r"^(?: *ghost |pub )?use Rattle\.(\w+)\.specs\.(\w+(?:\.\w+)*)(?:\.\{([^}]*)\}| as (\w+))?;?$", text, re.M
         ):
             file = self.module(crate, path)
-            for word in words.split(", ") if words else []:
+            for word in re.findall(r"[^\s,][^,]*[^\s,]|[^\s,]", words):
                 names[word.split(" as ")[-1]] = (file, word.split(" as ")[0])
             if not words:
                 names[alias or path.split(".")[-1]] = (file, "")
@@ -180,6 +182,11 @@ class Words:
                 continue
             found.add(target)
             self.reach(self.read(target[0]).get(target[1], ""), self.all_uses(target[0]), found)
+
+    def lines(self, found: "Set[tuple[str, str]]") -> int:
+        """How many lines define these words, comments left out."""
+        lines = [line.strip() for file, word in found for line in self.read(file).get(word, "").splitlines()]
+        return sum(1 for line in lines if line and not line.startswith("--"))
 
 
 def of_programs(crates: Path) -> Iterator["tuple[str, str]"]:
@@ -245,12 +252,33 @@ def families(calls: List[Item]) -> Iterator["tuple[list[Item], str]"]:
     at = 0
     while at < len(calls):
         first = sentence(calls[at].comment)
-        tail = re.search(r" (at this place|under this key).*|; `None` for every other kind\.", first)
+        tail = re.search(r" (at `index`|under `key`).*|; `None` for every other kind\.", first)
         end = at + 1
         while tail and end < len(calls) and sentence(calls[end].comment).endswith(tail[0]):
             end += 1
         yield calls[at:end], f"The value of this kind{tail[0]}" if tail and end > at + 1 else first
         at = end
+
+
+def definitions(crates: Crates) -> Iterator[str]:
+    """The lines of the files of specs/."""
+    words = Words(crates.crates)
+    found: "Set[tuple[str, str]]" = set()
+    shown = [(name, item.clauses) for name, items in crates.items.items() for item in items if crates.is_shown(item)]
+    for name, clauses in [*shown, *of_programs(crates.crates)]:
+        words.reach(clauses, words.uses((crates.crates / name).read_text(encoding="utf-8")), found)
+    reading: "Set[tuple[str, str]]" = set()
+    words.reach("Reads FirstFault", words.all_uses("raw_tree/specs/reader/Reading.antt"), reading)
+    if not reading:
+        raise SystemExit("contracts: Reading.antt of raw_tree defines neither Reads nor FirstFault")
+    yield "\n## Definitions\n"
+    yield "The files of `specs/` that these clauses need, and those of the programs and of the library for C, or a definition that they"
+    yield f"need: {words.lines(found):,} lines define {len(found):,} words. {words.lines(reading)} of these lines say what bytes are read as (`Reads`, `FirstFault`).\n"
+    yield "| File | What it defines |\n|---|---|"
+    for file in sorted({file for file, _ in found}):
+        text = "\n".join(line[2:] for line in (crates.crates / file).read_text(encoding="utf-8").split("\nuse ")[0].splitlines() if line[:2] == "--")
+        escaped = sentence(text).replace("|", "\\|")
+        yield f"| [`{file.replace('/specs', '')[: -len('.antt')]}`](../crates/{file}) | {escaped} |"
 
 
 def page(crates: Crates) -> Iterator[str]:
@@ -281,20 +309,11 @@ def page(crates: Crates) -> Iterator[str]:
             yield row([item], f"{place}**{sentence(item.comment)}**" + (f" Traits: {traits}." if traits else ""))
             for calls, text in families([i for i in found[name] if i.kind == "call"]):
                 yield row(calls, text)
+    yield from definitions(crates)
 
 
 def main(arguments: List[str]) -> int:
-    crates = Crates(Path(arguments[-1]))
-    if arguments[0] == "--words":
-        words = Words(crates.crates)
-        found: "Set[tuple[str, str]]" = set()
-        shown = [(name, item.clauses) for name, items in crates.items.items() for item in items if crates.is_shown(item)]
-        for name, clauses in [*shown, *of_programs(crates.crates)]:
-            words.reach(clauses, words.uses((crates.crates / name).read_text(encoding="utf-8")), found)
-        files = {file for file, _ in found}
-        print("\n".join(sorted(files)))
-    else:
-        print("\n".join(page(crates)))
+    print("\n".join(page(Crates(Path(arguments[-1])))))
     return 0
 
 

@@ -1,9 +1,9 @@
 #!/bin/sh
-# docs/CONTRACTS.md has a row for each public item, with a link to its file, and DEFINITIONS.md names each file of
-# specs/ whose words their clauses cite, or those of the programs and of the library for C, or a definition that one of
-# these stands on. contracts.py takes both from the sources.
+# docs/CONTRACTS.md has a row for each public item, with a link to its file, and a row for each file of specs/ whose words
+# their clauses cite, or those of the programs and of the library for C, or the definition of such a word. contracts.py
+# takes both from the sources.
 #
-#   checks/contracts.sh           compares the pages with the sources
+#   checks/contracts.sh           compares the page with the sources
 #   checks/contracts.sh --write   writes CONTRACTS.md anew
 set -u
 cd "$(dirname "$(realpath "$0")")/.." || exit 1
@@ -27,13 +27,6 @@ differs() {
     failed=1
 }
 
-# undefined DEFINITIONS: the files of specs/ that this page has to name and doesn't
-undefined() {
-    contracts --words . | while read -r file; do
-        grep -qF "](../crates/$file)" "$1" || echo "$file"
-    done
-}
-
 contracts . >"$work/page" || exit 1
 if [ "${1-}" = --write ]; then
     cp "$work/page" "$page"
@@ -41,7 +34,8 @@ if [ "${1-}" = --write ]; then
 fi
 
 # A call that is new or has another name shows in the page, and so does another comment, a trait that a type
-# has no longer, a name that is passed on no longer, and one that is passed on and is nowhere.
+# has no longer, a name that is passed on no longer, one that is passed on and is nowhere, another comment of a file of specs/,
+# and a clause that needs no longer what no other does.
 mkdir "$work/crates"
 git ls-files -z crates | grep -zE '^crates/[a-z_]*/(src|specs)/' | xargs -0 cp --parents -t "$work"
 differs 's/    pub fn is_empty(self)/    pub fn is_void(self)/' raw_view/src/array.rt
@@ -52,24 +46,21 @@ differs '/^impl From<NoMemory> for AnyError/,/^}/d' raw_bson/src/any_error.rt
 differs 's/^impl std::error::Error for AnyError/impl Eq for AnyError/' raw_bson/src/any_error.rt
 differs '/^    Breach, Cause/s/Cause, //' raw_bson/src/lib.rt
 differs 's/^pub struct Limits/pub struct Bounds/' raw_tree/src/reader/limits.rt
+differs '1s/.*/-- Another comment./' raw_view/specs/Errors/Answers.antt
+differs '/    ensures .*(TellsBreach /d' raw_tree/src/validator.rt
 
 if ! cmp -s "$work/page" "$page"; then
     diff "$page" "$work/page" | head -40 >&2
     echo "contracts: $page is out of date; checks/contracts.sh --write writes it" >&2
     failed=1
 fi
-# A file that is named no longer is seen: one that a clause cites, one of the library for C, one that only a definition
-# cites, and one that only definitions of each other do.
+# There is a row for a file that a clause cites, one of the library for C, one that only a definition cites, and one that only
+# definitions of each other do.
 for file in raw_view/specs/Errors/Answers bsonraw_c/specs/Json dump_kept/specs/Forms values_from_json/specs/Wrapped; do
-    sed "s|(../crates/$file.antt)||" docs/DEFINITIONS.md >"$work/definitions"
-    if [ "$(undefined "$work/definitions")" != "$file.antt" ]; then
-        echo "contracts: it isn't seen that DEFINITIONS.md doesn't name $file.antt" >&2
+    if ! grep -qF "](../crates/$file.antt)" "$work/page"; then
+        echo "contracts: a public clause needs words of crates/$file.antt, and the page doesn't list it" >&2
         failed=1
     fi
-done
-for file in $(undefined docs/DEFINITIONS.md); do
-    echo "contracts: a public clause needs words of crates/$file, and DEFINITIONS.md doesn't name it" >&2
-    failed=1
 done
 echo "$(grep -c '^| \[' "$work/page") rows are in $page"
 exit "$failed"

@@ -1,4 +1,4 @@
--- what the crates below say, for whoever lists this crate alone
+-- definitions of the crates below, for those who list only this crate
 pub use Rattle.bytes_from_json.specs.Texts
 pub use Rattle.values_from_json.specs.DecimalTexts
 pub use Rattle.values_from_json.specs.Digits
@@ -9,7 +9,7 @@ pub use Rattle.values_from_json.specs.Place
 pub use Rattle.values_from_json.specs.Reasons
 pub use Rattle.values_from_json.specs.Times
 pub use Rattle.values_from_json.specs.Wrapped
--- their types that clauses speak of
+-- their types that clauses mention
 pub use Rattle.values_from_json.specs.declared.error.JsonError
 pub use Rattle.values_from_json.specs.declared.error.JsonReason
 pub use Rattle.values_from_json.specs.declared.wrapper.Wrapper

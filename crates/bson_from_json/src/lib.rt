@@ -1,4 +1,11 @@
-//! BSON from MongoDB Extended JSON v2: a text is read once, by its tokens, into the bytes of a document.
+//! BSON documents from MongoDB Extended JSON v2, for users. A text is read once, token by token, into the bytes of
+//! a document.
+//!
+//! Begin at `from_json` in `reading.rt`. It calls `document_bytes` of `bytes_from_json`, where the text is read.
+//! `specs/Lib.antt` passes on the definitions of the crates below: `IsWritten` and `SaysNone` say what a text
+//! means.
+//!
+//! `bsonraw_c`, `text_runs` and `json_round_trip` rest on this crate.
 #![tactic(auto)]
 
 mod reading;

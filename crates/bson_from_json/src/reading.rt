@@ -1,4 +1,4 @@
-//! Documents from text, by the bytes that `bytes_from_json` reads.
+//! Documents from text, through the bytes that `bytes_from_json` reads.
 #![tactic(auto)]
 
 ghost use Rattle.std.specs.Prelude.{◌⊎◌, IfErr, IfOk};
@@ -11,17 +11,19 @@ use bytes_from_json::JsonError;
 use raw_bson::{Limits, RawDocumentBuf};
 use std::alloc::Global;
 
-/// The document that a text of MongoDB Extended JSON v2 writes, canonical or relaxed. A number without a wrapper is an Int32
-/// or else an Int64 where it is an integer, which may have 64 bits; else the nearest double. An object whose keys are a
-/// wrapper's, in any order, is its value; one that has a wrapper's key and others is refused. Only the whole text and a scope
-/// are documents whatever their keys. A decimal has to be one that a Decimal128 is exactly. Members come in the order of the
-/// text, repeated keys too; options are sorted. The document has a tree within the limits, so no fault at any level. The error
-/// is of the first token that can't be there, with its place; or out of memory. Unless its reason is `OutOfMemory`, `TooManyBytes`,
-/// `TooDeep`, `InteriorNul` or `Unsound`, the text says no document. BSON 1.1, `document`.
+/// The document that a text of MongoDB Extended JSON v2 writes, canonical or relaxed. An integer without a wrapper
+/// is an Int32 if it fits, otherwise an Int64, and may have up to 64 bits. Any other number without a wrapper is
+/// the nearest double. An object with the keys of a wrapper, in any order, is the value of the wrapper; one with
+/// the key of a wrapper and other keys is an error. The whole text and a scope are documents whatever their keys
+/// are. A decimal must equal a Decimal128. Members are in the order of the text, even with repeated keys; options
+/// are sorted. The document has a tree within the limits, so it has no fault at any level. The error is about the
+/// first token that is wrong, with its place; or it is out of memory. Unless its reason is `OutOfMemory`,
+/// `TooManyBytes`, `TooDeep`, `InteriorNul` or `Unsound`, the text writes no document. BSON 1.1, `document`.
 ///
-/// No clause says so: no depth of the text takes stack, the time is linear, and memory is taken for as many bytes as the text
-/// has, besides the document. A text with a code behind its scope is read again, and its codes are kept meanwhile. There
-/// `TooManyBytes` may be of the scope's brace, where the code is written, and not of the code.
+/// Not in the contract: no depth of the text takes stack, the time is linear, and memory is taken for as many
+/// bytes as the text has, besides the document. A text with a code after its scope is read twice, and its codes
+/// are kept meanwhile. In such a text `TooManyBytes` may be placed at the opening brace of the scope, where the
+/// code is written, and not at the code.
 /// ```
 /// let limits = Limits { bytes: 1000, depth: 10 };
 /// let document = from_json(alloc, "{\"a\": 1}", limits)?;

@@ -10,7 +10,7 @@ use Rattle.values_to_json.specs.declared.sink.Failure.{Failure}
 use Rattle.values_to_json.specs.declared.sink.Failure.TheVariants as failure
 use Rattle.bson_json.specs.declared.print.PrintError.TheVariants as print
 
--- what `?` returns is told as what it was made of
+-- what `?` returns says the same as what it was made of
 pub told_as : {T : Type 0} (P : PrintError → Type 0) (r : Result T PrintError) (e : PrintError) → IsErrAnd r (λ y. y ≡ e) → P e → IfErr r P
 told_as P (Ok x) e is told = absurd is
 told_as P (Err y) e is told = subst P (sym is) told
@@ -19,7 +19,7 @@ module _ {S : Type 0} (has : S → ℕ → List ℕ → Type 0) where
   grows_trans : (old now new : S) (bs cs : List ℕ) → Grows has old now bs → Grows has now new cs → Grows has old new (bs ++ cs)
   grows_trans old now new bs cs f g most text h = subst (λ (x : List ℕ). has new most x) (append_assoc text bs cs) (g most (text ++ bs) (f most text h))
 
-  -- what was written, and the block behind it, which wasn't yet, are this text
+  -- what was written, followed by the block, which wasn't written yet, is this text
   pub record IsHeld (old now : S) (block text : List ℕ) : Type 0 where
     pub passed : List ℕ
     pub put : Grows has old now passed
@@ -43,7 +43,7 @@ module _ {S : Type 0} {has : S → ℕ → List ℕ → Type 0} {old now : S} {b
   pub held_whole : (new : S) → Grows has now new block → Grows has old new text
   held_whole new put = subst (Grows has old new) held.whole (grows_trans has old now new held.passed block held.put put)
 
--- the text goes on to one of the document b, where b is read
+-- the text is a prefix of one of the document b, if b is read
 abbrev pub IsFrontOf : Style → Limits → (b text : List ℕ) → Type 0
 IsFrontOf style limits b text = (t : Tree) → ReadsWithin limits b t → (more : List ℕ) × IsJson style b (text ++ more)
 
@@ -82,7 +82,7 @@ module _ {S : Type 0} {has : S → ℕ → List ℕ → Type 0} (style : Style) 
     pub print_fails : TellsPrintError has style limits b careful old now (print.Failure failure.OutOfMemory)
     print_fails = (few, λ safe. wrote_before unseen (guard safe))
 
-    -- the walk can't go on
+    -- the walk can't continue
     pub print_barred : (most : ℕ) (e : WalkError) → suc most ≡ limits.depth → TellsError most b e → TellsPrintError has style limits b careful old now (error_of e)
     print_barred most (error.Barrier answer) levels told =
         let first = barrier_told limits b (Ok (Some answer)) few (subst (λ (n : ℕ). TellsBarrierWithin n b (Some answer)) levels told) in

@@ -2,7 +2,7 @@
 use Rattle.bson_json.proofs.Common.{encode_of, encode_of-append, length-take-le, standard, take-add, take-length}
 use Rattle.std.proofs.Common.{◌≡◌, ◌+◌, ◌-◌, ◌%◌, ◌≤◌, ℕ, List, ◌++◌, length, take, drop, refl, sym, ap, ◌∙◌, arith}
 
--- a piece behind groups of three
+-- a piece after groups of three
 pub chunk_put : (b : List ℕ) (i n m : ℕ) → i ≤ length b → i % 3 ≡ 0 → m ≡ n → encode_of standard (take i b) ++ encode_of standard (take m (drop i b)) ≡ encode_of standard (take (i + n) b)
 chunk_put b i n m le groups e =
     let whole : length (take i b) % 3 ≡ 0 = ap (λ (k : ℕ). k % 3) (length-take-le i b le) ∙ groups in

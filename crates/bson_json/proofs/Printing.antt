@@ -1,4 +1,4 @@
--- The text of what a walk over all levels of a document comes to.
+-- The text of the events of a walk over all levels of a document.
 use Rattle.bson_json.proofs.Common.{AreMembersJson, Frame, HasVisits, IsJson, IsJsonUpTo, IsSingleJson, IsValueJson, RawValue, Style, Visit, VisitsEach, VisitsLevel, VisitsValue, after, before_scope, end_of, end_text, head_of, head_text, level_sort, opening, opening_text, size_of, sort_of}
 use Rattle.std.proofs.Common.{◌≡◌, ◌+◌, ℕ, zero, suc, Bool, true, false, List, [], ◌∷◌, ◌++◌, codes, length, length-append, refl, sym, ap, ◌∙◌, subst, arith, append_assoc, append-nil}
 use Rattle.raw_view.specs.Meaning as raw
@@ -16,7 +16,7 @@ single_has format (raw.document d) = ([], refl)
 single_has format (raw.array d) = ([], refl)
 single_has format (raw.scoped code d) = ([], refl)
 
--- Where a text is: levels of these sorts wait for the innermost, the outermost first; its sort, and whether nothing of it is printed yet.
+-- A place in a text: the sorts of the waiting levels, the outermost first; the sort of the innermost; and whether nothing of it was printed yet.
 pub record Place : Type 0 where
   pub waits : List Sort
   pub sort : Sort
@@ -25,7 +25,7 @@ pub record Place : Type 0 where
 abbrev pub place : List Sort → Sort → Bool → Place
 place os o first = record { waits = os; sort = o; first = first }
 
--- the place behind a level of this sort, which is in the one that waits last; where none waits, the text stays in that level
+-- the place after a level of this sort: in the last waiting level, or still in this one if none waits
 abbrev pub around : List Sort → Sort → Place
 around [] o = place [] o false
 around (p ∷ []) o = place [] p false
@@ -63,7 +63,7 @@ module _ (style : Style) where
   IsPiece s (enter at f v) piece = piece ≡ head_of style s.first s.waits s.sort f.key ++ opening_text v
   IsPiece s leave piece = piece ≡ end_of style s.first s.waits s.sort
 
-  -- these visits have this text, which leads from one place to the other
+  -- these visits have this text, from one place to the other
   abbrev pub AreWritten : Place → List Visit → List ℕ → Place → Type 0
   AreWritten s [] text to = (text ≡ []) × (to ≡ s)
   AreWritten s (x ∷ xs) text to = (piece others : List ℕ) × IsPiece s x piece × AreWritten (behind s x) xs others to × (text ≡ piece ++ others)
@@ -85,7 +85,7 @@ module _ (style : Style) where
       let (piece, is) = piece_has s x in
       let (others, to, are) = written_has (behind s x) xs in (piece ++ others, to, (piece, others, is, are, refl))
 
-  -- A text that begins with that of these visits, from this place, begins with one of which P holds. Behind that it is in the same level.
+  -- a text that begins with that of these visits, from this place, begins with one of which P holds, and then is in the same level
   abbrev Tell : Place → List Visit → (P : (last : Bool) → List ℕ → Type 0) → Type 0
   Tell s vs P =
       (zs : List Visit) (text : List ℕ) (to : Place) → AreWritten s (vs ++ zs) text to
@@ -94,11 +94,11 @@ module _ (style : Style) where
   abbrev end_in : Place → (last : Bool) → List ℕ
   end_in s last = end_text style.layout (length s.waits) (level_sort s.sort) last
 
-  -- with its brackets a text is that of the bytes d, whose level this is
+  -- a text followed by its brackets is that of the bytes d, whose level this is
   abbrev IsLevelText : ℕ → Place → List ℕ → (last : Bool) → List ℕ → Type 0
   IsLevelText n s d last text = IsJsonUpTo style n (length s.waits) (level_sort s.sort) d (opening (level_sort s.sort) ∷ (text ++ end_in s last))
 
-  -- the visits of all bytes with at most so many levels tell it
+  -- this holds of the visits of all bytes with at most n levels
   abbrev AreLevelTexts : ℕ → Type 0
   AreLevelTexts n = (start : ℕ) (os : List Sort) (o : Sort) (d : List ℕ) (vs : List Visit) → HasVisits n start d vs → Tell (place os o true) vs (IsLevelText n (place os o true) d)
 
@@ -106,7 +106,7 @@ module _ (style : Style) where
     abbrev Nested : Place → reading.Sort → List ℕ → List ℕ → Type 0
     Nested s = IsJsonUpTo style n (suc (length s.waits))
 
-    -- a value, behind its head
+    -- a value after its head
     abbrev IsHeaded : Place → Frame → RawValue → (last : Bool) → List ℕ → Type 0
     IsHeaded s f v last text =
         (shown : List ℕ) × (last ≡ false) × IsValueJson style (length s.waits) (Nested s) v shown × (text ≡ head_of style s.first s.waits s.sort f.key ++ shown)
@@ -168,7 +168,7 @@ module _ (style : Style) where
       let (last, front, others, members, goes_on, text_is) = each_text n (level_text n) (start + 4) (place os o true) frames vs each zs text to are in
       (last, front, others, (frames, front ++ end_in (place os o true) last, walk, members, refl), goes_on, text_is)
 
-  -- the visits of a document have its text, but for its brackets
+  -- the visits of a document have its text, without its brackets
   pub document_text : (n : ℕ) (b : List ℕ) (vs : List Visit) (text : List ℕ) (to : Place) → HasVisits n 0 b vs → AreWritten begun vs text to
       → (last : Bool) × (to ≡ place [] sort.Document last) × IsJson style b (123 ∷ (text ++ end_of style last [] sort.Document))
   document_text n b vs text to has are =
@@ -178,7 +178,7 @@ module _ (style : Style) where
       (λ i. (sym (append-nil front) ∙ ap (λ (t : List ℕ). front ++ t) (sym none) ∙ sym text_is) i ++ sym (append-nil (end_text style.layout 0 reading.as_document last)) i) in
       (last, there, (n, subst (λ (t : List ℕ). IsJsonUpTo style n 0 reading.as_document b (123 ∷ t)) all json))
 
-  -- the text of the first visits of a document goes on to one of the document
+  -- the text of the first visits of a document is a prefix of one of the document
   pub front_text : (n : ℕ) (b : List ℕ) (vs seen rest : List Visit) (told : List ℕ) (here : Place) → HasVisits n 0 b vs → vs ≡ seen ++ rest → AreWritten begun seen told here
       → (more : List ℕ) × IsJson style b (123 ∷ (told ++ more))
   front_text n b vs seen rest told here has all are =

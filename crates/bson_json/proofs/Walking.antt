@@ -12,7 +12,7 @@ use Rattle.bson_json.specs.declared.level.Sort.{Sort}
 use Rattle.bson_json.proofs.Blocks.{IsFrontOf}
 use Rattle.bson_json.proofs.Printing.{AreWritten, IsPiece, Place, around, around_last, begun, behind, document_text, front_text, place, written_on}
 
--- The walk has come to some visits, which are told by this text behind the first bracket. Of the levels that wait these are the sorts.
+-- The walk has come to some visits, whose text with the first bracket is `told`. These are the sorts of the waiting levels.
 pub record IsGoing (style : Style) (limits : Limits) (document : RawDocument) (w : Walk) (l : walk.Level) (sorts : List Sort) (o : Sort) (told : List ℕ) : Type 0 where
   pub few : length (bytes_of document) ≤ limits.bytes
   pub most : ℕ
@@ -33,14 +33,14 @@ module _ {style : Style} {limits : Limits} {document : RawDocument} {w : Walk} {
   abbrev here : Place
   here = place sorts o (nat_eq l.number 0)
 
-  -- a document that is read goes on with the visits that are left, which have a text
+  -- a document that is read continues with the remaining visits, which have a text
   pub going_is_front : IsFrontOf style limits b (123 ∷ told)
   going_is_front t within =
       let (vs, visits) = reads_visits (suc is.most) 0 as_document b t (subst (λ (n : ℕ). ReadsUpTo n as_document b t) (sym is.levels) (to_depth limits b t within)) in
       let (rest, all) = come_front is.come vs visits in
       front_text style (suc is.most) b vs is.seen rest told here visits all is.text
 
-  -- Behind an event a piece more is told, and the walk is further on; or the text is at its end.
+  -- After an event one more piece is written and the walk is further on; or the text is complete.
   abbrev pub Adds : Walk → walk.Level → List Sort → Sort → (ended : Bool) → List ℕ → Type 0
   Adds new to ps p false piece = IsGoing style limits document new to ps p (told ++ piece) × (length b - to.offset < length b - l.offset)
   Adds new to ps p true piece = IsJson style b (123 ∷ (told ++ piece)) × (t : Tree) × ReadsWithin limits b t
@@ -81,7 +81,7 @@ module _ {style : Style} {limits : Limits} {document : RawDocument} {w : Walk} {
       let whole_text = subst (λ (s : Place). IsJson style b (123 ∷ (told ++ end_of style s.first s.waits s.sort))) (sym there) json in
       rw going (_, put, (whole_text, t, read_within limits b t is.few (subst (λ (n : ℕ). ReadsUpTo n as_document b t) is.levels reads)))
 
-  -- what the walk comes to suits the levels
+  -- what the walk comes to fits the levels
   pub going_suits : (new : Walk) (to : walk.Level) (e : Event) → Comes document is.most is.seen w l new to (Ok e) → Suits e sorts
   going_suits new to e comes leaves none =
       let left = subst (λ (x : Event). Comes document is.most is.seen w l new to (Ok x)) leaves comes in omega (arith, ap length none, is.as_many, left.2)

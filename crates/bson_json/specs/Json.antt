@@ -1,4 +1,4 @@
--- A document as MongoDB Extended JSON v2. The bytes b of a document, or of an array, have an envelope.
+-- A document as MongoDB Extended JSON v2. The bytes b of a document or of an array have an envelope.
 use Rattle.std.specs.Prelude.{◌≡◌, ◌*◌, ℕ, suc, zero, Bool, true, false, List, [], ◌∷◌, ◌++◌, codes, drop, replicate}
 use Rattle.json.specs.Print.{quoted}
 use Rattle.raw_view.specs.Frame.{Frame, IsWalk, Done}
@@ -10,16 +10,17 @@ use Rattle.values_to_json.specs.declared.style.Layout.{Layout}
 use Rattle.values_to_json.specs.declared.style.Layout.TheVariants.{OneLine, Indented}
 use Rattle.values_to_json.specs.declared.style.Style.{Style}
 
--- the brackets of a document and of an array
+-- the opening bracket of a document or of an array
 abbrev pub opening : Sort → ℕ
 opening as_document = 123
 opening as_array = 91
 
+-- the closing bracket
 abbrev pub closing : Sort → ℕ
 closing as_document = 125
 closing as_array = 93
 
--- a new line with two spaces for each level around it
+-- a new line, with two spaces for each level around it
 abbrev pub line : Layout → ℕ → List ℕ
 line OneLine depth = []
 line Indented depth = 10 ∷ replicate (2 * depth) 32
@@ -29,6 +30,7 @@ abbrev pub comma : Bool → List ℕ
 comma true = []
 comma false = 44 ∷ []
 
+-- a colon, followed by a space if there are lines
 abbrev pub colon : Layout → List ℕ
 colon OneLine = codes ":"
 colon Indented = codes ": "
@@ -42,7 +44,7 @@ member_key layout as_array key = []
 abbrev pub head_text : Layout → ℕ → Sort → Bool → List ℕ → List ℕ
 head_text layout depth sort first key = comma first ++ (line layout depth ++ member_key layout sort key)
 
--- what is behind the last member: the bracket, on a line of its own unless there is no member
+-- what comes after the last member: the bracket, on a line of its own unless there is no member
 abbrev pub end_text : Layout → ℕ → Sort → Bool → List ℕ
 end_text layout depth sort true = closing sort ∷ []
 end_text layout depth sort false = line layout depth ++ (closing sort ∷ [])
@@ -51,7 +53,7 @@ end_text layout depth sort false = line layout depth ++ (closing sort ∷ [])
 abbrev pub before_scope : List ℕ → List ℕ
 before_scope code = codes "{\"$code\":" ++ (quoted code ++ codes ",\"$scope\":")
 
--- so many levels are around the document or the array; Nested says which text nested bytes have
+-- `depth` levels are around the document or the array; `Nested` says which text nested bytes have
 module _ (style : Style) (depth : ℕ) (Nested : Sort → List ℕ → List ℕ → Type 0) where
   -- the value has this text
   abbrev pub IsValueJson : RawValue → List ℕ → Type 0
@@ -60,15 +62,15 @@ module _ (style : Style) (depth : ℕ) (Nested : Sort → List ℕ → List ℕ 
   IsValueJson (raw.array d) text = Nested as_array d text
   IsValueJson (raw.scoped code d) text = (scope : List ℕ) × Nested as_document d scope × (text ≡ before_scope code ++ (scope ++ codes "}"))
 
-  -- these frames have this text one behind the other, with the bracket behind them; and whether they are all
+  -- these frames have this text one after the other, followed by the closing bracket; the flag says whether they are all
   abbrev pub AreMembersJson : Sort → Bool → List Frame → List ℕ → Type 0
   AreMembersJson sort first [] text = text ≡ end_text style.layout depth sort first
   AreMembersJson sort first (f ∷ fs) text =
       (v : RawValue) × (shown others : List ℕ) × Means f (value v) × IsValueJson v shown × AreMembersJson sort false fs others
       × (text ≡ head_text style.layout (suc depth) sort first f.key ++ (shown ++ others))
 
--- The bytes b, with so many levels around them and at most so many levels, have this text: that of the frames of a walk
--- that ends at the final 0, in order, whatever their keys are.
+-- The bytes b, which are inside `depth` levels and have at most n levels, have this text: that of the frames of their walk in order,
+-- whatever their keys are. The walk ends at the final 0.
 abbrev pub IsJsonUpTo : Style → ℕ → ℕ → Sort → List ℕ → List ℕ → Type 0
 IsJsonUpTo style zero depth sort b text = ⊥
 IsJsonUpTo style (suc n) depth sort b text =

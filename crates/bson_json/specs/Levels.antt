@@ -27,12 +27,12 @@ level_sort sort.Document = as_document
 level_sort sort.Array = as_array
 level_sort sort.Scope = as_document
 
--- what is behind the last bracket of a level
+-- what comes after the last bracket of a level
 abbrev pub after : Sort → List ℕ
 after sort.Scope = codes "}"
 after _ = []
 
--- what the level is that a value holds
+-- the sort of the level that a value holds
 abbrev pub sort_of : RawValue → Sort
 sort_of (raw.single l) = sort.Document
 sort_of (raw.document d) = sort.Document
@@ -51,7 +51,7 @@ abbrev pub IsSingleJson : Format → RawValue → List ℕ → Type 0
 IsSingleJson format (raw.single l) text = IsLeafJson format l text
 IsSingleJson format _ text = text ≡ []
 
--- what is written of a value that holds others before the first of them, and what its level is
+-- what is written of a value that holds others before the first of them, and the sort of its level
 abbrev pub PutsOpening : RawValue → Option (List ℕ) → Option (List ℕ) → Sort → Type 0
 PutsOpening v old new o = (o ≡ sort_of v) × Appends old new (opening_text v)
 
@@ -59,25 +59,25 @@ PutsOpening v old new o = (o ≡ sort_of v) × Appends old new (opening_text v)
 abbrev pub PutsSingle : Format → RawValue → Option (List ℕ) → Option (List ℕ) → Type 0
 PutsSingle format v old new = (text : List ℕ) × IsSingleJson format v text × Appends old new text
 
--- the error of a walk as one of a print
+-- the error of a walk as an error of printing
 abbrev pub error_of : WalkError → PrintError
 error_of (walk.Barrier barrier) = print.Barrier barrier
 error_of walk.OutOfMemory = print.Failure failure.OutOfMemory
 
--- what is written before the value of a member with this key, where levels of these sorts wait
+-- what is written before the value of a member with this key, if levels of these sorts wait
 abbrev pub head_of : Style → (first : Bool) → List Sort → Sort → List ℕ → List ℕ
 head_of style first os o key = head_text style.layout (length os + 1) (level_sort o) first key
 
--- and behind the last member
+-- and after the last member
 abbrev pub end_of : Style → (first : Bool) → List Sort → Sort → List ℕ
 end_of style first os o = end_text style.layout (length os) (level_sort o) first ++ after o
 
--- a level that is left is inside another, which is one of these
+-- if a level is left, others wait
 abbrev pub Suits : Event → List Sort → Type 0
 Suits e os = e ≡ event.Leave → ¬ os ≡ []
 
--- What is written of an event at a level of the sort o, for which levels of the sorts os wait. It is then at one of the sort p, for which those
--- of the sorts ps wait; or the text is at its end.
+-- What is written for an event at a level of the sort o, where levels of the sorts os wait. After it, a level of the sort p is printed and
+-- those of the sorts ps wait; or the text is complete.
 abbrev pub PutsEvent : Style → (first : Bool) → Event → List Sort → Sort → (old : List ℕ) → List Sort → Sort → (new : List ℕ) → (ended : Bool) → Type 0
 PutsEvent style first (event.Whole e v) os o old ps p new ended =
     (ended ≡ false) × (ps ≡ os) × (p ≡ o) × PutsSingle style.format (value_of v) (Some (old ++ head_of style first os o (frame_of e).key)) (Some new)

@@ -21,12 +21,13 @@ use std::alloc::Global;
 use std::io::Write;
 use values_to_json::{Counted, Failure, Measured, Style};
 
-/// Writes a document within limits as MongoDB Extended JSON v2, each element as it is: repeated keys in order, an array without
-/// its keys. The error is the first barrier, as `first_fault_within` has it, and then nothing was written; else the writer's
-/// own, or out of memory, and then what was written is a front of the text. BSON 1.1, `document`.
+/// Writes a document within limits as MongoDB Extended JSON v2. Each element is written as it is: repeated keys in
+/// order, an array without its keys. If the error is the first barrier, as `first_fault_within` returns it,
+/// nothing was written. If it is the error of the writer, or out of memory, a prefix of the text may have been
+/// written. BSON 1.1, `document`.
 ///
-/// No clause says so: memory is taken for the levels, and for the text of one value and 4 KiB, which are written in one call;
-/// no depth fills the stack.
+/// Not in the contract: memory is taken for the levels, for the text of one value, and for 4 KiB, which are
+/// written in one call. No depth fills the stack.
 /// ```
 /// let document = RawDocument::from_bytes(b"\x0C\0\0\0\x10a\0\x01\0\0\0\0")?;
 /// let style = Style { format: Format::Canonical, layout: Layout::OneLine };
@@ -55,7 +56,7 @@ pub fn write_json<'a, W: Write>(
     }
 }
 
-/// The error of a text in memory, which fails only where memory runs out.
+/// The error of a text in memory. Only out of memory is possible.
 fn json_error(error: PrintError<'_>) -> ToJsonError<'_>
     ensures { (limits : Limits)
         → (b : List ℕ)
@@ -68,7 +69,7 @@ fn json_error(error: PrintError<'_>) -> ToJsonError<'_>
     }
 }
 
-/// A text of JSON as a string. Each is UTF-8, so it isn't looked through once more.
+/// The JSON text as a string. It is UTF-8, so it isn't tested again.
 fn string_of(text: Vec<u8>) -> String
     requires { IsUtf8 text.items }
     ensures { string_bytes result ≡ text.items }
@@ -76,8 +77,8 @@ fn string_of(text: Vec<u8>) -> String
     unsafe { String::from_utf8_unchecked(text) }
 }
 
-/// A document within limits as MongoDB Extended JSON v2, as `write_json` writes it. The error is the first barrier, as
-/// `first_fault_within` has it, or out of memory. BSON 1.1, `document`.
+/// A document within limits as MongoDB Extended JSON v2, as `write_json` writes it. The error is the first
+/// barrier, as `first_fault_within` returns it, or out of memory. BSON 1.1, `document`.
 /// ```
 /// let document = RawDocument::from_bytes(b"\x0C\0\0\0\x10a\0\x01\0\0\0\0")?;
 /// let style = Style { format: Format::Relaxed, layout: Layout::OneLine };
@@ -101,10 +102,11 @@ pub fn to_json<'a>(
     }
 }
 
-/// How many bytes a document within limits has as MongoDB Extended JSON v2, and the text if that is at most `most`. The error is
-/// the first barrier, as `first_fault_within` has it, or out of memory. BSON 1.1, `document`.
+/// The length of a document within limits as MongoDB Extended JSON v2, and the text if it has at most `most`
+/// bytes. The error is the first barrier, as `first_fault_within` returns it, or out of memory. BSON 1.1,
+/// `document`.
 ///
-/// No clause says so: memory is taken as by `write_json`, and for at most twice `most` bytes of the text.
+/// Not in the contract: memory is taken as by `write_json`, and for at most twice `most` bytes of the text.
 /// ```
 /// let document = RawDocument::from_bytes(b"\x0C\0\0\0\x10a\0\x01\0\0\0\0")?;
 /// let style = Style { format: Format::Relaxed, layout: Layout::OneLine };

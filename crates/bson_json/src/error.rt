@@ -18,7 +18,7 @@ pub enum ToJsonError<'a> {
     OutOfMemory,
 }
 
-/// Why a document isn't written, or not whole.
+/// Why a document isn't written, or not all of it.
 #[derive(Debug, Drop)]
 pub enum WriteJsonError<'a> {
     /// its first barrier within the limits; nothing was written

@@ -20,7 +20,7 @@ use std::io::Write;
 use values_to_json::put::{put, put_between, put_bytes_between, put_words};
 use values_to_json::{Format, put_quoted};
 
-/// How many bytes are encoded at a time.
+/// The number of bytes that are encoded at a time.
 const CHUNK: usize = 192;
 
 /// Writes a text in quotes between two others.

@@ -1,4 +1,4 @@
-//! What is printed of a level.
+//! What is printed around the members of a level.
 #![tactic(auto)]
 
 ghost use Rattle.std.specs.Prelude.{◌++◌, ◌*◌, ℕ, List, OnOk, IfOk, replicate};
@@ -17,7 +17,7 @@ use std::io::Write;
 use values_to_json::put::{put, put_repeated};
 use values_to_json::{Format, Layout, put_date, put_double, put_quoted, write_decimal128};
 
-/// What a level is.
+/// The sort of a level.
 #[derive(Clone, Copy, PartialEq, Eq)]
 pub(crate) enum Sort {
     Document,
@@ -35,7 +35,7 @@ fn put_spaces<W: Write>(out: &mut W, depth: usize) -> io::Result<()>
     put_repeated(out, b' ', depth)
 }
 
-/// Writes a new line, where there are lines, with two spaces for each level around it.
+/// Writes a new line, if the layout has lines, with two spaces for each level around it.
 #[inline(always)]
 fn put_line<W: Write>(out: &mut W, layout: Layout, depth: usize) -> io::Result<()>
     ensures { OnOk result
@@ -85,7 +85,7 @@ pub(crate) fn put_head<W: Write>(
     }
 }
 
-/// Writes what is behind the last member of a level.
+/// Writes what comes after the last member of a level.
 pub(crate) fn put_end<W: Write>(
     out: &mut W,
     layout: Layout,
@@ -106,7 +106,7 @@ pub(crate) fn put_end<W: Write>(
     }
 }
 
-/// Writes what is before the first member of a value that holds others, and returns what its level is.
+/// Writes what is before the first member of a value that holds others, and returns the sort of its level.
 pub(crate) fn put_opening<W: Write>(out: &mut W, level: RawLevel<'_>) -> io::Result<Sort>
     ensures { IfOk result (PutsOpening (held_value level.entry) (W.contents out.old) (W.contents out.new)) }
 {

@@ -21,10 +21,10 @@ use std::{io, mem};
 use values_to_json::put::put;
 use values_to_json::{Failure, Sink, Style};
 
-/// From so many bytes on a block is written.
+/// From this many bytes on, a block is written.
 const FULL: usize = 4096;
 
-/// Why a document isn't printed whole.
+/// Why a document isn't printed, or not all of it.
 #[derive(Debug, Drop)]
 pub(crate) enum PrintError<'a> {
     /// its first barrier within the limits
@@ -55,7 +55,7 @@ impl<'a> From<Failure> for PrintError<'a> {
     }
 }
 
-/// A block in memory takes all that it is given, unless memory runs out.
+/// A block in memory takes all bytes, unless memory runs out.
 impl<'a> From<io::Error> for PrintError<'a> {
     ghost use Rattle.values_to_json.specs.declared.sink.Failure.TheVariants as failure;
     ghost use Rattle.bson_json.specs.declared.print.PrintError.TheVariants as print;
@@ -78,7 +78,7 @@ impl<'a, T: Drop> From<AllocFailed<T>> for PrintError<'a> {
     }
 }
 
-/// Looks a document through, where it has to be.
+/// Looks through a document for a barrier, if that is still to be done.
 fn look_through<'a>(
     alloc: Global,
     document: RawDocument<'a>,
@@ -98,8 +98,8 @@ fn look_through<'a>(
     }
 }
 
-/// Writes a block that is full, and empties it. A document that has to be looked through is before its first block is written;
-/// returns whether it still has to be.
+/// Writes a full block, and empties it. If the document is still to be looked through, that is done before its
+/// first block is written. Returns whether it is still to be done.
 #[inline]
 fn pass_on<'a, S: Sink>(
     alloc: Global,
@@ -125,8 +125,8 @@ fn pass_on<'a, S: Sink>(
     Ok(false)
 }
 
-/// Writes what an event adds to the text of a level of this sort, for which levels of the other sorts wait; and they become those
-/// behind the event. Returns whether the text is at its end.
+/// Writes what an event adds to the text of a level of this sort. Levels of the other sorts wait for it; the sorts
+/// are updated. Returns whether the text is complete.
 #[inline(always)]
 fn put_event<'a>(
     block: &mut Vec<u8>,
@@ -168,8 +168,8 @@ fn put_event<'a>(
     }
 }
 
-/// Writes a document within limits, by blocks of whole values. If it is to be `careful`, nothing is written of a document that
-/// has a barrier; else a front of no text may be.
+/// Writes a document within limits, in blocks of whole values. If it is `careful`, nothing is written of a
+/// document that has a barrier. Otherwise what was written before a barrier may be the prefix of no text.
 pub(crate) fn print<'a, S: Sink>(
     alloc: Global,
     document: RawDocument<'a>,

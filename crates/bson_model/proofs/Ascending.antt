@@ -46,7 +46,7 @@ IsPermutation-put_in_order c (d ∷ ds) =
           IsPermutation-trans (c ∷ d ∷ ds) (d ∷ c ∷ ds) (d ∷ put_in_order c ds) swapped (IsPermutation-cons d (c ∷ ds) (put_in_order c ds) (IsPermutation-put_in_order c ds)))
     ]
 
--- it only moves the numbers
+-- sorting only moves the numbers
 pub IsPermutation-ascending : (cs : List ℕ) → IsPermutation cs (ascending cs)
 IsPermutation-ascending [] = IsPermutation-refl []
 IsPermutation-ascending (c ∷ cs) =
@@ -112,7 +112,7 @@ IsNonDecreasing-from_rises (x ∷ xs) h zero (suc j) d le lt = above_at x xs j d
 IsNonDecreasing-from_rises (x ∷ xs) h (suc i) zero d le lt = absurd (omega arith)
 IsNonDecreasing-from_rises (x ∷ xs) h (suc i) (suc j) d le lt = IsNonDecreasing-from_rises xs h.1 i j d (omega arith) (omega arith)
 
--- it ascends
+-- the sorted numbers ascend
 pub IsNonDecreasing-ascending : (cs : List ℕ) → IsNonDecreasing (ascending cs)
 IsNonDecreasing-ascending cs = IsNonDecreasing-from_rises (ascending cs) (Rises-ascending cs)
 

@@ -26,7 +26,7 @@ pub AreBytes-cons : (x : ℕ) (xs : List ℕ) → x < 256 → AreBytes xs → Ar
 AreBytes-cons x xs l h zero = l
 AreBytes-cons x xs l h (suc i) = h i
 
--- bytes behind bytes
+-- bytes followed by bytes
 pub AreBytes-append : (front back : List ℕ) → AreBytes front → AreBytes back → AreBytes (front ++ back)
 AreBytes-append [] back f b i = b i
 AreBytes-append (x ∷ front) back f b zero = f 0

@@ -1,4 +1,4 @@
--- Pairs that are made of keys and of values beside them, put in one after the other.
+-- Pairs made of keys and of values beside them, inserted one after the other.
 use Rattle.std.proofs.Common.{◌≡◌, ℕ, zero, suc, ◌+◌, ◌<◌, ◌≤◌, List, [], ◌∷◌, ◌++◌, length, map, fold, take, drop, false, Some, slice_get, slice_index_or, refl, ap, sym, ◌∙◌, add-one, arith, Bor, String, Global}
 use Rattle.std.specs.List.{zip, list_any}
 use Rattle.std.specs.String.{string_bytes}
@@ -19,7 +19,7 @@ there i [] h = absurd (omega arith)
 there zero (v ∷ vs) h = (v, refl)
 there (suc i) (v ∷ vs) h = there i vs (omega arith)
 
--- and behind it
+-- the element at a place, and what follows it
 pub behind : {T : Type 0} (i : ℕ) (vs rest : List T) (v : T) → drop i vs ≡ v ∷ rest → (slice_get vs i ≡ Some v) × (drop (i + 1) vs ≡ rest)
 behind zero [] rest v e = absurd (omega (arith, ap length e))
 behind zero (x ∷ vs) rest v e = let same : x ≡ v = cc in let others : vs ≡ rest = cc in (ap (λ y. Some y) same, others)
@@ -32,7 +32,7 @@ module _ {T : Type 0} (ks : List (Bor (List ℕ))) (vs : List T) where
   abbrev pub columns : List (List ℕ × T)
   columns = zip (map (λ key. key.now) ks) vs
 
-  -- all pairs are among so many as there are keys, or values
+  -- at the end of the keys all pairs were taken
   pub keys_end : (i : ℕ) → length ks ≤ i → take i columns ≡ columns
   keys_end i h = take_all i columns (rw (length-zip, length-map) (omega arith))
 
@@ -47,7 +47,7 @@ module _ {T : Type 0} (ks : List (Bor (List ℕ))) (vs : List T) where
       let pair = pair_at (λ (k : Bor (List ℕ)). k.now) i key v ks vs (slice_get-get_or ks i d within) at in
       ap keep (take-more columns i (key.now, v) pair) ∙ keep-last (take i columns) key.now v ∙ ap (λ k. with_pair k v (keep (take i columns))) (sym e)
 
-  -- the texts are the first keys, of which none is there twice, so that the first values stand beside them
+  -- the texts are the first keys and none occurs twice, so the first values are beside them
   abbrev pub IsSoFar : List (String Global) → ℕ → Type 0
   IsSoFar set i = (length set ≡ i) × (pairs_by string_bytes set (take i vs) ≡ keep (take i columns))
 

@@ -1,4 +1,4 @@
--- How much is left to let go.
+-- How much is left to drop.
 use Rattle.std.proofs.Common.{◌≡◌, ℕ, ◌+◌, ◌<◌, List, [], ◌∷◌, ◌++◌, length, map, Option, None, Some, Vec, Global, slice_index_or, slice_set, refl, ap, sym, ◌∙◌, arith}
 use Rattle.std.specs.Option.{IfSome, option_to_list}
 use Rattle.std.proofs.lemmas.List.{append_assoc, map-append, length-map}
@@ -85,20 +85,20 @@ load-front (t ∷ ts) us = omega (arith, sizes-append ts us)
 load-cut : (new : List Bson) (next : Option Bson) (old : List Bson) → IsCutFrom new next old → load (left new next) < 1 + load (map tree_of old)
 load-cut new next old (rest, e) = rw (e, map-append tree_of (new ++ option_to_list next) rest) (load-front (left new next) (map tree_of rest))
 
--- a value goes, and the last of those that are held is next
+-- a value is dropped, and the last of the held ones is next
 pub less-cut : (new : List Bson) (next : Option Bson) (old : List Bson) → IsCutFrom new next old → (t : Tree) → load (left new next) < load (map tree_of old ++ t ∷ [])
 less-cut new next old h t = omega (arith, load-cut new next old h, less-last (map tree_of old) t)
 
--- of values that hold others, none waits
+-- if a value holds others and nothing is held, less is left
 pub is_less-inside : (new : List Bson) (next : Option Bson) (values : List Bson) → IsCutFrom new next values → IsLess new next [] values
 is_less-inside new next values h t m = omega (arith, load-cut new next values h, less-inside (map tree_of values) t (sym m))
 
--- where the value is that one
+-- the same, where the value is the next one
 pub less-next : (new : List Bson) (next : Option Bson) (old : List Bson) (value : Bson) → load (left new next) < load (map tree_of old ++ tree_of value ∷ [])
     → load (left new next) < load (left old (Some value))
 less-next new next old value h = rw (map-append tree_of old (value ∷ [])) h
 
--- those that are held wait in the place of the first
+-- the held values wait in the place of the first
 pub is_less-outside : (outer : Vec Bson Global) (values : List Bson) (first : Bson) → 0 < length outer.items → 0 < length values → first ≡ slice_index_or values 0 first
     → IsLess (slice_set values 0 (b.Array outer)) (Some first) outer.items values
 is_less-outside outer [] first held some e t m = absurd (omega arith)

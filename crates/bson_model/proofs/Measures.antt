@@ -1,5 +1,5 @@
--- What a value, a document or a code with scope holds is smaller than it, by the measure that the check
--- takes: `size-Bson`, `size-Document`, `size-JavaScriptCodeWithScope`.
+-- What a value, a document or a code with scope holds is smaller than it, by the measure of the checker: `size-Bson`, `size-Document`,
+-- `size-JavaScriptCodeWithScope`.
 use Rattle.std.proofs.Common.{◌≡◌, ℕ, zero, suc, ◌<◌, ◌≤◌, List, [], ◌∷◌, map, Some, slice_get, ap, arith}
 use denote.Param.Weighed.{most}
 use Rattle.bson_model.specs.Tree.{pairs_of}

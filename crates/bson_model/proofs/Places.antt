@@ -1,4 +1,4 @@
--- Where a text is among others, none of which is there twice.
+-- The place of a text among others, none of which occurs twice.
 use Rattle.std.proofs.Common.{◌≡◌, ℕ, suc, ◌+◌, ◌<◌, ◌≤◌, Bool, true, false, not, cond, ◌||◌, ltb, is_some, List, [], ◌∷◌, ◌++◌, length, Option, Some, None, Result, Ok, Err, OnErr, position, slice_index_or, String, Global, refl, sym, ◌∙◌, arith}
 use Rattle.std.proofs.lemmas.Bool.Decides.{nat_tests}
 use Rattle.std.proofs.lemmas.List.Sums.{position_or_len_is}
@@ -34,7 +34,7 @@ module _ {X : Type 0} (p : X → Bool) where
   abbrev place : List X → Bool → Option ℕ
   place xs b = cond b (Some (position_or_len p xs)) None
 
-  -- what a look-up that finds a place says, and one that finds none
+  -- what a look-up says if it finds a place, and if it finds none
   pub met : (xs : List X) (i : ℕ) → position p xs ≡ Some i → (list_any p xs ≡ true) × (position_or_len p xs ≡ i)
   met xs i e =
       elim (ltb (position_or_len p xs) (length xs)) as (λ b. ltb (position_or_len p xs) (length xs) ≡ b → place xs b ≡ Some i → (list_any p xs ≡ true) × (position_or_len p xs ≡ i)) [

@@ -1,4 +1,4 @@
--- When a derived `==` of an enum decides equality of what the values stand for.
+-- When a derived `==` of an enum decides equality of what the values mean.
 use Rattle.std.proofs.Common.{◌≡◌, ℕ, suc, ◌≤◌, Bool, true, false, ◌&&◌, refl, ap, sym, ◌∙◌, arith, Decides}
 use mathlib.Core.List.{List, [], ◌∷◌}
 use mathlib.Core.Logic.{inl, inr}
@@ -8,7 +8,7 @@ use denote.Enum.Declared.{Choice}
 use denote.Enum.Compared.{by, Each}
 
 module _ {X : Type 0} (kind : X → ℕ) where
-  -- the values of the variants stand for different kinds, in order
+  -- the values of the variants are of different kinds, in order
   abbrev pub Kinds : (Fss : List (List Field)) → ℕ → (Choice Fss → X) → Type 0
   Kinds [] n make = Unit {0}
   Kinds (Fs ∷ Fss) n make = ((u : Values Fs) → kind (make (inl u)) ≡ n) × Kinds Fss (suc n) (λ c. make (inr c))
@@ -34,7 +34,7 @@ module _ {X : Type 0} (kind : X → ℕ) where
       (λ p. cc, λ q. absurd (let at = k.0 v in let past = later Fss (suc n) (λ e. make (inr e)) k.1 c in let e = ap kind q in omega arith))
   decided (Fs ∷ Fss) n each make Small k s (inr c) (inr d) small = decided Fss (suc n) each.1 (λ e. make (inr e)) (λ e. Small (inr e)) k.1 s.1 c d small
 
--- a test that decides one fact decides each that it is equivalent to
+-- a test that decides one fact decides each equivalent fact
 pub along : {P Q : Type 0} (b c : Bool) → b ≡ c → Decides c P → (P → Q) → (Q → P) → Decides b Q
 along b c e d f g = (λ p. f (d.0 (sym e ∙ p)), λ q. e ∙ d.1 (g q))
 

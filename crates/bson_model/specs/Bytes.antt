@@ -5,7 +5,7 @@ use Rattle.std.specs.Prelude.{◌≡◌, ◌≢◌, ℕ, ◌<◌, List, length, 
 abbrev pub AreBytes : List ℕ → Type 0
 AreBytes bytes = (i : ℕ) → slice_index bytes i < 256
 
--- so many bytes
+-- `n` bytes
 abbrev pub AreBytesOf : ℕ → List ℕ → Type 0
 AreBytesOf n bytes = (length bytes ≡ n) × AreBytes bytes
 

@@ -7,7 +7,7 @@ use Rattle.std.specs.declared.alloc.Global.{Global}
 use Rattle.bson_model.specs.declared.keys.Held.{Held}
 use Rattle.bson_model.specs.declared.keys.Held.TheVariants.{Few, Many}
 
--- the texts that are held, in either form
+-- the held texts, in a list or in a set
 abbrev pub texts_of : Held → List (String Global)
 texts_of (Few texts) = texts.items
 texts_of (Many set) = set.keys
@@ -20,10 +20,10 @@ has_bytes bytes text = bytes_eq bytes (string_bytes text)
 abbrev pub is_among : List ℕ → List (String Global) → Bool
 is_among bytes texts = list_any (has_bytes bytes) texts
 
--- the texts with one more behind them, unless it is there
+-- the texts, with one more at the end unless it is there
 abbrev pub with_text : String Global → List (String Global) → List (String Global)
 with_text text texts = if is_among (string_bytes text) texts then texts else texts ++ text ∷ []
 
--- no text is there twice
+-- no text occurs twice
 abbrev pub AreDistinct : List (String Global) → Type 0
 AreDistinct texts = IsDistinct (λ k l. bytes_eq (string_bytes k) (string_bytes l)) texts

@@ -1,8 +1,8 @@
--- The values of BSON that hold no other values (BSON 1.1, element), apart from how they are kept.
+-- The values of BSON that hold no other values (BSON 1.1, element), whatever holds them in memory.
 use Rattle.std.specs.Prelude.{ℕ, ℤ, Bool, List}
 use Rattle.bson_model.specs.declared.binaries.BinarySubtype.{BinarySubtype}
 
--- one constructor a kind; a double is its 64 bits, a text its UTF-8 bytes
+-- one constructor for each kind; a double is its 64 bits, a text its UTF-8 bytes
 pub data Leaf : Type 0 where
   -- the bits of the number
   double : ℕ → Leaf

@@ -3,7 +3,7 @@ use Rattle.std.specs.Prelude.{ℕ, List, [], ◌∷◌, nat_le, if◌then◌else
 use Rattle.std.specs.List.Sorted.{IsNonDecreasing}
 use Rattle.std.specs.Str.{chars, IsUtf8}
 
--- a number put before the first that is not less
+-- a number inserted before the first that is not less
 abbrev pub put_in_order : ℕ → List ℕ → List ℕ
 put_in_order c [] = c ∷ []
 put_in_order c (d ∷ ds) = if nat_le c d then c ∷ d ∷ ds else d ∷ put_in_order c ds

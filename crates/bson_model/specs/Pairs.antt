@@ -22,15 +22,15 @@ module _ {T : Type 0} where
   abbrev pub last_value_at : List ℕ → List (List ℕ × T) → Option T
   last_value_at key pairs = value_at key (reverse pairs)
 
-  -- a key that is there keeps its place, and a new one goes last
+  -- a key that is there keeps its place and gets the value; a new one goes last
   abbrev pub with_pair : List ℕ → T → List (List ℕ × T) → List (List ℕ × T)
   with_pair key value [] = (key, value) ∷ []
   with_pair key value (pair ∷ pairs) = if bytes_eq key pair.0 then (pair.0, value) ∷ pairs else pair ∷ with_pair key value pairs
 
-  -- no key is there twice
+  -- no key occurs twice
   abbrev pub HasDistinctKeys : List (List ℕ × T) → Type 0
   HasDistinctKeys pairs = IsDistinct bytes_eq (keys_of pairs)
 
-  -- the keys in the order in which each comes first, each with the value that it has last
+  -- the keys in the order in which each first comes, each with its last value
   abbrev pub keep : List (List ℕ × T) → List (List ℕ × T)
   keep pairs = filter_map (λ key. option_map (λ value. (key, value)) (last_value_at key pairs)) (first_keys (keys_of pairs))

@@ -1,4 +1,4 @@
--- What holds of every part of a tree, and the trees that come back after they are written and read.
+-- What holds of every part of a tree, and the trees that are the same after they are written and read.
 use Rattle.std.specs.Prelude.{ℕ, ◌<◌, ◌^◌, List, [], ◌∷◌, FitsSigned}
 use Rattle.std.specs.Int.{w32, w64}
 use Rattle.std.specs.List.{IsDistinct}
@@ -25,24 +25,27 @@ pub record OfParts : Type 1 where
   -- of the keys of each document and each scope, in order
   pub of_keys : List (List ℕ) → Type 0
 
--- it holds of each part
+-- it holds of each part: of a tree, of each tree of a list, and of each key and tree of a list of pairs
 module _ (holds : OfParts) where
   abbrev mutual
+    -- of each part of a tree
     pub Everywhere : Tree → Type 0
     Everywhere (leaf l) = holds.of_leaf l
     Everywhere (array ts) = InTrees ts
     Everywhere (document es) = holds.of_keys (keys_in es) × InEntries es
     Everywhere (code_with_scope code es) = holds.of_code code × holds.of_keys (keys_in es) × InEntries es
 
+    -- of each part of each tree of a list
     pub InTrees : Trees → Type 0
     InTrees no_tree = Unit {0}
     InTrees (tree_then t ts) = Everywhere t × InTrees ts
 
+    -- of each key, and of each part of each tree, of a list of pairs
     pub InEntries : Entries → Type 0
     InEntries no_entry = Unit {0}
     InEntries (entry_then key t es) = holds.of_key key × Everywhere t × InEntries es
 
--- what holds of every text or list of keys
+-- no condition: it holds of every text and every list of keys
 abbrev pub Whatever : {X : Type 0} → X → Type 0
 Whatever x = Unit {0}
 
@@ -67,19 +70,21 @@ IsLeafInRange (decimal128 bytes) = AreBytesOf 16 bytes
 IsLeafInRange max_key = Unit {0}
 IsLeafInRange min_key = Unit {0}
 
+-- the conditions of a well-formed tree
 abbrev pub well_formed_parts : OfParts
 well_formed_parts = record { of_leaf = IsLeafInRange; of_code = IsUtf8; of_key = IsUtf8; of_keys = IsDistinct bytes_eq }
 
--- each leaf is in range, each code and key is UTF-8, and no key is there twice in a document or a scope:
--- so is the tree of every value, document and list
+-- Each leaf is in range, each code and key is UTF-8, and no key occurs twice in a document or a scope. The tree of
+-- every value, document and list is so.
 abbrev pub IsWellFormed : Tree → Type 0
 IsWellFormed = Everywhere well_formed_parts
 
--- no 0 is in the pattern and the options of a regular expression
+-- the pattern and the options of a regular expression contain no 0
 abbrev pub IsLeafNulFree : Leaf → Type 0
 IsLeafNulFree (regular_expression pattern options) = NulFree pattern × NulFree options
 IsLeafNulFree _ = Unit {0}
 
+-- the conditions of a tree without a 0 in its C strings
 abbrev pub nul_free_parts : OfParts
 nul_free_parts = record { of_leaf = IsLeafNulFree; of_code = Whatever; of_key = NulFree; of_keys = Whatever }
 
@@ -87,11 +92,12 @@ nul_free_parts = record { of_leaf = IsLeafNulFree; of_code = Whatever; of_key = 
 abbrev pub IsNulFree : Tree → Type 0
 IsNulFree = Everywhere nul_free_parts
 
--- the options of a regular expression never descend
+-- the options of a regular expression ascend, perhaps with repeats
 abbrev pub DoLeafOptionsAscend : Leaf → Type 0
 DoLeafOptionsAscend (regular_expression pattern options) = OptionsAscend options
 DoLeafOptionsAscend _ = Unit {0}
 
+-- the conditions of a tree whose options ascend
 abbrev pub ascending_parts : OfParts
 ascending_parts = record { of_leaf = DoLeafOptionsAscend; of_code = Whatever; of_key = Whatever; of_keys = Whatever }
 
@@ -104,6 +110,7 @@ abbrev pub IsLeafSubtypeProper : Leaf → Type 0
 IsLeafSubtypeProper (binary subtype bytes) = IsProperSubtype subtype
 IsLeafSubtypeProper _ = Unit {0}
 
+-- the conditions of a tree whose subtypes are proper
 abbrev pub proper_subtype_parts : OfParts
 proper_subtype_parts = record { of_leaf = IsLeafSubtypeProper; of_code = Whatever; of_key = Whatever; of_keys = Whatever }
 
@@ -111,7 +118,7 @@ proper_subtype_parts = record { of_leaf = IsLeafSubtypeProper; of_code = Whateve
 abbrev pub AreSubtypesProper : Tree → Type 0
 AreSubtypesProper = Everywhere proper_subtype_parts
 
--- a tree that comes back as it is after it is written and read
+-- a tree that is the same after it is written and read
 pub record IsProper (t : Tree) : Type 0 where
   pub well_formed : IsWellFormed t
   pub nul_free : IsNulFree t

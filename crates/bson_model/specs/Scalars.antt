@@ -1,4 +1,4 @@
--- What the small values of a fixed size show.
+-- The content of the small values of a fixed size.
 use Rattle.std.specs.Prelude.{ℕ, ℤ, List}
 use Rattle.bson_model.specs.declared.object_id.ObjectId.{ObjectId}
 use Rattle.bson_model.specs.declared.times.DateTime.{DateTime}

@@ -1,4 +1,4 @@
--- Trees of values, apart from how they are kept.
+-- Trees of values, whatever holds them in memory.
 use Rattle.std.specs.Prelude.{◌≡◌, ℕ, List, [], ◌∷◌, map}
 use Rattle.std.specs.String.{string_bytes}
 use Rattle.std.specs.declared.alloc.Global.{Global}
@@ -11,7 +11,7 @@ use Rattle.bson_model.specs.declared.bson.Bson as b
 use Rattle.bson_model.specs.declared.bson.Bson.{Bson, Row_of-Bson, end_of-Bson, more_of-Bson}
 
 mutual
-  -- a value that holds no others, a list, pairs of a key and a tree, or code beside such pairs
+  -- a value that holds no others, a list, pairs of a key and a tree, or code with such pairs
   pub data Tree : Type 0 where
     leaf : Leaf → Tree
     array : Trees → Tree
@@ -55,7 +55,7 @@ entries_beside (k ∷ ks) no_tree = no_entry
 entries_beside (k ∷ ks) (tree_then t ts) = entry_then k.0 t (entries_beside ks ts)
 
 unfoldable mutual
-  -- the tree that a value stands for
+  -- the tree of a value
   pub tree_of : Bson → Tree
   tree_of (b.Double x) = leaf (double x.0)
   tree_of (b.String x) = leaf (string (string_bytes x))
@@ -79,6 +79,7 @@ unfoldable mutual
   tree_of b.MaxKey = leaf max_key
   tree_of b.MinKey = leaf min_key
 
+  -- the trees of the values that a list or a document holds
   pub trees_of : {m : _} → Row_of-Bson m → Trees
   trees_of end_of-Bson = no_tree
   trees_of (more_of-Bson b rest) = tree_then (tree_of b) (trees_of rest)
@@ -91,16 +92,16 @@ pairs_of d = d.pairs
 abbrev pub with_trees : List (List ℕ × Bson) → List (List ℕ × Tree)
 with_trees ps = map (λ p. (p.0, tree_of p.1)) ps
 
--- the tree that a document stands for
+-- the tree of a document
 abbrev pub tree_of_document : Document → Tree
 tree_of_document d = document (entries (with_trees (pairs_of d)))
 
--- the tree that a list stands for
+-- the tree of a list
 abbrev pub tree_of_list : List Bson → Tree
 tree_of_list vs = array (trees (map tree_of vs))
 
--- What `tree_of` is at the variants that hold other values, whose lines above go by how the values are kept. Each is
--- proved (`tree_equations`).
+-- What `tree_of` is at the variants that hold other values. The lines above follow how these are held in memory. Each
+-- equation is proved (`tree_equations`).
 pub record TreeEquations : Type 0 where
   pub of_array : (values : Vec Bson Global) → tree_of (b.Array values) ≡ tree_of_list values.items
   pub of_document : (d : Document) → tree_of (b.Document d) ≡ tree_of_document d

@@ -1,3 +1,4 @@
+//! Binary values: bytes with a subtype.
 ghost use Rattle.std.specs.Prelude.{◌≡◌};
 ghost use Rattle.bson_model.specs.Subtype.{subtype_of, subtype_byte};
 
@@ -12,7 +13,7 @@ pub enum BinarySubtype {
     Generic,
     /// A function (byte 1).
     Function,
-    /// Bytes that are written with their length once more before them, deprecated (byte 2).
+    /// Bytes that are written after their length once more, deprecated (byte 2).
     BinaryOld,
     /// A UUID as older drivers wrote it, deprecated (byte 3).
     UuidOld,
@@ -24,13 +25,13 @@ pub enum BinarySubtype {
     Encrypted,
     /// Compressed columns of a time series (byte 7).
     Column,
-    /// Sensitive bytes, which are not to be logged (byte 8).
+    /// Sensitive bytes, which should not be logged (byte 8).
     Sensitive,
     /// A vector of numbers of one type (byte 9).
     Vector,
-    /// A byte that has no meaning yet: 10 to 127 where bytes are read. It holds any byte.
+    /// A byte without a meaning so far: 10 to 127 if it was read. It may hold any byte.
     Reserved(u8),
-    /// A byte whose meaning is the user's: 128 to 255 where bytes are read. It holds any byte.
+    /// A byte whose meaning is up to the user: 128 to 255 if it was read. It may hold any byte.
     UserDefined(u8),
 }
 
@@ -55,7 +56,7 @@ impl BinarySubtype {
         }
     }
 
-    /// The byte of a subtype; of a reserved or user defined one the byte that it holds, whatever it is.
+    /// The byte of a subtype. That of a reserved or user-defined one is the byte that it holds, whatever it is.
     pub fn to_u8(self) -> u8
         ensures { result ≡ subtype_byte self }
     {
@@ -76,8 +77,7 @@ impl BinarySubtype {
     }
 }
 
-/// Bytes with a subtype (BSON 1.1, `binary`). Of the old binary subtype these are the bytes without the
-/// inner length.
+/// Bytes with a subtype (BSON 1.1, `binary`). Those of the old subtype exclude the inner length.
 /// ```
 /// let bytes = Vec::from_slice(alloc, &[1, 2])?;
 /// let value = RawBson::from(Binary { subtype: BinarySubtype::Generic, bytes });
@@ -87,6 +87,6 @@ impl BinarySubtype {
 pub struct Binary {
     /// What the bytes are.
     pub subtype: BinarySubtype,
-    /// The bytes, at most 2147483647 where they are written.
+    /// The bytes: at most 2147483647 if they are to be written.
     pub bytes: Vec<u8>,
 }

@@ -1,3 +1,4 @@
+//! Values and documents as trees.
 ghost use Rattle.std.specs.Prelude.{◌≡◌, ◌≢◌, ◌↔◌, ◌<◌, ◌+◌, ◌^◌, [], length, All, IsTrue, IsSome, IsOk, IfOk, OnOk};
 ghost use Rattle.std.specs.Prelude.{OnErr, IfSome, map, option_copied, option_map, slice_get};
 ghost use Rattle.std.specs.Str.{IsUtf8};
@@ -19,8 +20,8 @@ use std::alloc::Global;
 
 /// A value of BSON (BSON 1.1, element).
 ///
-/// No clause says so: however deep it is, it is dropped by a loop, which takes no memory. `==` and `Debug` call themselves for
-/// each level: a stack of 8 MB is enough for 40,000 levels of `==`, and for 15,000 of `Debug`.
+/// Not in the contract: a value of any depth is dropped by a loop, which takes no memory. `==` and `Debug` call
+/// themselves for each level: a stack of 8 MB is enough for 40,000 levels of `==`, and for 15,000 of `Debug`.
 /// ```
 /// let value = RawBson::try_from_bson(alloc, Bson::Int32(7))?;
 /// assert_eq!(rt; value.into_bson(alloc)?, Bson::Int32(7));
@@ -72,7 +73,8 @@ pub enum Bson {
     MinKey,
 }
 
-/// Pairs of a key and a value, in order, no key twice (BSON 1.1, document). What `Bson` says of depth holds of it.
+/// Pairs of a key and a value, in order, no key twice (BSON 1.1, document). What the comment of `Bson` says of
+/// depth holds here too.
 /// ```
 /// let mut document = Document::new(alloc);
 /// document.put(String::from_str(alloc, "a")?, Bson::Int32(1))?;
@@ -116,7 +118,7 @@ impl Drop for Document {
 }
 
 impl Bson {
-    /// The value, unless all of it is in its own place, so that nothing is left to drop.
+    /// The value, or `None` if it has nothing to drop outside itself.
     #[inline(always)]
     pub(crate) fn unless_plain(self) -> Option<Bson>
         ensures { IfSome result (λ value. value ≡ self) }
@@ -138,7 +140,7 @@ impl Bson {
         }
     }
 
-    /// The values right inside the value in order; the rest of it is dropped.
+    /// The values directly inside the value, in order; the rest of it is dropped.
     #[inline(always)]
     pub(crate) fn into_values(self) -> Option<Vec<Bson>>
         ensures { IfSome result (λ values. members (tree_of self) ≡ map tree_of values.items) }
@@ -173,7 +175,7 @@ impl Bson {
 }
 
 impl Document {
-    /// The values in order, if there was ever a pair; the keys are dropped.
+    /// The values in order, if the document ever had a pair; the keys are dropped.
     fn into_values(self) -> Option<Vec<Bson>>
         ensures { IfSome result (λ values. values.items ≡ map (λ p. p.1) (pairs_of self)) }
     {
@@ -181,7 +183,7 @@ impl Document {
         pairs.into_values()
     }
 
-    /// A document with no pairs, which keeps `alloc`. No clause says so: it takes no memory.
+    /// A document with no pairs, which keeps `alloc`. Not in the contract: it takes no memory.
     pub fn new(alloc: Global) -> Document
         ensures { pairs_of result ≡ [] }
     {
@@ -190,9 +192,8 @@ impl Document {
         }
     }
 
-    /// The document of these keys, each with its value in turn: a repeated key is in the place of its first
-    /// occurrence, with the value of its last. What one list has beyond the other is left out. It fails only if
-    /// memory runs out, and never without a key.
+    /// The document of these keys and values, pair by pair. A repeated key has its first place and its last value.
+    /// Keys or values in excess are left out. The only error is out of memory, never if there are no keys.
     /// ```
     /// let mut values = Vec::new(alloc);
     /// values.push(Bson::Int32(1))?;
@@ -247,8 +248,8 @@ impl Document {
         self.pairs.pair_at(index)
     }
 
-    /// Puts a pair last, or where its key is, and returns the value that was there. It fails only
-    /// for a key that is not there, and then changes nothing and drops the pair.
+    /// Puts a pair last, or replaces the value of its key, and returns the old value. It can fail only for a new
+    /// key; then it changes nothing and drops the pair.
     /// ```
     /// let mut document = Document::new(alloc);
     /// assert_eq!(rt; document.insert(String::from_str(alloc, "a")?, Bson::Int32(1))?, None);
@@ -265,7 +266,7 @@ impl Document {
     {
         self.pairs.insert(key, value)
     }
-    /// Puts a pair last, or where its key is, as `insert` does; the value that was there is dropped.
+    /// Puts a pair last, or replaces the value of its key, as `insert` does; the old value is dropped.
     pub fn put(&mut self, key: String, value: Bson) -> Result<(), NoMemory>
         ensures put { OnOk result (pairs_of self.new
             ≡ with_pair (string_bytes key) value (pairs_of self.old)) }

@@ -6,8 +6,8 @@ ghost use Rattle.bson_model.specs.LeftTrees.{IsCutFrom, IsLess};
 use crate::bson::Bson;
 use std::mem;
 
-/// Lets the values go, however deep they are, and takes no memory. A value whose own values are to go first waits in
-/// the place of the first of them.
+/// Drops the values, however deep they are, and takes no memory. A value whose own values are dropped first
+/// waits in the place of the first of them.
 pub(crate) fn drop_values(mut held: Vec<Bson>) {
     let mut next = next_of(&mut held);
     while let Some(value) = next {
@@ -19,7 +19,7 @@ pub(crate) fn drop_values(mut held: Vec<Bson>) {
     held.destroy_empty();
 }
 
-/// Goes on with these values, and lets those that are held wait among them; returns which is dropped next.
+/// Continues with these values, and keeps the held ones waiting among them. Returns the value to drop next.
 fn enter(held: &mut Vec<Bson>, values: Vec<Bson>) -> Option<Bson>
     ensures less { IsLess held.new.items result held.old.items values.items }
     ensures none { IfNone result (held.new.items ≡ []) }
@@ -36,7 +36,7 @@ fn enter(held: &mut Vec<Bson>, values: Vec<Bson>) -> Option<Bson>
     Some(mem::replace(&mut held[0], Bson::Array(outer)))
 }
 
-/// The last of the values that holds something to drop. Those behind it hold nothing.
+/// The last of the values that holds something to drop. The values after it hold nothing.
 fn next_of(held: &mut Vec<Bson>) -> Option<Bson>
     ensures cut { IsCutFrom held.new.items result held.old.items }
     ensures none { IfNone result (held.new.items ≡ []) }

@@ -1,10 +1,11 @@
+//! The one error of this crate: out of memory.
 ghost use Rattle.std.specs.Prelude.{◌≡◌, Some, codes};
 
 use std::alloc::{AllocError, AllocFailed};
 use std::error::Error;
 use std::fmt;
 
-/// A call asked for memory and there was none.
+/// A call requested memory and there was none.
 #[derive(Debug, PartialEq, Eq, Drop)]
 pub struct NoMemory;
 

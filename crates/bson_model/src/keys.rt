@@ -12,7 +12,7 @@ use std::alloc::Global;
 use std::marker::Model;
 use std::mem;
 
-/// So many texts are looked through one by one; of more there is a hashed set.
+/// Up to this many texts are searched one by one. More are kept in a hashed set.
 const FEW: usize = 16;
 
 /// Texts in the order in which they came.
@@ -22,7 +22,7 @@ pub(crate) enum Held {
     Many(IndexSet<String>),
 }
 
-/// Texts in the order in which they came, none twice.
+/// Texts in the order in which they came, no text twice.
 #[derive(Drop)]
 pub(crate) struct Keys {
     held: Held,
@@ -50,7 +50,7 @@ impl Keys {
         }
     }
 
-    /// No texts, with room for so many.
+    /// No texts, with room for `count` of them.
     pub(crate) fn with_capacity(alloc: Global, count: usize) -> Result<Keys, NoMemory>
         ensures { IfOk result (λ keys. keys ≡ []) }
     {
@@ -94,8 +94,8 @@ impl Keys {
         self.index_of(key).is_some()
     }
 
-    /// Puts a text last, unless it is there, and returns its place and whether it is new. It fails only for a text that
-    /// is not there, and then changes nothing.
+    /// Puts a text last, unless it is there, and returns its place and whether it is new. It can fail only for a
+    /// new text; then it changes nothing.
     #[inline(always)]
     pub(crate) fn insert(&mut self, key: String) -> Result<(usize, bool), NoMemory>
         ensures index { IfOk result (λ r. r.0 ≡ position_or_len (has_bytes (string_bytes key)) self.old) }
@@ -111,7 +111,7 @@ impl Keys {
         }
     }
 
-    /// Makes a set of as many texts as are looked through, before one more comes that is not there.
+    /// Moves the texts into a set if there are `FEW` of them and `key` would be one more.
     #[inline(always)]
     fn hash_if_full(&mut self, key: &str) -> Result<(), NoMemory>
         ensures same { self.new ≡ self.old }
@@ -142,7 +142,7 @@ fn index_among(texts: &[String], key: &str) -> Option<usize>
     None
 }
 
-/// Puts a text behind others, unless it is there, and returns its place and whether it is new.
+/// Puts a text last, unless it is there, and returns its place and whether it is new.
 fn insert_among(texts: &mut Vec<String>, key: String) -> Result<(usize, bool), NoMemory>
     ensures index { IfOk result (λ r. r.0 ≡ position_or_len (has_bytes (string_bytes key)) texts.old.items) }
     ensures is_new { IfOk result (λ r. r.1 ≡ not (is_among (string_bytes key) texts.old.items)) }
@@ -159,7 +159,7 @@ fn insert_among(texts: &mut Vec<String>, key: String) -> Result<(usize, bool), N
     Ok((index, true))
 }
 
-/// The set of these texts, for which it has room.
+/// The set of these texts. It has room for them.
 #[inline(never)]
 fn hashed(mut set: IndexSet<String>, texts: Vec<String>) -> IndexSet<String>
     requires empty { set.keys ≡ [] }

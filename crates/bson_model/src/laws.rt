@@ -1,4 +1,5 @@
-//! What holds of all values and documents, as calls whose contracts say it. Programs never need them; proofs do.
+//! What holds of all values and documents, as calls whose contracts say it. Programs never need them; proofs
+//! do.
 
 ghost use Rattle.std.specs.Prelude.{◌≡◌, ◌↔◌, IsTrue};
 ghost use Rattle.bson_model.specs.Tree.{tree_of, tree_of_document, tree_of_list};
@@ -7,30 +8,30 @@ ghost use Rattle.bson_model.specs.Proper.{IsWellFormed};
 use crate::bson::{Bson, Document};
 pub use crate::ranges::{attest_bytes, attest_u32, attest_u64};
 
-/// Whether two values have one tree, which is what `==` returns. Programs never need it; proofs do.
+/// Whether two values have the same tree, which is what `==` returns. Programs never need it; proofs do.
 ///
-/// No clause says so: it takes the stack that `==` takes.
+/// Not in the contract: it takes the stack that `==` takes.
 pub fn is_same_tree(a: &Bson, b: &Bson) -> bool
     ensures { IsTrue result ↔ (tree_of a.now ≡ tree_of b.now) }
 {
     a == b
 }
 
-/// Whether two documents have one tree, which is what `==` returns: the same keys with the same
-/// trees in the same order. Programs never need it; proofs do.
+/// Whether two documents have the same tree, which is what `==` returns: the same keys with the same trees in
+/// the same order. Programs never need it; proofs do.
 ///
-/// No clause says so: it takes the stack that `==` takes.
+/// Not in the contract: it takes the stack that `==` takes.
 pub fn is_same_document(left: &Document, right: &Document) -> bool
     ensures { IsTrue result ↔ (tree_of_document left.now ≡ tree_of_document right.now) }
 {
     left == right
 }
 
-/// The tree of a value is well formed: numbers are in the ranges of their types, bytes are bytes, an
-/// ObjectId has twelve and a Decimal128 sixteen, texts and keys are UTF-8, and no key is twice in a
-/// document. No other call of the libraries makes it. Programs never need it; proofs do.
+/// The tree of a value is well formed. Numbers are in the ranges of their types. An ObjectId has twelve bytes
+/// and a Decimal128 sixteen. Texts and keys are UTF-8. No key occurs twice in a document. No other call of
+/// the libraries calls this. Programs never need it; proofs do.
 ///
-/// No clause says so: it reads the whole value, takes no memory, and calls itself for each level.
+/// Not in the contract: it reads the whole value, takes no memory, and calls itself for each level.
 #[cycle(attest)]
 pub fn attest_value(value: &Bson)
     ensures { IsWellFormed (tree_of value.now) }
@@ -76,7 +77,7 @@ pub fn attest_value(value: &Bson)
 
 /// The trees of a list are well formed. Programs never need it; proofs do.
 ///
-/// No clause says so: it reads the whole list, as `attest_value` does each value, and takes no memory.
+/// Not in the contract: it reads the whole list, as `attest_value` does each value, and takes no memory.
 #[cycle(attest)]
 pub fn attest_list(values: &[Bson])
     ensures { IsWellFormed (tree_of_list values.now) }
@@ -88,7 +89,7 @@ pub fn attest_list(values: &[Bson])
 
 /// The tree of a document is well formed. Programs never need it; proofs do.
 ///
-/// No clause says so: it reads the whole document, as `attest_value` does each value, and takes no memory.
+/// Not in the contract: it reads the whole document, as `attest_value` does each value, and takes no memory.
 #[cycle(attest)]
 pub fn attest_document(document: &Document)
     ensures { IsWellFormed (tree_of_document document.now) }

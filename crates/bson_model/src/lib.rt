@@ -1,4 +1,15 @@
-//! The values of BSON, and the trees of documents.
+//! The values of BSON as trees: `Bson`, `Document` and the types of single values. It reads and writes no
+//! bytes.
+//!
+//! Begin at `Bson` and `Document` in `bson.rt`. `pairs.rt`, `parts.rt` and `keys.rt` say how a document holds
+//! its pairs; `drops.rt` drops deep values without recursion.
+//!
+//! `specs/Tree.antt` defines the tree of a value, which the contracts of all crates above speak of.
+//! `specs/Proper.antt` says which trees survive being written and read.
+//!
+//! Every other crate but `key_set` rests on this one, so a changed contract has all of them proved again. A
+//! new kind of value also needs a line in `Kind.antt` of `raw_view`. `proofs/Face.antt` has the lemmas that
+//! crates above may cite; any other lemma may change.
 #![tactic(auto, using(crate::proofs::Trees::tree_laws))]
 
 mod binaries;

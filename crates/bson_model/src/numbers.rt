@@ -1,3 +1,4 @@
+//! Doubles and decimals, by their bits and bytes.
 ghost use Rattle.std.specs.Prelude.{◌≡◌, false, is_nan, from_bits, to_bits};
 ghost use Rattle.std.specs.Float.{binary64};
 ghost use Rattle.bson_model.specs.Bytes.{AreBytesOf};
@@ -18,7 +19,7 @@ pub struct DoubleBits(
 );
 
 impl DoubleBits {
-    /// The number of these bits. A NaN is a NaN, but its sign and payload may be others.
+    /// The number with these bits. A NaN is a NaN, but its sign and payload may differ.
     pub fn to_f64(self) -> f64
         ensures number { result ≡ from_bits binary64 self.0 }
         ensures back { is_nan result ≡ false → to_bits binary64 result ≡ self.0 }
@@ -27,7 +28,7 @@ impl DoubleBits {
         f64_from_bits_with_nan(self.0)
     }
 
-    /// The bits of this number. Every NaN has those of the quiet one with a clear sign.
+    /// The bits of this number. Every NaN has those of the quiet NaN without a sign.
     pub fn from_f64(number: f64) -> DoubleBits
         ensures bits { result.0 ≡ to_bits binary64 number }
     {

@@ -1,3 +1,4 @@
+//! ObjectIds, and pointers to objects.
 ghost use Rattle.std.specs.Prelude.{◌≡◌, length, IfOk, Some};
 ghost use Rattle.std.specs.String.{string_bytes};
 ghost use Rattle.hex.specs.Hex.{encode_lower};
@@ -48,7 +49,7 @@ impl ObjectId {
 
 /// Its bytes as 24 lower case hexadecimal digits, as `to_hex` has them.
 ///
-/// No clause says so: it takes no memory.
+/// Not in the contract: it takes no memory.
 impl fmt::Display for ObjectId {
     ghost output = { λ id. Some (encode_lower (bytes_of_object_id id)) };
 

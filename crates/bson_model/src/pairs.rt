@@ -1,3 +1,4 @@
+//! The pairs of a document, in a box that an empty document lacks.
 ghost use Rattle.std.specs.Prelude.{◌≡◌, ◌≢◌, ◌&&◌, ◌<◌, ◌+◌, ◌^◌, [], ◌∷◌, length, nat_eq, All, IsSome, IsOk, IfOk, OnOk};
 ghost use Rattle.std.specs.Prelude.{OnErr, IfSome, map, option_copied, option_map, slice_get};
 ghost use Rattle.std.specs.Cmp.Lexicographic.{pointwise, lists_per, lists_equiv};
@@ -13,8 +14,8 @@ use std::alloc::Global;
 use std::fmt;
 use std::marker::Model;
 
-/// Pairs of a key and a value in the order in which the keys came, no key twice. The parts are one
-/// pointer away, which is made when the first pair comes.
+/// Pairs of a key and a value in the order in which the keys came, no key twice. They are in a box, which is made
+/// when the first pair comes.
 #[derive(Drop)]
 pub struct Pairs<T> {
     alloc: Global,
@@ -38,8 +39,7 @@ impl<T> Pairs<T> {
         Pairs { alloc, parts: None }
     }
 
-    /// The pairs of these keys and values: a repeated key in the place of its first occurrence with the value of
-    /// its last.
+    /// The pairs of these keys and values. A repeated key has its first place and its last value.
     pub fn from_columns(alloc: Global, keys: &[&str], values: Vec<T>) -> Result<Pairs<T>, NoMemory>
     where
         T: Drop,
@@ -89,8 +89,8 @@ impl<T> Pairs<T> {
         }
     }
 
-    /// Puts a pair last, or where its key is, and returns the value that was there. It fails only
-    /// for a key that is not there, and then changes nothing and drops the pair.
+    /// Puts a pair last, or replaces the value of its key, and returns the old value. It can fail only for a new
+    /// key; then it changes nothing and drops the pair.
     #[inline(never)]
     pub fn insert(&mut self, key: String, value: T) -> Result<Option<T>, NoMemory>
     where
@@ -109,7 +109,7 @@ impl<T> Pairs<T> {
         }
     }
 
-    /// The same, but that the value that was there is dropped.
+    /// The same, except that the old value is dropped.
     pub fn put(&mut self, key: String, value: T) -> Result<(), NoMemory>
     where
         T: Drop,

@@ -1,10 +1,11 @@
+//! The iterator over the pairs of a document.
 ghost use Rattle.std.specs.Prelude.{◌≡◌};
 ghost use Rattle.bson_model.specs.Tree.{pairs_of};
 
 use crate::bson::{Bson, Document};
 use std::marker::Model;
 
-/// The pairs of a document, in order. A clause sees the pairs that are left.
+/// The pairs of a document, in order. A clause sees the remaining pairs.
 #[derive(Drop)]
 pub struct DocumentIter<'a> {
     document: &'a Document,

@@ -1,3 +1,4 @@
+//! The keys and the values of a document, in two lists side by side.
 ghost use Rattle.std.specs.Prelude.{◌≡◌, ◌&&◌, ◌<◌, ◌+◌, ◌^◌, false, [], length, nat_eq, All, IsSome, IfSome, IsOk, IfOk, OnOk};
 ghost use Rattle.std.specs.Prelude.{OnErr, map, option_copied, option_map, slice_get};
 ghost use Rattle.std.specs.Cmp.Lexicographic.{pointwise, lists_per, lists_equiv};
@@ -15,7 +16,7 @@ use std::alloc::Global;
 use std::marker::Model;
 use std::{fmt, mem};
 
-/// The keys in the order in which they came, no key twice, and beside them the values.
+/// The keys in the order in which they came, no key twice, and the values beside them.
 #[derive(Drop)]
 pub struct Parts<T> {
     keys: Keys,
@@ -45,8 +46,8 @@ impl<T> Parts<T> {
         }
     }
 
-    /// The pairs of these keys and values. Where no key is there twice, the keys have room for themselves alone, and
-    /// the values keep the room that they are in.
+    /// The pairs of these keys and values. If no key is repeated, the keys have exactly the room that they need,
+    /// and the values keep their vector.
     pub fn from_columns(alloc: Global, keys: &[&str], values: Vec<T>) -> Result<Parts<T>, NoMemory>
     where
         T: Drop,
@@ -118,8 +119,8 @@ impl<T> Parts<T> {
         Some((key.as_str(), &self.values[index]))
     }
 
-    /// Puts a pair last, or where its key is, and returns the value that was there. It fails only
-    /// for a key that is not there, and then changes nothing and drops the pair.
+    /// Puts a pair last, or replaces the value of its key, and returns the old value. It can fail only for a new
+    /// key; then it changes nothing and drops the pair.
     #[inline(always)]
     pub fn insert(&mut self, key: String, value: T) -> Result<Option<T>, NoMemory>
     where
@@ -139,7 +140,7 @@ impl<T> Parts<T> {
         Ok(Some(old))
     }
 
-    /// The same, but that the value that was there is dropped.
+    /// The same, except that the old value is dropped.
     #[inline(never)]
     pub fn put(&mut self, key: String, value: T) -> Result<(), NoMemory>
     where
@@ -161,8 +162,8 @@ impl<T> Parts<T> {
     }
 }
 
-/// Makes room for one more value, unless there is room or the key is there. The key is looked up only
-/// where there is no room.
+/// Makes room for one more value, unless there is room or the key is there. The key is searched only if there is
+/// no room.
 fn make_room<T>(keys: &Keys, values: &mut Vec<T>, key: &str) -> Result<(), NoMemory>
     ensures items { values.new.items ≡ values.old.items }
     ensures room { OnOk result (is_among key.now keys.now ≡ false
@@ -186,7 +187,8 @@ impl<T: fmt::Debug> fmt::Debug for Parts<T> {
     }
 }
 
-/// Whether the keys are the same in the same order. It is kept apart, so that a comparison takes less stack for a level.
+/// Whether the keys are the same in the same order. It is a function of its own so that a comparison takes less
+/// stack for each level.
 #[inline(never)]
 fn have_same_keys(left: &Keys, right: &Keys) -> bool
     ensures { result ≡ pointwise (pointwise nat_eq) (map string_bytes left.now) (map string_bytes right.now) }

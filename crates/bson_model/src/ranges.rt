@@ -1,4 +1,4 @@
-//! That numbers are in the ranges of their types, as facts that a proof can cite. Nothing is read. A part of `laws`.
+//! Numbers are in the ranges of their types: facts that a proof can cite. Nothing is read. Part of `laws`.
 
 ghost use Rattle.std.specs.Prelude.{◌<◌, ◌^◌};
 ghost use Rattle.bson_model.specs.Bytes.{AreBytes};

@@ -1,3 +1,4 @@
+//! Regular expressions, and the order of their options.
 ghost use Rattle.std.specs.Prelude.{◌≡◌, ◌↔◌, IsTrue, IfOk};
 ghost use Rattle.std.specs.String.{string_bytes};
 ghost use Rattle.bson_model.specs.Options.{sorted_options, OptionsAscend, OrdersOptions};
@@ -8,15 +9,15 @@ use std::alloc::Global;
 /// A regular expression: its pattern and its options (BSON 1.1, regular expression).
 #[derive(Debug, PartialEq, Eq, Drop)]
 pub struct Regex {
-    /// The pattern. It is written only without a 0.
+    /// The pattern. It can be written only if it contains no 0.
     pub pattern: String,
-    /// The options, one character each. They are written as they are, and only without a 0.
+    /// The options, one character each. They are written as they are, and only if they contain no 0.
     pub options: String,
 }
 
 impl Regex {
-    /// The regular expression of a pattern, with the options' characters in ascending order of their
-    /// Unicode scalar values, repeats kept; or `NoMemory`.
+    /// The regular expression with this pattern and with these options in ascending order of their Unicode scalar
+    /// values, repeats kept; or `NoMemory`.
     /// ```
     /// let regex = Regex::new(alloc, "^a", "mi")?;
     /// assert_eq!(rt; regex.options.as_str(), "im");
@@ -33,7 +34,7 @@ impl Regex {
     }
 }
 
-/// The options, with their characters in ascending order, repeats kept.
+/// The options in ascending order of their characters, repeats kept.
 fn in_order(alloc: Global, options: &str) -> Result<String, NoMemory>
     ensures { IfOk result (λ text. string_bytes text ≡ sorted_options options.now) }
 {
@@ -45,7 +46,7 @@ fn in_order(alloc: Global, options: &str) -> Result<String, NoMemory>
     Ok(chars.into_iter().collect(alloc)?)
 }
 
-/// Whether the characters of a regular expression's options never descend, by their Unicode scalar values.
+/// Whether the characters of the options ascend, perhaps with repeats, by their Unicode scalar values.
 pub fn do_options_ascend(options: &str) -> bool
     ensures { IsTrue result ↔ OptionsAscend options.now }
 {

@@ -1,3 +1,4 @@
+//! Dates and timestamps.
 ghost use Rattle.std.specs.Prelude.{◌≡◌};
 ghost use Rattle.bson_model.specs.Scalars.{millis_of_date_time};
 
@@ -35,6 +36,6 @@ impl DateTime {
 pub struct Timestamp {
     /// Seconds since the start of 1970.
     pub time: u32,
-    /// The place among the operations of that second.
+    /// The number among the operations of that second.
     pub increment: u32,
 }

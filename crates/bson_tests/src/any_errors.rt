@@ -1,9 +1,10 @@
+//! The texts of `AnyError`.
 use crate::fixtures::*;
 use raw_bson::{AnyError, NoMemory, RawDocument};
 use std::alloc::Global;
 use std::process::Abort;
 
-/// The number under `a`, by three calls each with an error of its own: there may be no memory for the bytes.
+/// The number under `a`, by three calls that each have their own error: there may be no memory for the bytes.
 fn number(alloc: Global, bytes: Result<&[u8], NoMemory>) -> Result<i32, AnyError> {
     Ok(RawDocument::from_bytes(bytes?)?.get_i32(alloc, "a")?)
 }

@@ -1,3 +1,4 @@
+//! Appends of each kind, and typed getters of buffers.
 use crate::fixtures::*;
 use raw_bson::{ElementType, RawArrayBuf, RawDocumentBuf, Result};
 use std::alloc::Global;
@@ -22,7 +23,7 @@ fn are_appended(alloc: Global, document: &mut RawDocumentBuf) -> bool {
     are_right && document.as_bytes() == ALL_KINDS
 }
 
-/// Whether that holds of a document, where there is memory for it.
+/// Whether that holds of a document, if there is memory for it.
 fn are_made(alloc: Global, made: &mut Result<RawDocumentBuf>) -> bool {
     match made {
         Ok(document) => are_appended(alloc, document),
@@ -56,7 +57,7 @@ fn last_got(document: &RawDocumentBuf) -> usize {
         .wrapping_add(one_if_got(document.get_i64("r")))
 }
 
-/// How many getters have one, where the document was made, and 1 for its last key.
+/// How many getters have one if the document was made, and 1 for its last key.
 fn got(made: &Result<RawDocumentBuf>) -> usize {
     match made {
         Ok(document) => {
@@ -93,7 +94,7 @@ fn last_got_at(array: &RawArrayBuf) -> usize {
         .wrapping_add(one_if_got(array.get_i64(17)))
 }
 
-/// How many getters have one, where the array was made.
+/// How many getters have one if the array was made.
 fn got_at(made: &Result<RawArrayBuf>) -> usize {
     match made {
         Ok(array) => first_got_at(array).wrapping_add(last_got_at(array)),

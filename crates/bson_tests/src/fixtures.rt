@@ -1,4 +1,4 @@
-//! What the tests share: besides what `view_fixtures` has, breaches, levels, and an owned value of each kind.
+//! What the tests share, besides `view_fixtures`: breaches, levels, and an owned value of each kind.
 
 mod breaches;
 mod levels;

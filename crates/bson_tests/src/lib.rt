@@ -1,7 +1,12 @@
-//! Tests of the libraries from `raw_tree` to `raw_bson` and `raw_form`, and of trees, through their public calls. They are apart from
-//! these, so that none is proved twice, and in one crate, as each crate of tests reads all of these first; `view_tests` has those of what
-//! is below, `uses_tests` of what is above. `bin/test` runs those of the module `memory` with each request for memory refused in turn,
-//! alone.
+//! Tests of the libraries from `raw_tree` to `raw_bson` and `raw_form`, and of trees, through their public calls.
+//! They are not in those crates, so that none is proved twice. They are in one crate, since each crate of tests
+//! reads all those libraries first. `view_tests` has the tests of what is below, `uses_tests` of what is above.
+//!
+//! Begin at `memory/trees.rt`, `memory/buffers.rt` and `memory/validation.rt`, and at `trees/depth.rt` for a
+//! million levels.
+//!
+//! `bin/test` runs each test of the module `memory` alone, with each request for memory failing in turn. Nothing
+//! rests on this crate.
 #![tactic(auto)]
 
 #[cfg(test)]

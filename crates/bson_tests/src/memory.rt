@@ -1,5 +1,5 @@
-//! Tests that `bin/test` runs with each request for memory refused in turn, alone: each call returns what it returns with ample
-//! memory, or out of memory where it may.
+//! Tests that `bin/test` runs alone, with each request for memory failing in turn. Each call returns what it
+//! returns with ample memory, or out of memory where that is possible.
 
 mod asserts;
 pub(crate) mod buffers;

@@ -1,3 +1,4 @@
+//! Accessors of owned values: each has the value of its own kind alone.
 use crate::fixtures::*;
 use raw_bson::{ElementType, RawBson, Result};
 use std::alloc::Global;
@@ -27,7 +28,7 @@ fn other_accessors(value: &RawBson) -> usize {
         .wrapping_add(one_if(value.as_javascript_with_scope()))
 }
 
-/// How many accessors return something of the value, and one more where it is of this kind.
+/// How many accessors return something of the value, and one more if it is of this kind.
 fn accessors(made: &Result<RawBson>, kind: ElementType) -> usize {
     match made {
         Ok(value) => fixed_accessors(value)

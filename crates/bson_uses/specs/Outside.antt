@@ -11,7 +11,7 @@ use Rattle.raw_bson.specs.WithinLimits.{ReadsWithin, TellsFirstBarrier}
 abbrev pub most : Limits
 most = record { bytes = 1048576; depth = 100 }
 
--- the bytes are a document that is read as this tree, within these limits
+-- the bytes are a document that is read as this tree within these limits
 abbrev pub IsTaken : List ℕ → Tree → Type 0
 IsTaken b t = IsEnvelope b × ReadsWithin most b t
 

@@ -1,4 +1,4 @@
--- A look-up that goes down nested documents.
+-- Look-up in nested documents.
 use Rattle.std.specs.Prelude.{◌≡◌, ℕ, List, [], ◌∷◌, map, Option, Some, None}
 use denote.Ref.{Bor}
 use Rattle.raw_bson.specs.LookUp.{LooksUp}
@@ -8,15 +8,14 @@ use Rattle.raw_bson.specs.Meaning.{RawValue, Meaning, value, faulty, document}
 abbrev pub keys_of : List (Bor (List ℕ)) → List (List ℕ)
 keys_of path = map (λ key. key.now) path
 
--- what a look-up found, and then what is found below it: below a value what Below says; a fault stays, and so does
--- nothing
+-- What a look-up found, and then what is found inside it: in a value what `Below` says; a fault stays a fault, and nothing stays nothing.
 abbrev pub LooksBelow : (RawValue → Option Meaning → Type 0) → Option Meaning → Option Meaning → Type 0
 LooksBelow Below (Some (value v)) found = Below v found
 LooksBelow Below (Some (faulty fault)) found = found ≡ Some (faulty fault)
 LooksBelow Below None found = found ≡ None
 
--- what is found under these keys, one below the other, from this value on: below a document what a look-up finds, and
--- so on; below any other value nothing
+-- What is found under these keys, one inside the other, from this value on: in a document what a look-up finds, and so on; in any other
+-- value nothing.
 abbrev pub GoesDown : RawValue → List (List ℕ) → Option Meaning → Type 0
 GoesDown here [] found = found ≡ Some (value here)
 GoesDown (document b) (key ∷ keys) found = (next : Option Meaning) × LooksUp b key next × LooksBelow (λ v. GoesDown v keys) next found

@@ -1,4 +1,4 @@
--- A document with another value under some keys, one below the other.
+-- A document with another value under some keys, one inside the other.
 use Rattle.std.specs.Prelude.{◌≡◌, ◌≢◌, ◌⊎◌, ◌<◌, ℕ, List, [], ◌∷◌, length, Option, Some, None}
 use Rattle.raw_bson.specs.Append.{value_frame}
 use Rattle.raw_bson.specs.Copying.{EndsCopy, IsCopy}
@@ -16,14 +16,14 @@ abbrev pub TellsInside : Frame → Option RawDocument → Type 0
 TellsInside f (Some d) = Means f (value (document (bytes_of d)))
 TellsInside f None = (inside : List ℕ) → ¬ Means f (value (document inside))
 
--- a frame that means a document gives one with what Gives says of the inside; any other gives itself
+-- a frame that means a document becomes one with what `Gives` says of the inside; any other frame stays
 abbrev pub GoesInside : (Frame → List Frame → Type 0) → Frame → List Frame → Type 0
 GoesInside Gives f given =
     ((inside set : List ℕ) × Means f (value (document inside)) × IsCopy Gives inside set × (given ≡ value_frame f.key (document set) ∷ []))
     ⊎ (((inside : List ℕ) → ¬ Means f (value (document inside))) × (given ≡ f ∷ []))
 
--- What a frame gives where v is set under these keys: under the last key v; under one before it the document in which v is
--- set under the others. Any other frame gives itself.
+-- What a frame becomes if v is set under these keys: under the last key v; under an earlier key the document in which v is set under the
+-- other keys. Any other frame stays.
 abbrev pub Sets : List (List ℕ) → RawValue → Frame → List Frame → Type 0
 Sets [] v f given = given ≡ f ∷ []
 Sets (key ∷ []) v f given = ((f.key ≡ key) × (given ≡ value_frame f.key v ∷ [])) ⊎ ((f.key ≢ key) × (given ≡ f ∷ []))
@@ -39,8 +39,8 @@ RefusesInside (key ∷ keys) v f e =
 abbrev pub RefusesSet : List (List ℕ) → RawValue → List ℕ → Error → Type 0
 RefusesSet path v b e = EndsCopy (Sets path v) (RefusesInside path v) b e
 
--- What becomes of a frame, whatever the value: it stays, it has the value, or it has the document in which the value is set
--- under these keys, or fails as that does.
+-- What becomes of a frame, whatever the value is: it stays; it gets the value; or it gets the document in which the value is set under
+-- these keys, or fails as that does.
 abbrev pub IsChange : List (List ℕ) → Frame → Change → Type 0
 IsChange path f change.Keep = (v : RawValue) → Sets path v f (f ∷ [])
 IsChange path f change.Put = (v : RawValue) → Sets path v f (value_frame f.key v ∷ [])

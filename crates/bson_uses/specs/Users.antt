@@ -10,7 +10,7 @@ use Rattle.bson_uses.specs.declared.user.Fields.{Fields}
 use Rattle.bson_uses.specs.declared.user.NotUser.{NotUser}
 use Rattle.bson_uses.specs.declared.user.NotUser.TheVariants as refused
 
--- an error of the library, as this check has it
+-- an error of the library, as an error of this check
 abbrev pub damaged : Error → NotUser
 damaged e = refused.Damaged e
 
@@ -20,7 +20,7 @@ IsField field.Id key v = (key ≡ codes "_id") × (id : List ℕ) × (v ≡ sing
 IsField field.Email key v = (key ≡ codes "email") × (text : List ℕ) × (v ≡ single (string text)) × (0 < length text)
 IsField field.Age key v = (key ≡ codes "age") × (years : ℤ) × (v ≡ single (int32 years)) × (pos 0 ≤ℤ years) × (years ≤ℤ pos 150)
 
--- the field that they are; or they are none
+-- the field of this key and value; or there is none
 abbrev pub TellsField : List ℕ → RawValue → Option Field → Type 0
 TellsField key v (Some f) = IsField f key v
 TellsField key v None = (f : Field) → ¬ IsField f key v
@@ -45,7 +45,7 @@ plus fields field.Age = record { id = fields.id; email = fields.email; age = tru
 abbrev pub AddsField : Fields → Field → Result Fields NotUser → Type 0
 AddsField fields f r = ((has fields f ≡ false) × (r ≡ Ok (plus fields f))) ⊎ ((has fields f ≡ true) × (r ≡ Err refused.Repeated))
 
--- the key and the value are a field, which is added; or none
+-- the key and the value are a field, which is added; or there is none
 abbrev pub AddsItem : Fields → List ℕ → RawValue → Result Fields NotUser → Type 0
 AddsItem fields key v r = ((f : Field) × IsField f key v × AddsField fields f r) ⊎ (((f : Field) → ¬ IsField f key v) × (r ≡ Err refused.OtherField))
 
@@ -53,8 +53,8 @@ AddsItem fields key v r = ((f : Field) × IsField f key v × AddsField fields f 
 abbrev pub HasAllFields : Fields → Type 0
 HasAllFields fields = (fields.id ≡ true) × (fields.email ≡ true)
 
--- Ok where each item of the document b adds a field, and these are whole; else what the first item is that adds none, or a
--- fault before it, or that the fields aren't whole
+-- Ok if each item of the document b adds a field, and these are complete; otherwise what is wrong with the first item that adds none, or a
+-- fault before it, or that the fields aren't complete
 abbrev pub ChecksUser : List ℕ → Result (Unit {0}) NotUser → Type 0
 ChecksUser b (Ok _) = (fields : Fields) × FoldsEach damaged AddsItem nothing b (Ok fields) × HasAllFields fields
 ChecksUser b (Err e) =

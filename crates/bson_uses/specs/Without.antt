@@ -5,11 +5,10 @@ use Rattle.raw_bson.specs.Copying.{RefusesElement, TellsStop}
 use Rattle.raw_bson.specs.Error.{Error}
 use Rattle.raw_bson.specs.Frame.{Frame}
 
--- a frame of this key gives none, and any other gives itself
+-- a frame of this key is left out, and any other is kept
 abbrev pub LeavesOut : List ℕ → Frame → List Frame → Type 0
 LeavesOut key f given = given ≡ cond (bytes_eq f.key key) [] (f ∷ [])
 
--- the walk of b stops, and the error says how; or it is out of memory; or b has the greatest length, and an element takes in
--- its final 0
+-- the walk of b stops, and the error says how; or it is out of memory; or b has the greatest length, and an element contains its final 0
 abbrev pub RefusesCopy : List ℕ → Error → Type 0
 RefusesCopy b e = TellsStop b e ⊎ RefusesElement b e

@@ -1,3 +1,4 @@
+//! Documents compared by their canonical forms.
 ghost use Rattle.std.specs.Prelude.{◌≡◌, ◌↔◌, IfOk, IsTrue};
 ghost use Rattle.raw_bson.specs.Reading.{Reads};
 ghost use Rattle.raw_bson.specs.Tree.{Tree};

@@ -1,3 +1,4 @@
+//! A dump that is split into its documents.
 ghost use Rattle.std.specs.Prelude.{◌≡◌, ◌++◌, [], map, IfOk, IfErr, MatchOption, Some, None};
 ghost use Rattle.raw_bson.specs.Document.{bytes_of};
 ghost use Rattle.raw_bson.specs.Errors.{IsOutOfMemory};
@@ -7,12 +8,13 @@ ghost use Rattle.bson_uses.specs.Dump.{RefusesRest};
 use raw_bson::{NoDocument, RawDocument, Result};
 use std::alloc::Global;
 
-/// What a dump was cut into: its documents, what is left where the next document would begin, and why none does.
+/// What a dump was split into: its documents, what is left where the next document should begin, and why none
+/// does.
 #[derive(Drop)]
 pub struct Dump<'a> {
     /// the documents, in order
     pub documents: Vec<RawDocument<'a>>,
-    /// what is left; nothing where the dump ends with a document
+    /// what is left; empty if the dump ends with a document
     pub rest: &'a [u8],
     /// why no document is there
     pub error: Option<NoDocument>,
@@ -31,7 +33,7 @@ impl<'a> Dump<'a> {
     }
 }
 
-/// The documents that the bytes are, end to end, up to where there is none, and why; or out of memory.
+/// The documents at the front of the bytes, end to end, and why there are no more; or out of memory.
 /// ```
 /// let dump = split_dump(alloc, b"\x05\0\0\0\0\x05\0\0\0\0\x05\0")?;
 /// assert!(rt; dump.documents.len() == 2 && dump.rest == b"\x05\0".as_slice());

@@ -1,3 +1,4 @@
+//! Filters, as in queries: which documents match.
 ghost use Rattle.std.specs.Prelude.{◌≡◌, ◌↔◌, IsTrue, Ok};
 ghost use Rattle.raw_bson.specs.Document.{bytes_of};
 ghost use Rattle.raw_bson.specs.EachItem.{SeeksOne, value_in};
@@ -8,7 +9,7 @@ use raw_bson::{Error, RawArray, RawBsonRef, RawDocument, Result};
 use std::alloc::Global;
 use std::fmt;
 
-/// Why a document isn't as a filter wants it.
+/// Why a document doesn't match a filter.
 #[derive(Debug, PartialEq, Eq, Drop)]
 pub enum Unmet {
     /// Under a key it has another value, or none.
@@ -31,7 +32,7 @@ impl fmt::Display for Unmet {
 
 impl std::error::Error for Unmet {}
 
-/// Ok where something is as a filter wants it.
+/// Ok if something matches a filter.
 pub type Met = std::result::Result<(), Unmet>;
 
 impl From<Error> for Unmet {
@@ -45,7 +46,7 @@ impl From<Error> for Unmet {
     }
 }
 
-/// What is asked of a value.
+/// What is tested of a value.
 /// ```
 /// let mut ada = RawDocumentBuf::new(alloc)?;
 /// ada.append("age", RawBson::Int32(36))?;
@@ -64,13 +65,13 @@ impl From<Error> for Unmet {
 /// ```
 #[derive(Clone, Copy)]
 pub enum Operator<'a> {
-    /// whether it is a number over this
+    /// whether it is a number greater than this
     Over(i32),
     /// whether it is one of these
     Among(RawArray<'a>),
 }
 
-/// Whether the array has this value.
+/// Whether the array contains this value.
 fn is_among(alloc: Global, value: RawBsonRef<'_>, array: RawArray<'_>) -> Result<bool>
     ensures { SeeksOne (λ e. e) (λ key v. v ≡ value_of value.entry) (array_bytes_of array.entry) result }
 {
@@ -83,7 +84,7 @@ fn is_among(alloc: Global, value: RawBsonRef<'_>, array: RawArray<'_>) -> Result
     Ok(false)
 }
 
-/// Whether what was found is as the operator wants it; nothing never is.
+/// Whether what was found passes the operator. Nothing passes none.
 fn is_met(alloc: Global, found: Option<RawBsonRef<'_>>, operator: Operator<'_>) -> Met
     ensures { MeetsOperator (value_in found.entry) operator.entry result }
 {
@@ -100,7 +101,7 @@ fn is_met(alloc: Global, found: Option<RawBsonRef<'_>>, operator: Operator<'_>) 
     if is_met { Ok(()) } else { Err(Unmet::Differs) }
 }
 
-/// Whether what was found is as the operator of this name wants it with this operand.
+/// Whether what was found passes the operator with this name and this operand.
 fn is_met_named(
     alloc: Global,
     found: Option<RawBsonRef<'_>>,
@@ -116,7 +117,7 @@ fn is_met_named(
     }
 }
 
-/// Whether what was found is as all operators of a condition want it.
+/// Whether what was found passes all operators of a condition.
 fn are_met(alloc: Global, found: Option<RawBsonRef<'_>>, condition: RawDocument<'_>) -> Met
     ensures { MeetsCondition (bytes_of condition.entry) (value_in found.entry) result }
 {
@@ -142,7 +143,7 @@ fn is_equal(found: Option<RawBsonRef<'_>>, wanted: RawBsonRef<'_>) -> Met
     }
 }
 
-/// Whether what was found is wanted: a document is a condition, any other value has to be equal.
+/// Whether what was found is as wanted: a document is a condition, any other value has to be equal.
 fn is_wanted(alloc: Global, found: Option<RawBsonRef<'_>>, wanted: RawBsonRef<'_>) -> Met
     ensures { MeetsWanted (value_of wanted.entry) (value_in found.entry) result }
 {
@@ -152,7 +153,7 @@ fn is_wanted(alloc: Global, found: Option<RawBsonRef<'_>>, wanted: RawBsonRef<'_
     }
 }
 
-/// Whether what the document has under this key is wanted.
+/// Whether what the document has under this key is as wanted.
 fn has(alloc: Global, document: RawDocument<'_>, key: &str, wanted: RawBsonRef<'_>) -> Met
     ensures { MeetsUnder (bytes_of document.entry) key.now (value_of wanted.entry) result }
 {
@@ -160,7 +161,7 @@ fn has(alloc: Global, document: RawDocument<'_>, key: &str, wanted: RawBsonRef<'
     is_wanted(alloc, found, wanted)
 }
 
-/// Whether the document is as the filter wants it, else the first thing that isn't, or the error that was met.
+/// Whether the document matches the filter; otherwise the first thing that doesn't, or the first error.
 /// ```
 /// let mut ada = RawDocumentBuf::new(alloc)?;
 /// ada.append_ref("name", RawBsonRef::String("Ada"))?;

@@ -1,3 +1,4 @@
+//! Nulls that are counted in a document.
 ghost use Rattle.std.specs.Prelude.{◌≡◌, ◌<◌, ◌+◌, ◌^◌};
 ghost use Rattle.raw_bson.specs.Document.{bytes_of};
 ghost use Rattle.raw_bson.specs.Folds.{FoldsEach};
@@ -7,7 +8,7 @@ ghost use Rattle.bson_uses.specs.Nulls.{CountsNull, with_null};
 use raw_bson::{RawBsonRef, RawDocument, Result};
 use std::alloc::Global;
 
-/// The count, one greater where the value is null.
+/// The count, plus one if the value is null.
 fn plus_null(nulls: usize, value: RawBsonRef<'_>) -> usize
     requires { nulls + 1 < 2 ^ 64 }
     ensures { result ≡ with_null nulls (value_of value.entry) }
@@ -18,7 +19,7 @@ fn plus_null(nulls: usize, value: RawBsonRef<'_>) -> usize
     }
 }
 
-/// How many values of the document are null; or its first fault, nested documents aside.
+/// The number of null values of the document, or its first fault, nested documents aside.
 /// ```
 /// let document = RawDocument::from_bytes(b"\x0B\0\0\0\x0Aa\0\x0Ab\0\0")?;
 /// assert_eq!(rt; count_nulls(alloc, document)?, 2);

@@ -1,3 +1,4 @@
+//! Documents kept on a shelf in their canonical form.
 ghost use Rattle.std.specs.Prelude.{◌≡◌, IfOk, OnErr};
 ghost use Rattle.bson_uses.specs.Keeping.{IsKept};
 
@@ -5,7 +6,8 @@ use raw_bson::{Error, RawDocumentBuf, Result, canonical_bytes};
 use raw_shelf::{PutError, Shelf};
 use std::alloc::Global;
 
-/// Keeps a document in its canonical form, unless a document of the same tree is there: whether none was.
+/// Keeps a document in its canonical form, unless a document with the same tree is there. Returns whether it was
+/// new.
 /// ```
 /// let mut shelf = Shelf::new(alloc);
 /// assert!(rt; keep(alloc, &mut shelf, b"\x13\0\0\0\x10a\0\x01\0\0\0\x10a\0\x02\0\0\0\0")?);

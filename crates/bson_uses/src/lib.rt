@@ -1,4 +1,14 @@
 //! What callers of `raw_bson` and `raw_shelf` write, each with the contract that a user would want.
+//!
+//! Begin at the module closest to your task: `filter.rt` and `path.rt` look things up, `update.rt` and
+//! `without.rt` copy with changes, `tally.rt` and `dump.rt` go through a dump, `op_msg.rt` reads and writes
+//! messages, `user.rt` checks a document against a schema.
+//!
+//! Each module has its definitions in `specs/` and its proofs in `proofs/`; `README.md` lists the lemmas that they
+//! cite.
+//!
+//! Nothing rests on this crate: it is here to be copied, and it notices if a contract or a lemma of a lower crate
+//! becomes too weak for callers.
 #![tactic(auto)]
 
 mod compare;

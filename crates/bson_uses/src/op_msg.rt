@@ -1,3 +1,4 @@
+//! Messages of MongoDB's wire protocol.
 ghost use Rattle.std.specs.Prelude.{◌≡◌, ◌≤◌, ◌+◌, [], length, IsTrue, IfOk, IfErr, IfSome, MatchOption};
 ghost use Rattle.raw_bson.specs.Document.{bytes_of};
 ghost use Rattle.raw_bson.specs.Bytes.{NulFree};
@@ -31,11 +32,12 @@ pub struct Message<'a> {
     pub request_id: i32,
     /// the number of the message to which it is a reply
     pub response_to: i32,
-    /// the flags: bit 0 says that a checksum follows, bit 1 that more messages come, bit 16 that replies may come in a row
+    /// the flags: bit 0 means that a checksum follows, bit 1 that more messages come, bit 16 that several replies
+    /// may come
     pub flags: u32,
-    /// its sections, in order; the protocol wants one body, which is the caller's to see
+    /// its sections, in order; the protocol requires one body, which the caller has to test
     pub sections: Vec<Section<'a>>,
-    /// the checksum, of four bytes, or nothing; it isn't compared
+    /// the checksum, of four bytes, or nothing; it isn't verified
     pub checksum: &'a [u8],
 }
 
@@ -51,7 +53,7 @@ pub enum MessageError {
     /// the header's code is another
     #[error("another code")]
     OtherCode,
-    /// of the flags that a reader has to know, bits 0 to 15, one is set that isn't known
+    /// one of the flags 0 to 15, which a reader has to know, is set and isn't known
     #[error("unknown flags among {0:#x}")]
     UnknownFlags(u32),
     /// no bytes for the checksum that the flags announce
@@ -60,7 +62,7 @@ pub enum MessageError {
     /// a section of this kind, which isn't known
     #[error("a section of kind {0}")]
     OtherKind(u8),
-    /// a sequence's size is missing, or counts other bytes than are there
+    /// a sequence's size is missing, or isn't that of the bytes that follow
     #[error("another size of a sequence")]
     WrongSequenceSize,
     /// a sequence's identifier has no end
@@ -77,10 +79,10 @@ pub enum MessageError {
     OutOfMemory,
 }
 
-/// What is read of a message, or why it is none.
+/// A part of a message, or why the bytes are no message.
 pub type Read<T> = std::result::Result<T, MessageError>;
 
-/// Ok where this holds, and else the error.
+/// Ok if this holds, otherwise the error.
 fn check(holds: bool, error: MessageError) -> Read<()>
     ensures holds { IfOk result (λ _. IsTrue holds) }
     ensures fails { IfErr result (λ e. (e ≡ error) × ¬ IsTrue holds) }
@@ -88,7 +90,7 @@ fn check(holds: bool, error: MessageError) -> Read<()>
     if holds { Ok(()) } else { Err(error) }
 }
 
-/// The number whose four bytes begin at this place.
+/// The number whose four bytes begin at `at`.
 fn i32_at(bytes: &[u8], at: usize) -> i32
     requires { at + 4 ≤ length bytes.now }
     ensures { HasNumber at bytes.now result }
@@ -96,7 +98,7 @@ fn i32_at(bytes: &[u8], at: usize) -> i32
     i32::from_le_bytes([bytes[at], bytes[at + 1], bytes[at + 2], bytes[at + 3]])
 }
 
-/// The bytes that a size in front counts, without it, and what is behind them; nothing where there are fewer.
+/// The bytes that a size at the front counts, without the size, and what follows them; `None` if there are fewer.
 fn split_sized(bytes: &[u8]) -> Option<(&[u8], &[u8])>
     ensures parts { MatchOption result (HasNoSize bytes.now) (λ parts. IsSized bytes.now parts.0.now parts.1.now) }
     ensures shorter { IfSome result (λ parts. length parts.1.now ≤ length bytes.now) }
@@ -106,7 +108,7 @@ fn split_sized(bytes: &[u8]) -> Option<(&[u8], &[u8])>
     behind.split_at_checked(size.checked_sub(4)?)
 }
 
-/// What is in front of the first 0, and what is behind it; nothing where there is none.
+/// The bytes before the first 0, and those after it; `None` if there is no 0.
 fn split_at_nul(bytes: &[u8]) -> Option<(&[u8], &[u8])>
     ensures { MatchOption result (NulFree bytes.now) (λ parts. IsIdentified bytes.now parts.0.now parts.1.now) }
 {
@@ -114,7 +116,7 @@ fn split_at_nul(bytes: &[u8]) -> Option<(&[u8], &[u8])>
     Some((&bytes[..end], &bytes[end + 1..]))
 }
 
-/// The sequence at the front of the bytes, which begin behind its kind, and what is behind it.
+/// The sequence at the front of the bytes, which begin after its kind, and what follows it.
 fn first_sequence<'a>(alloc: Global, bytes: &'a [u8]) -> Read<(Section<'a>, &'a [u8])>
     ensures section { IfOk result (λ parts. IsSection 1 bytes.now parts.0 parts.1.now) }
     ensures refused { IfErr result (RefusesSequence bytes.now) }
@@ -128,7 +130,7 @@ fn first_sequence<'a>(alloc: Global, bytes: &'a [u8]) -> Read<(Section<'a>, &'a 
     Ok((Section::Sequence(identifier, documents), rest))
 }
 
-/// The section of this kind at the front of the bytes, which begin behind the kind, and what is behind it.
+/// The section of this kind at the front of the bytes, which begin after the kind, and what follows it.
 fn first_section<'a>(alloc: Global, kind: u8, bytes: &'a [u8]) -> Read<(Section<'a>, &'a [u8])>
     ensures section { IfOk result (λ parts. IsSection kind bytes.now parts.0 parts.1.now) }
     ensures refused { IfErr result (RefusesSection kind bytes.now) }
@@ -143,7 +145,7 @@ fn first_section<'a>(alloc: Global, kind: u8, bytes: &'a [u8]) -> Read<(Section<
     }
 }
 
-/// The sections that the bytes are, end to end.
+/// The sections in the bytes, end to end.
 fn all_sections<'a>(alloc: Global, mut rest: &'a [u8]) -> Read<Vec<Section<'a>>>
     ensures sections { IfOk result (λ sections. BeginWith sections.items rest.entry.now []) }
     ensures refused { IfErr result (RefusesSections rest.entry.now) }
@@ -157,7 +159,7 @@ fn all_sections<'a>(alloc: Global, mut rest: &'a [u8]) -> Read<Vec<Section<'a>>>
     Ok(all)
 }
 
-/// The message that these bytes are.
+/// The message in these bytes.
 /// ```
 /// // the command `{ping: 1, $db: "admin"}` under the number 7, as MongoDB's package for Python writes it
 /// let ping = b"\x33\0\0\0\x07\0\0\0\0\0\0\0\xDD\x07\0\0\0\0\0\0\0\x1E\0\0\0\x10ping\0\x01\0\0\0\x02$db\0\x06\0\0\0admin\0\0";
@@ -169,7 +171,7 @@ pub fn read_message<'a>(alloc: Global, bytes: &'a [u8]) -> Read<Message<'a>>
     ensures message { IfOk result (IsMessage bytes.now) }
     ensures refused { IfErr result (RefusesMessage bytes.now) }
 {
-    // five numbers in front: the size, the message's number, that of the other message, the code, the flags
+    // five numbers come first: the size, the message's number, that of the other message, the code, the flags
     check(bytes.len() >= 20, MessageError::TooShort)?;
     let size = i32_at(bytes, 0);
     check(size as i64 == bytes.len() as i64, MessageError::WrongSize)?;
@@ -187,7 +189,7 @@ pub fn read_message<'a>(alloc: Global, bytes: &'a [u8]) -> Read<Message<'a>>
     })
 }
 
-/// The message of this number with the document; or too long, or out of memory.
+/// The message with this number and the document; or too long, or out of memory.
 /// ```
 /// let body = RawDocument::from_bytes(b"\x1E\0\0\0\x10ping\0\x01\0\0\0\x02$db\0\x06\0\0\0admin\0\0")?;
 /// let message = message_of(alloc, 7, body)?;

@@ -1,3 +1,4 @@
+//! Documents from outside, read within limits.
 ghost use Rattle.std.specs.Prelude.{IfOk, IfErr};
 ghost use Rattle.raw_bson.specs.Tree.{tree_of_document};
 ghost use Rattle.bson_uses.specs.Outside.{IsTaken, IsTurnedAway};
@@ -11,7 +12,7 @@ pub const MOST: Limits = Limits {
     depth: 100,
 };
 
-/// The tree of a document from outside, or why it isn't taken.
+/// The tree of a document from outside, or why it is rejected.
 /// ```
 /// assert_eq!(rt; received(alloc, b"\x0C\0\0\0\x10a\0\x02\0\0\0\0")?.len(), 1);
 /// ```

@@ -1,3 +1,4 @@
+//! Look-up in nested documents.
 ghost use Rattle.std.specs.Prelude.{Option};
 ghost use Rattle.raw_bson.specs.Answers.{TellsFound};
 ghost use Rattle.raw_bson.specs.Meaning.{Meaning};
@@ -7,7 +8,7 @@ ghost use Rattle.bson_uses.specs.Path.{GoesDown, keys_of};
 use raw_bson::{RawBsonRef, Result};
 use std::alloc::Global;
 
-/// The value under these keys, one below the other; without a key it is this value itself. Below a value that is no
+/// The value under these keys, one inside the other; without keys it is this value itself. In a value that is no
 /// document there is none.
 /// ```
 /// let document = RawDocument::from_bytes(b"\x10\0\0\0\x03a\0\x08\0\0\0\x0Ab\0\0\0")?;

@@ -1,3 +1,4 @@
+//! A dump that is summed up.
 ghost use Rattle.std.specs.Prelude.{◌≡◌, ◌↔◌, [], IsTrue, IfOk, IfErr, FitsSigned};
 ghost use Rattle.std.specs.Int.{w64};
 ghost use Rattle.raw_bson.specs.Document.{bytes_of};
@@ -10,7 +11,7 @@ use raw_bson::{Error, Limits, NoDocument, RawBsonRef, RawDocument};
 use raw_form::{ValidateError, validate_within};
 use std::alloc::Global;
 
-/// What the documents of a dump come to.
+/// The summary of a dump's documents.
 #[derive(Clone, Copy)]
 pub struct Tally {
     /// how many there are
@@ -24,9 +25,9 @@ pub struct Tally {
 /// Why a dump has no tally.
 #[derive(Debug, PartialEq, Eq, Drop)]
 pub enum TallyError {
-    /// no document is where one has to begin
+    /// no document is where one should begin
     NoDocument(NoDocument),
-    /// a document is damaged where its number is looked for, or memory ran out for saying so
+    /// a document is damaged where its number is looked for, or memory ran out for the error
     Damaged(Error),
     /// a sum doesn't fit 64 bits
     Overflow,
@@ -46,7 +47,7 @@ impl From<Error> for TallyError {
 }
 
 impl Tally {
-    /// With one document more, which is canonical or not, and has this number.
+    /// The tally with one more document, which is canonical or not and has this number.
     fn plus(self, canonical: bool, number: i64) -> Result<Tally, TallyError>
         requires { CountsOneMore self }
         ensures more { IfOk result (PlusOne self canonical number) }
@@ -85,7 +86,7 @@ fn is_canonical(
     }
 }
 
-/// The 64-bit number that was found, else 0.
+/// The 64-bit number that was found, otherwise 0.
 fn number_of(found: Option<RawBsonRef<'_>>) -> i64
     ensures value { result ≡ number_in (value_in found.entry) }
     ensures fits { FitsSigned w64 result }
@@ -96,7 +97,7 @@ fn number_of(found: Option<RawBsonRef<'_>>) -> i64
     }
 }
 
-/// The 64-bit number under the key, 0 where there is none; or the fault that is found.
+/// The 64-bit number under the key, 0 if there is none; or the fault that is found.
 fn number_under(alloc: Global, document: RawDocument<'_>, key: &str) -> Result<i64, TallyError>
     ensures told { TellsNumber (bytes_of document.entry) key.now result }
     ensures fits { IfOk result (FitsSigned w64) }
@@ -105,7 +106,7 @@ fn number_under(alloc: Global, document: RawDocument<'_>, key: &str) -> Result<i
     Ok(number_of(found))
 }
 
-/// The tally with one document more.
+/// The tally with one more document.
 fn with_document(
     alloc: Global,
     tally: Tally,

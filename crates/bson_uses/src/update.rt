@@ -1,3 +1,4 @@
+//! Updates: a copy of a document with one value changed.
 ghost use Rattle.std.specs.Prelude.{IfOk, IfErr};
 ghost use Rattle.raw_bson.specs.Copying.{IsCopy};
 ghost use Rattle.raw_bson.specs.Document.{bytes_of};
@@ -16,7 +17,7 @@ enum Change<'a, 'p, 'k> {
     Keep,
     /// it has the new value
     Put,
-    /// it is a document, in which a value is set below these keys
+    /// it is a document, in which a value is set under these keys
     Below(RawDocument<'a>, &'p [&'k str]),
 }
 
@@ -30,7 +31,7 @@ fn document_in<'a>(alloc: Global, element: RawElement<'a>) -> Option<RawDocument
     }
 }
 
-/// What becomes of the element where a value is set under these keys.
+/// What becomes of the element if a value is set under these keys.
 fn change_of<'a, 'p, 'k>(
     alloc: Global,
     element: RawElement<'a>,
@@ -53,8 +54,8 @@ fn change_of<'a, 'p, 'k>(
     }
 }
 
-/// A copy of the document in which each value under these keys, one below the other, is this one; all other bytes are
-/// as they were. Where nothing is under the keys it has the same elements.
+/// A copy of the document in which each value under these keys, one inside the other, is replaced by this one; all
+/// other bytes are unchanged. If nothing is under the keys, the copy has the same elements.
 /// ```
 /// // under `b` the number 2 under `c`, and under `d` a boolean that is neither 0 nor 1
 /// let bytes = b"\x1F\0\0\0\x10a\0\x01\0\0\0\x03b\0\x10\0\0\0\x10c\0\x02\0\0\0\x08d\0\x02\0\0";

@@ -1,3 +1,4 @@
+//! Documents checked against a fixed set of fields.
 ghost use Rattle.std.specs.Prelude.{◌≡◌, ◌↔◌, IsTrue};
 ghost use Rattle.raw_bson.specs.Document.{bytes_of};
 ghost use Rattle.raw_bson.specs.Folds.{FoldsEach};
@@ -38,7 +39,7 @@ pub enum NotUser {
     Repeated,
     /// it has no `_id`, or no `email`
     Missing,
-    /// it is damaged, or memory ran out for saying so
+    /// it is damaged, or memory ran out for the error
     Damaged(Error),
 }
 
@@ -54,7 +55,7 @@ impl From<Error> for NotUser {
 }
 
 impl Fields {
-    /// These and one more.
+    /// These fields and one more.
     fn with(self, field: Field) -> Result<Fields, NotUser>
         ensures { AddsField self field result }
     {
@@ -77,7 +78,7 @@ impl Fields {
     }
 }
 
-/// The field that a key and a value are, if they are one.
+/// The field of a key and a value, if there is one.
 fn field_of(key: &str, value: RawBsonRef<'_>) -> Option<Field>
     ensures { TellsField key.now (value_of value.entry) result }
 {
@@ -89,7 +90,7 @@ fn field_of(key: &str, value: RawBsonRef<'_>) -> Option<Field>
     }
 }
 
-/// These fields, and the one that a key and a value are.
+/// These fields, and that of a key and a value.
 fn with_item(fields: Fields, key: &str, value: RawBsonRef<'_>) -> Result<Fields, NotUser>
     ensures { AddsItem fields key.now (value_of value.entry) result }
 {
@@ -99,7 +100,7 @@ fn with_item(fields: Fields, key: &str, value: RawBsonRef<'_>) -> Result<Fields,
     }
 }
 
-/// The fields of a document, each once; or the first that no user has, or a fault before it.
+/// The fields of a document, each once; or the first item that is no field of a user, or a fault before it.
 fn fields_of(alloc: Global, document: RawDocument<'_>) -> Result<Fields, NotUser>
     ensures { FoldsEach damaged AddsItem nothing (bytes_of document.entry) result }
 {
@@ -115,7 +116,7 @@ fn fields_of(alloc: Global, document: RawDocument<'_>) -> Result<Fields, NotUser
     Ok(fields)
 }
 
-/// Ok where the document is a user: `_id`, `email`, maybe `age`, each once, and nothing else.
+/// Ok if the document is a user: `_id`, `email`, perhaps `age`, each once, and nothing else.
 /// ```
 /// let user = b"\x23\0\0\0\x07_id\0\0\0\0\0\0\0\0\0\0\0\0\0\x02email\0\x02\0\0\0x\0\0";
 /// assert_eq!(rt; check_user(alloc, RawDocument::from_bytes(user)?), Ok(()));

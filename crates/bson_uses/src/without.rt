@@ -1,3 +1,4 @@
+//! A copy of a document without some elements.
 ghost use Rattle.std.specs.Prelude.{IfOk, IfErr};
 ghost use Rattle.raw_bson.specs.Copying.{IsCopy};
 ghost use Rattle.raw_bson.specs.Document.{bytes_of};
@@ -6,8 +7,8 @@ ghost use Rattle.bson_uses.specs.Without.{LeavesOut, RefusesCopy};
 use raw_bson::{RawDocument, RawDocumentBuf, Result};
 use std::alloc::Global;
 
-/// A copy of the document without the elements of this key, whose values aren't looked into; or where the document
-/// stops, or out of memory.
+/// A copy of the document without the elements of this key, whose values aren't decoded; or the fault at which the
+/// document stops, or out of memory.
 /// ```
 /// // the numbers 1, 2 and 3 under `a`, `b` and `a`
 /// let bytes = b"\x1A\0\0\0\x10a\0\x01\0\0\0\x10b\0\x02\0\0\0\x10a\0\x03\0\0\0\0";

@@ -1,4 +1,4 @@
--- Which tokens are left of a level, a value or a wrapper once its first ones are taken.
+-- The tokens that remain of a level, a value or a wrapper after its first ones were taken.
 use Rattle.std.proofs.Common.{◌≡◌, ◌⊎◌, ◌||◌, ◌+◌, ℕ, Bool, true, false, List, [], ◌∷◌, ◌++◌, Option, Some, None, codes, refl, sym, ap, subst, ◌∙◌, inl, inr, append_assoc, arith}
 use Rattle.std.proofs.lemmas.Bool.{false≢true}
 use Rattle.json.specs.Json.{Json, Members, no_items, item, no_members, member, value}
@@ -21,7 +21,7 @@ use Rattle.values_from_json.specs.declared.wrapper.Wrapper.{Wrapper}
 use Rattle.values_from_json.specs.declared.wrapper.Wrapper.TheVariants as wrapper
 use Rattle.values_from_json.proofs.Face.{is_of_wrapper, named, wrapped_key}
 
--- no value's tokens are in front of another's
+-- the tokens of a value don't begin with those of another
 
 abbrev first_or : Option (Json × List Token) → Json → Json
 first_or None j = j
@@ -78,7 +78,7 @@ right_false : (a b : Bool) → (a || b) ≡ false → b ≡ false
 right_false false b e = e
 right_false true b e = absurd (false≢true (sym e))
 
--- a key, its value and others
+-- a key, its value and more
 abbrev pub MemberThen : Holder → List Token → List Token → Type 0
 MemberThen h ts behind = (k : List ℕ) × (after : List Token) × (rest : List Token) × (ts ≡ Token.key k ∷ after) × MayBeIn h k × ValueThen after rest × InsideThen h rest behind
 
@@ -200,7 +200,7 @@ module _ (k : List ℕ) (new ts behind : List Token) (e : ts ≡ Token.key k ∷
   value_behind : (k' : List ℕ) (j : Json) (ms : Members) → ts ≡ members_tokens (member k' j ms) ++ behind → new ≡ json_tokens j ++ (members_tokens ms ++ behind)
   value_behind k' j ms f = behind_key e f ∙ append_assoc (json_tokens j) (members_tokens ms) behind
 
-  -- no wrapper's key
+  -- no key of a wrapper
   module _ (plain : is_wrapper_key k ≡ false) where
     no_wrapper : (k' : List ℕ) (j : Json) (ms : Members) → ts ≡ members_tokens (member k' j ms) ++ behind → is_wrapper_key k' ≡ true → ⊥
     no_wrapper k' j ms f is = false≢true (sym plain ∙ ap is_wrapper_key (sym (first_key k' j ms f)) ∙ is)
@@ -221,7 +221,7 @@ module _ (k : List ℕ) (new ts behind : List Token) (e : ts ≡ Token.key k ∷
         absurd (no_wrapper k' j (member m i no_members) f (ap is_wrapper_key is))
     ordinary (member k' j (member m i (member n h ms)), t, inr (inr is), f) = absurd is
 
--- what is behind the key of a wrapper
+-- what follows the key of a wrapper
 
 abbrev pub LeafThen : Wrapper → List Token → List Token → Type 0
 LeafThen w ts behind = (j : Json) × (l : Leaf) × IsWrapped (wrapper_key w) j l × (ts ≡ json_tokens j ++ (Token.end_object ∷ behind))

@@ -1,4 +1,4 @@
--- What may end what is left of a reader, from step to step; and what can't be next where a step fails.
+-- How the rest of a reader may end, from step to step; and what can't be next where a step fails.
 use Rattle.std.proofs.Common.{◌≡◌, ◌⊎◌, inl, inr, ℕ, ◌+◌, Bool, false, List, [], ◌∷◌, ◌++◌, Result, Ok, Err, IfErr, OnErr, codes, refl, sym, ap, ◌∙◌, subst, reverse, append_assoc, append-nil}
 use Rattle.json.specs.Json.{Json, Members}
 use Rattle.json.specs.Json as json
@@ -60,7 +60,7 @@ pub lacks_on : {T : Type 0} {P Q : Type 0} (r : Result T JsonReason) → (P → 
 lacks_on (Ok x) f p = tt
 lacks_on (Err e) f p = inr (f p)
 
--- an error for one reason that leaves open, or for none
+-- an error that leaves open whether there is a document, or that says there is none
 pub one_open : {P Q : Type 0} (m e : JsonReason) → LeavesOpen m → (P → Q) → (e ≡ m) ⊎ P → LeavesOpen e ⊎ Q
 one_open m e is f (inl same) = inl (subst LeavesOpen (sym same) is)
 one_open m e is f (inr p) = inr (f p)
@@ -103,7 +103,7 @@ code_closes : {old new : List Token} {code : List ℕ} (start : ℕ) (c : Bor (L
 code_closes start c e behind (text, f) = cc
 
 module _ (old new : Reader) where
-  -- a value that is put whole, and one that is opened
+  -- a value that is written whole, and one that is opened
   pub put_keeps : {taken : List Token} → new.document.levels.items ≡ old.document.levels.items
       → ((behind : List Token) → ValueThen (taken ++ old.source.tokens) behind → new.source.tokens ≡ behind) → KeepsValue old new taken
   put_keeps {taken} levels is = record { kept = λ behind value outer. can_end new _ behind levels (is behind value) outer }
@@ -116,7 +116,7 @@ module _ (old new : Reader) where
       → ((behind : List Token) → ValueThen (taken ++ old.source.tokens) behind → LevelThen h new.source.tokens behind) → KeepsValue old new taken
   opened_keeps {taken} {ls} h start e levels is = open_keeps h start (levels ∙ ap (λ (x : List Level). x ++ level_at h start ∷ []) e) is
 
-  -- some tokens were taken before
+  -- some tokens were taken already
   pub more_keeps : {mid : Reader} (taken more : List Token) → mid.document ≡ old.document → old.source.tokens ≡ more ++ mid.source.tokens
       → KeepsValue mid new (taken ++ more) → KeepsValue old new taken
   more_keeps {mid} taken more same e value = record {
@@ -125,7 +125,7 @@ module _ (old new : Reader) where
         (subst (λ (d : Unfinished). CanEnd (reverse d.levels.items) behind) (sym same) outer);
   }
 
-  -- a member behind its key
+  -- a member after its key
   pub member_keeps : {mid : Reader} {k : List ℕ} {ts : List Token} (l : Level) → HasMembers l.holder → mid.document.levels.items ≡ old.document.levels.items ++ l ∷ []
       → mid.source.tokens ≡ ts → old.source.tokens ≡ Token.key k ∷ ts → KeepsValue mid new [] → KeepsLevel old new l
   member_keeps {mid} {k} {ts} l has levels same e value = record {
@@ -136,7 +136,7 @@ module _ (old new : Reader) where
         (within mid old.document.levels.items l after levels (behind, (rest, more, wrapper), outer));
   }
 
-  -- the value of a key that was taken before
+  -- the value of a key that was taken already
   pub begun_keeps : {mid : Reader} (l : Level) (first : Bor (List ℕ)) → l.holder ≡ holder.Begun first → mid.document.levels.items ≡ old.document.levels.items ++ level_at holder.Document l.start ∷ []
       → mid.source.tokens ≡ old.source.tokens → KeepsValue mid new [] → KeepsLevel old new l
   begun_keeps {mid} l first is levels same value = record {
@@ -147,7 +147,7 @@ module _ (old new : Reader) where
         (within mid old.document.levels.items (level_at holder.Document l.start) after levels (behind, (rest, more, wrapper), outer));
   }
 
-  -- an item behind its first token
+  -- an item after its first token
   pub item_keeps : {mid : Reader} {token : Token} {ts : List Token} (n start : ℕ) → mid.document.levels.items ≡ old.document.levels.items ++ array_level (n + 1) start ∷ []
       → mid.source.tokens ≡ ts → old.source.tokens ≡ token ∷ ts → LacksToken old.source.tokens Token.end_array → KeepsValue mid new (token ∷ []) → KeepsLevel old new (array_level n start)
   item_keeps {mid} {token} {ts} n start levels same e end value = record {
@@ -177,7 +177,7 @@ module _ (old new : Reader) where
         closed.kept behind (subst (λ (x : List Token). x ≡ behind) (sym same) wrapper) (subst (λ (x : List Level). CanEnd (reverse x) behind) (sym levels) outer);
   }
 
-  -- what is behind a bracket
+  -- what follows a bracket
   pub closed_keeps : (l : Level) → new.document.levels.items ≡ old.document.levels.items → ((behind : List Token) → WrapperThen l.holder old.source.tokens behind → new.source.tokens ≡ behind)
       → KeepsClosed old new l
   closed_keeps l levels is = record { kept = λ behind wrapper outer. can_end new _ behind levels (is behind wrapper) outer }
@@ -262,7 +262,7 @@ module _ (w : Wrapper) (not_code : w ≡ wrapper.Code → ⊥) (not_scope : w �
       → LacksValue (Token.begin_object ∷ Token.key (wrapper_key w) ∷ old.source.tokens)
   no_wrapper_end {old} {mid} {k} taken none behind value = none behind (end_behind taken.json taken.tokens behind (leaf_of old.source.tokens behind value))
 
--- a wrapper behind its key, where its tokens are read on
+-- a wrapper after its key, whose tokens are read on
 pub no_wrapped : {ts new : List Token} {k : List ℕ} (w : Wrapper) → k ≡ wrapper_key w → ts ≡ Token.key k ∷ new → LacksValue (Token.begin_object ∷ Token.key (wrapper_key w) ∷ new)
     → LacksValue (Token.begin_object ∷ ts)
 no_wrapped {ts} {new} {k} w named e none behind value =
@@ -365,7 +365,7 @@ before_code_begun {ts} {new} start c f behind value =
       (code, refl),
     )
 
--- levels that don't go on
+-- levels that don't continue
 
 module _ (h : Holder) (has : HasMembers h) {ts : List Token} where
   pub no_member : LacksToken ts Token.end_object → ((k : List ℕ) → LacksToken ts (Token.key k)) → LacksLevel h ts
@@ -408,7 +408,7 @@ no_code_behind {ts} h start c is none behind wrapper =
 
 -- the whole
 
--- if the tokens are those of a document, what is left can be ended
+-- if the tokens are those of a document, the rest can be ended
 pub record MayEnd (ts : List Token) (r : Reader) : Type 0 where
   pub kept : (ms : Members) (es : Entries) → AreMembers ms es → ts ≡ json_tokens (json.object ms) → CanEnd (levels_of r) r.source.tokens
 
@@ -522,7 +522,7 @@ no_key_of (read.Bool b) differ k e = cc
 no_key_of read.Null differ k e = cc
 no_key_of read.Bad differ k e = cc
 
--- by equations of what a match found
+-- by the equations of a match
 
 pub wrapped_as : {ts : List Token} (w v : Wrapper) → w ≡ v → LacksValue (Token.begin_object ∷ Token.key (wrapper_key v) ∷ ts) → LacksValue (Token.begin_object ∷ Token.key (wrapper_key w) ∷ ts)
 wrapped_as {ts} w v e none = subst (λ (x : Wrapper). LacksValue (Token.begin_object ∷ Token.key (wrapper_key x) ∷ ts)) (sym e) none

@@ -1,4 +1,4 @@
--- How many tokens are left once some are taken.
+-- How many tokens remain after some were taken.
 use Rattle.std.proofs.Common.{◌≡◌, ◌∷◌, ◌++◌, ◌<◌, ◌≤◌, ℕ, List, ap, arith, length, length-append}
 use Rattle.json.specs.Token.{Token}
 use Rattle.json.specs.Tree.{json_tokens}

@@ -62,7 +62,7 @@ plain_holder (holder.Scope start) a b = absurd (a start refl)
 plain_holder (holder.ScopeBeforeCode start code) a b = absurd (b start code refl)
 
 module _ (old new : Reader) where
-  -- an item of an array, behind its first token
+  -- an item of an array, after its first token
   pub item_taken : {mid : Reader} {token : Token} {k : List ℕ} {ts : List Token} (n start : ℕ) → IsAt mid (old.document.levels.items ++ array_level (n + 1) start ∷ []) (bytes_of old) ts
       → old.source.tokens ≡ token ∷ ts → k ≡ decimal n → TakesValue mid new k (token ∷ []) → TakesLevel old new (array_level n start)
   item_taken {mid} {token} {k} {ts} n start is e key value = record {
@@ -72,7 +72,7 @@ module _ (old new : Reader) where
         (subst (λ (x : List Token). ValueIn (Rest out (array_level (n + 1) start ∷ levels_of old)) (decimal n) (bytes_of old) x) (sym e) at);
   }
 
-  -- a member, behind its key
+  -- a member, after its key
   pub member_taken : {mid : Reader} {k : List ℕ} {ts : List Token} (l : Level) → HasMembers l.holder → MayBeIn l.holder k
       → IsAt mid (old.document.levels.items ++ l ∷ []) (bytes_of old) ts → old.source.tokens ≡ Token.key k ∷ ts → TakesValue mid new k [] → TakesLevel old new l
   member_taken {mid} {k} {ts} l has may is e value = record {
@@ -81,7 +81,7 @@ module _ (old new : Reader) where
         (takes_member (Rest out (levels_of old)) l.holder l.start k (bytes_of old) ts has may (value_at _ _ out k [] is (value.made out rest)));
   }
 
-  -- the value of a key that was taken before
+  -- the value of a key that was taken already
   pub first_taken : {mid : Reader} (first : Bor (List ℕ)) (start : ℕ) → IsAt mid (old.document.levels.items ++ level_at holder.Document start ∷ []) (bytes_of old) old.source.tokens
       → TakesValue mid new first.now [] → TakesLevel old new (level_at (holder.Begun first) start)
   first_taken {mid} first start is value = record {
@@ -93,7 +93,7 @@ module _ (old new : Reader) where
       → IsAt mid (old.document.levels.items ++ level_at holder.Document l.start ∷ []) (bytes_of old) old.source.tokens → TakesValue mid new first.now [] → TakesLevel old new l
   begun_taken {mid} l first e is value = subst (λ (h : Holder). TakesLevel old new (level_at h l.start)) (sym e) (first_taken first l.start is value)
 
-  -- the end of a level, behind its bracket
+  -- the end of a level, after its bracket
   pub end_taken : {mid : Reader} (l : Level) → IsAt mid old.document.levels.items (bytes_of old) mid.source.tokens → old.source.tokens ≡ bracket l.holder ∷ mid.source.tokens
       → HasMembers l.holder ⊎ (bracket l.holder ≡ Token.end_array) → ClosesBracket mid new l → TakesLevel old new l
   end_taken {mid} l is e may closes = record {
@@ -169,7 +169,7 @@ module _ (old new : Reader) where
         }) rest);
   }
 
-  -- some tokens were taken before
+  -- some tokens were taken already
   pub more_taken : {mid : Reader} {k : List ℕ} (taken more : List Token) → mid.document ≡ old.document → old.source.tokens ≡ more ++ mid.source.tokens
       → TakesValue mid new k (taken ++ more) → TakesValue old new k taken
   more_taken {mid} {k} taken more same e value = record {
@@ -222,7 +222,7 @@ module _ (old new : Reader) where
         (opens_before_code (Rest out (levels_of old)) k (bytes_of old) code ts (rest_within {r = new} _ _ out is rest));
   }
 
--- a level that was opened behind these bytes
+-- a level that was opened after these bytes
 pub opened_at : {new : Reader} {ls ls' : List Level} {b b' : List ℕ} {ts : List Token} (h : Holder) → ls ≡ ls' → b ≡ b' → new.document.levels.items ≡ ls ++ level_at h (length b) ∷ []
     → bytes_of new ≡ b ++ unset → new.source.tokens ≡ ts → IsAt new (ls' ++ level_at h (length b') ∷ []) (b' ++ unset) ts
 opened_at {new} {ls} {ls'} {b} {b'} {ts} h e f level bytes tokens = record {
@@ -244,7 +244,7 @@ scope_at {new} {ls} {ls'} {b} {b'} {start} {start'} {ts} h e s f level bytes tok
 
 -- the whole
 
--- whatever is made of what is left is what the tokens say
+-- whatever comes of the rest is what the tokens write
 pub record Whole (ts : List Token) (r : Reader) : Type 0 where
   pub made : (out : List ℕ) → RestOf out r → SaysBytes ts out
 
@@ -280,7 +280,7 @@ pub on_ok_two : {T E : Type 0} {A B C : Type 0} (r : Result T E) → (A → B �
 on_ok_two (Ok x) f a b = f a b
 on_ok_two (Err e) f a b = tt
 
--- a value is put that is the same
+-- the value that is put equals this one
 pub puts_as : {old new : Reader} {k : List ℕ} {v w : RawValue} → Puts old new k v → v ≡ w → Puts old new k w
 puts_as {old} {new} {k} {v} {w} puts e = subst (λ (x : RawValue). Puts old new k x) e puts
 

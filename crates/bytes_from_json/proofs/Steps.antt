@@ -1,4 +1,4 @@
--- The steps of reading: whatever is made of what is left behind a step was to be made of what was left before it.
+-- The steps of reading: whatever comes of the rest after a step was to come of the rest before it.
 use Rattle.std.proofs.Common.{◌≡◌, ◌⊎◌, inl, inr, ℕ, ◌+◌, ◌-◌, Bool, true, false, List, [], ◌∷◌, ◌++◌, ◌||◌, codes, decimal, length, length-append, refl, sym, ap, ◌∙◌, subst, arith, append_assoc, reverse}
 use Rattle.std.proofs.lemmas.List.{reverse-append}
 use Rattle.std.proofs.Math.Seq.{drop-append-add, take-append_seam}
@@ -30,11 +30,11 @@ innermost ls l = reverse-append ls (l ∷ [])
 regrouped : (b piece more : List ℕ) → (b ++ piece) ++ (more ++ 0 ∷ []) ≡ b ++ ((piece ++ more) ++ 0 ∷ [])
 regrouped b piece more = append_assoc b piece (more ++ 0 ∷ []) ∙ ap (λ (x : List ℕ). b ++ x) (sym (append_assoc piece more (0 ∷ [])))
 
--- an element that is put in two parts
+-- an element that is written in two parts
 pub behind : (b key payload : List ℕ) (tag : ℕ) → (b ++ tag ∷ (key ++ 0 ∷ [])) ++ payload ≡ b ++ tag ∷ (key ++ 0 ∷ payload)
 behind b key payload tag = simp append_assoc
 
--- the four bytes before others, set to how many they are together
+-- the four bytes before others, set to the length of all
 counted_at : (before rest : List ℕ) → with_len (length before) ((before ++ unset) ++ rest) ≡ before ++ counted rest
 counted_at before rest =
     let w : (before ++ unset) ++ rest ≡ before ++ 0 ∷ 0 ∷ 0 ∷ 0 ∷ rest = append_assoc before unset rest in
@@ -167,7 +167,7 @@ module _ (On : Makes) where
   pub puts_empty : (k b : List ℕ) (ts : List Token) → On (headed b 3 k ++ framed []) ts → ValueIn On k b (Token.begin_object ∷ Token.end_object ∷ ts)
   puts_empty k b ts on = (object no_members, document no_entry, ts, inl (no_entry, refl, refl, refl), refl, subst (λ (x : List ℕ). On x ts) (behind b k (framed []) 3) on)
 
-  -- a scope behind its code
+  -- a scope after its code
   pub opens_scope : (k b code : List ℕ) (ts : List Token)
       → RestIn (holder.Scope (length (headed b 15 k))) (length ((headed b 15 k ++ unset) ++ string_payload code)) On (((headed b 15 k ++ unset) ++ string_payload code) ++ unset) ts
       → ValueIn On k b (Token.begin_object ∷ Token.key (codes "$code") ∷ Token.string code ∷ Token.key (codes "$scope") ∷ Token.begin_object ∷ ts)
@@ -213,7 +213,7 @@ module _ (On : Makes) where
     on,
   )
 
--- a level that may go on with members
+-- a level that may continue with members
 pub has_members : (h : Holder) → ((n : ℕ) → h ≡ holder.Array n → ⊥) → ((k : Bor (List ℕ)) → h ≡ holder.Begun k → ⊥) → HasMembers h
 has_members holder.Text a b = tt
 has_members holder.Document a b = tt

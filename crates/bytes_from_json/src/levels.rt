@@ -1,4 +1,4 @@
-//! The bytes of a document whose levels are still open.
+//! The bytes of a document with open levels.
 ghost use Rattle.std.specs.Prelude.{◌≡◌, ◌≤◌, ◌+◌, ◌++◌, ◌∷◌, [], length, vec_capacity, vec_len, IfErr, IfOk, OnOk, MatchOption};
 ghost use Rattle.raw_view.specs.Frame.Format.{c_string as text_then, framed, string_payload};
 ghost use Rattle.raw_view.specs.Frame.Envelope.{IsEnvelope};
@@ -25,17 +25,17 @@ pub(crate) enum Holder<'a> {
     /// the text
     Text,
     Document,
-    /// a document whose first key is taken, and its value is next
+    /// a document whose first key was taken, and whose value is next
     Begun(&'a str),
-    /// an array, and how many items it has
+    /// an array with this many items so far
     Array(usize),
-    /// code in front, whose payload starts there
+    /// the scope of a code that came before it; the payload starts there
     Scope(usize),
-    /// code that comes behind it: where its payload starts, and what it has to be
+    /// the scope of a code that comes after it: where the payload starts, and what the code has to be
     ScopeBeforeCode(usize, &'a str),
 }
 
-/// A level that is open.
+/// An open level.
 #[derive(Clone, Copy)]
 pub(crate) struct Level<'a> {
     pub(crate) holder: Holder<'a>,
@@ -43,7 +43,7 @@ pub(crate) struct Level<'a> {
     pub(crate) start: usize,
 }
 
-/// The bytes of a document, as far as it is written.
+/// The bytes of a document that isn't complete yet.
 #[derive(Drop)]
 pub(crate) struct Unfinished<'a> {
     bytes: Vec<u8>,
@@ -63,7 +63,7 @@ impl<'a> Unfinished<'a> {
         }
     }
 
-    /// Takes the innermost level off.
+    /// Removes the innermost level, and returns it.
     pub(crate) fn pop(&mut self) -> Option<Level<'a>>
         ensures level { MatchOption result ((self.old.levels.items ≡ []) × (self.new.levels.items ≡ []))
             (λ level. self.old.levels.items ≡ self.new.levels.items ++ level ∷ []) }
@@ -72,7 +72,7 @@ impl<'a> Unfinished<'a> {
         self.levels.pop()
     }
 
-    /// Puts a level back that was taken off.
+    /// Puts back a level that was removed.
     pub(crate) fn push(&mut self, level: Level<'a>) -> Result<(), JsonReason>
         ensures level { OnOk result (self.new.levels.items ≡ self.old.levels.items ++ level.entry ∷ []) }
         ensures bytes { self.new.bytes.items ≡ self.old.bytes.items }
@@ -84,7 +84,7 @@ impl<'a> Unfinished<'a> {
         }
     }
 
-    /// Puts bytes at the end.
+    /// Appends bytes.
     fn put(&mut self, bytes: &[u8]) -> Result<(), JsonReason>
         ensures bytes { OnOk result (self.new.bytes.items ≡ self.old.bytes.items ++ bytes.now) }
         ensures levels { self.new.levels.items ≡ self.old.levels.items }
@@ -100,7 +100,7 @@ impl<'a> Unfinished<'a> {
         }
     }
 
-    /// Makes room for so many bytes more, where the limits allow as many.
+    /// Makes room for `added` more bytes, if the limits allow it.
     fn make_room(&mut self, added: usize) -> Result<(), JsonReason>
         ensures bytes { self.new.bytes.items ≡ self.old.bytes.items }
         ensures room { OnOk result (vec_len self.new.bytes + added ≤ vec_capacity self.new.bytes) }
@@ -120,7 +120,7 @@ impl<'a> Unfinished<'a> {
         }
     }
 
-    /// Puts the tag of a kind and a key at the end.
+    /// Appends the tag of a kind and a key.
     fn put_head(&mut self, kind: ElementType, key: &str) -> Result<(), JsonReason>
         ensures bytes { OnOk result (self.new.bytes.items ≡ self.old.bytes.items ++ tag_of kind ∷ text_then key.now []) }
         ensures levels { self.new.levels.items ≡ self.old.levels.items }
@@ -131,7 +131,7 @@ impl<'a> Unfinished<'a> {
         Ok(())
     }
 
-    /// Puts a string at the end: its length, its text and a 0.
+    /// Appends a string: its length, its text and a 0.
     fn put_string(&mut self, text: &str) -> Result<(), JsonReason>
         ensures bytes { OnOk result (self.new.bytes.items ≡ self.old.bytes.items ++ string_payload text.now) }
         ensures levels { self.new.levels.items ≡ self.old.levels.items }
@@ -142,7 +142,7 @@ impl<'a> Unfinished<'a> {
         Ok(())
     }
 
-    /// Puts the element of a value under a key at the end.
+    /// Appends the element with this key and this value.
     #[inline(always)]
     pub(crate) fn put_element(&mut self, key: &str, value: RawBsonRef<'_>) -> Result<(), JsonReason>
         ensures bytes { OnOk result (self.new.bytes.items ≡ self.old.bytes.items ++ element_bytes key.now (value_of value.entry)) }
@@ -165,7 +165,7 @@ impl<'a> Unfinished<'a> {
         }
     }
 
-    /// Puts a document without elements under a key.
+    /// Appends a document without elements, under a key.
     pub(crate) fn put_empty(&mut self, key: &str) -> Result<(), JsonReason>
         ensures bytes { OnOk result (self.new.bytes.items ≡ headed self.old.bytes.items 3 key.now ++ framed []) }
         ensures levels { self.new.levels.items ≡ self.old.levels.items }
@@ -208,7 +208,8 @@ impl<'a> Unfinished<'a> {
         self.put(&[0; 4])
     }
 
-    /// Puts what is before the scope of a code under a key, and says where the payload starts, whose length isn't set.
+    /// Appends what is before the scope of a code, under a key. Returns where the payload starts; its length isn't
+    /// set yet.
     pub(crate) fn put_code_before_scope(
         &mut self,
         key: &str,
@@ -226,7 +227,7 @@ impl<'a> Unfinished<'a> {
         Ok(start)
     }
 
-    /// Ends a level that was taken off.
+    /// Ends a level that was removed.
     pub(crate) fn close(&mut self, level: Level<'a>) -> Result<(), JsonReason>
         ensures bytes { OnOk result (self.new.bytes.items ≡ with_len level.entry.start (self.old.bytes.items ++ 0 ∷ [])) }
         ensures levels { self.new.levels.items ≡ self.old.levels.items }
@@ -236,7 +237,7 @@ impl<'a> Unfinished<'a> {
         self.set_len(level.start)
     }
 
-    /// Sets the four bytes at a place to how many bytes there are from there on.
+    /// Sets the four bytes at `start` to the number of bytes from there on.
     pub(crate) fn set_len(&mut self, start: usize) -> Result<(), JsonReason>
         ensures bytes { OnOk result (self.new.bytes.items ≡ with_len start self.old.bytes.items) }
         ensures levels { self.new.levels.items ≡ self.old.levels.items }
@@ -252,7 +253,7 @@ impl<'a> Unfinished<'a> {
         Ok(())
     }
 
-    /// The bytes of the document, all levels of which are ended, if it keeps to these limits.
+    /// The bytes of the document, whose levels have all ended, if it is within these limits.
     pub(crate) fn finish(self, alloc: Global, limits: Limits) -> Result<Vec<u8>, JsonReason>
         ensures bytes { IfOk result (λ bytes. bytes.items ≡ self.entry.bytes.items) }
         ensures envelope { IfOk result (λ bytes. IsEnvelope bytes.items) }
@@ -264,7 +265,7 @@ impl<'a> Unfinished<'a> {
     }
 }
 
-/// Whether these are the bytes of a document that keeps to the limits and has no fault at any level.
+/// Whether these are the bytes of a document within the limits that has no fault at any level.
 fn check(alloc: Global, bytes: &[u8], limits: Limits) -> Result<(), JsonReason>
     ensures envelope { OnOk result (IsEnvelope bytes.now) }
     ensures sound { OnOk result ((t : Tree) × ReadsWithin limits bytes.now t) }

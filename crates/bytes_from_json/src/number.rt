@@ -1,4 +1,4 @@
-//! Numbers of JSON.
+//! JSON numbers.
 #![tactic(auto, using(crate::proofs::Keeps::only_open))]
 
 ghost use Rattle.std.specs.Prelude.{◌≡◌, ◌⊎◌, IfErr, OnOk};
@@ -13,7 +13,7 @@ use bson_model::DoubleBits;
 use raw_view::RawBsonRef;
 use values_from_json::{JsonReason, double_of, integer_of};
 
-/// Whether a number of JSON has a fraction or an exponent.
+/// Whether a JSON number has a fraction or an exponent.
 fn is_fractional(text: &[u8]) -> bool
     ensures { result ≡ is_fractional text.now }
 {
@@ -22,7 +22,8 @@ fn is_fractional(text: &[u8]) -> bool
 }
 
 impl Reader<'_> {
-    /// Puts a number without a wrapper under a key: an integer if it has no fraction and no exponent, else a double.
+    /// Puts a number without a wrapper under a key: an integer if it has no fraction and no exponent, otherwise a
+    /// double.
     pub(crate) fn number(&mut self, key: &str, text: &str) -> Result<(), JsonReason>
         ensures source { self.new.source ≡ self.old.source }
         ensures puts { OnOk result ((l : Leaf) × IsPlain text.now l × Puts self.old self.new key.now (single l)) }

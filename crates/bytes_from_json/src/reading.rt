@@ -32,13 +32,14 @@ pub(crate) struct Reader<'a> {
     pub(crate) alloc: Global,
     pub(crate) source: Source<'a>,
     pub(crate) document: Unfinished<'a>,
-    /// the codes that come behind their scopes, once they are looked for
+    /// the codes that come after their scopes, once they were searched
     pub(crate) codes: Option<Codes<'a>>,
-    /// whether they have to be
+    /// whether they have to be searched
     pub(crate) misses_codes: bool,
 }
 
-/// The bytes of the document that a text of MongoDB Extended JSON v2 writes, as `from_json` of `bson_from_json` says it.
+/// The bytes of the document that a text of MongoDB Extended JSON v2 writes, as described at `from_json` of
+/// `bson_from_json`.
 pub fn document_bytes(alloc: Global, text: &str, limits: Limits) -> Result<Vec<u8>, JsonError>
     ensures written { IfOk result (λ bytes. IsWritten text.now bytes.items) }
     ensures envelope { IfOk result (λ bytes. IsEnvelope bytes.items) }
@@ -59,7 +60,8 @@ pub fn document_bytes(alloc: Global, text: &str, limits: Limits) -> Result<Vec<u
     }
 }
 
-/// The bytes of the document that a text writes, by its tokens; none if a code comes behind its scope, and codes weren't looked for.
+/// The bytes of the document that a text writes, from its tokens; `None` if a code comes after its scope and codes
+/// were not searched.
 fn document_of<'a>(
     alloc: Global,
     text: &'a str,
@@ -117,7 +119,7 @@ impl<'a> Reader<'a> {
         self.source.end_of_text()
     }
 
-    /// Takes an item or a member of a level that was taken off, or its end.
+    /// Takes an item or a member of a level that was removed, or the end of the level.
     fn on_with(&mut self, level: Level<'a>) -> Result<(), JsonReason>
         ensures less { OnOk result (left_of self.new < left_of self.old) }
         ensures rest { OnOk result (TakesLevel self.old self.new level.entry) }
@@ -137,7 +139,7 @@ impl<'a> Reader<'a> {
         }
     }
 
-    /// Takes an item of an array that starts there and has so many, or its end.
+    /// Takes an item of an array that starts at `start` and has `items` items, or its end.
     fn item(&mut self, start: usize, items: usize) -> Result<(), JsonReason>
         ensures less { OnOk result (left_of self.new < left_of self.old) }
         ensures rest { OnOk result (TakesLevel self.old self.new (array_level items start)) }
@@ -161,7 +163,7 @@ impl<'a> Reader<'a> {
         self.value(token, key, Wanted::Item)
     }
 
-    /// Takes a member of a level that was taken off, or its end.
+    /// Takes a member of a level that was removed, or the end of the level.
     fn member(&mut self, level: Level<'a>) -> Result<(), JsonReason>
         requires { HasMembers level.holder }
         ensures less { OnOk result (left_of self.new < left_of self.old) }
@@ -191,7 +193,7 @@ impl<'a> Reader<'a> {
         self.value(token, key, Wanted::Value)
     }
 
-    /// Ends a level that was taken off, whose bracket is passed, and the wrapper that it is in.
+    /// Ends a level that was removed, whose bracket was passed, and the wrapper that it is in.
     fn close(&mut self, level: Level<'a>) -> Result<(), JsonReason>
         ensures less { OnOk result (left_of self.new ≤ left_of self.old) }
         ensures rest { OnOk result (ClosesBracket self.old self.new level.entry) }
@@ -233,7 +235,7 @@ impl<'a> Reader<'a> {
         }
     }
 
-    /// Takes the first key of an object, which says whether it is a wrapper, or its end.
+    /// Takes the first key of an object, which decides whether the object is a wrapper, or its end.
     fn object(&mut self, key: &str) -> Result<(), JsonReason>
         ensures less { OnOk result (left_of self.new ≤ left_of self.old) }
         ensures rest { OnOk result (TakesValue self.old self.new key.now (begin_object ∷ [])) }
@@ -270,7 +272,7 @@ impl<'a> Reader<'a> {
     }
 }
 
-/// A key has no U+0000, which would end it; nor is it a wrapper's, in a document.
+/// A key contains no U+0000, which would end it. In a document it isn't the key of a wrapper either.
 fn check_key(key: &str, holder: Holder<'_>) -> Result<(), JsonReason>
     ensures some { OnOk result (MayBeIn holder.entry key.now) }
     ensures none { OnErr result (MayBeIn holder.entry key.now → ¬ NulFree key.now) }
@@ -285,7 +287,7 @@ fn check_key(key: &str, holder: Holder<'_>) -> Result<(), JsonReason>
     }
 }
 
-/// A key has no U+0000, which would end it.
+/// A key contains no U+0000, which would end it.
 fn check_free(key: &str) -> Result<(), JsonReason>
     ensures some { OnOk result (NulFree key.now) }
     ensures none { OnErr result (¬ NulFree key.now) }

@@ -1,4 +1,4 @@
-//! The values of wrappers, each behind its first key, as bytes of the document.
+//! The values of wrappers, each after its first key, as bytes of the document.
 #![tactic(auto, using(crate::proofs::Left::one_taken, crate::proofs::Left::some_taken, crate::proofs::Left::leaf_less, crate::proofs::Keeps::only_open))]
 
 ghost use Rattle.std.specs.Prelude.{◌≤◌, ◌⊎◌, ◌∷◌, [], IfErr, OnOk, codes};
@@ -170,7 +170,7 @@ impl Reader<'_> {
         self.put(key, RawBsonRef::Binary(binary))
     }
 
-    /// Takes a pattern and options, which are put in their order.
+    /// Takes a pattern and options, and puts the options in order.
     fn regular_expression(&mut self, key: &str) -> Result<(), JsonReason>
         ensures some { OnOk result (TakesLeaf self.old self.new (codes "$regularExpression") key.now) }
         ensures none { IfErr result (λ reason. LeavesOpen reason ⊎ LacksLeaf (codes "$regularExpression") self.old.source.tokens) }
@@ -195,7 +195,7 @@ impl Reader<'_> {
         self.put(key, RawBsonRef::DbPointer(pointer))
     }
 
-    /// Takes code, and the brace of its scope if one comes behind it.
+    /// Takes a code, and the opening brace of its scope if that comes after it.
     fn code(&mut self, key: &str) -> Result<(), JsonReason>
         ensures less { OnOk result (left_of self.new ≤ left_of self.old) }
         ensures rest { OnOk result (TakesValue self.old self.new key.now (begin_object ∷ key_token (codes "$code") ∷ [])) }
@@ -212,7 +212,7 @@ impl Reader<'_> {
         }
     }
 
-    /// Takes the brace of a scope behind its code and its key.
+    /// Takes the opening brace of a scope after its code and its key.
     fn scope_behind_code(&mut self, key: &str, code: &str) -> Result<(), JsonReason>
         ensures less { OnOk result (left_of self.new ≤ left_of self.old) }
         ensures rest { OnOk result (TakesValue self.old self.new key.now (begin_object ∷ key_token (codes "$code") ∷ string code.now ∷ key_token (codes "$scope") ∷ [])) }
@@ -224,7 +224,7 @@ impl Reader<'_> {
         self.document.open(Holder::Scope(start))
     }
 
-    /// Takes the brace of a scope whose code comes behind it.
+    /// Takes the opening brace of a scope whose code comes after it.
     fn scope_before_code(&mut self, key: &str) -> Result<(), JsonReason>
         ensures less { OnOk result (left_of self.new ≤ left_of self.old) }
         ensures rest { OnOk result (TakesValue self.old self.new key.now (begin_object ∷ key_token (codes "$scope") ∷ [])) }

@@ -1,4 +1,4 @@
--- The circle closes: what is printed of a canonical document whose tree comes back says that document alone.
+-- The law of the round trip: what is printed of a canonical document whose tree comes back means that document alone.
 use Rattle.std.proofs.Common.{◌≡◌, ◌+◌, ℕ, List, [], ◌++◌, Option, Some, None, refl, sym, ap, subst, ◌∙◌, arith}
 use Rattle.json.specs.Json.{Json, Members, value}
 use Rattle.json.specs.Json as json
@@ -33,7 +33,7 @@ same_value j k e =
     let y = value-json_tokens k d [] (omega arith) in
     ap (λ (o : Option (Json × List Token)). first_or o j) (sym x ∙ ap (λ (ts : List Token). value d (ts ++ [])) e ∙ y)
 
--- an object that is printed so says its document alone
+-- an object that is printed like this means its document alone
 
 module _ (es : Entries) (text : List ℕ) (ms : Members) (h : IsObjectPrinted es text ms) where
   is_text : IsJsonText text (json.object ms)

@@ -16,14 +16,14 @@ use Rattle.raw_view.specs.declared.element_type.ElementType.{ElementType}
 use Rattle.raw_view.specs.declared.element_type.ElementType.TheVariants as kind
 use Rattle.raw_tree.specs.Reading.{Holds, leaf_in_order}
 
--- the payload of a frame is bytes where those that the frame is in are
+-- the payload of a frame is bytes if those with the frame are
 payload_bytes : (s : List ℕ) (f : Frame) (r : List ℕ) → IsFrame s f r → AreBytes s → AreBytes f.payload
 payload_bytes s f r b bytes =
     let head = tag_of f.kind ∷ (f.key ++ 0 ∷ []) in
     let whole : s ≡ head ++ (f.payload ++ r) = b.spelled ∙ ap (λ (x : List ℕ). tag_of f.kind ∷ x) (sym (append_assoc f.key (0 ∷ []) (f.payload ++ r))) in
     AreBytes-front f.payload r (AreBytes-back head (f.payload ++ r) (subst AreBytes whole bytes))
 
--- in range, of a subtype that its byte gives, and where its options ascend read as it is
+-- in range, with a subtype that its byte gives, and the same after reading if its options ascend
 abbrev pub IsSound : Leaf → Type 0
 IsSound l = IsLeafInRange l × IsLeafSubtypeProper l × (DoLeafOptionsAscend l → leaf_in_order l ≡ l)
 

@@ -1,4 +1,4 @@
--- What the JSON values say that are printed of documents, arrays and scopes: each says one tree alone.
+-- The meaning of the JSON values that are printed of documents, arrays and scopes: each means one tree alone.
 use Rattle.std.proofs.Common.{◌≡◌, ◌||◌, ℕ, Bool, true, false, not, List, ◌∷◌, ◌++◌, codes, inl, inr, refl, sym, ap, ◌∙◌}
 use Rattle.std.proofs.lemmas.Bool.{false≢true}
 use Rattle.std.specs.List.{list_any}
@@ -19,14 +19,14 @@ use Rattle.json_round_trip.proofs.Spaced.{IsSpaced, printed}
 use Rattle.json_round_trip.proofs.Structure.{array_text, item_text, items_end_text, member_text, members_end_text, object_text, scoped_json, scoped_text}
 use Rattle.json_round_trip.proofs.Wrappers.{wraps_one_key, wraps_scope_key}
 
--- the text is that of the JSON value, which says this tree alone
+-- the text is that of the JSON value, which means this tree alone
 pub record IsPrinted (t : Tree) (text : List ℕ) (j : Json) : Type 0 where
   pub spaced : IsSpaced false text (json_tokens j)
   pub numbers : HasNumbers j
   pub says : Means j t
   pub only : (other : Tree) → Means j other → other ≡ t
 
--- the text, behind others unless it is the first, is that of the members with their bracket, which say these pairs alone
+-- the text, after others unless it is the first, is that of the members with their bracket, which mean these pairs alone
 pub record AreMembersPrinted (first : Bool) (es : Entries) (text : List ℕ) (ms : Members) : Type 0 where
   pub spaced : IsSpaced (not first) text (members_tokens ms)
   pub numbers : MembersHaveNumbers ms
@@ -41,7 +41,7 @@ pub record AreItemsPrinted (first : Bool) (ts : Trees) (text : List ℕ) (js : I
   pub say : AreItems js ts
   pub only : (other : Trees) → AreItems js other → other ≡ ts
 
--- the text is that of an object whose members say these pairs alone
+-- the text is that of an object whose members mean these pairs alone
 pub record IsObjectPrinted (es : Entries) (text : List ℕ) (ms : Members) : Type 0 where
   pub spaced : IsSpaced false text (json_tokens (json.object ms))
   pub numbers : MembersHaveNumbers ms

@@ -7,14 +7,14 @@ use Rattle.json.specs.Spaced.{IsGap, AreGaps, print_spaced}
 use Rattle.json.specs.Token.{Token}
 use Rattle.json.proofs.Printed.Tokens.{tokens-print_spaced, IsGap-append}
 
--- a text of these tokens, which are behind a value or not
+-- a text of these tokens, which come after a value or not
 pub record IsSpaced (behind_value : Bool) (text : List ℕ) (ts : List Token) : Type 0 where
   pub spaced : List (List ℕ × Token)
   pub gaps : AreGaps spaced
   pub tokens_are : map (λ p. p.1) spaced ≡ ts
   pub text_is : text ≡ print_spaced behind_value spaced
 
--- whether tokens behind these are behind a value
+-- whether the tokens after these come after a value
 abbrev pub then_value : Bool → List Token → Bool
 then_value c ts = fold (λ _ t. ends t) c ts
 
@@ -45,7 +45,7 @@ map-append : (ps qs : List (List ℕ × Token)) → map (λ p. p.1) (ps ++ qs) �
 map-append [] qs = refl
 map-append (p ∷ ps) qs = ap (λ (x : List Token). p.1 ∷ x) (map-append ps qs)
 
--- two texts one behind the other
+-- two texts one after the other
 pub both : (c : Bool) (text others : List ℕ) (ts us : List Token) → IsSpaced c text ts → IsSpaced (then_value c ts) others us → IsSpaced c (text ++ others) (ts ++ us)
 both c text others ts us h k = record {
   spaced = h.spaced ++ k.spaced;
@@ -81,7 +81,7 @@ begun_spaced c g (p ∷ ps) gap gaps e =
       text_is = (λ i. comma i ++ (g ++ (p.0 ++ rest))) ∙ ap (λ (x : List ℕ). separator c p.1 ++ x) (sym (append_assoc g p.0 rest));
     }
 
--- a comma, where these tokens are behind a value, and a gap before a text
+-- a comma, if these tokens come after a value, and a gap before a text
 pub begun : (c : Bool) (g text : List ℕ) (ts : List Token) → IsGap g → do_begin ts ≡ true → IsSpaced false text ts → IsSpaced c (comma_if c ++ (g ++ text)) ts
 begun c g text ts gap e h =
     let made = begun_spaced c g h.spaced gap h.gaps (ap do_begin h.tokens_are ∙ e) in
@@ -101,7 +101,7 @@ print_is_spaced c (t ∷ ts) = token_then c [] (print_from (ends t) ts) t ts tt 
 pub printed : (c : Bool) (text : List ℕ) (ts : List Token) → text ≡ print_from c ts → IsSpaced c text ts
 printed c text ts e = subst (λ (x : List ℕ). IsSpaced c x ts) (sym e) (print_is_spaced c ts)
 
--- the lexer gives these tokens back
+-- the lexer returns these tokens
 pub tokens_of : (text : List ℕ) (ts : List Token) → IsSpaced false text ts → ArePrintable ts → tokens text ≡ ts
 tokens_of text ts h printable =
     ap tokens h.text_is ∙ tokens-print_spaced h.spaced h.gaps (subst ArePrintable (sym h.tokens_are) printable) ∙ h.tokens_are

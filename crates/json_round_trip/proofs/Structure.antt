@@ -22,7 +22,7 @@ line_is_gap : (layout : Layout) (depth : ℕ) → IsGap (line layout depth)
 line_is_gap OneLine depth = tt
 line_is_gap Indented depth = (inr refl, spaces (2 * depth))
 
--- what is behind a colon
+-- what follows a colon
 abbrev behind_colon : Layout → List ℕ
 behind_colon OneLine = []
 behind_colon Indented = 32 ∷ []
@@ -31,7 +31,7 @@ colon_is_gap : (layout : Layout) → IsGap (behind_colon layout)
 colon_is_gap OneLine = tt
 colon_is_gap Indented = (inl refl, tt)
 
--- the first token of a value begins one, and behind its last one is behind it
+-- the first token of a value begins one, and what follows its last token comes after a value
 
 value_begins : (j : Json) → do_begin (json_tokens j) ≡ true
 value_begins json.null = refl
@@ -61,7 +61,7 @@ value_ends c (json.string s) = refl
 value_ends c (json.array js) = items_end false js
 value_ends c (json.object ms) = members_end false ms
 
--- others behind a value
+-- more tokens after a value
 value_then : (c : Bool) (shown others : List ℕ) (j : Json) (ts : List Token) → IsSpaced c shown (json_tokens j) → IsSpaced true others ts → IsSpaced c (shown ++ others) (json_tokens j ++ ts)
 value_then c shown others j ts h k = both c shown others (json_tokens j) ts h (subst (λ (b : Bool). IsSpaced b others ts) (sym (value_ends c j)) k)
 
@@ -86,7 +86,7 @@ regroup_item : (a l s o : List ℕ) → (a ++ (l ++ [])) ++ (s ++ o) ≡ (a ++ (
 regroup_item a l s o = rw append-nil (simp append_assoc)
 
 module _ (layout : Layout) (depth : ℕ) (first : Bool) (shown others : List ℕ) where
-  -- a member, and the others with the bracket behind it
+  -- a member, and the others followed by the bracket
   pub member_text : (key : List ℕ) (j : Json) (ms : Members) → IsSpaced false shown (json_tokens j) → IsSpaced true others (members_tokens ms)
       → IsSpaced (not first) (head_text layout depth as_document first key ++ (shown ++ others)) (members_tokens (member key j ms))
   member_text key j ms h k =
@@ -109,7 +109,7 @@ module _ (layout : Layout) (depth : ℕ) (first : Bool) (shown others : List ℕ
       let same = (λ i. (comma_is first i ++ (l ++ [])) ++ (shown ++ others)) ∙ regroup_item (comma_if (not first)) l shown others in
       subst (λ (x : List ℕ). IsSpaced (not first) x (items_tokens (item j js))) (sym same) whole
 
--- the bracket behind the last
+-- the bracket after the last
 
 module _ (layout : Layout) (depth : ℕ) where
   pub members_end_text : (first : Bool) → IsSpaced (not first) (end_text layout depth as_document first) (Token.end_object ∷ [])

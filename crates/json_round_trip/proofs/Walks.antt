@@ -44,7 +44,7 @@ module _ (Nested : Sort → List ℕ → List ℕ → Type 0) (Reading : Sort �
     pub read : Reading sort d t
     pub canonical : Canon sort d
 
-  -- a level in this layout, with so many levels around it; and what is printed of all bytes that are nested in it
+  -- a level in this layout, inside `depth` levels; and what is printed of all bytes nested in it
   pub record Inside (layout : Layout) (depth : ℕ) : Type 0 where
     pub documents : (d text : List ℕ) (t : Tree) → IsLevel as_document d text t → DocumentComesBack t → IsWholePrinted t text
     pub document_trees : (d : List ℕ) (t : Tree) → Reading as_document d t → (es : Entries) × (t ≡ document es)

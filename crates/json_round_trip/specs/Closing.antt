@@ -1,4 +1,4 @@
--- The law that closes the circle: what is printed of a document in the canonical format is read as that document alone.
+-- The law of the round trip: what is printed of a document in the canonical format is read as that document, and as no other.
 use Rattle.std.specs.Prelude.{◌≡◌, ◌⊎◌, List, ℕ}
 use Rattle.bson_model.specs.Tree.{Tree}
 use Rattle.raw_tree.specs.Canonical.{IsCanonical}
@@ -18,7 +18,7 @@ use Rattle.json_round_trip.specs.declared.trip.RoundTripError.TheVariants as rou
 abbrev pub canonical_in : Layout → Style
 canonical_in layout = record { format = Canonical; layout = layout }
 
--- the text says the document b, and no document of other bytes
+-- the text writes the document b, and no document of other bytes
 pub record SaysAlone (text b : List ℕ) : Type 0 where
   pub written : IsWritten text b
   pub only : (bytes : List ℕ) → IsWritten text bytes → bytes ≡ b
@@ -27,20 +27,20 @@ pub record SaysAlone (text b : List ℕ) : Type 0 where
 abbrev pub IsReturning : List ℕ → Type 0
 IsReturning b = IsCanonical b × ((t : Tree) × Reads b t × DocumentComesBack t)
 
--- if so, each text of it in the canonical format says b alone
+-- if so, each text of it in the canonical format writes b alone
 abbrev pub ClosesCircle : List ℕ → Type 0
 ClosesCircle b = IsReturning b → (layout : Layout) (text : List ℕ) → IsJson (canonical_in layout) b text → SaysAlone text b
 
--- the bytes are those of a document that a text of b in the canonical format says
+-- the bytes are those of a document that a text of b in the canonical format writes
 abbrev pub IsReadAgain : List ℕ → Layout → List ℕ → Type 0
 IsReadAgain b layout bytes = (text : List ℕ) × IsJson (canonical_in layout) b text × IsWritten text bytes
 
--- why there are none: b isn't printed; or memory, limits and the like leave it open what its text says; or the text says no document
+-- Why there are none: b isn't printed; or memory, the limits and the like leave open what its text writes; or the text writes no document.
 abbrev pub TellsRoundTripError : Limits → List ℕ → Layout → RoundTripError → Type 0
 TellsRoundTripError limits b layout (round.Print error) = TellsJsonError limits b error
 TellsRoundTripError limits b layout (round.Read error) = LeavesOpen error.reason ⊎ ((text : List ℕ) × IsJson (canonical_in layout) b text × SaysNone text)
 
--- an error that doesn't say that the text of b says no document
+-- an error that doesn't mean that the text of b writes no document
 abbrev pub IsUndecided : RoundTripError → Type 0
 IsUndecided (round.Print error) = Unit {0}
 IsUndecided (round.Read error) = LeavesOpen error.reason

@@ -11,7 +11,7 @@ use Rattle.values_to_json.specs.declared.style.Format.TheVariants.{Canonical}
 use Rattle.bson_from_json.specs.Meaning.{Means}
 use Rattle.json_round_trip.specs.Returning.{LeafComesBack}
 
--- the text is that of this JSON value, without a space, and the value says the leaf and no other tree
+-- the text is that of this JSON value, without spaces, and the value means the leaf and no other tree
 pub record IsPrintedAs (l : Leaf) (text : List ℕ) (j : Json) : Type 0 where
   pub text_is : text ≡ print (json_tokens j)
   pub numbers : HasNumbers j

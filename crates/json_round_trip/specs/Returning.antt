@@ -1,4 +1,4 @@
--- The trees that come back, by kinds, after they are printed as Extended JSON in the canonical format and read again.
+-- The trees that come back, by kind, after they are printed as Extended JSON in the canonical format and read again.
 use Rattle.std.specs.Prelude.{◌≡◌, ◌⊎◌, ℕ, ◌+◌, ◌*◌, ◌^◌, ◌<◌, ◌≤◌, Bool, false, List, from_bits}
 use Rattle.std.specs.List.{list_any}
 use Rattle.std.specs.Float.{binary64}
@@ -11,21 +11,22 @@ use Rattle.bson_from_json.specs.DecimalTexts.{sign_bit}
 use Rattle.bson_from_json.specs.Meaning.{is_wrapper_key}
 use Rattle.bson_from_json.specs.Numbers.{nan_bits}
 
--- a double of these bits: of those that are no number the default one alone
+-- a double with these bits; of those that are no numbers only the default one
 abbrev pub DoubleComesBack : ℕ → Float → Type 0
 DoubleComesBack bits nan = bits ≡ nan_bits
 DoubleComesBack bits (inf negative) = Unit {0}
 DoubleComesBack bits (fin negative m e) = Unit {0}
 
--- The 128 bits of a decimal in its canonical form (IEEE 754-2008, 3.5.2, binary integer decimal): a sign, an exponent, which is kept as 6176
--- more, and a coefficient of at most 34 digits; or an infinity with no bit behind it; or of those that are no number the one with no other bit.
+-- The 128 bits of a decimal in its canonical form (IEEE 754-2008, 3.5.2, binary integer decimal). It is a sign, an exponent, which is
+-- stored plus 6176, and a coefficient of at most 34 digits; or an infinity with no further bit; or, of those that are no numbers, the one
+-- with no other bit.
 abbrev pub DecimalBitsComeBack : ℕ → Type 0
 DecimalBitsComeBack bits =
     ((negative : Bool) × (bits ≡ sign_bit negative + 0x7800 * 2 ^ 112))
     ⊎ (bits ≡ 0x7C00 * 2 ^ 112)
     ⊎ ((negative : Bool) × (coefficient exponent : ℕ) × (coefficient < 10 ^ 34) × (exponent ≤ 12287) × (bits ≡ sign_bit negative + exponent * 2 ^ 113 + coefficient))
 
--- the sixteen bytes of a canonical decimal, the least first
+-- the sixteen bytes of a canonical decimal, least significant byte first
 abbrev pub DecimalComesBack : List ℕ → Type 0
 DecimalComesBack bytes = (bits : ℕ) × DecimalBitsComeBack bits × (bytes ≡ to_le_bytes w128 bits)
 
@@ -39,8 +40,9 @@ LeafComesBack _ = Unit {0}
 abbrev pub HasNoWrapperKey : List (List ℕ) → Type 0
 HasNoWrapperKey keys = list_any is_wrapper_key keys ≡ false
 
+-- These say of a tree, of the items of an array and of the members of a document that they come back.
 abbrev mutual
-  -- A value. A document that has a wrapper's key would be taken for a wrapper; a scope wouldn't.
+  -- A value. A document with the key of a wrapper would be read as a wrapper; a scope wouldn't.
   pub ComesBack : Tree → Type 0
   ComesBack (leaf l) = LeafComesBack l
   ComesBack (array ts) = ItemsComeBack ts

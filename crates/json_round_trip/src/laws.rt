@@ -5,8 +5,8 @@ ghost use Rattle.json_round_trip.specs.Closing.{ClosesCircle};
 
 use raw_bson::RawDocument;
 
-/// A canonical document whose tree comes back is the only one that its text in the canonical format says, in either layout.
-/// Programs never need it; proofs do.
+/// A canonical document whose tree comes back is the only one that its text in the canonical format writes, in
+/// either layout. Programs never need it; proofs do.
 pub fn attest_round_trip(document: RawDocument<'_>)
     ensures { ClosesCircle (bytes_of document.entry) }
 {

@@ -1,4 +1,4 @@
-//! A document that is printed and read again.
+//! Prints a document and reads the text again.
 #![tactic(auto)]
 
 ghost use Rattle.std.specs.Prelude.{◌≡◌, IfErr, IfOk};
@@ -10,19 +10,20 @@ use bson_json::{Format, Layout, Style, ToJsonError, to_json};
 use raw_bson::{Limits, RawDocument, RawDocumentBuf};
 use std::alloc::Global;
 
-/// Why a document isn't printed, or its text isn't read.
+/// Why a document isn't printed, or its text can't be read.
 #[derive(Debug, Drop)]
 pub enum RoundTripError<'a> {
     /// It isn't printed.
     Print(ToJsonError<'a>),
-    /// Its text isn't read.
+    /// Its text can't be read.
     Read(JsonError),
 }
 
-/// Prints a document as MongoDB Extended JSON v2 in the canonical format, as `to_json` does, and reads the text again, as
-/// `from_json` does. A canonical document comes back byte by byte, unless it has a NaN other than the default one, a decimal
-/// that isn't canonical, or a nested document with a wrapper's key. Of one that comes back the error is a barrier, or its reason
-/// is `OutOfMemory`, `TooManyBytes`, `TooDeep`, `InteriorNul` or `Unsound`.
+/// Prints a document as MongoDB Extended JSON v2 in the canonical format, as `to_json` does, and reads the text
+/// again, as `from_json` does. A canonical document comes back byte by byte, unless it has a NaN other than the
+/// default one, a decimal that isn't canonical, or a nested document with the key of a wrapper. For a document
+/// that comes back, the error can only be a barrier, or have the reason `OutOfMemory`, `TooManyBytes`, `TooDeep`,
+/// `InteriorNul` or `Unsound`.
 /// ```
 /// let document = RawDocument::from_bytes(b"\x10\0\0\0\x12a\0\x01\0\0\0\0\0\0\0\0")?;
 /// let again = round_trip(alloc, document, Layout::Indented, Limits { bytes: 1000, depth: 10 }).map_err(|_| NoMemory)?;

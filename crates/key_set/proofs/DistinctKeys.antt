@@ -1,4 +1,4 @@
--- Distinct keys in front of others, and behind others.
+-- Distinct keys before others, and after others.
 use Rattle.std.proofs.Common.{◌≡◌, ◌++◌, ◌∷◌, [], ℕ, List, false, length, arith, refl}
 use Rattle.std.proofs.lemmas.Cmp.{nat_list_eq_equiv}
 use Rattle.std.proofs.lemmas.List.{get_or_append_left, get_or_at, length-append}

@@ -39,7 +39,7 @@ pub place_where : (keys : List (List ℕ)) (key : List ℕ)
 place_where keys key =
     grind (arith, position_is (bytes_eq key) keys, first_where (bytes_eq key) keys, Contains-from_any same_key key keys, list_any-from_Contains nat_list_eq_equiv key keys)
 
--- with one key more
+-- with one more key
 abbrev pub first_or : Option ℕ → Option ℕ → Option ℕ
 first_or (Some n) m = Some n
 first_or None m = m

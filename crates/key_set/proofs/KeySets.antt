@@ -1,4 +1,4 @@
--- The keys of a document so far: as they ascend, with their filter in the list, and with an index.
+-- The keys of a document so far: while they ascend, in the list with their filter, and with an index.
 use Rattle.std.proofs.Common.{Box, Global, None, Some, Option, ◌-◌, subst, suc, ◌<◌, ◌≡◌, ◌+◌, ◌++◌, ◌∷◌, [], ℕ, List, false, length, drop, take, arith, refl, append_assoc}
 use Rattle.std.proofs.lemmas.Bool.{false_from_ne_true}
 use Rattle.std.proofs.lemmas.Cmp.{nat_list_cmp_total, nat_list_eq_equiv, tied_itself}
@@ -26,7 +26,7 @@ behind_more a b c x y = grind (arith, nat_list_cmp_total.trans)
 behind_differs : (first key : List ℕ) → IsLaterKey first key → bytes_eq key first ≡ false
 behind_differs first key b = false_from_ne_true (bytes_eq key first) (λ e. grind (arith, same_key key first e, tied_itself nat_list_cmp_total first))
 
--- a key behind the last of keys that ascend is behind the first
+-- a key after the last of keys that ascend is after the first
 behind_first : (key first : List ℕ) (keys : List (List ℕ)) → AreAscending (first ∷ keys) → IsBehindLast (first ∷ keys) key → IsLaterKey first key
 behind_first key first [] h b = b
 behind_first key first (next ∷ keys) h b = behind_more first next key h.0 (behind_first key next keys h.1 b)
@@ -51,7 +51,7 @@ last_behind (x ∷ y ∷ refs) last key e b =
     let next : suc (suc (length refs)) - 1 ≡ suc (suc (length refs) - 1) = omega arith in
     last_behind (y ∷ refs) last key (rw next at e) b
 
--- each of distinct references that is inserted behind those before it is put last
+-- distinct references that are inserted one after the other are each put last
 pub each_inserted : (refs : List (Bor (List ℕ))) (i : ℕ) (d : Bor (List ℕ)) (after : List (List ℕ)) (place : Option ℕ) → i < length refs
     → IsDistinct bytes_eq (texts refs) → InsertsKey (texts (take i refs)) (get_or refs i d).now place after → after ≡ texts (take (i + 1) refs)
 each_inserted refs i d after place l distinct put =
@@ -60,13 +60,13 @@ each_inserted refs i d after place l distinct put =
     let new = distinct_apart (texts (take i refs)) (get_or refs i d).now (rw (texts_more refs i d l) at front) in
     rw (texts_more refs i d l) (grind (arith, place_where (texts (take i refs)) (get_or refs i d).now, new, put))
 
--- one key more
+-- one more key
 
 -- keys stay distinct with one that has no place
 distinct_with : (own : List (List ℕ)) (key : List ℕ) (place : Option ℕ) → place ≡ position (bytes_eq key) own → IsDistinct bytes_eq own → IsDistinct bytes_eq (with_key own key place)
 distinct_with own key place e h = grind (arith, place_where own key, IsDistinct-push nat_list_eq_equiv own key h)
 
--- in the list, those of a level are from this place on
+-- the keys of a level are in the list from this place on
 abbrev pub own_in : ℕ → List (Bor (List ℕ)) → List (List ℕ)
 own_in first refs = texts (take (length refs - first) (drop first refs))
 
@@ -82,7 +82,7 @@ module _ (first : ℕ) (refs : List (Bor (List ℕ))) where
       → HasKeys (keys.Listed first filter) refs below own
   ascending_listed filter filtered below own has = (has.0, has.1, has.2, rw (own_texts refs below own first has.1 has.2) at filtered)
 
-  -- they ascend with the key
+  -- they still ascend with the key
   pub ascending_kept : (key : Bor (List ℕ)) → IsBehindLast (own_in first refs) key.now → AddsKey (keys.Ascending first) refs key.now (keys.Ascending first) (refs ++ key ∷ []) None
   ascending_kept key behind below own has =
       let last : IsBehindLast own key.now = rw (own_texts refs below own first has.1 has.2) at behind in
@@ -97,7 +97,7 @@ module _ (first : ℕ) (refs : List (Bor (List ℕ))) where
       → AddsKey (keys.Listed first filter) refs key (keys.Listed first filter) refs (Some place)
   listed_found filter key place is below own has = record { place_is = rw (own_texts refs below own first has.1 has.2) at is; keys = has }
 
-  -- it has none, and is put behind them
+  -- the key has no place, and is put after them
   pub listed_more : (filter after : ℕ) (key : Bor (List ℕ)) → None ≡ position (bytes_eq key.now) (own_in first refs)
       → ((n : ℕ) → IsInFilter filter n → IsInFilter after n) → IsInFilter after (filter_bit key.now)
       → AddsKey (keys.Listed first filter) refs key.now (keys.Listed first after) (refs ++ key ∷ []) None

@@ -23,12 +23,12 @@ texts_more refs i d l = texts_push (take i refs) (get_or refs i d) (take_more re
 pub texts_all : (refs : List (Bor (List ℕ))) (i : ℕ) → length refs ≤ i → texts (take i refs) ≡ texts refs
 texts_all refs i l = ap texts (take_all i refs l)
 
--- what holds of each key, with one more
+-- what holds of each key, with one more key
 pub each_more : (P Q : List ℕ → Type 0) (keys : List (List ℕ)) (key : List ℕ) → ((k : List ℕ) → Contains keys k → P k) → ((k : List ℕ) → P k → Q k) → Q key
     → (k : List ℕ) → Contains (keys ++ key ∷ []) k → Q k
 each_more P Q keys key h kept here k c = grind (arith, Contains-push_cases keys key k c, h k, kept k, here)
 
--- and with the next of references
+-- and with the next reference
 pub each_next : (P Q : List ℕ → Type 0) (refs : List (Bor (List ℕ))) (i : ℕ) (d : Bor (List ℕ)) → i < length refs → ((k : List ℕ) → Contains (texts (take i refs)) k → P k)
     → ((k : List ℕ) → P k → Q k) → Q (get_or refs i d).now → (k : List ℕ) → Contains (texts (take (i + 1) refs)) k → Q k
 each_next P Q refs i d l h kept here k c = each_more P Q (texts (take i refs)) (get_or refs i d).now h kept here k (rw (texts_more refs i d l) at c)

@@ -1,4 +1,4 @@
-//! A filter of keys: one of 64 bits for each, so that a key whose bit isn't set is none of them.
+//! A filter of keys: each key sets one of 64 bits, so a key whose bit isn't set is none of them.
 #![tactic(auto)]
 
 ghost use Rattle.std.specs.Prelude.{◌≡◌, ◌<◌, ◌↔◌, ℕ, IsTrue, position};
@@ -8,7 +8,8 @@ ghost use Rattle.key_set.specs.References.{texts};
 
 use crate::listed::place_of;
 
-/// Which bit a key has. What keys mostly differ in makes it: the last two bytes, the first and the length.
+/// The number of a key's bit. It is made of what most keys differ in: the last two bytes, the first, and the
+/// length.
 #[inline(always)]
 pub(crate) fn filter_bit(key: &str) -> u32
     ensures bit { result ≡ filter_bit key.now }
@@ -31,7 +32,7 @@ fn has_bit(filter: u64, bit: u32) -> bool
     (filter >> bit) % 2 == 1
 }
 
-/// The filter with one bit more.
+/// The filter with one more bit.
 #[inline(always)]
 pub(crate) fn with_bit(filter: u64, bit: u32) -> u64
     requires { bit < 64 }
@@ -52,7 +53,7 @@ pub(crate) fn filter_of(keys: &[&str]) -> u64
     filter
 }
 
-/// The place of a key, which has this bit, among these, which have this filter.
+/// The place of `key` among `keys`; `bit` is that of the key, and `filter` that of the keys.
 #[inline(always)]
 pub(crate) fn place_among(keys: &[&str], filter: u64, bit: u32, key: &str) -> Option<usize>
     requires filtered { AreInFilter filter (texts keys.now) }

@@ -1,4 +1,4 @@
-//! Fingerprints of keys: parts of their hashes in a table, where most keys are told apart by one look.
+//! Fingerprints of keys: parts of their hashes in a table. One look at it tells most keys apart.
 #![tactic(auto)]
 
 ghost use Rattle.std.specs.Prelude.{◌≡◌, ◌≢◌, ℕ, List, IsTrue, IfOk, IfSome};
@@ -8,24 +8,27 @@ ghost use Rattle.key_set.specs.References.{texts};
 use std::alloc::{AllocError, Global};
 use std::hash::{FoldHasher, Hasher};
 
-/// How many slots are looked at for one key. Where at most half of them are taken, keys that nobody chose need fewer.
+/// How many slots are looked at for one key. If at most half of them are taken, keys that nobody chose need
+/// fewer.
 const MOST_PROBES: usize = 128;
 
-/// For so many keys there is room, in one table after the other; from then on for twice as many each time.
+/// The number of keys that the first tables have room for. Each table after these has room for twice as many
+/// as the one before.
 const ROOMS: [usize; 4] = [128, 1024, 16384, 131072];
 
-/// So many keys may collide before there is room for twice as many keys. Each costs a look through all keys; of keys that
-/// nobody chose next to none does.
+/// How many keys may collide before there is room for twice as many keys. Each collision costs a look through
+/// all keys. Keys that nobody chose hardly ever collide.
 const MOST_COLLISIONS: usize = 8;
 
-/// The fingerprints of keys. That of a key is at the place that its hash names or behind it, with no free slot between.
+/// The fingerprints of keys. That of a key is at the place that its hash gives or after it, with no free slot
+/// between.
 #[derive(Drop)]
 pub(crate) struct Fingerprints {
     /// the fingerprints; 0 where a slot is free
     slots: Vec<u32>,
-    /// the greatest place that a hash names
+    /// the greatest place that a hash gives
     mask: usize,
-    /// how many more fingerprints there is room for
+    /// how many more fingerprints fit
     room: usize,
     /// how many more keys may collide
     collisions: usize,
@@ -47,7 +50,8 @@ fn fingerprint_of(hash: u64) -> u32
     ((hash >> 32) as u32).max(1)
 }
 
-/// The first free slot from this place on, unless the fingerprint is before it or there are too many slots to look at.
+/// The first free slot from `start` on, unless the fingerprint is before it or too many slots would have to
+/// be looked at.
 #[inline(always)]
 fn free_slot(slots: &[u32], start: usize, fingerprint: u32) -> Option<usize>
     ensures free { IfSome result (IsFreeFrom slots.now start fingerprint) }
@@ -66,7 +70,8 @@ fn free_slot(slots: &[u32], start: usize, fingerprint: u32) -> Option<usize>
     None
 }
 
-/// Whether the fingerprint is found from this place on, with no free slot before it and not too many slots to look at.
+/// Whether the fingerprint is found from `start` on, with no free slot before it, without looking at too many
+/// slots.
 fn has_fingerprint(slots: &[u32], start: usize, fingerprint: u32) -> bool
     ensures { IsTrue result → IsFingerprintAt slots.now start fingerprint }
 {
@@ -86,7 +91,7 @@ fn has_fingerprint(slots: &[u32], start: usize, fingerprint: u32) -> bool
     false
 }
 
-/// For how many keys there is room where it has to be more than so many.
+/// The room of the first table that has room for more than `keys` keys.
 fn room_behind(keys: usize) -> usize {
     for room in ROOMS {
         if keys < room {
@@ -99,7 +104,7 @@ fn room_behind(keys: usize) -> usize {
 }
 
 impl Fingerprints {
-    /// No fingerprints, and room for those of more than so many keys.
+    /// No fingerprints, with room for more than `keys` of them.
     pub(crate) fn for_keys(alloc: Global, keys: usize) -> Result<Fingerprints, AllocError> {
         let room = room_behind(keys);
         let starts = room.saturating_mul(2);
@@ -113,18 +118,18 @@ impl Fingerprints {
         })
     }
 
-    /// For how many more fingerprints there is room.
+    /// How many more fingerprints fit.
     pub(crate) fn room(&self) -> usize {
         self.room
     }
 
-    /// Whether there is no room for one more fingerprint.
+    /// Whether no more fingerprint fits.
     pub(crate) fn is_full(&self) -> bool {
         self.room == 0
     }
 
-    /// Adds the fingerprint of a key that no hashed key is equal to; or returns false and adds nothing, where there is no room
-    /// or one may be equal.
+    /// Adds the fingerprint of a key and returns true if no hashed key is equal to it. Returns false and adds
+    /// nothing if there is no room or a hashed key may be equal.
     #[inline(always)]
     pub(crate) fn put(&mut self, key: &str) -> bool
         ensures new { IsTrue result → (¬ HasFingerprint self.old key.now) × HasFingerprint self.new key.now }
@@ -143,7 +148,7 @@ impl Fingerprints {
         true
     }
 
-    /// Whether the fingerprint of a key is found, which may be that of another key.
+    /// Whether the fingerprint of a key is found. It may be that of another key.
     #[inline(never)]
     fn has(&self, key: &str) -> bool
         ensures { IsTrue result → HasFingerprint self.now key.now }
@@ -152,7 +157,8 @@ impl Fingerprints {
         has_fingerprint(&self.slots, hash as usize & self.mask, fingerprint_of(hash))
     }
 
-    /// Counts a collision: a key whose fingerprint is found; or returns false, where it isn't or too many were counted.
+    /// Counts a collision, which is a key whose fingerprint is found. Returns false if it isn't found or if
+    /// too many were counted.
     pub(crate) fn collide(&mut self, key: &str) -> bool
         ensures hashed { IsTrue result → HasFingerprint self.new key.now }
         ensures kept { (k : List ℕ) → HasFingerprint self.old k → HasFingerprint self.new k }
@@ -164,7 +170,7 @@ impl Fingerprints {
         true
     }
 
-    /// Adds the fingerprint of a key, unless it is found; or returns false, where there is no room.
+    /// Adds the fingerprint of a key, unless it is found. Returns false if there is no room.
     fn add(&mut self, key: &str) -> bool
         ensures hashed { IsTrue result → HasFingerprint self.new key.now }
         ensures kept { (k : List ℕ) → HasFingerprint self.old k → HasFingerprint self.new k }
@@ -175,7 +181,7 @@ impl Fingerprints {
         self.has(key)
     }
 
-    /// Adds the fingerprint of each of these keys; or returns false, where there is no room for all.
+    /// Adds the fingerprint of each of these keys. Returns false if there is no room for all.
     fn add_all(&mut self, keys: &[&str]) -> bool
         ensures hashed { IsTrue result → HaveFingerprints self.new (texts keys.now) }
     {
@@ -187,7 +193,7 @@ impl Fingerprints {
         true
     }
 
-    /// The fingerprints of these keys, and room for more; `None` where there is none for all.
+    /// The fingerprints of these keys, with room for more; `None` if not all of them fit.
     pub(crate) fn of(alloc: Global, keys: &[&str]) -> Result<Option<Fingerprints>, AllocError>
         ensures fingerprints { IfOk result (λ fingerprints. IfSome fingerprints (λ fingerprints. HaveFingerprints fingerprints (texts keys.now))) }
     {

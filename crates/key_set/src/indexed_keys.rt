@@ -1,4 +1,4 @@
-//! Keys with an index, which finds a repeated one in n log n steps whatever the keys are.
+//! Keys with an index, which finds a repeated key in n log n steps whatever the keys are.
 #![tactic(auto)]
 
 ghost use Rattle.std.specs.Prelude.{◌≡◌, [], IfOk, IfSome, IfNone, OnErr};
@@ -13,20 +13,20 @@ use std::alloc::{AllocError, Global};
 use std::collections::BTreeMap;
 use std::marker::Model;
 
-/// Where there are so many keys, the list has room for all that can be hashed, since it is dear to move.
+/// From this many keys on, the list has room for all that can be hashed, since moving it is expensive.
 const MANY: usize = 16384;
 
-/// How a key is looked for among others.
+/// How a key is found among others.
 #[derive(Drop)]
 pub(crate) enum Finder<'a> {
-    /// by fingerprints, and one by one where its own is found
+    /// by fingerprints, and one by one if the fingerprint of the key is found
     Hashed(Fingerprints),
-    /// in the order of hashes, and then of texts, each with its place, where fingerprints weren't enough: keys were chosen for
-    /// their hashes, or are repeated often
+    /// by hash and then by text, each key with its place. It is used if fingerprints weren't enough: someone
+    /// chose the keys for their hashes, or repeats them often.
     Ordered(BTreeMap<(u64, &'a str), usize>),
 }
 
-/// Keys in the order in which they were inserted, no two of which are equal.
+/// Keys in the order in which they were inserted. No two of them are equal.
 #[derive(Drop)]
 pub struct IndexedKeys<'a> {
     keys: Vec<&'a str>,
@@ -45,7 +45,7 @@ impl<'a> Model for IndexedKeys<'a> {
     ghost invariant = { λ a. Finds a.finder (texts a.keys.items) };
 }
 
-/// The place of a key, which is the next where it has none, and is then put in order.
+/// The place of `key`. If it has none, it gets the next one and is added to the map.
 fn place_in_order<'a>(
     places: &mut BTreeMap<(u64, &'a str), usize>,
     hash: u64,
@@ -68,7 +68,7 @@ fn place_in_order<'a>(
     Ok(place)
 }
 
-/// The places of these keys, in order.
+/// The places of these keys, as a map.
 fn ordered_keys<'a>(
     alloc: Global,
     keys: &[&'a str],
@@ -82,7 +82,7 @@ fn ordered_keys<'a>(
     Ok(places)
 }
 
-/// Puts a key last and in order, unless it is there; its place then.
+/// Puts a key last and into the map, unless it is there. Returns its place if it was there.
 fn insert_ordered<'a>(
     keys: &mut Vec<&'a str>,
     places: &mut BTreeMap<(u64, &'a str), usize>,
@@ -106,7 +106,7 @@ fn insert_ordered<'a>(
     Ok(Some(place))
 }
 
-/// Puts a key last, unless it is one of these, which are looked through; its place then.
+/// Puts a key last, unless a search through all keys finds it. Returns its place if it was there.
 #[inline(never)]
 fn insert_colliding<'a>(keys: &mut Vec<&'a str>, key: &'a str) -> Result<Option<usize>, AllocError>
     ensures inserts { IfOk result
@@ -120,8 +120,8 @@ fn insert_colliding<'a>(keys: &mut Vec<&'a str>, key: &'a str) -> Result<Option<
     Ok(None)
 }
 
-/// The fingerprints of these keys, with this one inserted, unless it is there; its place then. `None`, and nothing is
-/// inserted, where there is no room for all or too many keys collided.
+/// The fingerprints of these keys with `key` inserted, unless it is there, and its place if it was. `None` if
+/// not all fit or too many keys collided; then nothing is inserted.
 fn insert_wider<'a>(
     alloc: Global,
     keys: &mut Vec<&'a str>,
@@ -150,8 +150,8 @@ fn insert_wider<'a>(
     Ok(Some((fingerprints, place)))
 }
 
-/// Inserts a key that its fingerprint didn't tell from the others: one by one where that is found; else with more room for
-/// fingerprints if there was none, or in order.
+/// Inserts a key that its fingerprint didn't tell from the others. If the fingerprint is found, all keys are
+/// searched. Otherwise there was no room: the keys get more room for fingerprints, or a map.
 #[inline(never)]
 fn insert_anew<'a>(
     alloc: Global,
@@ -186,7 +186,7 @@ fn insert_anew<'a>(
     Ok(place)
 }
 
-/// Inserts a key, unless it is there; its place then.
+/// Inserts a key, unless it is there. Returns its place if it was there.
 #[inline(always)]
 fn insert_key<'a>(
     alloc: Global,
@@ -212,7 +212,7 @@ fn insert_key<'a>(
 }
 
 impl<'a> IndexedKeys<'a> {
-    /// No keys, and room for more than so many.
+    /// No keys, with room for more than `keys` of them.
     pub(crate) fn for_keys(alloc: Global, keys: usize) -> Result<IndexedKeys<'a>, AllocError>
         ensures empty { IfOk result (λ set. set ≡ []) }
     {
@@ -222,7 +222,7 @@ impl<'a> IndexedKeys<'a> {
         })
     }
 
-    /// Inserts a key, unless it is there; its place then.
+    /// Inserts a key, unless it is there. Returns its place if it was there.
     #[inline(always)]
     pub(crate) fn insert(
         &mut self,

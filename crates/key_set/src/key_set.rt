@@ -1,4 +1,4 @@
-//! The keys of a document so far.
+//! The keys of a document that were met so far.
 #![tactic(auto)]
 
 ghost use Rattle.std.specs.Prelude.{◌≡◌, ℕ, List, [], IsTrue, IfOk};
@@ -12,23 +12,23 @@ use crate::indexed_keys::IndexedKeys;
 use crate::listed::list;
 use std::alloc::{AllocError, Global};
 
-/// So many keys of a document are looked through one by one; more have an index.
+/// Up to this many keys of a document are searched one by one. More have an index.
 const MOST_LISTED: usize = 24;
 
-/// The keys of a document's elements so far, no two of which are equal, in the order in which they came first. Levels inside one
-/// another share a list, in which those of a level are behind those of the levels around it.
+/// The keys of a document's elements so far, in the order in which they first came. No two of them are equal.
+/// Nested levels share a list: the keys of a level are after those of the levels around it.
 #[derive(Drop)]
 pub enum KeySet<'a> {
-    /// each is behind the one before it, from this place of the list on
+    /// from this place of the list on; each key is after the one before it in the order of `is_behind`
     Ascending(usize),
     /// from this place of the list on, with their filter
     Listed(usize, u64),
-    /// with an index, and not in the list
+    /// with an index, outside the list
     Indexed(Box<IndexedKeys<'a>>),
 }
 
-/// Whether the key is longer than the last of these, or as long and greater. Then it is none of them, if each of them
-/// is so to the one before it.
+/// Whether `key` is longer than the last of `keys`, or as long and greater. If each of `keys` is so to the
+/// one before it, `key` is none of them.
 #[inline(always)]
 fn is_behind(keys: &[&str], key: &str) -> bool
     ensures { IsTrue result → IsBehindLast (texts keys.now) key.now }
@@ -39,7 +39,7 @@ fn is_behind(keys: &[&str], key: &str) -> bool
     }
 }
 
-/// These keys, no two of which are equal, with an index and room for as many again.
+/// These keys with an index, and room for as many again. No two of them are equal.
 fn indexed<'a>(alloc: Global, keys: &[&'a str]) -> Result<Box<IndexedKeys<'a>>, AllocError>
     requires { IsDistinct bytes_eq (texts keys.now) }
     ensures keys { IfOk result (λ set. set.value ≡ texts keys.now) }
@@ -55,14 +55,14 @@ fn indexed<'a>(alloc: Global, keys: &[&'a str]) -> Result<Box<IndexedKeys<'a>>, 
 }
 
 impl<'a> KeySet<'a> {
-    /// No keys, where these are in the list.
+    /// No keys, after the keys in the list.
     pub fn behind(listed: &[&'a str]) -> KeySet<'a>
         ensures { HasKeys result listed.now (texts listed.now) [] }
     {
         KeySet::Ascending(listed.len())
     }
 
-    /// Adds a key, unless it is there; its place among the keys then.
+    /// Adds `key`, unless it is there. Returns its place among the keys if it was there.
     #[inline(always)]
     pub fn add(
         &mut self,
@@ -98,7 +98,7 @@ impl<'a> KeySet<'a> {
         }
     }
 
-    /// Adds a key to those from this place of the list on, which have this filter.
+    /// Adds `key` to those from this place of the list on, which have this filter.
     fn add_listed(
         &mut self,
         alloc: Global,
@@ -144,7 +144,7 @@ impl<'a> KeySet<'a> {
         Ok(place)
     }
 
-    /// Takes the keys of this level from the list, of which it is the innermost.
+    /// Removes the keys of this level from the list. The level is the innermost one.
     pub fn leave(&self, listed: &mut Vec<&'a str>)
         ensures { LeavesKeys self.now listed.old.items listed.new.items }
     {

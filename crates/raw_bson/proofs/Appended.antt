@@ -7,7 +7,7 @@ use Rattle.raw_view.specs.Frame.Format.{inside_of}
 use Rattle.raw_bson.specs.Append.{frame_bytes, appended_bytes}
 use Rattle.raw_bson.proofs.KeptWalks.{length-inside, length-frame_bytes}
 
--- all of a document but its header and its final 0
+-- all of a document without its header and its final 0
 front_dropped : (b : List ℕ) → 5 ≤ length b → drop 4 (take (length b - 1) b) ≡ inside_of b
 front_dropped b h =
     let n : length b - 1 ≡ 4 + (length b - 5) = omega arith in
@@ -18,7 +18,7 @@ behind_header b more h =
     let enough : 4 ≤ length (take (length b - 1) b) = omega (arith, length-take (length b - 1) b) in
     drop-append-le 4 (take (length b - 1) b) more enough ∙ ap (λ (x : List ℕ). x ++ more) (front_dropped b h)
 
--- an element in place of the final 0, a 0 behind it, and then the header
+-- an element in place of the final 0, then a 0, and then the header
 pub written_is_appended : (b : List ℕ) (f : Frame) (total : ℤ) → 5 ≤ length b → total ≡ pos (length b + (length f.key + (2 + length f.payload)))
     → le32 total ++ drop 4 (take (length b - 1) b ++ (frame_bytes f ++ 0 ∷ [])) ≡ appended_bytes b f
 written_is_appended b f total h t =

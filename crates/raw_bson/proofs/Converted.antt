@@ -16,12 +16,12 @@ use Rattle.raw_tree.specs.Reading.{Holds, Reads, TellsFirstFault, TellsFirstFaul
 use Rattle.raw_tree.proofs.Face.{length-tree_payload, enveloped_one_way}
 use Rattle.raw_bson.specs.Conversion.{BecomesOneTree, RefusesForm}
 
--- each member of a list takes two bytes and more
+-- each member of a list takes at least two bytes
 items_long : (n : ℕ) (us : List Tree) → 2 * length us ≤ items_len n (trees us)
 items_long n [] = omega arith
 items_long n (u ∷ us) = omega (arith, items_long (n + 1) us)
 
--- the length of a list is within what an array of its bytes may count
+-- the length of a list is small enough for the count of an array of its bytes
 pub count_fits : (us : List Tree) (b : List ℕ) → IsEncoded (array (trees us)) b → length us ≤ (length b - 4) / 2 + 1
 count_fits us b e = omega (arith, ap length e.2, length-tree_payload (array (trees us)), items_long 0 us)
 
@@ -30,7 +30,7 @@ pub items_in-trees : (us : List Tree) → items_in (trees us) ≡ us
 items_in-trees [] = refl
 items_in-trees (u ∷ us) = ap (λ ts. u ∷ ts) (items_in-trees us)
 
--- a value that holds no others becomes its leaf alone
+-- a value that holds no others becomes its leaf only
 single_one_tree : (l : Leaf) → BecomesOneTree (raw.single l)
 single_one_tree l = record {
   either = inl (leaf l, refl);
@@ -39,14 +39,14 @@ single_one_tree l = record {
   one_fault = λ fault other first first_other. absurd first.1;
 }
 
--- every value in range becomes one tree alone, or has one first fault
+-- every value in range becomes exactly one tree, or has one first fault
 pub in_range_one_tree : (v : RawValue) → IsRawInRange v → BecomesOneTree v
 in_range_one_tree (raw.single l) h = single_one_tree l
 in_range_one_tree (raw.document d) h = enveloped_one_way (raw.document d) (λ e same. rw same h)
 in_range_one_tree (raw.array d) h = enveloped_one_way (raw.array d) (λ e same. rw same h)
 in_range_one_tree (raw.scoped code d) h = enveloped_one_way (raw.scoped code d) (λ e same. rw same h.1)
 
--- a fault of the bytes that a value holds is the value's
+-- a fault of the bytes in a value is the value's
 pub told_of_value : (v : RawValue) (d : List ℕ) (e : Error) → Holds v d → TellsFirstFault d e → TellsFirstFaultOfValue v e
 told_of_value v d e h told =
     elim told [
@@ -54,7 +54,7 @@ told_of_value v d e h told =
       | inr bad ↦ inr (bad.0, (d, h, bad.1), bad.2)
     ]
 
--- a tree without a 0 where it may not be isn't refused for one
+-- a tree without a 0 in its C strings isn't refused for one
 pub refused_no_nul : (t : Tree) (e : Error) → IsNulFree t → IsRefused t e → e.kind ≢ kind.MalformedValue reason.InteriorNul
 refused_no_nul t e free r = λ same. subst (RefusesTree t) same r.0 free
 

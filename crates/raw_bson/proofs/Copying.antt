@@ -1,4 +1,4 @@
--- What a caller's loop keeps that copies a document element by element.
+-- What a caller's loop preserves that copies a document element by element.
 use Rattle.std.proofs.Common.{◌≡◌, ◌⊎◌, ◌≤◌, ◌+◌, ◌++◌, ◌∷◌, [], ◌∙◌, ℕ, List, Option, Some, None, Result, Ok, Err, inl, inr, append-nil, append_assoc, length, drop, length-drop, ap, sym, refl, subst, arith}
 use Rattle.std.proofs.lemmas.Result.{err_from_is_err_and}
 use Rattle.std.specs.Prelude.{IfErr, IsErrAnd}
@@ -18,7 +18,7 @@ use Rattle.raw_bson.proofs.HeldFrames.{HaveNoShortScope-last, HoldsFrames-elemen
 use Rattle.raw_bson.proofs.Lengths.{RefusesLength-bound, length-appended_bytes, length_left, length_left-step}
 use Rattle.raw_bson.proofs.LoopSteps.{HasRead-more, HasRead-stop}
 
--- what it has read, and what that gave, which the copy holds
+-- what it has read, and what that became, which the copy holds
 pub record HasCopied (Gives : Frame → List Frame → Type 0) (b copy : List ℕ) (left : Option (List ℕ)) : Type 0 where
   pub frames : List Frame
   pub given : List Frame
@@ -26,14 +26,14 @@ pub record HasCopied (Gives : Frame → List Frame → Type 0) (b copy : List �
   pub gives : GiveFrames Gives frames given
   pub holds : HaveNoShortScope given → HoldsFrames copy given
 
--- one frame more, and what it gives
+-- one more frame, and what it becomes
 GiveFrames-more : (Gives : Frame → List Frame → Type 0) (frames given : List Frame) (f : Frame) (one : List Frame) → GiveFrames Gives frames given → Gives f one
     → GiveFrames Gives (frames ++ f ∷ []) (given ++ one)
 GiveFrames-more Gives [] given f one h gives = (one, [], gives, refl, ap (λ g. g ++ one) h ∙ sym (append-nil one))
 GiveFrames-more Gives (x ∷ frames) given f one h gives =
     (h.0, h.1 ++ one, h.2, GiveFrames-more Gives frames h.1 f one h.3 gives, ap (λ g. g ++ one) h.4 ∙ append_assoc h.0 h.1 one)
 
--- frames before others have no short code with scope where all have none
+-- the first of some frames have no short code with scope if none of them has
 before_others : (fs gs : List Frame) → HaveNoShortScope (fs ++ gs) → HaveNoShortScope fs
 before_others [] gs h = tt
 before_others (f ∷ fs) gs h = (h.0, before_others fs gs h.1)
@@ -126,7 +126,7 @@ module _ {X : Type 0} where
     EndsCopy-stop was left = let q = err_from_is_err_and x left in rw (q.1, q.2) (record { why = inr (inl (HasCopied-stop new h st was)) })
 
     module _ {e : RawElement} (was : out ≡ Ok e) where
-      -- a frame is the one at which no more is copied
+      -- a frame is the one at which copying ends
       ends_at : RefusesFrame Gives copy (frame_of e) bad ⊎ Inside (frame_of e) bad → IsErrAnd x (λ y. y ≡ bad) → IfErr x (EndsCopy Gives Inside b)
       ends_at why left =
           let q = err_from_is_err_and x left in
@@ -144,7 +144,7 @@ module _ {X : Type 0} where
           let refused = subst (λ k. RefusesAppend copy k v bad.kind) same (subst (λ y. RefusesAppend copy key y bad.kind) is appends.0) in
           ends_at (inl (inr (v, gives, refused))) left
 
-      -- what is to be in its place can't be had
+      -- what would replace it can't be computed
       pub EndsCopy-inside : Inside (frame_of e) bad → IsErrAnd x (λ y. y ≡ bad) → IfErr x (EndsCopy Gives Inside b)
       EndsCopy-inside why left = ends_at (inr why) left
 

@@ -1,4 +1,4 @@
--- How many items a document has.
+-- The number of items of a document.
 use Rattle.std.proofs.Common.{◌≡◌, arith, ℕ, ◌+◌, List, [], ◌∷◌, length, Result, Ok, Err, refl, ◌∙◌}
 use Rattle.raw_view.specs.Frame.ElementSteps.{ListsWalk}
 use Rattle.raw_view.specs.Frame.{Frame, End, Done, Stopped, IsWalk}
@@ -13,7 +13,7 @@ abbrev stops : End → ℕ
 stops Done = 0
 stops (Stopped fault key) = 1
 
--- a list of so many items, one for each frame and one for the stop
+-- a list of n items, one for each frame and one for the stop
 abbrev pub ItemsIn : List Frame → End → ℕ → Type 0
 ItemsIn fs end count = (items : List Item) × ItemsOf fs end items × (count ≡ length items)
 

@@ -1,4 +1,4 @@
--- What a caller's loop keeps that asks something of each item, also where it is left before the end.
+-- What a caller's loop preserves that asks something of each item, even if it ends early.
 use Rattle.std.proofs.Common.{◌≡◌, ◌⊎◌, ◌++◌, ◌∷◌, [], ◌∙◌, ℕ, Bool, true, false, List, drop, ap, sym, subst, refl, inl, inr, Option, Some, None, Result, Ok, Err}
 use Rattle.std.proofs.lemmas.Result.{err_from_is_err_and}
 use Rattle.std.specs.Prelude.{option_map, IsErrAnd}
@@ -23,7 +23,7 @@ EachItem-more P (entry k (value w) ∷ items) key v h p = (h.0, EachItem-more P 
 EachItem-more P (entry k (faulty fault) ∷ items) key v h p = absurd h
 EachItem-more P (stopped fault ∷ items) key v h p = absurd h
 
--- of the one behind them
+-- of the item after them
 pub EachItem-at : (P : List ℕ → RawValue → Type 0) (items : List Item) (key : List ℕ) (v : RawValue) (rest : List Item) → EachItem P (items ++ entry key (value v) ∷ rest) → P key v
 EachItem-at P [] key v rest h = h.0
 EachItem-at P (entry k (value w) ∷ items) key v rest h = EachItem-at P items key v rest h.1
@@ -44,14 +44,14 @@ OneItem-none P (entry k (value w) ∷ items) h = λ one. elim one [ inl p ↦ h.
 OneItem-none P (entry k (faulty fault) ∷ items) h = absurd h
 OneItem-none P (stopped fault ∷ items) h = absurd h
 
--- what was read begins every list
+-- what was read is the beginning of every list
 
--- no frame is at the front where a walk ends
+-- where a walk ends, no frame is at the front
 no_frame_at_end : (s : List ℕ) (end : End) (f : Frame) (r : List ℕ) → EndsIn s end → IsFrame s f r → ⊥
 no_frame_at_end s Done f r e b = no_frame_at_final s e f r b
 no_frame_at_end s (Stopped fault key) f r e b = no_frame_at_stop s fault key e f r b
 
--- frames that were read begin every walk, whose others are what is left
+-- frames that were read begin every walk; its other frames are what remains
 pub LeadsTo-begins : (s : List ℕ) (fs : List Frame) (r : List ℕ) (all : List Frame) (end : End) → LeadsTo s fs r → IsWalk s all end → (rest : List Frame) × (all ≡ fs ++ rest) × IsWalk r rest end
 LeadsTo-begins s [] r all end l w = (all, refl, subst (λ (x : List ℕ). IsWalk x all end) l w)
 LeadsTo-begins s (f ∷ fs) r [] end l w = absurd (no_frame_at_end s end f l.0 w l.1)
@@ -76,12 +76,12 @@ HasReadItems-begins b items (Some r) all h are =
     let more = items_begin h.frames walk.0 are.1 items all h.items_are (subst (λ (fs : List Frame). ItemsOf fs are.1 all) walk.1 are.3) in
     (more.0, more.1)
 
--- a list with these items and others, of which one is the first
+-- a list with these items and others, the first of which is this one
 behind : (all items more : List Item) (item : Item) (after : List Item) → all ≡ items ++ more → more ≡ item ∷ after → all ≡ items ++ item ∷ after
 behind all items more item after h first = h ∙ ap (λ x. items ++ x) first
 
 module _ {X : Type 0} (Tells : Result X Error → Item → Type 0) where
-  -- what a step tells is the first of the items that are left
+  -- what a step returns is the first of the remaining items
   told_first : (r : List ℕ) (rest : List Frame) (end : End) (more : List Item) (out : Result X Error) (new : Option (List ℕ))
       → StepsItems Tells (Some r) (Some out) new → IsWalk r rest end → ItemsOf rest end more
       → (item : Item) × (after : List Item) × (more ≡ item ∷ after) × Tells out item
@@ -98,7 +98,7 @@ module _ {X : Type 0} (Tells : Result X Error → Item → Type 0) where
       (entry f.key i.0, i.1, i.3, subst (λ (m : Meaning). Tells out (entry f.key m)) (one_meaning f g.meaning i.0 means i.2) told)
   told_first r (f ∷ rest) end more out new (inr g) w i = absurd (no_frame_at_stop r g.fault.fault g.fault.key g.stops f w.0 w.1)
 
-  -- behind the items that were read is, in every list of items, the one that a step tells
+  -- in every list of items, the item after those that were read is the one that a step returns
   pub HasReadItems-next : (b : List ℕ) (items : List Item) (old new : Option (List ℕ)) (out : Result X Error) (all : List Item)
       → HasReadItems (drop 4 b) items old → StepsItems Tells old (Some out) new → AreItems b all
       → (item : Item) × (after : List Item) × (all ≡ items ++ item ∷ after) × Tells out item
@@ -109,7 +109,7 @@ module _ {X : Type 0} (Tells : Result X Error → Item → Type 0) where
       let first = told_first r walk.0 are.1 more.0 out new st walk.2 more.2 in
       (first.0, first.1, behind all items more.0 first.0 first.1 more.1 first.2, first.3)
 
--- what is told of an item
+-- what holds of an item
 
 pub told_pair : (p : Bor (List ℕ) × RawBsonRef) (item : Item) → TellsItem (Ok p) item → item ≡ entry p.0.now (value (value_of p.1))
 told_pair p (entry key (value v)) t = let keys = sym t.0 in let values = sym t.1 in λ i. entry (keys i) (value (values i))
@@ -142,7 +142,7 @@ module _ {P : List ℕ → RawValue → Type 0} {b : List ℕ} where
   pub HasReadEach-none : {left : Option (List ℕ)} → left ≡ Some (drop 4 b) → HasReadEach P b left
   HasReadEach-none {left = left} begins = record { items = []; read = HasReadItems-none (drop 4 b) left begins; each = tt }
 
-  -- a list of items has one of these items behind others
+  -- a list of items has one of these items after others
   comes_to : {left : Option (List ℕ)} {all : List Item} (h : HasReadEach P b left) (item : Item) (after : List Item) → AreItems b all → all ≡ h.items ++ item ∷ after → ComesTo P b item
   comes_to h item after are same = record { before = h.items; after = after; are_items = subst (AreItems b) same are; each = h.each }
 
@@ -151,7 +151,7 @@ module _ {P : List ℕ → RawValue → Type 0} {b : List ℕ} where
   comes_to_fault h item after fault are same (inl k) = inl (k.0, subst (ComesTo P b) k.1 (comes_to h item after are same))
   comes_to_fault h item after fault are same (inr k) = inr (subst (ComesTo P b) k (comes_to h item after are same))
 
-  -- one more key and value was read, of which it holds
+  -- one more key and value was read, and it holds of them
   pub HasReadEach-pair : {old new : Option (List ℕ)} {out : Result (Bor (List ℕ) × RawBsonRef) Error} {p : Bor (List ℕ) × RawBsonRef} → HasReadEach P b old
       → StepsItems TellsItem old (Some out) new → out ≡ Ok p → P p.0.now (value_of p.1) → HasReadEach P b new
   HasReadEach-pair {old = old} {new = new} {p = p} h st was holds = record {
@@ -160,7 +160,7 @@ module _ {P : List ℕ → RawValue → Type 0} {b : List ℕ} where
     each = EachItem-more P h.items p.0.now (value_of p.1) h.each holds;
   }
 
-  -- one key and value was read behind those of which it holds
+  -- one key and value was read after those of which it holds
   pub HasReadEach-comes : {old : Option (List ℕ)} (new : Option (List ℕ)) {all : List Item} {out : Result (Bor (List ℕ) × RawBsonRef) Error}
       {p : Bor (List ℕ) × RawBsonRef} → HasReadEach P b old → StepsItems TellsItem old (Some out) new → out ≡ Ok p → AreItems b all
       → ComesTo P b (entry p.0.now (value (value_of p.1)))
@@ -169,7 +169,7 @@ module _ {P : List ℕ → RawValue → Type 0} {b : List ℕ} where
       let this = told_pair p next.0 (subst (λ (x : Result (Bor (List ℕ) × RawBsonRef) Error). TellsItem x next.0) was next.3) in
       subst (ComesTo P b) this (comes_to h next.0 next.1 are next.2)
 
-  -- a fault is met behind them
+  -- a fault comes after them
   pub HasReadEach-fault : {old : Option (List ℕ)} (new : Option (List ℕ)) {all : List Item} {out : Result (Bor (List ℕ) × RawBsonRef) Error} {e : Error}
       → HasReadEach P b old → StepsItems TellsItem old (Some out) new → out ≡ Err e → AreItems b all
       → (fault : KeyedFault) × ComesToFault P b fault × Says e fault
@@ -205,13 +205,13 @@ module _ {P : List ℕ → RawValue → Type 0} {b : List ℕ} where
       let told = told_value_fault e next.0 (subst (λ (x : Result RawBsonRef Error). TellsValue x next.0) was next.3) in
       (told.0, comes_to_fault h next.0 next.1 told.0 are next.2 told.1, told.2)
 
-  -- no item is left: it holds of each
+  -- no item is left, so it holds of each
   pub HasReadEach-end : {X : Type 0} (Tells : Result X Error → Item → Type 0) {old : Option (List ℕ)} (new : Option (List ℕ)) → HasReadEach P b old → StepsItems Tells old None new → HoldsOfEach P b
   HasReadEach-end Tells {old = old} new h st = record { items = h.items; are_items = HasReadItems-end Tells b h.items old new h.read st; each = h.each }
 
--- loops that are left at the first error
+-- loops that end at the first error
 
--- what such a loop keeps: what it has read, and Ok for each
+-- what such a loop preserves: what it has read, and Ok for each
 pub record HasTried {E : Type 0} (wrap : Error → E) (Answers : List ℕ → RawValue → Result (Unit {0}) E → Type 0) (b : List ℕ) (left : Option (List ℕ)) : Type 0 where
   pub read : HasReadEach (λ key v. Answers key v (Ok tt)) b left
 
@@ -222,7 +222,7 @@ module _ {E : Type 0} {wrap : Error → E} {Answers : List ℕ → RawValue → 
       → HasTried wrap Answers b new
   HasTried-more {p = p} h st was answers ok = record { read = HasReadEach-pair h.read st was (subst (Answers p.0.now (value_of p.1)) ok answers) }
 
-  -- it returned an error, with which the loop is left
+  -- it returned an error, with which the loop ends
   pub HasTried-error : {old : Option (List ℕ)} (new : Option (List ℕ)) {all : List Item} {out : Result (Bor (List ℕ) × RawBsonRef) Error}
       {p : Bor (List ℕ) × RawBsonRef} {r : Result (Unit {0}) E} {e : E} (x : Result (Unit {0}) E) → HasTried wrap Answers b old
       → StepsItems TellsItem old (Some out) new → out ≡ Ok p → AreItems b all → Answers p.0.now (value_of p.1) r → r ≡ Err e → IsErrAnd x (λ y. y ≡ e)
@@ -246,7 +246,7 @@ module _ {E : Type 0} {wrap : Error → E} {Answers : List ℕ → RawValue → 
 
 -- searches within an array
 
--- what a search keeps: what it has read, none of it sought
+-- what a search preserves: what it has read, none of it what is sought
 pub record HasSought {E : Type 0} (wrap : Error → E) (P : List ℕ → RawValue → Type 0) (b : List ℕ) (left : Option (List ℕ)) : Type 0 where
   pub read : HasReadEach (λ key v. ¬ P key v) b left
 
@@ -276,7 +276,7 @@ module _ {E : Type 0} {wrap : Error → E} {P : List ℕ → RawValue → Type 0
 
 -- look-ups before something else
 
--- what is found is what is told
+-- what is found is what is returned
 found_value : (x : Option RawBsonRef) (found : Option Meaning) → TellsFound (Ok x) found → found ≡ option_map value (value_in x)
 found_value None found t = t
 found_value (Some v) found t = t
@@ -291,7 +291,7 @@ module _ {T E : Type 0} {wrap : Error → E} {Answers : Option RawValue → Resu
   pub AsksUnder-found : (x : Option RawBsonRef) → (found : Option Meaning) × LooksUp b key found × TellsFound (Ok x) found → Answers (value_in x) r → AsksUnder wrap Answers b key r
   AsksUnder-found x f answers = record { told = inl (value_in x, subst (LooksUp b key) (found_value x f.0 f.2) f.1, answers) }
 
-  -- a fault was
+  -- a fault was found
   pub AsksUnder-fault : (e : Error) → (found : Option Meaning) × LooksUp b key found × TellsFound (Err e) found → IsErrAnd r (λ y. y ≡ wrap e) → AsksUnder wrap Answers b key r
   AsksUnder-fault e f left =
       let q = err_from_is_err_and r left in

@@ -5,7 +5,7 @@ use Rattle.std.proofs.iter.Next.{Yields-more}
 use Rattle.raw_view.specs.declared.error.Error.{Error}
 use Rattle.raw_bson.specs.Fills.{TakesEach, Fills}
 
--- all items came; the iterator's state was made from the one that was handed in
+-- all items came; the state of the iterator was made from the one passed in
 pub drained : {A S : Type 0} (gives : S → Option A → S → Type 0) (start s last after : S) (xs : List A) → s ≡ start → Yields gives s xs last → gives last None after → Drains gives start xs
 drained gives start s last after xs from ran none = (after, (last, subst (λ q. Yields gives q xs last) from ran, none))
 

@@ -1,4 +1,4 @@
--- What a caller's loop keeps that takes a state from item to item, or from document to document.
+-- What a caller's loop preserves that takes a state from item to item, or from document to document.
 use Rattle.std.proofs.Common.{◌≡◌, ◌⊎◌, ◌≤◌, ◌+◌, ◌-◌, ◌++◌, ◌∷◌, [], ◌∙◌, ℕ, List, drop, length, length-append, length-drop, append_assoc, ap, sym, subst, refl, inl, inr, arith, Option, Some, None, Result, Ok, Err}
 use Rattle.std.proofs.lemmas.List.Elements.{All-head, All-nil, All-push, All-tail}
 use Rattle.std.proofs.lemmas.Result.{err_from_is_err_and}
@@ -20,7 +20,7 @@ use Rattle.raw_bson.proofs.LoopSteps.{HasReadItems-pair}
 
 -- loops over items
 
--- what such a loop keeps: what it has read, which leads to its state
+-- what such a loop preserves: what it has read, which leads to its state
 pub record HasFolded {S E : Type 0} (wrap : Error → E) (Answers : S → List ℕ → RawValue → Result S E → Type 0) (start : S) (b : List ℕ) (s : S) (left : Option (List ℕ)) : Type 0 where
   pub items : List Item
   pub read : HasReadItems (drop 4 b) items left
@@ -33,7 +33,7 @@ LeadOn-more Answers start (entry k (value w) ∷ items) key v s t h a = (h.0, h.
 LeadOn-more Answers start (entry k (faulty fault) ∷ items) key v s t h a = absurd h
 LeadOn-more Answers start (stopped fault ∷ items) key v s t h a = absurd h
 
--- a state that an item makes at most one greater is no greater than the items are many
+-- a state that an item makes at most one greater is at most the number of items
 LeadOn-grows : {S E : Type 0} (Answers : S → List ℕ → RawValue → Result S E → Type 0) (size : S → ℕ)
     → ((x y : S) (key : List ℕ) (v : RawValue) → Answers x key v (Ok y) → size y ≤ size x + 1)
     → (start : S) (items : List Item) (s : S) → LeadOn Answers start items s → size s ≤ size start + length items
@@ -57,7 +57,7 @@ module _ {S E : Type 0} {wrap : Error → E} {Answers : S → List ℕ → RawVa
     lead = LeadOn-more Answers start h.items p.0.now (value_of p.1) s t h.lead (subst (Answers s p.0.now (value_of p.1)) ok answers);
   }
 
-  -- behind what was read comes this item
+  -- this item follows what was read
   comes_in : {left : Option (List ℕ)} {all : List Item} {s : S} (h : HasFolded wrap Answers start b s left) (item : Item) (after : List Item) → AreItems b all
       → all ≡ h.items ++ item ∷ after → ComesIn Answers start b item s
   comes_in h item after are same = record { before = h.items; after = after; are_items = subst (AreItems b) same are; lead = h.lead }
@@ -68,7 +68,7 @@ module _ {S E : Type 0} {wrap : Error → E} {Answers : S → List ℕ → RawVa
   comes_in_fault {s = s} h item after fault are same (inl k) = inl (k.0, subst (λ x. ComesIn Answers start b x s) k.1 (comes_in h item after are same))
   comes_in_fault {s = s} h item after fault are same (inr k) = inr (subst (λ x. ComesIn Answers start b x s) k (comes_in h item after are same))
 
-  -- it returned an error, with which the loop is left
+  -- it returned an error, with which the loop ends
   pub HasFolded-error : {old : Option (List ℕ)} (new : Option (List ℕ)) {all : List Item} {out : Result (Bor (List ℕ) × RawBsonRef) Error}
       {p : Bor (List ℕ) × RawBsonRef} {s : S} {r : Result S E} {e : E} (x : Result S E) → HasFolded wrap Answers start b s old
       → StepsItems TellsItem old (Some out) new → out ≡ Ok p → AreItems b all → Answers s p.0.now (value_of p.1) r → r ≡ Err e → IsErrAnd x (λ y. y ≡ e)
@@ -122,7 +122,7 @@ LeadThrough-grows : {S : Type 0} (Step : S → List ℕ → S → Type 0) (size 
 LeadThrough-grows Step size each start [] s h = omega (arith, ap size h)
 LeadThrough-grows Step size each start (d ∷ docs) s h = omega (arith, each start h.0 d h.1, LeadThrough-grows Step size each h.0 docs s h.2)
 
--- one document more
+-- one more document
 pub joined-more : (docs : List (List ℕ)) (d rest : List ℕ) → joined (docs ++ d ∷ []) ++ rest ≡ joined docs ++ (d ++ rest)
 joined-more [] d rest = append_assoc d [] rest
 joined-more (x ∷ docs) d rest = append_assoc x (joined (docs ++ d ∷ [])) rest ∙ ap (λ y. x ++ y) (joined-more docs d rest) ∙ sym (append_assoc x (joined docs) (d ++ rest))
@@ -146,11 +146,11 @@ module _ {S : Type 0} {Step : S → List ℕ → S → Type 0} {start : S} {s : 
     lead = LeadThrough-more Step start h.docs d t u h.lead step;
   }
 
-  -- where what is left begins
+  -- where the rest begins
   pub ReadsDump-length : {left : List ℕ} {t : S} (h : ReadsDump Step start s t left) → length (joined h.docs) + length left ≡ length s
   ReadsDump-length {left = left} h = sym (length-append (joined h.docs) left) ∙ ap length h.parts
 
-  -- where what is behind the next begins
+  -- where the bytes after the next document begin
   pub ReadsDump-offset : {left : List ℕ} (d behind : List ℕ) {t : S} → ReadsDump Step start s t left → left ≡ d ++ behind
       → (length s - length left) + length d ≡ length s - length behind
   ReadsDump-offset d behind h cut = omega (arith, ReadsDump-length h, ap length cut ∙ length-append d behind)

@@ -45,7 +45,7 @@ pub HaveNoShortScope-more : (frames : List Frame) (f : Frame) → HaveNoShortSco
 HaveNoShortScope-more [] f h long = (long, tt)
 HaveNoShortScope-more (g ∷ frames) f h long = (h.0, HaveNoShortScope-more frames f h.1 long)
 
--- of one frame more, the last and those before it
+-- of one more frame, the last and those before it
 pub HaveNoShortScope-last : (frames : List Frame) (f : Frame) → HaveNoShortScope (frames ++ f ∷ []) → HaveNoShortScope frames × (¬ IsShortScope f)
 HaveNoShortScope-last [] f h = (tt, h.0)
 HaveNoShortScope-last (g ∷ frames) f h = let rest = HaveNoShortScope-last frames f h.1 in ((h.0, rest.0), rest.1)

@@ -1,4 +1,4 @@
--- An append gives a document again, and what was read before it is read before the new element.
+-- An append makes a document again, and what was read before is read before the new element.
 use Rattle.std.proofs.Common.{◌≡◌, ◌≢◌, inl, inr, ◌<◌, ◌≤◌, ◌+◌, ◌-◌, ◌++◌, ◌∷◌, [], ℕ, pos, zero, suc, List, length, take, drop, get_or, arith, ap, sym, refl, ◌∙◌, subst, append_assoc, length-append, length-drop}
 use Rattle.std.specs.Str.{IsUtf8}
 use Rattle.std.proofs.lemmas.List.{take-append-le, get_or_at, get_or-take, same_from_push, length-take-le}
@@ -33,7 +33,7 @@ length-appended_bytes b f five =
 
 -- the envelope
 
--- a document with one element more has its envelope
+-- a document with one more element has its envelope
 pub appended_is_envelope : (b : List ℕ) (f : Frame) → AreBytes (appended_bytes b f) → HasRoom b f → IsEnvelope (appended_bytes b f)
 appended_is_envelope b f bytes room = framed_is_envelope (inside_of b ++ frame_bytes f) bytes (omega (arith, length-framed (inside_of b ++ frame_bytes f), room))
 
@@ -46,7 +46,7 @@ value_has_shape (document bytes) r h n l = h
 value_has_shape (array bytes) r h n l = h
 value_has_shape (scoped code scope) r h n l = declared_shape (string_payload code ++ scope) r (omega arith)
 
--- the frame of a value stands before any bytes
+-- the frame of a value is one before any following bytes
 pub value_stands : (key : List ℕ) (v : RawValue) → IsUtf8 key → IsNulFreeElement key v → IsRawInRange v → length (payload_of v) ≤ max_length → StandsAnywhere (value_frame key v)
 value_stands key v text nul_free in_range l r = record {
   spelled = refl;
@@ -57,7 +57,7 @@ value_stands key v text nul_free in_range l r = record {
 
 -- walks and their last byte
 
--- bytes behind a frame and what is left behind it
+-- bytes after a frame and after what follows it
 frame-append : (tag : ℕ) (key p r e : List ℕ) → (tag ∷ (key ++ 0 ∷ (p ++ r))) ++ e ≡ tag ∷ (key ++ 0 ∷ (p ++ (r ++ e)))
 frame-append tag key p r e = simp append_assoc
 
@@ -69,7 +69,7 @@ last_of_walk s (f ∷ frames) w =
     let spelled : s ≡ tag_of f.kind ∷ (f.key ++ 0 ∷ (f.payload ++ (rest.0 ++ 0 ∷ []))) = w.1.spelled ∙ ap (λ x. tag_of f.kind ∷ (f.key ++ 0 ∷ (f.payload ++ x))) rest.1 in
     (tag_of f.kind ∷ (f.key ++ 0 ∷ (f.payload ++ rest.0)), spelled ∙ sym (frame-append (tag_of f.kind) f.key f.payload rest.0 (0 ∷ [])))
 
--- codes with scope, whose shape speaks of what is behind them
+-- codes with scope, whose shape depends on what follows them
 
 -- no kind has tag 0, as is seen kind by kind
 tag_of-above : (k : ElementType) → 0 < tag_of k
@@ -84,8 +84,7 @@ le32-at_itself (suc (suc zero)) l = refl
 le32-at_itself (suc (suc (suc zero))) l = refl
 le32-at_itself (suc (suc (suc (suc n)))) l = absurd (omega arith)
 
--- Behind a payload that ends inside its length bytes stands no frame: the frame's tag would be one of these
--- bytes, and that byte is 0.
+-- No frame follows a payload that ends inside its own length bytes: the tag of the frame would be one of these bytes, and that byte is 0.
 no_frame_in_length : (p s r : List ℕ) (f : Frame) → length p ≤ 3 → IsFrame s f r → HasDeclaredLength p s → ⊥
 no_frame_in_length p s r f short b d =
     let tag : get_or (p ++ s) (length p) 0 ≡ tag_of f.kind = ap (λ (x : List ℕ). get_or (p ++ x) (length p) 0) b.spelled ∙ get_or_at p (tag_of f.kind) _ 0 (length p) refl in
@@ -93,7 +92,7 @@ no_frame_in_length p s r f short b d =
     let byte : get_or (take 4 (p ++ s)) (length p) 0 ≡ 0 = ap (λ (x : List ℕ). get_or x (length p) 0) d.header.bytes_are ∙ le32-at_itself (length p) short in
     omega (arith, tag_of-above f.kind)
 
--- the length bytes stand before the final 0, unless the payload is the last and has three bytes
+-- the length bytes are before the final 0, unless the payload is the last and has three bytes
 length_before_end : (p m : List ℕ) (frames : List Frame) → IsWalk (m ++ 0 ∷ []) frames Done → (frames ≡ [] → length p ≢ 3) → HasDeclaredLength p (m ++ 0 ∷ []) → 4 ≤ length (p ++ m)
 length_before_end p m [] w other d =
     let long : length p ≢ 3 = other refl in
@@ -104,7 +103,7 @@ length_before_end p m (f ∷ frames) w other d =
       | inr short ↦ absurd (no_frame_in_length p (m ++ 0 ∷ []) w.0 f short w.1 d)
     ]
 
--- the declared length stays where bytes change that are behind the length bytes
+-- the declared length is the same if bytes after the length bytes change
 declared_on : (p m x y : List ℕ) → 4 ≤ length (p ++ m) → HasDeclaredLength p (m ++ x) → HasDeclaredLength p (m ++ y)
 declared_on p m x y four d =
     let before : take 4 (p ++ (m ++ x)) ≡ take 4 (p ++ m) = ap (take 4) (sym (append_assoc p m x)) ∙ take-append-le 4 (p ++ m) x four in
@@ -121,7 +120,7 @@ shape_on _ p r t on h = h
 
 -- bytes in place of the final 0
 
--- a frame stays, and they are left behind it
+-- a frame stays a frame, and these bytes follow it
 frame_on : (m t e : List ℕ) (f : Frame) (frames : List Frame) → IsFrame (m ++ 0 ∷ []) f (t ++ 0 ∷ []) → IsWalk (t ++ 0 ∷ []) frames Done → ¬ EndsInShortScope (f ∷ frames) → IsFrame (m ++ e) f (t ++ e)
 frame_on m t e f frames b w none =
     let front : m ≡ tag_of f.kind ∷ (f.key ++ 0 ∷ (f.payload ++ t)) = (same_from_push m _ 0 0 (b.spelled ∙ sym (frame-append (tag_of f.kind) f.key f.payload t (0 ∷ [])))).0 in
@@ -135,7 +134,7 @@ frame_on m t e f frames b w none =
       payload_is = shape_on f.kind f.payload (t ++ 0 ∷ []) (t ++ e) declared b.payload_is;
     }
 
--- a walk goes on with the frame that they begin with, and a new final 0
+-- a walk continues with the frame at their front, and a new final 0
 walk_on : (m e : List ℕ) (frames : List Frame) (f : Frame) → IsFrame e f (0 ∷ []) → IsWalk (m ++ 0 ∷ []) frames Done → ¬ EndsInShortScope frames → IsWalk (m ++ e) (frames ++ f ∷ []) Done
 walk_on m e [] f b w none =
     let empty : m ≡ [] = (same_from_push m [] 0 0 w).0 in
@@ -149,15 +148,15 @@ walk_on m e (g ∷ frames) f b w none =
 
 -- the append
 
--- behind its length a document is what is inside, and a 0
+-- what follows the length of a document is its inside and a 0
 inside_and_end : (b : List ℕ) → IsEnvelope b → drop 4 b ≡ inside_of b ++ 0 ∷ []
 inside_and_end b envelope = ap (drop 4) (document_framed b envelope)
 
--- behind the new element stands the final 0
+-- the final 0 follows the new element
 stands_last : (f : Frame) → StandsAnywhere f → IsFrame (frame_bytes f ++ 0 ∷ []) f (0 ∷ [])
 stands_last f stands = subst (λ (x : List ℕ). IsFrame (tag_of f.kind ∷ x) f (0 ∷ [])) (sym (append_assoc f.key (0 ∷ f.payload) (0 ∷ []))) (stands (0 ∷ []))
 
--- the walk of the old content goes on with the new element
+-- the walk of the old content continues with the new element
 pub keeps_walk : (b : List ℕ) (f : Frame) → IsEnvelope b → StandsAnywhere f → KeepsWalk b f (appended_bytes b f)
 keeps_walk b f envelope stands frames w none =
     let old : IsWalk (inside_of b ++ 0 ∷ []) frames Done = subst (λ (x : List ℕ). IsWalk x frames Done) (inside_and_end b envelope) w in

@@ -1,4 +1,4 @@
--- How long elements, what is left behind them, and documents with one more are.
+-- The lengths of elements, of what follows them, and of documents with one more.
 use Rattle.std.proofs.Common.{◌≡◌, ◌≤◌, ◌+◌, ◌-◌, ◌++◌, ◌∷◌, [], ◌∙◌, ℕ, List, Option, Some, None, Result, Ok, inl, inr, ◌⊎◌, length, drop, length-append, length-drop, ap, sym, refl, subst, arith}
 use Rattle.std.proofs.lemmas.List.{length-take-le}
 use Rattle.raw_view.specs.Errors.{IsOutOfMemory, key_of}
@@ -18,7 +18,7 @@ abbrev pub length_left : Option (List ℕ) → ℕ
 length_left None = 0
 length_left (Some r) = length r
 
--- an element, and what is behind it
+-- an element, and what follows it
 pub length-frame_bytes : (s : List ℕ) (f : Frame) (r : List ℕ) → IsFrame s f r → length s ≡ length (frame_bytes f) + length r
 length-frame_bytes s f r at = omega (arith, ap length at.spelled, length-append f.key (0 ∷ (f.payload ++ r)), length-append f.key (0 ∷ f.payload), length-append f.payload r)
 
@@ -26,12 +26,12 @@ stepped : (old new : Option (List ℕ)) (e : RawElement) → StepsElement old (S
 stepped None new e st = let bad = st.0 in cc
 stepped (Some s) new e st = length-frame_bytes s (frame_of e) st.0 st.1 ∙ ap (λ t. length (frame_bytes (frame_of e)) + length_left t) (sym st.2)
 
--- what is left where an element was read
+-- what remains after an element was read
 pub length_left-step : (old new : Option (List ℕ)) {out : Result RawElement Error} {e : RawElement} → StepsElement old (Some out) new → out ≡ Ok e
     → length_left old ≡ length (frame_bytes (frame_of e)) + length_left new
 length_left-step old new {e = e} st was = stepped old new e (subst (λ (x : Result RawElement Error). StepsElement old (Some x) new) was st)
 
--- a document with one element more
+-- a document with one more element
 pub length-appended_bytes : (b : List ℕ) (f : Frame) → 5 ≤ length b → length (appended_bytes b f) ≡ length b + length (frame_bytes f)
 length-appended_bytes b f five = omega (
   arith,
@@ -47,8 +47,8 @@ refused_kind n m kind.OutOfMemory bound fits h = inl refl
 refused_kind n m (kind.MalformedValue reason.TooLong) bound fits h = inr (refl, grind arith)
 refused_kind n m _ bound fits h = absurd h
 
--- Where the length is at most one more than that of a document, it is refused only if this has the greatest length; else
--- memory ran out. A copy of elements has one byte more where the last of them takes in the final 0.
+-- If the length is at most one more than that of a document, it is refused only if the document has the greatest length; otherwise memory
+-- ran out. A copy of elements has one more byte if the last of them contains the final 0.
 pub RefusesLength-bound : (n m : ℕ) (e : Error) → n ≤ m + 1 → m ≤ max_length → RefusesLength n e.kind → key_of e ≡ None
     → IsOutOfMemory e ⊎ ((e.kind ≡ kind.MalformedValue reason.TooLong) × (m ≡ max_length))
 RefusesLength-bound n m e bound fits h none =

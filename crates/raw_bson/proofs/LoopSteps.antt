@@ -1,4 +1,4 @@
--- Steps of a caller's loop, by what `next` gave and how it was matched.
+-- Steps of a caller's loop, by what `next` returned and how it was matched.
 use Rattle.std.proofs.Common.{◌≡◌, ◌++◌, ◌∷◌, [], ℕ, List, Option, Some, Result, Ok, Err, drop, subst}
 use denote.Ref.{Bor}
 use Rattle.raw_view.specs.Errors.{TellsFault}
@@ -30,7 +30,7 @@ module _ {s : List ℕ} {items : List Item} {old new : Option (List ℕ)} {out :
   HasReadItems-pair {p = p} h st was = view.HasReadItems-pair s items old new p h (subst (λ (x : Result (Bor (List ℕ) × RawBsonRef) Error). StepsItems TellsItem old (Some x) new) was st)
 
 module _ (b : List ℕ) {items : List Item} {old : Option (List ℕ)} (new : Option (List ℕ)) {out : Result (Bor (List ℕ) × RawBsonRef) Error} where
-  -- the first fault of the document b is met
+  -- the first fault of the document b comes
   pub HasReadItems-pair_fault : {e : Error} → HasReadItems (drop 4 b) items old → StepsItems TellsItem old (Some out) new → out ≡ Err e
       → (fault : KeyedFault) × HasFirstFault b fault × Says e fault
   HasReadItems-pair_fault {e = e} h st was =
@@ -43,7 +43,7 @@ module _ {s : List ℕ} {items : List Item} {old new : Option (List ℕ)} {out :
   HasReadItems-value {v = v} h st was = view.HasReadItems-value s items old new v h (subst (λ (x : Result RawBsonRef Error). StepsItems TellsValue old (Some x) new) was st)
 
 module _ (b : List ℕ) {items : List Item} {old : Option (List ℕ)} (new : Option (List ℕ)) {out : Result RawBsonRef Error} where
-  -- the first fault of the array b is met
+  -- the first fault of the array b comes
   pub HasReadItems-value_fault : {e : Error} → HasReadItems (drop 4 b) items old → StepsItems TellsValue old (Some out) new → out ≡ Err e
       → (fault : KeyedFault) × HasFirstFault b fault × Says e fault
   HasReadItems-value_fault {e = e} h st was =

@@ -30,7 +30,7 @@ HoldsRow-more {key = key} {left = left} {v = v} {pairs = pairs} h adds proper = 
   means = MeanTheirValues-more pairs key v h.means (adds.means proper);
 }
 
--- the next failed, with whose error the row is left
+-- the next one failed, and the row ends with its error
 pub RefusesRow-at : {X : Type 0} {b : List ℕ} {done : List (List ℕ × RawValue)} (e : Error) (key : List ℕ) (v : RawValue) (todo : List (List ℕ × RawValue))
     (left : List ℕ) (x : Result X Error) → HoldsRow b done → Appends b key v (Err e) left → IsErrAnd x (λ y. y ≡ e)
     → IfErr x (RefusesRow (done ++ (key, v) ∷ todo))

@@ -1,4 +1,4 @@
--- `==` of two owned values holds exactly where they are of one variant with the same fields.
+-- `==` of two owned values holds if and only if they are of one variant with the same fields.
 use Rattle.std.proofs.Common.{◌≡◌, ℕ, ℤ, Bool, true, false, List, [], ◌∷◌, Option, Some, None, String, Global, refl, ap, sym, subst, inl, inr, Decides}
 use Rattle.std.specs.Cmp.{booleans_Decides}
 use Rattle.std.specs.String.{string_bytes, string_eq}
@@ -31,7 +31,7 @@ use Rattle.raw_bson.specs.contracts.bson.RawBsonPartialEq.TheImpl as eqs
 abbrev equal : RawBson → RawBson → Bool
 equal = eqs.ghosts.eq
 
--- what `==` compares: what a value stands for, and its count if it is an array
+-- what `==` compares: the value shown, and the count of an array
 abbrev Shown : Type 0
 Shown = RawValue × Option ℕ
 
@@ -47,7 +47,7 @@ uncounted v = (v, None)
 abbrev IsDecided : RawBson → RawBson → Type 0
 IsDecided x y = Decides (equal x y) (shown x ≡ shown y)
 
--- What decides whether two values stand for the same decides whether they show the same, if they are no arrays.
+-- What decides whether two values are equal decides whether they show the same, if they aren't arrays.
 of_value : {v w : RawValue} {r : Bool} → Decides r (v ≡ w) → Decides r (uncounted v ≡ uncounted w)
 of_value {r = r} d = along r r refl d (λ p. ap uncounted p) (λ q. ap (λ s. s.0) q)
 
@@ -139,7 +139,7 @@ same_pointer a b = of_leaf (joined _ _ (same_text a.namespace b.namespace) (byte
 pub always : {P : Type 0} → P → Decides true P
 always p = (λ q. p, λ q. refl)
 
--- the place of a variant, told from what its values show
+-- the place of a variant, from what its values show
 abbrev pub leaf_place : Leaf → ℕ
 leaf_place (double _) = 0
 leaf_place (string _) = 1
@@ -160,14 +160,14 @@ leaf_place max_key = 18
 leaf_place min_key = 19
 leaf_place (db_pointer _ _) = 20
 
--- the same, told from what a value stands for
+-- the same, from the value shown
 abbrev pub value_place : RawValue → ℕ
 value_place (single l) = leaf_place l
 value_place (array _) = 2
 value_place (document _) = 3
 value_place (scoped _ _) = 8
 
--- the same, told from all that it shows
+-- the same, from all that is shown
 abbrev place : Shown → ℕ
 place s = value_place s.0
 
@@ -246,7 +246,7 @@ tests_of (Fs ∷ Fss) made = (λ u v. equal (made (inl u)) (made (inl v)), tests
 abbrev tests : Each Bool bson.enum.parts
 tests = tests_of bson.enum.parts make
 
--- one variant, and those behind it
+-- one variant, and those after it
 infixr 20 ◌▹◌
 pub ◌▹◌ : {A B : Type 0} → A → B → A × B
 a ▹ b = (a, b)

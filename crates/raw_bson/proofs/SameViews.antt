@@ -1,4 +1,4 @@
--- `==` of two borrowed values holds exactly where they view the same value.
+-- `==` of two borrowed values holds if and only if they view the same value.
 use Rattle.std.proofs.Common.{◌≡◌, ◌∙◌, ℕ, ℤ, Bool, true, false, List, [], ◌∷◌, refl, ap, sym, subst, inl, inr, Decides}
 use Rattle.std.proofs.lemmas.Bool.{false≢true}
 use Rattle.std.specs.Cmp.{booleans_Decides}
@@ -235,7 +235,7 @@ same_view x y =
     (subst (λ z. IsDecided (make (view.as_values static_lft x)) z) (view.the_eta static_lft y)
     (same_made (view.as_values static_lft x) (view.as_values static_lft y)))
 
--- so does what `==` returned
+-- and so does what `==` returned
 pub view_same : (x y : RawBsonRef) {same : Bool} → same ≡ equal x y → same ≡ true → value_of x ≡ value_of y
 view_same x y is here = (same_view x y).0 (sym is ∙ here)
 

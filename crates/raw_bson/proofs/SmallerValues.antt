@@ -1,5 +1,5 @@
--- Each value of a document is smaller than it, by the measure that a check takes: what a call needs that goes down a tree
--- and calls itself for each pair of `iter`.
+-- Each value of a document is smaller than the document, by the measure of the checker. A call needs this that goes down a tree and calls
+-- itself for each pair of `iter`.
 use Rattle.std.proofs.Common.{ℕ, ◌<◌, List, [], ◌∷◌, map, arith}
 use denote.Param.Weighed.{most}
 use Rattle.bson_model.specs.Tree.{pairs_of}

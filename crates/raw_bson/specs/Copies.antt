@@ -11,11 +11,11 @@ use Rattle.raw_bson.specs.Owned.{owned_value}
 use Rattle.raw_bson.specs.declared.bson.RawBson.{RawBson}
 use Rattle.raw_bson.specs.declared.bson.RawBson.TheVariants as own
 
--- so many items has the array of these bytes, faults and the stop counted too
+-- the array with these bytes has n items, including faults and the stop
 abbrev pub CountsItems : List ℕ → ℕ → Type 0
 CountsItems b count = (items : List Item) × AreTheItems b items × (count ≡ length items)
 
--- the same value, of a regular expression the one with its options' characters in ascending order
+-- the same value, except that the options of a regular expression are in ascending order
 abbrev pub with_options_in_order : RawValue → RawValue
 with_options_in_order (single l) = single (leaf_in_order l)
 with_options_in_order v = v
@@ -30,7 +30,7 @@ pub record IsCopy (v : RawValue) (copy : RawBson) : Type 0 where
   pub value_is : owned_value copy ≡ with_options_in_order v
   pub count_is : HasItemCount copy
 
--- what copying returns for what an element means: a copy of the value, or out of memory; or the fault
+-- what copying an element with this meaning returns: a copy of the value, or out of memory; or the fault
 abbrev pub CopiesMeaning : Meaning → Result RawBson Error → Type 0
 CopiesMeaning (value v) (Ok copy) = IsCopy v copy
 CopiesMeaning (value v) (Err e) = IsOutOfMemory e

@@ -1,4 +1,4 @@
--- Copies of a document that are made element by element: each is left out, kept as it is, or replaced.
+-- Copies of a document that are made element by element. Each element is left out, kept as it is, or replaced.
 use Rattle.std.specs.Prelude.{◌≡◌, ◌⊎◌, ℕ, List, [], ◌∷◌, ◌++◌, drop, length, Option}
 use Rattle.raw_view.specs.Errors.{IsOutOfMemory, TellsFault}
 use Rattle.raw_view.specs.Frame.Number.{max_length}
@@ -9,13 +9,12 @@ use Rattle.raw_view.specs.declared.error.ErrorKind.TheVariants as kind
 use Rattle.raw_view.specs.declared.error.Reason.TheVariants as reason
 use Rattle.raw_bson.specs.Append.{HaveNoShortScope, HoldsFrames, RefusesAppend, RefusesLength, appended_bytes, value_frame}
 
--- these frames give those, where Gives says which one frame gives
+-- the copies of these frames are those; `Gives` says what one frame becomes
 abbrev pub GiveFrames : (Frame → List Frame → Type 0) → List Frame → List Frame → Type 0
 GiveFrames Gives [] given = given ≡ []
 GiveFrames Gives (f ∷ fs) given = (one : List Frame) × (more : List Frame) × Gives f one × GiveFrames Gives fs more × (given ≡ one ++ more)
 
--- the walk of b ends at its final 0, and that of a is the frames that its frames give; unless one of these is a short code
--- with scope
+-- the walk of b ends at its final 0, and the walk of a is what the frames of b become, unless one of these is a short code with scope
 pub record IsCopy (Gives : Frame → List Frame → Type 0) (b a : List ℕ) : Type 0 where
   pub frames : List Frame
   pub given : List Frame
@@ -27,12 +26,12 @@ pub record IsCopy (Gives : Frame → List Frame → Type 0) (b a : List ℕ) : T
 abbrev pub TellsStop : List ℕ → Error → Type 0
 TellsStop b e = (frames : List Frame) × (fault : Fault) × (key : Option (List ℕ)) × IsWalk (drop 4 b) frames (Stopped fault key) × TellsFault e fault key
 
--- Why no element of b, or none more, is appended to a copy that leaves elements out: memory ran out; or b has the greatest
--- length, and an element takes in its final 0.
+-- Why no more elements of b are appended to a copy that leaves elements out: memory ran out; or b has the greatest length, and an element
+-- contains its final 0.
 abbrev pub RefusesElement : List ℕ → Error → Type 0
 RefusesElement b e = IsOutOfMemory e ⊎ ((e.kind ≡ kind.MalformedValue reason.TooLong) × (length b ≡ max_length))
 
--- frames of b come before this one, and the copy holds what they give
+-- frames of b come before this one, and the copy holds what they become
 pub record CopiesUpTo (Gives : Frame → List Frame → Type 0) (b copy : List ℕ) (f : Frame) : Type 0 where
   pub before : List Frame
   pub given : List Frame
@@ -43,14 +42,14 @@ pub record CopiesUpTo (Gives : Frame → List Frame → Type 0) (b copy : List �
   pub gives : GiveFrames Gives before given
   pub holds : HaveNoShortScope given → HoldsFrames copy given
 
--- why what a frame gives isn't appended to the copy: itself, or a value under its key
+-- why what a frame becomes isn't appended to the copy: the frame itself, or a value under its key
 abbrev pub RefusesFrame : (Frame → List Frame → Type 0) → List ℕ → Frame → Error → Type 0
 RefusesFrame Gives copy f e =
     (Gives f (f ∷ []) × RefusesLength (length (appended_bytes copy f)) e.kind)
     ⊎ ((v : RawValue) × Gives f (value_frame f.key v ∷ []) × RefusesAppend copy f.key v e.kind)
 
--- Why such a copy of b isn't made: memory ran out; the walk stops; or behind what was copied what a frame gives isn't
--- appended, or can't be had, of which Inside says why.
+-- Why such a copy of b isn't made: memory ran out; or the walk stops; or after what was copied, what a frame becomes can't be appended, or
+-- can't be computed, for which `Inside` gives the reason.
 pub record EndsCopy (Gives : Frame → List Frame → Type 0) (Inside : Frame → Error → Type 0) (b : List ℕ) (e : Error) : Type 0 where
   pub why :
       IsOutOfMemory e

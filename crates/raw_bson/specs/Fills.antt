@@ -1,4 +1,4 @@
--- Buffers that are filled from iterators, one append or push an item.
+-- Buffers that are filled from iterators, by one append or push for each item.
 use Rattle.std.specs.Prelude.{◌≡◌, ◌⊎◌, ℕ, ◌+◌, List, [], ◌∷◌, ◌++◌, Option, Result, Ok, Err, decimal}
 use Rattle.std.specs.Iterator.{Yields, Drains}
 use denote.Ref.{Bor}
@@ -18,20 +18,20 @@ empty_document = 5 ∷ 0 ∷ 0 ∷ 0 ∷ 0 ∷ []
 abbrev pub empty_array : ArrayBytes
 empty_array = record { bytes = empty_document; count = 0 }
 
--- Takes says what one item returns and leaves; X is what a buffer is seen as, A an item.
+-- `Takes` says what one item returns and what the buffer is after it. X is what is seen of a buffer, and A an item.
 module _ {X A : Type 0} (Takes : X → A → Result (Unit {0}) Error → X → Type 0) where
-  -- each item in order is taken, and leaves the buffer for the next
+  -- each item in order is taken, and the next is taken by the buffer after it
   abbrev pub TakesEach : X → List A → X → Type 0
   TakesEach b [] left = left ≡ b
   TakesEach b (x ∷ xs) left = (mid : X) × Takes b x (Ok tt) mid × TakesEach mid xs left
 
-  -- the iterator gives these items and then none, and the buffer `empty` takes each
+  -- the iterator yields these items and then none, and the buffer `empty` takes each
   pub record TakesAll {S : Type 0} (empty : X) (next_gives : S → Option A → S → Type 0) (s : S) (full : X) : Type 0 where
     pub items : List A
     pub given : Drains next_gives s items
     pub taken : TakesEach empty items full
 
-  -- the iterator gives items that the buffer `empty` takes, and then one that fails with this error
+  -- the iterator yields items that the buffer `empty` takes, and then one that fails with this error
   pub record FailsAtOne {S : Type 0} (empty : X) (next_gives : S → Option A → S → Type 0) (s : S) (e : Error) : Type 0 where
     pub items : List A
     pub last : A
@@ -41,9 +41,8 @@ module _ {X A : Type 0} (Takes : X → A → Result (Unit {0}) Error → X → T
     pub taken : TakesEach empty items left
     pub failed : Takes left last (Err e) left
 
-  -- What filling the buffer `empty` from an iterator returns, where next_gives says what its calls give: all
-  -- items taken in order; or the error of the first one that fails, or out of memory for the empty
-  -- buffer.
+  -- What filling the buffer `empty` from an iterator returns: all items taken in order; or the error of the first one that fails, or out of
+  -- memory for the empty buffer. `next_gives` says what the calls of the iterator return.
   abbrev pub Fills : {S : Type 0} → X → (S → Option A → S → Type 0) → S → Result X Error → Type 0
   Fills empty next_gives s (Ok full) = TakesAll empty next_gives s full
   Fills empty next_gives s (Err e) = IsOutOfMemory e ⊎ FailsAtOne empty next_gives s e
@@ -61,7 +60,7 @@ abbrev pub frames_of_pairs : List (Bor (List ℕ) × RawBson) → List Frame
 frames_of_pairs [] = []
 frames_of_pairs (pair ∷ pairs) = value_frame pair.0.now (owned_value pair.1) ∷ frames_of_pairs pairs
 
--- the frames of these values under the decimals from n on
+-- the frames of these values, with the decimals from n on as keys
 abbrev pub frames_from : ℕ → List RawBson → List Frame
 frames_from n [] = []
 frames_from n (v ∷ values) = value_frame (decimal n) (owned_value v) ∷ frames_from (n + 1) values

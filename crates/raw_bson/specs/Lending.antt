@@ -20,7 +20,7 @@ HoldsDocument v (Some lent) = v ≡ own.Document lent.now
 HoldsDocument (own.Document _) None = ⊥
 HoldsDocument v None = Unit {0}
 
--- afterwards the value holds the array as it was left; where none was lent, it is what it was
+-- afterwards the value holds the array as it was left; if none was lent, it is unchanged
 abbrev pub LendsArray : MutBor RawBson → Option (MutBor ArrayBytes) → Fml
 LendsArray s r = LendsIf value.the_row array_buf.the_row s r own.Array s.now
 

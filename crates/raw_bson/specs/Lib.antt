@@ -11,7 +11,7 @@ pub mod Folds
 pub mod Lending
 pub mod Owned
 pub mod Rows
--- what the crates below say, for whoever lists this crate alone
+-- definitions of the crates below, for those who list only this crate
 pub use Rattle.bson_model.specs.Bytes
 pub use Rattle.bson_model.specs.Leaf
 pub use Rattle.bson_model.specs.Options
@@ -47,7 +47,7 @@ pub use Rattle.raw_view.specs.Frame.Number
 pub use Rattle.raw_view.specs.OneReading
 pub use Rattle.raw_view.specs.Meaning.Typed
 pub use Rattle.raw_view.specs.Meaning.Value
--- types of the crates below that clauses speak of
+-- types of the crates below that clauses mention
 pub use Rattle.bson_model.specs.declared.binaries.Binary
 pub use Rattle.bson_model.specs.declared.binaries.BinarySubtype
 pub use Rattle.bson_model.specs.declared.bson.Bson

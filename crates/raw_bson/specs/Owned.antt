@@ -1,4 +1,4 @@
--- What owned values stand for.
+-- The values that owned values show.
 use Rattle.std.specs.Prelude.{◌≡◌, ℕ, Option, None, Some}
 use Rattle.std.specs.String.{string_bytes}
 use Rattle.bson_model.specs.Leaf.{double, string, binary, undefined, object_id, boolean, date_time, null, regular_expression, db_pointer, javascript_code, symbol, int32, timestamp, int64, decimal128, max_key, min_key}
@@ -7,7 +7,7 @@ use Rattle.raw_view.specs.Meaning.{RawValue, single, document, array, scoped}
 use Rattle.raw_bson.specs.declared.bson.RawBson.{RawBson}
 use Rattle.raw_bson.specs.declared.bson.RawBson.TheVariants as own
 
--- the value that an owned value stands for; of an array its bytes, without its count
+-- the value that an owned value shows; for an array its bytes, without its count
 abbrev pub owned_value : RawBson → RawValue
 owned_value (own.Double x) = single (double x.0)
 owned_value (own.String x) = single (string (string_bytes x))
@@ -36,6 +36,6 @@ abbrev pub count_in : RawBson → Option ℕ
 count_in (own.Array x) = Some x.count
 count_in _ = None
 
--- two values of one variant with the same fields
+-- the two values are of one variant with the same fields
 abbrev pub IsSameOwned : RawBson → RawBson → Type 0
 IsSameOwned x y = (owned_value y ≡ owned_value x) × (count_in y ≡ count_in x)

@@ -16,13 +16,13 @@ abbrev pub MeanTheirValues : List (List ℕ × RawValue) → Type 0
 MeanTheirValues [] = Unit {0}
 MeanTheirValues (p ∷ pairs) = Means (value_frame p.0 p.1) (value p.1) × MeanTheirValues pairs
 
--- the document b holds exactly these keys and values, in order
+-- the document b holds these keys and values, in order, and nothing else
 pub record HoldsRow (b : List ℕ) (pairs : List (List ℕ × RawValue)) : Type 0 where
   pub frames : HoldsFrames b (frames_of_row pairs)
   pub means : MeanTheirValues pairs
 
--- Why these are not all appended to a new document: memory ran out for the new one; or the append of one failed, where
--- the document held those before it.
+-- Why not all of these are appended to a new document: memory ran out for the new one; or an append failed, when the document held those
+-- before it.
 abbrev pub RefusesRow : List (List ℕ × RawValue) → Error → Type 0
 RefusesRow pairs e =
     IsOutOfMemory e

@@ -1,3 +1,4 @@
+//! Accessors of an owned value, one for each kind.
 use crate::bson::{RawBson, binary_ref, pointer_ref, regex_ref};
 use bson_model::{DateTime, DoubleBits, ObjectId, Timestamp};
 use raw_view::{
@@ -148,7 +149,7 @@ impl RawBson {
         }
     }
 
-    /// `Some` exactly for null.
+    /// `Some` if and only if the value is null.
     pub fn as_null(&self) -> Option<()>
         ensures meaning { Shows typed.null_value variants.Null (owned_value self.now) result }
     {

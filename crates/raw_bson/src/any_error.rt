@@ -1,3 +1,4 @@
+//! The error that every other error of the library turns into.
 ghost use Rattle.std.specs.Prelude.{◌≡◌};
 ghost use Rattle.std.specs.Option.{option_copied};
 ghost use Rattle.raw_bson.specs.AnyErrors.{any_key};
@@ -7,8 +8,8 @@ use raw_view::{Error, ValueAccessError};
 use std::alloc::{AllocError, AllocFailed};
 use std::fmt;
 
-/// Any error of this library: of reading and writing, or of typed access. By `?` both turn into it, and so does out of
-/// memory, as they are: no conversion takes memory.
+/// Any error of this library: of reading and writing, or of typed access. `?` turns both into it, and out of
+/// memory too. No conversion takes memory.
 /// ```
 /// let missing = AnyError::from(RawDocumentBuf::new(alloc)?.get_i32("a").unwrap_err());
 /// assert_eq!(rt; missing.key(), Some("a"));
@@ -22,7 +23,7 @@ pub enum AnyError {
 }
 
 impl AnyError {
-    /// The key that the error carries: of the element at fault, or the one that a getter was asked for.
+    /// The key that the error carries: that of the element at fault, or the one that a getter was asked for.
     pub fn key(&self) -> Option<&str>
         ensures { option_copied result ≡ any_key self.now }
     {

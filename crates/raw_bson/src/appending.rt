@@ -1,4 +1,4 @@
-//! One element more in a document's bytes.
+//! Appends one element to the bytes of a document.
 
 ghost use Rattle.std.specs.Prelude.{◌≡◌, ◌≤◌, ◌<◌, ◌+◌, ◌-◌, ◌++◌, ◌∷◌, [], None, length, take, vec_len, vec_capacity, OnOk, IfErr};
 ghost use Rattle.raw_bson.specs.Append.{AddsValue, Appends, AppendsFrame, KeepsWalk, RefusesLength, frame_bytes, value_frame};
@@ -15,7 +15,7 @@ use raw_tree::{
 };
 use raw_view::{Error, ErrorKind, RawBsonRef, RawElement, Reason, Result};
 
-/// The error of a 0 in a key, in a pattern or in options.
+/// The error for a 0 in a key, in a pattern or in options.
 #[cold]
 #[inline(never)]
 fn interior_nul() -> Error
@@ -25,7 +25,7 @@ fn interior_nul() -> Error
     Error::malformed(Reason::InteriorNul)
 }
 
-/// The error of a length that no header can say.
+/// The error for a length that no header can say.
 #[cold]
 #[inline(never)]
 fn too_long() -> Error
@@ -35,7 +35,7 @@ fn too_long() -> Error
     Error::malformed(Reason::TooLong)
 }
 
-/// Puts the element of a value in place of the last byte, and a 0 behind it, where there is room for them.
+/// Replaces the last byte by the element of a value and a 0, for which there is room.
 #[inline(always)]
 fn put_at_end(bytes: &mut Vec<u8>, key: &str, value: RawBsonRef<'_>)
     requires some { 0 < vec_len bytes.old }
@@ -51,7 +51,7 @@ fn put_at_end(bytes: &mut Vec<u8>, key: &str, value: RawBsonRef<'_>)
     bytes.push_reserved(0);
 }
 
-/// Puts an element as it is in place of the last byte, and a 0 behind it, where there is room for them.
+/// Replaces the last byte by an element as it is and a 0, for which there is room.
 #[inline(always)]
 fn put_raw_at_end(bytes: &mut Vec<u8>, element: RawElement<'_>)
     requires some { 0 < vec_len bytes.old }
@@ -64,8 +64,8 @@ fn put_raw_at_end(bytes: &mut Vec<u8>, element: RawElement<'_>)
     bytes.push_reserved(0);
 }
 
-/// Makes room for so many bytes more in a document, which stay as they are. It measures, and then reserves the
-/// whole growth.
+/// Makes room for `added` more bytes in a document, which is unchanged. It measures first, then reserves the whole
+/// growth.
 #[inline(always)]
 fn make_room(bytes: &mut Vec<u8>, added: usize) -> Result<()>
     ensures fits { OnOk result (length bytes.old.items + added ≤ max_length) }
@@ -81,8 +81,8 @@ fn make_room(bytes: &mut Vec<u8>, added: usize) -> Result<()>
     Ok(())
 }
 
-/// Appends a value to a document's bytes, with the old content unexamined. It looks for a 0, then measures,
-/// then reserves the whole growth, and only then writes.
+/// Appends a value to the bytes of a document, without looking at the old content. It looks for a 0, measures,
+/// reserves the whole growth, and only then writes.
 #[inline(always)]
 pub(crate) fn append_value(bytes: &mut Vec<u8>, key: &str, value: RawBsonRef<'_>) -> Result<()>
     requires { IsEnvelope bytes.old.items }
@@ -101,7 +101,8 @@ pub(crate) fn append_value(bytes: &mut Vec<u8>, key: &str, value: RawBsonRef<'_>
     Ok(())
 }
 
-/// Appends an element as it is to a document's bytes, with the old content and the element's value unexamined.
+/// Appends an element as it is to the bytes of a document, without looking at the old content or at the element's
+/// value.
 #[inline(always)]
 pub(crate) fn append_raw_element(bytes: &mut Vec<u8>, element: RawElement<'_>) -> Result<()>
     requires { IsEnvelope bytes.old.items }

@@ -1,3 +1,4 @@
+//! Arrays that own their bytes.
 ghost use Rattle.std.specs.Prelude.{◌≡◌, ◌≤◌, ◌+◌, ◌-◌, ◌/◌, ◌↔◌, ◌∷◌, [], decimal, IfOk, IfErr, OnOk, IsTrue, List, length};
 ghost use Rattle.raw_bson.specs.Append.{AddsValue, HoldsFrames, KeepsWalk, value_frame};
 ghost use Rattle.raw_bson.specs.Count.{Pushes};
@@ -21,8 +22,8 @@ use std::alloc::{AllocError, Global};
 use std::fmt;
 use std::marker::Model;
 
-/// The bytes of an array, owned, and the count under which the next value is pushed. A clause sees both.
-/// BSON 1.1, `array`.
+/// The bytes of an array, owned, and the count, which gives the key of the next value that is pushed. A clause
+/// sees both. BSON 1.1, `array`.
 /// ```
 /// let mut array = RawArrayBuf::new(alloc)?;
 /// array.push(RawBson::from(7))?;
@@ -46,7 +47,7 @@ impl Model for RawArrayBuf {
 }
 
 impl RawArrayBuf {
-    /// The array without values, of count 0; or out of memory.
+    /// The array without values, with count 0; or out of memory.
     pub fn new(alloc: Global) -> Result<RawArrayBuf>
         ensures empty { IfOk result (λ a. a ≡ empty_array) }
         ensures err { IfErr result IsOutOfMemory }
@@ -57,7 +58,7 @@ impl RawArrayBuf {
         })
     }
 
-    /// The array of these values, pushed in order; or the first error. The iterator has to end.
+    /// The array of these values, pushed in order; or the first error. The iterator must be finite.
     /// ```
     /// let array = RawArrayBuf::from_iter(alloc, [RawBson::from(1), RawBson::from(2)].into_iter())?;
     /// assert_eq!(rt; (array.count(), array.get_i32(1)?), (2, 2));
@@ -80,7 +81,7 @@ impl RawArrayBuf {
         Ok(array)
     }
 
-    /// An array of a document's values, and this count.
+    /// The array of a document's values, with this count.
     pub(crate) fn counted(document: RawDocumentBuf, len: usize) -> RawArrayBuf
         requires { len ≤ (length document - 4) / 2 + 1 }
         ensures bytes { result.bytes ≡ document }
@@ -96,15 +97,16 @@ impl RawArrayBuf {
         RawArray::from_doc(self.document.as_ref())
     }
 
-    /// The count under whose decimal the next value is pushed. Onto damage it isn't the number of items.
+    /// The count. Its decimal is the key of the next value that is pushed. It isn't the number of items if values
+    /// are pushed onto a damaged array.
     pub fn count(&self) -> usize
         ensures { result ≡ self.now.count }
     {
         self.len
     }
 
-    /// Appends a value under the decimal of the count, and adds one to the count. It fails as an append
-    /// does, and then the bytes and the count are as they were. The value is dropped.
+    /// Appends a value with the decimal of the count as its key, and adds one to the count. It fails as an append
+    /// does; then the bytes and the count are unchanged. The value is dropped.
     /// ```
     /// let mut array = RawArrayBuf::new(alloc)?;
     /// array.push(RawBson::from_str(alloc, "x")?)?;
@@ -146,7 +148,7 @@ impl RawArrayBuf {
         self.document.as_bytes()
     }
 
-    /// Whether iteration yields no item, which is exactly where there are five bytes.
+    /// Whether iteration yields no item. It yields none if and only if the array has five bytes.
     pub fn is_empty(&self) -> bool
         ensures five { IsTrue result ↔ (length self.now.bytes ≡ 5) }
         ensures no_item { IsTrue result ↔ AreItems self.now.bytes [] }
@@ -154,9 +156,8 @@ impl RawArrayBuf {
         self.document.is_empty()
     }
 
-    /// The values in order, each fault in its value's place, and then the fault at which the elements stop,
-    /// if there is one. Nothing is copied but the key that a fault carries. On n bytes at most
-    /// (n - 4) / 2 + 1 items.
+    /// The values in order, each fault in the place of its value, then the fault at which the elements stop, if
+    /// there is one. Only the key of a fault is copied. There are at most (n - 4) / 2 + 1 items for n bytes.
     pub fn iter(&self) -> RawArrayIter<'_>
         ensures begins { result ≡ Some (drop 4 self.now.bytes) }
         ensures items { (outs : List (Result RawBsonRef Error)) →
@@ -166,8 +167,8 @@ impl RawArrayBuf {
         self.as_ref().iter(self.document.alloc())
     }
 
-    /// The item of this number, counted from 0, faults counted too: its value, or its fault. The fault at
-    /// which the elements stop is the last item; past it `None`. Nothing of another item is returned.
+    /// The item at `index`, counted from 0: a value, or its fault. Faults and the stop count as items; the stop is
+    /// the last one. After the last item it is `None`.
     pub fn get(&self, index: usize) -> Result<Option<RawBsonRef<'_>>>
         ensures { (found : Option Meaning) × IsAt self.now.bytes index found
             × TellsFound result found }
@@ -175,21 +176,21 @@ impl RawArrayBuf {
         self.as_ref().get(self.document.alloc(), index)
     }
 
-    /// The 64 bits of a double at this place, counted from 0; else why there is none, with the index in decimal.
+    /// The 64 bits of the double at `index`, counted from 0, or an error with the index in decimal.
     pub fn get_f64(&self, index: usize) -> ValueAccessResult<DoubleBits>
         ensures { GetsAt typed.f64_value variants.Double self.now.bytes index result }
     {
         self.as_ref().get_f64(self.document.alloc(), index)
     }
 
-    /// The text of a string at this place, counted from 0; else why there is none, with the index in decimal.
+    /// The text of the string at `index`, counted from 0, or an error with the index in decimal.
     pub fn get_str(&self, index: usize) -> ValueAccessResult<&str>
         ensures { GetsAt typed.str_value variants.String self.now.bytes index result }
     {
         self.as_ref().get_str(self.document.alloc(), index)
     }
 
-    /// A nested document at this place, counted from 0; else why there is none, with the index in decimal.
+    /// The nested document at `index`, counted from 0, or an error with the index in decimal.
     pub fn get_document(&self, index: usize) -> ValueAccessResult<RawDocument<'_>>
         ensures { GetsAt typed.document_value variants.EmbeddedDocument
             self.now.bytes index result }
@@ -197,63 +198,63 @@ impl RawArrayBuf {
         self.as_ref().get_document(self.document.alloc(), index)
     }
 
-    /// An array at this place, counted from 0; else why there is none, with the index in decimal.
+    /// The array at `index`, counted from 0, or an error with the index in decimal.
     pub fn get_array(&self, index: usize) -> ValueAccessResult<RawArray<'_>>
         ensures { GetsAt typed.array_value variants.Array self.now.bytes index result }
     {
         self.as_ref().get_array(self.document.alloc(), index)
     }
 
-    /// Bytes and their subtype at this place, counted from 0; else why there is none, with the index in decimal.
+    /// The bytes and the subtype of the binary at `index`, counted from 0, or an error with the index in decimal.
     pub fn get_binary(&self, index: usize) -> ValueAccessResult<RawBinaryRef<'_>>
         ensures { GetsAt typed.binary_value variants.Binary self.now.bytes index result }
     {
         self.as_ref().get_binary(self.document.alloc(), index)
     }
 
-    /// An ObjectId at this place, counted from 0; else why there is none, with the index in decimal.
+    /// The ObjectId at `index`, counted from 0, or an error with the index in decimal.
     pub fn get_object_id(&self, index: usize) -> ValueAccessResult<ObjectId>
         ensures { GetsAt typed.object_id_value variants.ObjectId self.now.bytes index result }
     {
         self.as_ref().get_object_id(self.document.alloc(), index)
     }
 
-    /// A boolean at this place, counted from 0; else why there is none, with the index in decimal.
+    /// The boolean at `index`, counted from 0, or an error with the index in decimal.
     pub fn get_bool(&self, index: usize) -> ValueAccessResult<bool>
         ensures { GetsAt typed.bool_value variants.Boolean self.now.bytes index result }
     {
         self.as_ref().get_bool(self.document.alloc(), index)
     }
 
-    /// A time at this place, counted from 0; else why there is none, with the index in decimal.
+    /// The date at `index`, counted from 0, or an error with the index in decimal.
     pub fn get_datetime(&self, index: usize) -> ValueAccessResult<DateTime>
         ensures { GetsAt typed.datetime_value variants.DateTime self.now.bytes index result }
     {
         self.as_ref().get_datetime(self.document.alloc(), index)
     }
 
-    /// A regular expression at this place, counted from 0; else why there is none, with the index in decimal.
+    /// The regular expression at `index`, counted from 0, or an error with the index in decimal.
     pub fn get_regex(&self, index: usize) -> ValueAccessResult<RawRegexRef<'_>>
         ensures { GetsAt typed.regex_value variants.RegularExpression self.now.bytes index result }
     {
         self.as_ref().get_regex(self.document.alloc(), index)
     }
 
-    /// A timestamp at this place, counted from 0; else why there is none, with the index in decimal.
+    /// The timestamp at `index`, counted from 0, or an error with the index in decimal.
     pub fn get_timestamp(&self, index: usize) -> ValueAccessResult<Timestamp>
         ensures { GetsAt typed.timestamp_value variants.Timestamp self.now.bytes index result }
     {
         self.as_ref().get_timestamp(self.document.alloc(), index)
     }
 
-    /// A signed 32-bit number at this place, counted from 0; else why there is none, with the index in decimal.
+    /// The signed 32-bit number at `index`, counted from 0, or an error with the index in decimal.
     pub fn get_i32(&self, index: usize) -> ValueAccessResult<i32>
         ensures { GetsAt typed.i32_value variants.Int32 self.now.bytes index result }
     {
         self.as_ref().get_i32(self.document.alloc(), index)
     }
 
-    /// A signed 64-bit number at this place, counted from 0; else why there is none, with the index in decimal.
+    /// The signed 64-bit number at `index`, counted from 0, or an error with the index in decimal.
     pub fn get_i64(&self, index: usize) -> ValueAccessResult<i64>
         ensures { GetsAt typed.i64_value variants.Int64 self.now.bytes index result }
     {

@@ -1,3 +1,4 @@
+//! Values that own their parts.
 ghost use Rattle.std.specs.Prelude.{◌≡◌, IfOk, IfErr};
 ghost use Rattle.std.specs.String.{string_bytes};
 ghost use Rattle.std.specs.Borrow.{sem};
@@ -281,9 +282,9 @@ impl RawBson {
         Ok(RawBson::String(String::from_str(alloc, text)?))
     }
 
-    /// The array, to change it; `None` for every other kind. The value stays an array.
+    /// The array, to be changed; `None` for every other kind. The value remains an array.
     pub fn as_array_mut(&mut self) -> Option<&mut RawArrayBuf>
-        // when the loan ends, the value holds the array as it is then; where none was lent, it is as it was
+        // when the loan ends, the value holds the array as it is then; if none was lent, it is unchanged
         ensures* writes_back { sem 𝓛 (LendsArray self.entry result) }
         ensures value { HoldsArray self.old result }
     {
@@ -293,9 +294,9 @@ impl RawBson {
         }
     }
 
-    /// The nested document, to change it; `None` for every other kind. The value stays a document.
+    /// The nested document, to be changed; `None` for every other kind. The value remains a document.
     pub fn as_document_mut(&mut self) -> Option<&mut RawDocumentBuf>
-        // when the loan ends, the value holds the document as it is then; where none was lent, it is as it was
+        // when the loan ends, the value holds the document as it is then; if none was lent, it is unchanged
         ensures* writes_back { sem 𝓛 (LendsDocument self.entry result) }
         ensures value { HoldsDocument self.old result }
     {

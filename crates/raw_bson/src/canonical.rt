@@ -1,3 +1,4 @@
+//! The canonical form of a document.
 ghost use Rattle.std.specs.Prelude.{◌≢◌, IfOk, IfErr};
 ghost use Rattle.raw_bson.specs.Conversion.{RefusesForm};
 ghost use Rattle.raw_tree.specs.CanonicalForm.{IsCanonicalForm};
@@ -9,10 +10,10 @@ use raw_tree::document_from_raw;
 use raw_view::{ErrorKind, RawDocument, Reason, Result};
 use std::alloc::Global;
 
-/// The canonical form of a document: the bytes that its tree is written as. Documents with equal trees, and
-/// no others, have equal canonical forms; one that is canonical is its own. The error is the first of:
-/// no sound envelope; the first fault at any level, with that fault's key; over 2147483647 bytes; out of
-/// memory. A document has no more than one tree, and either that or a first fault. BSON 1.1, `document`.
+/// The canonical form of a document, which is the encoding of its tree. Documents have equal canonical forms if
+/// and only if their trees are equal; a canonical document is its own form. The error is the first of these that
+/// applies: no sound envelope; the first fault at any level, with that fault's key; a form of more than 2147483647
+/// bytes; out of memory. A document has exactly one tree or exactly one first fault. BSON 1.1, `document`.
 /// ```
 /// let repeated = b"\x13\0\0\0\x10a\0\x01\0\0\0\x10a\0\x02\0\0\0\0";
 /// let form = canonical_bytes(alloc, repeated)?;

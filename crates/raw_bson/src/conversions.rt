@@ -24,9 +24,9 @@ use std::alloc::Global;
 use std::mem;
 
 impl RawDocumentBuf {
-    /// The bytes of a document. It fails, without a key, first if a key, a pattern or options at any
-    /// depth hold a 0, then if the bytes would be over 2147483647, and then if memory runs out. What
-    /// `encode` says of trees that come back holds here, too. BSON 1.1, `document`.
+    /// The bytes of a document. It fails, without a key, for the first of these reasons: a key, a pattern or
+    /// options at any depth contain a 0; the bytes would be more than 2147483647; memory runs out. What `encode`
+    /// says of trees that are read back holds here too. BSON 1.1, `document`.
     /// ```
     /// let mut tree = Document::new(alloc);
     /// tree.put(String::from_str(alloc, "a")?, Bson::Int32(1))?;
@@ -49,7 +49,7 @@ impl RawDocumentBuf {
         RawDocumentBuf::from_document(alloc, document)
     }
 
-    /// The tree of the document, as `document_from_raw` gives it.
+    /// The tree of the document, as `document_from_raw` returns it.
     /// ```
     /// let mut document = RawDocumentBuf::new(alloc)?;
     /// document.append("a", RawBson::from(1))?;
@@ -64,7 +64,7 @@ impl RawDocumentBuf {
         document_from_raw(self.alloc(), self.as_ref())
     }
 
-    /// The tree of the document within limits, as `document_from_raw_within` gives it.
+    /// The tree of the document within limits, as `document_from_raw_within` returns it.
     /// ```
     /// let document = RawDocumentBuf::new(alloc)?;
     /// assert!(rt; document.to_document_within(Limits { bytes: 1000, depth: 10 })?.is_empty());
@@ -80,7 +80,7 @@ impl RawDocumentBuf {
         document_from_raw_within(self.alloc(), self.as_ref(), limits)
     }
 
-    /// The tree of the document, as `document_from_raw` gives it. The buffer is dropped.
+    /// The tree of the document, as `document_from_raw` returns it. The buffer is dropped.
     pub fn into_document(self) -> Result<Document>
         ensures tree { IfOk result (λ d. Reads self (tree_of_document d)) }
         ensures fault { IfErr result (TellsFirstFault self) }
@@ -91,7 +91,7 @@ impl RawDocumentBuf {
     }
 }
 
-/// The array of a list, its keys the decimals from 0, and the list's length as its count.
+/// The array of a list. Its keys are the decimals from 0, and its count is the length of the list.
 fn array_of(alloc: Global, values: &[Bson]) -> Result<RawArrayBuf>
     ensures ok { IfOk result (λ a. IsEncoded (tree_of_list values.now) a.bytes) }
     ensures count { IfOk result (λ a. a.count ≡ length values.now) }
@@ -116,14 +116,14 @@ fn owned_document(alloc: Global, document: &Document) -> Result<RawBson>
     Ok(RawBson::Document(RawDocumentBuf::from_document(alloc, document)?))
 }
 
-/// The text, which is left empty. It takes no memory.
+/// The text, which is replaced by an empty one. It takes no memory.
 fn taken(alloc: Global, text: &mut String) -> String
     ensures { result ≡ text.old }
 {
     mem::replace(text, String::new(alloc))
 }
 
-/// The code, of which nothing is left, with the bytes of its scope.
+/// The code, which is replaced by an empty one, with the bytes of its scope.
 fn owned_code(alloc: Global, code: &mut JavaScriptCodeWithScope) -> Result<RawBson>
     ensures { BecomesRawBson
         (code_with_scope (string_bytes code.old.code)
@@ -136,10 +136,10 @@ fn owned_code(alloc: Global, code: &mut JavaScriptCodeWithScope) -> Result<RawBs
 }
 
 impl RawBson {
-    /// The value as a tree. A nested document, an array and a scope are read, as `document_from_raw` and
-    /// `list_from_raw` do it; on their first fault, and where memory runs out for them, the value is dropped.
-    /// Every other value is moved as it is, also the options of a regular expression, and takes no memory.
-    /// The value has no more than one such tree, and either that or a first fault.
+    /// The value as a tree. A nested document, an array and a scope are read as by `document_from_raw` and
+    /// `list_from_raw`; if that fails, with their first fault or out of memory, the value is dropped. Every other
+    /// value is moved as it is, even the options of a regular expression, and takes no memory. The value has
+    /// exactly one tree or exactly one first fault.
     /// ```
     /// assert_eq!(rt; RawBson::from(7).into_bson(alloc)?, Bson::Int32(7));
     /// ```
@@ -177,9 +177,9 @@ impl RawBson {
         }
     }
 
-    /// A tree as a value that owns its bytes. A document, a list and a scope are written, and fail as by
-    /// `encode`; the value is then dropped. The count of an array is the length of the list. Every other
-    /// value is moved as it is and takes no memory.
+    /// A tree as a value that owns its bytes. A document, a list and a scope are written as by `encode`; if that
+    /// fails, the value is dropped. The count of an array is the length of the list. Every other value is moved as
+    /// it is and takes no memory.
     pub fn try_from_bson(alloc: Global, mut value: Bson) -> Result<RawBson>
         ensures { BecomesRawBson (tree_of value) result }
     {

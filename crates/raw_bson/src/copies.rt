@@ -1,3 +1,4 @@
+//! Copies of views and of borrowed values.
 ghost use Rattle.std.specs.Prelude.{◌≡◌, ◌≤◌, ◌+◌, ◌-◌, ◌/◌, ℕ, List, length, IfOk, IfErr};
 ghost use Rattle.std.specs.String.{string_bytes};
 ghost use Rattle.raw_bson.specs.Copies.{CountsItems, CopiesMeaning, IsCopy};
@@ -28,7 +29,7 @@ pub trait ToRawDocumentBuf {
     /// The bytes of the document.
     ghost shown: { Self → List ℕ };
 
-    /// A buffer of the same bytes; the only error is out of memory.
+    /// A buffer with the same bytes. The only error is out of memory.
     fn to_raw_document_buf(self, alloc: Global) -> Result<RawDocumentBuf>
         ensures copied { IfOk result (λ copy. copy ≡ shown self) }
         ensures err { IfErr result IsOutOfMemory };
@@ -39,8 +40,8 @@ pub trait ToRawArrayBuf {
     /// The bytes of the array.
     ghost shown: { Self → List ℕ };
 
-    /// A buffer of the same bytes, whose count is the number of its items, faults and the stop counted too;
-    /// the only error is out of memory.
+    /// A buffer with the same bytes. Its count is the number of its items, including faults and the stop. The only
+    /// error is out of memory.
     fn to_raw_array_buf(self, alloc: Global) -> Result<RawArrayBuf>
         ensures copied { IfOk result (λ copy. copy.bytes ≡ shown self) }
         ensures counted { IfOk result (λ copy. CountsItems (shown self) copy.count) }
@@ -53,11 +54,11 @@ pub trait ToRawArrayBuf {
 /// assert_eq!(rt; value.as_str(), Some("x"));
 /// ```
 pub trait ToRawBson {
-    /// What is copied means a value; an element may mean a fault.
+    /// What is copied means a value, except that an element may mean a fault.
     ghost means: { Self → Meaning → Type 0 };
 
-    /// The value with parts of its own. The options of a regular expression are put in order. The errors are
-    /// out of memory and, for an element, the fault that its payload means.
+    /// The value with parts of its own. The options of a regular expression are put in order. The error is out of
+    /// memory or, for an element, the fault that its payload means.
     fn to_raw_bson(self, alloc: Global) -> Result<RawBson>
         ensures copies { (m : Meaning) × means self m × CopiesMeaning m result };
 }
@@ -73,7 +74,7 @@ impl ToRawDocumentBuf for RawDocument<'_> {
     }
 }
 
-/// How many items the array has, faults and the stop counted too. No value is resolved.
+/// The number of items of the array, including faults and the stop. No value is decoded.
 fn item_count(alloc: Global, array: RawArray<'_>) -> usize
     ensures bound { result ≤ (length (array_bytes_of array.entry) - 4) / 2 + 1 }
     ensures items { CountsItems (array_bytes_of array.entry) result }

@@ -1,3 +1,4 @@
+//! Documents and arrays that are borrowed or owned.
 ghost use Rattle.std.specs.Prelude.{◌≡◌};
 ghost use Rattle.raw_view.specs.Document.{bytes_of};
 ghost use Rattle.raw_view.specs.Meaning.Value.{array_bytes_of};
@@ -14,7 +15,7 @@ use raw_view::{RawArray, RawDocument};
 /// ```
 #[derive(Drop)]
 pub enum CowRawDocument<'a> {
-    /// a view of bytes that another holds
+    /// a view of bytes that are owned elsewhere
     Borrowed(RawDocument<'a>),
     /// a buffer
     Owned(RawDocumentBuf),
@@ -69,7 +70,7 @@ impl<'a> From<RawDocumentBuf> for CowRawDocument<'a> {
 /// An array that is borrowed or owned.
 #[derive(Drop)]
 pub enum CowRawArray<'a> {
-    /// a view of bytes that another holds
+    /// a view of bytes that are owned elsewhere
     Borrowed(RawArray<'a>),
     /// a buffer
     Owned(RawArrayBuf),

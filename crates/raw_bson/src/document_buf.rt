@@ -1,3 +1,4 @@
+//! Documents that own their bytes.
 ghost use Rattle.std.specs.Prelude.{◌≡◌, ◌↔◌, ℕ, List, IsOk, IfOk, IfErr, OnOk};
 ghost use denote.Ref.{Bor};
 ghost use Rattle.raw_bson.specs.Append.{AddsValue, Appends, AppendsFrame, HoldsFrames, KeepsWalk, value_frame};
@@ -19,8 +20,8 @@ use std::alloc::{AllocError, Global};
 use std::fmt;
 use std::marker::Model;
 
-/// The bytes of one document with a sound envelope, owned. What is inside is looked at only where a
-/// call needs it. A clause sees the bytes. BSON 1.1, `document`.
+/// The bytes of one document with a sound envelope, owned. The content is read only where a call needs it. A
+/// clause sees the bytes. BSON 1.1, `document`.
 /// ```
 /// let mut document = RawDocumentBuf::new(alloc)?;
 /// document.append("a", RawBson::from(1))?;
@@ -53,7 +54,7 @@ impl RawDocumentBuf {
         })
     }
 
-    /// The document of these pairs, appended in order; or the first error. The iterator has to end.
+    /// The document of these pairs, appended in order; or the first error. The iterator must be finite.
     /// ```
     /// let pairs = [("a", RawBson::from(1)), ("b", RawBson::Null)];
     /// let document = RawDocumentBuf::from_iter(alloc, pairs.into_iter())?;
@@ -77,8 +78,8 @@ impl RawDocumentBuf {
         Ok(document)
     }
 
-    /// A buffer of these bytes, for a sound envelope; else the first of: too short, wrong length, not
-    /// terminated, without a key, and the bytes are dropped. It takes no memory.
+    /// A buffer of these bytes if their envelope is sound. Otherwise the bytes are dropped, and the error, without
+    /// a key, is the first of these that applies: too short, wrong length, not terminated. It takes no memory.
     /// ```
     /// let bytes = Vec::from_slice(alloc, b"\x05\0\0\0\0")?;
     /// assert!(rt; RawDocumentBuf::from_bytes(bytes)?.is_empty());
@@ -128,11 +129,12 @@ impl RawDocumentBuf {
         &self.bytes
     }
 
-    /// Appends a value under a key, with the old content unexamined. It fails, in this order: a 0 in the
-    /// key, in a pattern or in options (`InteriorNul`); a new length over 2147483647 (`TooLong`); out of memory
-    /// (`OutOfMemory`). These errors have no key, and the bytes are then as they were. The value is dropped. The
-    /// walk is then the old one and the element, unless the old content ends in a code with scope whose length
-    /// is under 4. Where a buffer holds frames alone, it holds the value's frame behind them, which means the value.
+    /// Appends a value under a key, without looking at the old content. It fails for the first of these reasons: a
+    /// 0 in the key, in a pattern or in options (`InteriorNul`); a new length over 2147483647 (`TooLong`); out of
+    /// memory (`OutOfMemory`). These errors have no key, and the bytes are unchanged. The value is dropped. The
+    /// walk is then the old one followed by the new element, unless the old content ends with a code with scope of
+    /// length less than 4. If the buffer holds whole frames only, it holds the value's frame after them, and that
+    /// frame means the value.
     /// ```
     /// let mut document = RawDocumentBuf::new(alloc)?;
     /// document.append("name", RawBson::from_str(alloc, "Ada")?)?;
@@ -148,9 +150,9 @@ impl RawDocumentBuf {
         self.append_ref(key, value.as_raw_bson_ref())
     }
 
-    /// Appends a value that borrows its parts, with the old content unexamined. It copies no part of it on the
-    /// way. It fails as `append` does, in the same order: `InteriorNul`, `TooLong`, `OutOfMemory`; the walk and the
-    /// frames are then as `append` leaves them.
+    /// Appends a value that borrows its parts, without looking at the old content. No part is copied except into
+    /// the buffer. It fails as `append` does, for the same reasons in the same order: `InteriorNul`, `TooLong`,
+    /// `OutOfMemory`. The walk and the frames are then as after `append`.
     /// ```
     /// let mut document = RawDocumentBuf::new(alloc)?;
     /// document.append_ref("name", RawBsonRef::from("Ada"))?;
@@ -165,9 +167,10 @@ impl RawDocumentBuf {
         append_value(&mut self.bytes, key, value)
     }
 
-    /// Appends an element as it is, its key, its kind and its payload's bytes, with the old content and the
-    /// element's value unexamined: a value at fault is appended too. It fails, in this order: a new length over
-    /// 2147483647; out of memory. These errors have no key, and the bytes are then as they were.
+    /// Appends an element as it is: its key, its kind and the bytes of its payload. It looks neither at the old
+    /// content nor at the element's value, so a value at fault is appended too. It fails for the first of these
+    /// reasons: a new length over 2147483647; out of memory. These errors have no key, and the bytes are
+    /// unchanged.
     /// ```
     /// let document = RawDocument::from_bytes(b"\x0C\0\0\0\x10a\0\x01\0\0\0\0")?;
     /// let mut copy = RawDocumentBuf::new(alloc)?;

@@ -1,3 +1,4 @@
+//! Owned values from their parts.
 ghost use Rattle.std.specs.Prelude.{◌≡◌};
 ghost use Rattle.raw_bson.specs.declared.bson.RawBson.TheVariants as own;
 

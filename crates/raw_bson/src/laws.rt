@@ -1,5 +1,5 @@
-//! What `==` returns, and what holds of values by their types, as calls whose contracts say it; those of the crates
-//! below are passed on. Programs never need them; proofs do.
+//! What `==` returns, and what holds of values by their types, as calls whose contracts say it. It passes on those
+//! of the crates below. Programs never need them; proofs do.
 
 ghost use Rattle.std.specs.Prelude.{◌≡◌, ◌↔◌, IsTrue};
 ghost use Rattle.std.specs.String.{string_bytes};
@@ -19,23 +19,24 @@ pub use bson_model::laws::{
 use raw_view::RawBsonRef;
 pub use raw_view::laws::{attest_element, is_same_array_view, is_same_view};
 
-/// Whether two buffers are `==`: they are exactly where they have the same bytes. Programs never need it; proofs do.
+/// Whether two buffers are `==`, which holds if and only if they have the same bytes. Programs never need it;
+/// proofs do.
 pub fn is_same_document_buf(document: &RawDocumentBuf, other: &RawDocumentBuf) -> bool
     ensures { IsTrue result ↔ (document.now ≡ other.now) }
 {
     document == other
 }
 
-/// Whether two buffers are `==`: they are exactly where they have the same bytes and the same count. Programs never
-/// need it; proofs do.
+/// Whether two buffers are `==`, which holds if and only if they have the same bytes and the same count. Programs
+/// never need it; proofs do.
 pub fn is_same_array_buf(array: &RawArrayBuf, other: &RawArrayBuf) -> bool
     ensures { IsTrue result ↔ (array.now ≡ other.now) }
 {
     array == other
 }
 
-/// Whether two codes with scope are `==`: they are exactly where they have the same code and scope. Programs never
-/// need it; proofs do.
+/// Whether two codes with scope are `==`, which holds if and only if they have the same code and scope. Programs
+/// never need it; proofs do.
 pub fn is_same_code(code: &RawJavaScriptCodeWithScope, other: &RawJavaScriptCodeWithScope) -> bool
     ensures { IsTrue result
         ↔ ((string_bytes code.now.code ≡ string_bytes other.now.code)
@@ -44,24 +45,24 @@ pub fn is_same_code(code: &RawJavaScriptCodeWithScope, other: &RawJavaScriptCode
     code == other
 }
 
-/// Whether two values are `==`: they are exactly where they are of one variant with the same fields. Programs never
-/// need it; proofs do.
+/// Whether two values are `==`, which holds if and only if they are of one variant with the same fields. Programs
+/// never need it; proofs do.
 pub fn is_same_value(left: &RawBson, right: &RawBson) -> bool
     ensures { IsTrue result ↔ IsSameOwned left.now right.now }
 {
     left == right
 }
 
-/// Whether two borrowed values are `==`: they are exactly where they view the same value, nested documents and arrays
-/// byte by byte. Programs never need it; proofs do.
+/// Whether two borrowed values are `==`, which holds if and only if they view the same value. Nested documents and
+/// arrays are compared byte by byte. Programs never need it; proofs do.
 pub fn is_same_value_ref(value: RawBsonRef<'_>, other: RawBsonRef<'_>) -> bool
     ensures { IsTrue result ↔ (value_of value.entry ≡ value_of other.entry) }
 {
     value == other
 }
 
-/// Numbers and bytes of a borrowed value are in range, its texts are UTF-8, its nested documents, arrays and scopes
-/// have their envelopes. Programs never need it; proofs do.
+/// The numbers and bytes of a borrowed value are in range, its texts are UTF-8, and its nested documents, arrays
+/// and scopes have envelopes. Programs never need it; proofs do.
 pub fn attest_view(value: RawBsonRef<'_>)
     ensures { IsRawInRange (value_of value.entry) }
 {
@@ -100,7 +101,7 @@ pub fn attest_view(value: RawBsonRef<'_>)
     }
 }
 
-/// An owned value becomes one tree alone, or has one first fault. Programs never need it; proofs do.
+/// An owned value becomes exactly one tree, or has exactly one first fault. Programs never need it; proofs do.
 pub fn attest_one_tree(value: &RawBson)
     ensures { BecomesOneTree (owned_value value.now) }
 {

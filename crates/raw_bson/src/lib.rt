@@ -1,5 +1,14 @@
-//! BSON: documents and values that own their bytes, views of them, and their trees. The
-//! crate that a user names: it passes on the public items of the crates below.
+//! BSON for users: documents and values that own their bytes, views of them, and their trees. It passes on the
+//! public items of the crates below.
+//!
+//! Begin at `RawDocumentBuf` in `document_buf.rt`, at `append_value` in `appending.rt`, which writes, and at
+//! `canonical_bytes` in `canonical.rt`. `conversions.rt` goes between owned values and trees.
+//!
+//! In `specs/`, `Append.antt` says what an append does, `Conversion.antt` and `Copies.antt` what conversions and
+//! copies return. `EachItem.antt`, `Folds.antt`, `Rows.antt` and `Copying.antt` are for loops of callers.
+//!
+//! `raw_shelf`, `bson_from_json`, `bsonraw`, `bsonraw_c` and the callers in `bson_uses` rest on this crate. Its
+//! contracts and `proofs/Face.antt` are what users prove with, so neither may become weaker.
 #![tactic(auto)]
 
 mod accessors;

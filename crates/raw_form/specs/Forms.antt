@@ -1,4 +1,4 @@
--- What a rewriting tells. No public contract cites this file.
+-- Helpers of rewriting. No public contract cites this file.
 use Rattle.std.specs.Prelude.{◌⊎◌, ℕ, List}
 use Rattle.bson_model.specs.Tree.{Tree}
 use Rattle.raw_view.specs.Errors.{IsOutOfMemory}

@@ -13,7 +13,7 @@ pub record IsFormWithin (limits : Limits) (b a : List ℕ) : Type 0 where
   pub form : IsCanonicalForm b a
   pub within : (t : Tree) × ReadsWithin limits b t
 
--- Why there is none: the first reason for which these bytes have no envelope; else that they are too many; else the first
--- barrier of the document, or out of memory; else that the encoding of its tree would be too long.
+-- Why there is no form: these bytes have no envelope; otherwise they are too many; otherwise the first barrier of the document, or out of
+-- memory; otherwise the encoding of its tree would be too long.
 abbrev pub RefusesFormWithin : Limits → List ℕ → Error → Type 0
 RefusesFormWithin limits b e = TellsRefusal b e ⊎ (IsEnvelope b × (TellsFirstBarrier limits b e ⊎ ((t : Tree) × ReadsWithin limits b t × TellsTooLong t e)))

@@ -5,7 +5,7 @@ pub mod FormsWithin
 pub mod Tokens
 pub mod Flattening
 pub mod CodeLens
--- what it passes on of raw_tree
+-- definitions of raw_tree that are passed on
 pub use Rattle.raw_tree.specs.Aheads
 pub use Rattle.raw_tree.specs.Barriers
 pub use Rattle.raw_tree.specs.Looking
@@ -13,7 +13,7 @@ pub use Rattle.raw_tree.specs.Places
 pub use Rattle.raw_tree.specs.Violations
 pub use Rattle.raw_tree.specs.Waits
 pub use Rattle.raw_tree.specs.Walks
--- its types that clauses speak of
+-- types of raw_tree that clauses mention
 pub use Rattle.raw_tree.specs.declared.walk.barrier.Barrier
 pub use Rattle.raw_tree.specs.declared.walk.barrier.BarrierKind
 pub use Rattle.raw_form.specs.declared.flatten.FlattenError

@@ -1,5 +1,5 @@
--- Which frames of a level stay in the canonical form, and what is left of a level that is rewritten. No public contract
--- cites this file.
+-- Which frames of a level stay in the canonical form, and what is left of a level that is being rewritten. No public contract cites this
+-- file.
 use Rattle.std.specs.Prelude.{◌≡◌, ◌+◌, ◌<◌, ◌≤◌, ◌++◌, ℕ, Bool, IsTrue, List, [], ◌∷◌, Option, None, Some, drop, length, slice_set}
 use Rattle.std.specs.List.{IsDistinct}
 use Rattle.std.specs.Str.{bytes_eq}
@@ -17,7 +17,7 @@ use Rattle.raw_tree.specs.Looking.{HasNoneBefore}
 use Rattle.raw_tree.specs.declared.walk.faults.Start.{Start}
 use Rattle.raw_form.specs.declared.last.LastPlaces.{LastPlaces}
 
--- the place is in that of this number, or last
+-- the place replaces the one with this number, or comes last
 abbrev pub put_at : Option ℕ → ℕ → List ℕ → List ℕ
 put_at None place places = places ++ place ∷ []
 put_at (Some n) place places = slice_set places n place
@@ -28,31 +28,31 @@ put_at (Some n) place places = slice_set places n place
 abbrev pub IsWrittenAs : ElementType → List ℕ → Tree → Type 0
 IsWrittenAs k p t = (tree_payload t ≡ p) × (kind_of_tree t ≡ k)
 
--- what the frame stands for is written as the frame is
+-- the tree of the frame is written as the frame is
 abbrev pub IsOwnForm : Frame → Type 0
 IsOwnForm f = (t : Tree) → FrameStandsFor f t → IsWrittenAs f.kind f.payload t
 
--- so it is for so many of the frames in front of what is left
+-- this holds of the next frames, as many as n
 abbrev pub AreNextOwn : ℕ → List ℕ → Type 0
 AreNextOwn n s = (frames : List Frame) (q : List ℕ) (f : Frame) (r : List ℕ) → LeadsTo s frames q → IsFrame q f r → length frames < n → IsOwnForm f
 
--- so it is for those of the outermost level of the document d that begin before this offset
+-- this holds of the frames of the outermost level of the document d that begin before this offset
 abbrev pub AreOwnBefore : ℕ → List ℕ → Type 0
 AreOwnBefore known d = (frames : List Frame) (s : List ℕ) (f : Frame) (r : List ℕ) → LeadsTo (drop 4 d) frames s → IsFrame s f r → length d < known + length s → IsOwnForm f
 
--- so it is for what is before the start in the document d
+-- this holds of what is before the start in the document d
 pub record IsOwnUpTo (d : List ℕ) (start : Start) : Type 0 where
   pub next : AreNextOwn start.number (drop 4 d)
   pub before : AreOwnBefore start.offset d
 
--- the document b is canonical; or no element before this one has a barrier, and what they stand for is written as they are
+-- the document b is canonical; or no element before this one has a barrier, and their trees are written as they are
 abbrev pub TellsStart : ℕ → List ℕ → Option Start → Type 0
 TellsStart depth b None = IsCanonicalUpTo depth as_document b
 TellsStart depth b (Some start) = HasNoneBefore depth b start.number start.offset × IsOwnUpTo b start
 
 -- a document with repeated keys
 
--- at this place of the document's bytes is a frame of its outermost level with this key, which stands for this tree
+-- at this place of the document's bytes there is a frame of its outermost level with this key, which stands for this tree
 pub record IsFrameAt (d : List ℕ) (place : ℕ) (key : List ℕ) (t : Tree) : Type 0 where
   pub passed : List Frame
   pub f : Frame
@@ -64,24 +64,24 @@ pub record IsFrameAt (d : List ℕ) (place : ℕ) (key : List ℕ) (t : Tree) : 
   pub least : 4 ≤ place
   pub within : place ≤ length d
 
--- at the places are frames that stand for the pairs, in this order
+-- at these places there are frames that stand for the pairs, in this order
 abbrev pub AreFramesAt : List ℕ → List ℕ → List (List ℕ × Tree) → Type 0
 AreFramesAt d [] [] = Unit {0}
 AreFramesAt d (place ∷ places) (p ∷ pairs) = IsFrameAt d place p.0 p.1 × AreFramesAt d places pairs
 AreFramesAt d _ _ = ⊥
 
--- of the pairs that the document is read as no key is repeated; or at the places are those that its tree keeps
+-- no key is repeated among the pairs of the document; or at these places are those that its tree keeps
 abbrev pub HasLastPlaces : Option (List ℕ) → List ℕ → List (List ℕ × Tree) → Type 0
 HasLastPlaces None d pairs = IsDistinct bytes_eq (keys_of pairs)
 HasLastPlaces (Some places) d pairs = AreFramesAt d places (keep pairs)
 
--- these members are left to be written; frames that begin before an offset are written as they are
+-- these members are still to be written; frames that begin before an offset are written as they are
 abbrev pub IsLeftAt : LastPlaces → Entries → Type 0
 IsLeftAt last ms =
     (pairs : List (List ℕ × Tree)) × AreFramesAt (bytes_of last.document) (drop last.passed last.places.items) pairs × (ms ≡ entries pairs)
     × AreOwnBefore last.known (bytes_of last.document)
 
--- no member is left; or the element is that of the first, and the others are left; where it's told so, it is written as it is
+-- no member is left; or the element is that of the first and the others are left, and if it is marked so, it is written as it is
 abbrev pub TakesMember : Entries → Option (RawElement × Bool) → LastPlaces → Type 0
 TakesMember ms None last = ms ≡ no_entry
 TakesMember ms (Some (e, is_known)) last =

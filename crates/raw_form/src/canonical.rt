@@ -18,7 +18,7 @@ use raw_tree::{
 use raw_view::{Error, RawDocument, Reason, Result};
 use std::alloc::Global;
 
-/// The error that says a barrier. Where there is no memory for the copy of a key, it says that.
+/// The error for a barrier. If there is no memory for the copy of a key, it is out of memory.
 fn error_of(alloc: Global, barrier: Barrier<'_>) -> Error
     ensures { (x : within.Barrier) → IsBarrier barrier.entry.kind x → SaysBarrier result x }
 {
@@ -29,8 +29,9 @@ fn error_of(alloc: Global, barrier: Barrier<'_>) -> Error
     }
 }
 
-/// `None` where a document is canonical and no deeper than this; else where its first barrier is looked for: at the element
-/// of the outermost level that breaches or holds what breaches. The only error is out of memory.
+/// `None` if a document is canonical and no deeper than `depth`. Otherwise it returns where the search for its
+/// first barrier begins: at the element of the outermost level that breaches or holds what breaches. The only
+/// error is out of memory.
 fn start_of(alloc: Global, document: RawDocument<'_>, depth: usize) -> Result<Option<Start>>
     ensures start { IfOk result (TellsStart depth (bytes_of document.entry)) }
     ensures err { IfErr result IsOutOfMemory }
@@ -68,13 +69,15 @@ fn form_within(alloc: Global, document: RawDocument<'_>, limits: Limits) -> Resu
     rewrite(alloc, document, start)
 }
 
-/// The canonical form of a document within limits: the bytes that its tree is written as. Documents with equal trees, and
-/// no others, have equal canonical forms; one that is canonical is its own. The error is the first of: no envelope; more
-/// bytes than allowed; the first barrier, depth first in byte order, as `first_fault_within` tells it, with the key of a
-/// fault; a form of over 2147483647 bytes, which is told only once the whole document was read. Out of memory may come in
-/// place of the last two. BSON 1.1, `document`.
+/// The canonical form of a document within limits, which is the encoding of its tree. Documents have equal
+/// canonical forms if and only if their trees are equal; a canonical document is its own form. The error is the
+/// first of these that applies: no envelope; more bytes than allowed; the first barrier, depth first in byte
+/// order, as `first_fault_within` returns it, with the key of a fault; a form of more than 2147483647 bytes, which
+/// is noticed only after the whole document was read. Out of memory may come instead of the last two. BSON 1.1,
+/// `document`.
 ///
-/// No clause says so: no tree is built, it takes n log n steps whatever the keys are, and no depth fills the stack.
+/// Not in the contract: no tree is built, the call takes n log n steps whatever the keys are, and no depth fills
+/// the stack.
 /// ```
 /// let limits = Limits { bytes: 1000, depth: 10 };
 /// let form = canonical_within(alloc, b"\x0C\0\0\0\x10a\0\x01\0\0\0\0", limits)?;

@@ -1,4 +1,4 @@
-//! The length of the code whose scope a level may be.
+//! The length of the code to which a scope belongs.
 #![tactic(auto)]
 
 ghost use Rattle.std.specs.Prelude.{◌≡◌, ◌<◌, ◌^◌, ◌+◌, None, Some};
@@ -8,7 +8,7 @@ use std::marker::Model;
 /// The length of a code, if there is one, in four bytes.
 #[derive(Drop)]
 pub(crate) struct CodeLen {
-    /// one more; 0 where there is no code
+    /// the length plus one; 0 if there is no code
     more: u32,
 }
 
@@ -29,7 +29,7 @@ impl CodeLen {
         CodeLen { more: 0 }
     }
 
-    /// The code has so many bytes.
+    /// The code has `len` bytes.
     pub(crate) fn of(len: u32) -> CodeLen
         requires { len + 1 < 2 ^ 32 }
         ensures { result ≡ Some len }

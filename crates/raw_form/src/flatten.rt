@@ -1,4 +1,4 @@
-//! The elements of all levels as tokens.
+//! The elements of all levels, as tokens.
 #![tactic(auto)]
 
 ghost use Rattle.std.specs.Prelude.{◌≤◌, ℕ, suc, length};
@@ -23,13 +23,13 @@ use std::alloc::Global;
 /// ```
 #[derive(Debug, Drop)]
 pub enum FlattenError<'a> {
-    /// Its first barrier, and where it is.
+    /// Its first barrier, with its place.
     Barrier(Barrier<'a>),
     /// Memory ran out.
     OutOfMemory,
 }
 
-/// The error that a limit is at the document as a whole.
+/// The error for a limit that the document exceeds as a whole.
 fn whole<'a>(alloc: Global, kind: BarrierKind<'a>) -> FlattenError<'a>
     ensures { IsAtDocument kind.entry result }
 {
@@ -39,7 +39,8 @@ fn whole<'a>(alloc: Global, kind: BarrierKind<'a>) -> FlattenError<'a>
     })
 }
 
-/// Puts the tokens of a document, for whose innermost level so many may wait, to the front of a room.
+/// Writes the tokens of a document to the front of the room. `most_waiting` limits how many levels may wait for
+/// the innermost one.
 #[tactic(auto, using(raw_tree::proofs::Face::filled_none))]
 fn flatten_to<'a>(
     alloc: Global,
@@ -83,12 +84,14 @@ fn flatten_to<'a>(
     }
 }
 
-/// The elements of all levels of a document within limits as tokens, depth first in byte order: how many there are, of which
-/// as many as there is room for are put there; a code with scope has the elements of its scope inside. The rest of the room
-/// is as it was. Else the first barrier, as `first_fault_within` has it; what is in the room then isn't said. Out of memory
-/// comes only where the bytes aren't too many and a level may be entered. BSON 1.1, `document`.
+/// The elements of all levels of a document within limits as tokens, depth first in byte order. The elements of a
+/// scope are inside the code with scope. It returns how many there are, and writes as many as fit; the rest of the
+/// room is unchanged. The error is the first barrier, as `first_fault_within` returns it; then the content of the
+/// room is not specified. Out of memory is possible only if there are few enough bytes and a level may be entered.
+/// BSON 1.1, `document`.
 ///
-/// No clause says so: no depth fills the stack. Memory is taken for the levels that wait, and for the path of a barrier.
+/// Not in the contract: no depth fills the stack. Memory is taken for the waiting levels, and for the path of a
+/// barrier.
 /// ```
 /// let document = RawDocument::from_bytes(b"\x13\0\0\0\x10a\0\x01\0\0\0\x10b\0\x02\0\0\0\0")?;
 /// let limits = Limits { bytes: 1000, depth: 10 };

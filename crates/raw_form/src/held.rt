@@ -1,4 +1,4 @@
-//! Elements as they are written, and how those whose values hold a level are begun and ended.
+//! Writes elements, and begins and ends those whose values hold a level.
 #![tactic(auto)]
 
 ghost use Rattle.std.specs.Prelude.{◌≡◌, ◌<◌, ◌≤◌, ◌+◌, ◌++◌, ◌∷◌, [], length, vec_capacity, vec_len, IfErr, IsTrue, OnOk};
@@ -19,7 +19,7 @@ use raw_tree::{payload_len, put_element, put_head, put_string, put_unset, set_le
 use raw_view::{ElementType, Error, Holder, RawBsonRef, RawElement, RawRegexRef, Reason, Result};
 use std::alloc::Global;
 
-/// Makes room for so many bytes more, where that is no more than a document may have.
+/// Makes room for `added` more bytes, if a document may have as many in all.
 #[inline(always)]
 fn make_room(out: &mut Vec<u8>, added: usize) -> Result<()>
     ensures items { out.new.items ≡ out.old.items }
@@ -35,7 +35,7 @@ fn make_room(out: &mut Vec<u8>, added: usize) -> Result<()>
     Ok(())
 }
 
-/// Whether the values of this kind hold no level and no options, so that they are written as they are read.
+/// Whether values of this kind hold neither a level nor options, so that they are written as they are read.
 #[inline(always)]
 pub(crate) fn is_plain(kind: ElementType) -> bool
     ensures { IsTrue result → IsPlain kind }
@@ -49,7 +49,7 @@ pub(crate) fn is_plain(kind: ElementType) -> bool
     }
 }
 
-/// Puts an element under this key at the end, its payload as it is.
+/// Appends an element under this key, with its payload as it is.
 #[inline(always)]
 pub(crate) fn put_plain(out: &mut Vec<u8>, key: &str, element: RawElement<'_>) -> Result<()>
     ensures items { OnOk result
@@ -69,7 +69,7 @@ pub(crate) fn put_plain(out: &mut Vec<u8>, key: &str, element: RawElement<'_>) -
     Ok(())
 }
 
-/// Puts the element of a value under a key at the end.
+/// Appends the element with this key and this value.
 fn put_value(out: &mut Vec<u8>, key: &str, value: RawBsonRef<'_>) -> Result<()>
     ensures items { OnOk result
         (out.new.items ≡ out.old.items ++ element_bytes key.now (value_of value.entry)) }
@@ -86,7 +86,8 @@ fn put_value(out: &mut Vec<u8>, key: &str, value: RawBsonRef<'_>) -> Result<()>
     Ok(())
 }
 
-/// Puts the element of a value that holds no others under a key at the end, the options of a regular expression in order.
+/// Appends the element with this key and a value that holds no others. The options of a regular expression are put
+/// in order.
 pub(crate) fn put_leaf(
     alloc: Global,
     out: &mut Vec<u8>,
@@ -118,7 +119,7 @@ pub(crate) fn put_leaf(
     put_value(out, key, RawBsonRef::RegularExpression(regex))
 }
 
-/// Puts the tag of this kind and a key at the end.
+/// Appends the tag of this kind and a key.
 pub(crate) fn put_start(out: &mut Vec<u8>, key: &str, kind: ElementType) -> Result<()>
     ensures items { OnOk result (out.new.items ≡ out.old.items ++ tagged (tag_of kind) key.now []) }
     ensures grows { OnOk result (vec_len out.old < vec_len out.new) }
@@ -130,7 +131,7 @@ pub(crate) fn put_start(out: &mut Vec<u8>, key: &str, kind: ElementType) -> Resu
     Ok(())
 }
 
-/// Puts what the payload of a value that holds a level begins with at the end; its lengths aren't set.
+/// Appends the beginning of the payload of a value that holds a level. Its lengths aren't set yet.
 pub(crate) fn put_opening(out: &mut Vec<u8>, holder: Holder<'_>) -> Result<()>
     ensures items { OnOk result (out.new.items ≡ out.old.items ++ held_opening holder.entry) }
     ensures grows { OnOk result (vec_len out.old < vec_len out.new) }
@@ -152,8 +153,8 @@ pub(crate) fn put_opening(out: &mut Vec<u8>, holder: Holder<'_>) -> Result<()>
     Ok(())
 }
 
-/// Ends a payload that starts at this place, with code of this length if it is code with a scope: puts the final 0, and sets
-/// the lengths.
+/// Ends a payload that starts at `start`: appends the final 0 and sets the lengths. `code_len` is the length of
+/// the code of a code with scope.
 pub(crate) fn put_end(out: &mut Vec<u8>, start: u32, code_len: &CodeLen) -> Result<()>
     requires { start + header_len code_len.now ≤ vec_len out.old }
     ensures items { OnOk result

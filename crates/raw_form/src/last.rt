@@ -1,4 +1,4 @@
-//! Where the last element of each key begins in a document with repeated keys.
+//! Where the last element of each key begins, in a document with repeated keys.
 #![tactic(auto)]
 
 ghost use Rattle.std.specs.Prelude.{◌≡◌, ◌<◌, ℕ, List, drop, length, IsTrue, IfOk, IfErr, IfSome, OnOk};
@@ -17,8 +17,8 @@ use raw_tree::{behind, element_at, next_element};
 use raw_view::{Elements, RawDocument, RawElement, Result};
 use std::alloc::Global;
 
-/// A document in which keys are repeated, and where the last element of each key begins, in the order in which the keys come
-/// first. So many of them have been passed. What begins before an offset is canonical.
+/// A document with repeated keys, and where the last element of each key begins, in the order in which the keys
+/// first come. The first `passed` of them were passed. What begins before an offset is canonical.
 #[derive(Drop)]
 pub(crate) struct LastPlaces<'a> {
     pub(crate) document: RawDocument<'a>,
@@ -27,7 +27,7 @@ pub(crate) struct LastPlaces<'a> {
     pub(crate) known: usize,
 }
 
-/// Puts the place of an element in the place of that of its key, or last where that has none. The only error is out of memory.
+/// Puts `place` in the place of the key, or last if the key has none. The only error is out of memory.
 fn put_place(places: &mut Vec<u32>, known: Option<usize>, place: u32) -> Result<()>
     requires { IfSome known (λ n. n < length places.old.items) }
     ensures put { OnOk result (places.new.items ≡ put_at known place places.old.items) }
@@ -41,8 +41,8 @@ fn put_place(places: &mut Vec<u32>, known: Option<usize>, place: u32) -> Result<
     Ok(())
 }
 
-/// Whether no key is repeated in a document all of whose elements can be read. What is in the list goes out of it. The only error
-/// is out of memory.
+/// Whether no key is repeated in a document whose elements can all be read. The list is emptied first. The only error is
+/// out of memory.
 #[tactic(auto, using(crate::proofs::last::Places::left_more))]
 fn are_keys_distinct<'a>(
     alloc: Global,
@@ -67,8 +67,8 @@ fn are_keys_distinct<'a>(
     }
 }
 
-/// The last place of each key of a document all of whose elements can be read. What is in the list goes out of it. The only error
-/// is out of memory.
+/// The last place of each key of a document whose elements can all be read. The list is emptied first. The only error is
+/// out of memory.
 #[tactic(auto, using(crate::proofs::last::Places::left_more))]
 fn list_places<'a>(
     alloc: Global,
@@ -95,8 +95,8 @@ fn list_places<'a>(
     }
 }
 
-/// The last place of each key of a document all of whose elements can be read; `None` where none is repeated, which is
-/// looked for unless one is known to be. What is in the list goes out of it. The only error is out of memory.
+/// The last place of each key of a document whose elements can all be read; `None` if no key is repeated. That is
+/// tested unless a key is known to be repeated. The list is emptied first. The only error is out of memory.
 pub(crate) fn places_of<'a>(
     alloc: Global,
     document: RawDocument<'a>,

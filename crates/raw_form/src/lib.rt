@@ -1,4 +1,15 @@
-//! Canonical forms and tokens of documents, from views, without a tree; and first faults and validation, which `raw_tree` has.
+//! Canonical forms and tokens of documents, made from views without a tree. It also passes on the first faults and
+//! the validation of `raw_tree`.
+//!
+//! Begin at `form_within` in `canonical.rt`: it copies a canonical document and has `rewrite` write any other.
+//! `rewritten.rt` says which elements of a level stay and under which keys, `last.rt` finds the last element of
+//! each repeated key. `flatten.rt` makes tokens.
+//!
+//! In `specs/`, `FormsWithin.antt` and `Tokens.antt` are what users need; the other files are helpers of the
+//! proofs.
+//!
+//! `raw_bson` doesn't rest on this crate; `bsonraw_c` and the dump crates do. How a form is found may change
+//! freely, as long as the contracts of the three calls below stay.
 #![tactic(auto)]
 
 mod canonical;
@@ -14,7 +25,7 @@ pub use canonical::canonical_within;
 pub use flatten::{FlattenError, flatten_within};
 pub use token::Token;
 
-// What a user names of `raw_tree` beside these.
+// What users of this crate need of `raw_tree`.
 pub use raw_tree::{
     Barrier, BarrierKind, PathStep, Place, PlacedBreach, ValidateError, first_fault_within,
     validate_within,

@@ -1,4 +1,4 @@
-//! Canonical forms of documents that aren't canonical, from view to bytes.
+//! Canonical forms of documents that aren't canonical.
 #![tactic(auto)]
 
 ghost use Rattle.std.specs.Prelude.{◌+◌, ◌<◌, ◌≤◌, length, vec_len, IfOk, IfErr};
@@ -19,8 +19,8 @@ use raw_view::{Error, Holder, RawDocument, RawLevel, Result};
 use std::alloc::Global;
 use std::mem;
 
-/// The encoding of the tree of a document that has one. What is before the start in the outermost level is canonical, and is
-/// written as it is. The error is out of memory, or that the encoding is too long.
+/// The encoding of the tree of a document that has one. What is before `known` in the outermost level is canonical
+/// and is copied. The error is out of memory, or that the encoding is too long.
 pub(crate) fn rewrite(alloc: Global, document: RawDocument<'_>, known: Start) -> Result<Vec<u8>>
     requires read { (t : Tree) × Reads (bytes_of document) t }
     requires known { IsOwnUpTo (bytes_of document) known }
@@ -58,7 +58,7 @@ pub(crate) fn rewrite(alloc: Global, document: RawDocument<'_>, known: Start) ->
     }
 }
 
-/// Puts a member at the end; of one whose value holds a level the tag and the key, and returns the level.
+/// Appends a member. If its value holds a level, appends the tag and the key only, and returns the level.
 #[inline(always)]
 fn put_member<'a>(
     alloc: Global,

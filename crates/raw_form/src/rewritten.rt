@@ -1,4 +1,4 @@
-//! A level that is rewritten: which of its elements stay, and under which keys.
+//! A level that is being rewritten: which of its elements stay, and under which keys.
 #![tactic(auto)]
 
 ghost use Rattle.std.specs.Prelude.{◌≡◌, ◌⊎◌, ◌≤◌, ℕ, List, Some, drop, length, IfErr, IfOk, IsTrue};
@@ -28,20 +28,21 @@ use std::alloc::Global;
 /// Which elements of a level stay.
 #[derive(Drop)]
 pub(crate) enum Keys<'a> {
-    /// those of an array: all, under the numbers from this one on
+    /// those of an array: all of them, under the numbers from this one on
     Numbers(usize),
-    /// those of a document, no two of which have one key: all; the next so many are known to be canonical
+    /// those of a document without repeated keys: all of them; the next ones, as many as this, are known to be
+    /// canonical
     Distinct(usize),
-    /// those of another document: of each key the last, in the place of the first
+    /// those of a document with repeated keys: for each key the last, in the place of the first
     Repeated(Box<LastPlaces<'a>>),
 }
 
-/// A level that is rewritten.
+/// A level that is being rewritten.
 #[derive(Drop)]
 pub(crate) struct Rewritten<'a> {
-    /// what is left of it
+    /// its remaining elements
     pub(crate) elements: Elements<'a>,
-    /// which of that stays
+    /// which of those stay
     pub(crate) keys: Keys<'a>,
     /// where the payload of its value starts in the output
     pub(crate) start: u32,
@@ -49,7 +50,7 @@ pub(crate) struct Rewritten<'a> {
     pub(crate) code_len: CodeLen,
 }
 
-/// An element that stays, in an array its new number, and whether it is known to be canonical.
+/// An element that stays: in an array with its new number, and with whether it is known to be canonical.
 #[derive(Clone, Copy)]
 pub(crate) struct Member<'a> {
     pub(crate) number: Option<usize>,
@@ -68,7 +69,8 @@ impl<'a> Member<'a> {
         }
     }
 
-    /// Whether it is written as it is, since it is known to be canonical, or its value holds no level and no options.
+    /// Whether it is written as it is, because it is known to be canonical or because its value holds neither a
+    /// level nor options.
     #[inline(always)]
     pub(crate) fn is_own(self) -> bool
         ensures { IsTrue result → IsTrue self.entry.is_known ⊎ IsPlain (frame_of self.entry.element).kind }
@@ -77,8 +79,8 @@ impl<'a> Member<'a> {
     }
 }
 
-/// Which elements of a document stay that can be read as a tree, where what is before the start is canonical. The only error
-/// is out of memory.
+/// Which elements of a document that can be read as a tree stay, where what is before `known` is canonical. The
+/// only error is out of memory.
 fn keys_of<'a>(
     alloc: Global,
     document: RawDocument<'a>,
@@ -103,7 +105,7 @@ fn keys_of<'a>(
     Ok(Keys::Repeated(Box::new(alloc, last)?))
 }
 
-/// The level of these bytes, nothing of which is written.
+/// A level with these bytes, of which nothing was written yet.
 fn level<'a>(
     document: RawDocument<'a>,
     keys: Keys<'a>,
@@ -124,9 +126,10 @@ fn level<'a>(
 }
 
 impl<'a> Rewritten<'a> {
-    /// The level that a value holds, which can be read as a tree, where its payload starts there. Its opening fits into a
-    /// document. The only error is out of memory. The list is used to see which keys are repeated, unless one is known to be.
-    /// What is before the start in a level that is no array is canonical.
+    /// The level that a value holds, with its payload at `start` in the output. The level can be read as a tree,
+    /// and its opening fits in a document. The list is used to find repeated keys, unless a key is known to be
+    /// repeated. In a level that is no array, what is before `known` is canonical. The only error is out of
+    /// memory.
     pub(crate) fn new(
         alloc: Global,
         held: RawLevel<'a>,

@@ -1,4 +1,4 @@
-//! Elements as tokens.
+//! Tokens of elements.
 #![tactic(auto)]
 
 ghost use Rattle.std.specs.Prelude.{◌≡◌, ◌+◌, ◌<◌, ◌^◌, ◌∷◌, [], length};
@@ -8,28 +8,29 @@ ghost use Rattle.raw_view.specs.Frame.ElementSteps.{frame_of};
 
 use raw_view::RawElement;
 
-/// An element by its offsets, counted from the document's first byte. The elements inside it have tokens behind its own.
+/// An element, by its offsets from the first byte of the document. The tokens of the elements inside it follow its
+/// own.
 #[repr(C)]
 #[derive(Clone, Copy, Debug, PartialEq, Eq)]
 pub struct Token {
     /// the element's tag
     pub tag: u32,
-    /// how many levels are around its own
+    /// the number of levels around its own
     pub depth: u32,
     /// where the key begins
     pub key_at: u32,
-    /// how many bytes the key has, its 0 not counted
+    /// the length of the key in bytes, without its 0
     pub key_len: u32,
     /// where the payload begins
     pub payload_at: u32,
-    /// how many bytes the payload has
+    /// the length of the payload in bytes
     pub payload_len: u32,
-    /// how many tokens are inside
+    /// the number of tokens inside
     pub inside: u32,
 }
 
 impl Token {
-    /// The token of an element at this offset, with none inside.
+    /// The token of the element at `offset`, with none inside yet.
     #[inline(always)]
     pub(crate) fn new(depth: u32, offset: usize, element: RawElement<'_>) -> Token
         requires { offset + (2 + (length (frame_of element).key + length (frame_of element).payload)) < 2 ^ 32 }
@@ -48,7 +49,7 @@ impl Token {
     }
 }
 
-/// Says how many tokens are inside the one at this place, if the room has it.
+/// Sets the number of tokens inside the one at `place`, if the room has that place.
 pub(crate) fn set_inside(tokens: &mut [Token], place: usize, inside: usize)
     requires { inside < 2 ^ 32 }
     ensures { tokens.new ≡ with_inside place inside tokens.old }

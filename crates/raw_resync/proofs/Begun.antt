@@ -1,4 +1,4 @@
--- What is behind the length of a document without damage.
+-- What follows the length of an undamaged document.
 use Rattle.std.proofs.Common.{◌≡◌, ◌≢◌, ◌⊎◌, ℕ, zero, suc, List, [], ◌∷◌, Option, None, Some, is_some, MatchOption, false, drop, length, slice_get, subst, sym, ◌-◌, ◌∙◌, inl, inr}
 use Rattle.std.specs.Bool.{◌==◌}
 use Rattle.bson_model.specs.Tree.{Tree}
@@ -10,7 +10,7 @@ use Rattle.raw_tree.specs.Reading.{Reads}
 use Rattle.raw_tree.specs.declared.reader.limits.Limits.{Limits}
 use Rattle.raw_resync.specs.Resync.{IsSound}
 
--- nothing is behind the first byte, or it is a tag
+-- nothing follows the first byte, or it is a tag
 abbrev pub IsBegun : ℕ → List ℕ → Type 0
 IsBegun x r = (r ≡ []) ⊎ ((kind : ElementType) × (x ≡ tag_of kind))
 
@@ -25,14 +25,14 @@ read_begun b t x r is (suc n, (pairs, (frames, walk, each), same)) = walk_begun 
 pub sound_begun : (limits : Limits) (b : List ℕ) (x : ℕ) (r : List ℕ) → drop 4 b ≡ x ∷ r → IsSound limits b → IsBegun x r
 sound_begun limits b x r is sound = read_begun b sound.tree x r is sound.reads.read
 
--- a byte of no kind, and others
+-- a byte that is no tag, and others
 pub not_begun : (x : ℕ) (r : List ℕ) (tag : Option ElementType) → MatchOption tag ((kind : ElementType) → x ≢ tag_of kind) (λ kind. x ≡ tag_of kind) → is_some tag ≡ false → ¬ (r ≡ [])
     → ¬ IsBegun x r
 not_begun x r None none isnt some (inl end) = some end
 not_begun x r None none isnt some (inr (kind, is)) = none kind is
 not_begun x r (Some kind) is isnt some begun = let impossible : ⊥ = cc in impossible
 
--- a byte of no kind
+-- a byte that is no tag
 pub no_kind : (x : ℕ) (tag : Option ElementType) → MatchOption tag ((kind : ElementType) → x ≢ tag_of kind) (λ kind. x ≡ tag_of kind) → is_some tag ≡ false → (kind : ElementType) → x ≢ tag_of kind
 no_kind x None none is = none
 no_kind x (Some kind) at is = let impossible : ⊥ = cc in absurd impossible

@@ -8,12 +8,12 @@ use Rattle.raw_resync.specs.Seeking.{PassesOver}
 use Rattle.raw_resync.specs.declared.work.Work.{Work}
 use Rattle.raw_resync.proofs.Joining.{both_true, one_false}
 
--- where fewer bytes are asked for
+-- the same with a smaller least length
 goes_weaker : (limits : Limits) (least more : ℕ) (s : List ℕ) → least ≤ more → GoesOnWith limits more s → GoesOnWith limits least s
 goes_weaker limits least more s few (inl none) = inl none
 goes_weaker limits least more s few (inr (b, rest, sound, split, long, next)) = inr (b, rest, sound, split, omega (arith, few, long), next)
 
--- places that were passed, and those behind them
+-- places that were passed, and those after them
 pub passes_after : {a b : Bool} (limits : Limits) (total low mid high end : ℕ) (s : List ℕ) (w : Work) → low ≤ mid → mid ≤ high → PassesOver limits total s low mid end w a
     → PassesOver limits total s mid high end w b → PassesOver limits total s low high end w (a && b)
 passes_after {a = a} {b = b} limits total low mid high end s w start more p q = record {
@@ -33,7 +33,7 @@ passes_after {a = a} {b = b} limits total low mid high end s w start more p q = 
   ];
 }
 
--- documents go on at a place inside, and the first reaches far enough, or nothing is behind the length
+-- documents continue at a place inside, and the first reaches far enough, or nothing valid follows the length
 pub disbelieved : (limits : Limits) (s : List ℕ) (len end place : ℕ) (goes : Bool) → (goes ≡ false → ¬ EndsOrBegins limits (drop len s)) → end ≡ cond goes len 0
     → 1 ≤ place → place < len → GoesOnWith limits (end - place) (drop place s) → IsDisbelieved limits s len
 disbelieved limits s len end place true stops is low high on = (place, low, high, inl (subst (λ e. GoesOnWith limits (e - place) (drop place s)) is on))
@@ -41,7 +41,7 @@ disbelieved limits s len end place false stops is low high on =
     let none : end - place ≡ 0 = omega (arith, is) in
     (place, low, high, inr (subst (λ n. GoesOnWith limits n (drop place s)) none on, stops refl))
 
--- they go on at no such place, but where one was left out
+-- documents continue at no such place, except where one was left out
 pub believed : (limits : Limits) (total : ℕ) (s : List ℕ) (len end : ℕ) (w : Work) (goes all : Bool)
     → (goes ≡ true → EndsOrBegins limits (drop len s) ⊎ IsUnprobed limits total (drop len s) w) → end ≡ cond goes len 0 → PassesOver limits total s 1 len end w all
     → IsDisbelieved limits s len → (j : ℕ) × (j ≤ len) × IsLeftOut limits total s w j

@@ -1,4 +1,4 @@
--- What is looked at of a document from its first fault on.
+-- Which bytes of a document are looked at from its first fault on.
 use Rattle.std.proofs.Common.{◌≡◌, ◌≢◌, ℕ, suc, ◌+◌, ◌-◌, ◌<◌, ◌≤◌, ◌⊎◌, List, ◌∷◌, ◌++◌, Bool, true, false, MatchBool, Option, None, Some, arith, get_or, length, min, drop, sym, ap, ◌∙◌, refl, inl, inr, length-append}
 use Rattle.std.proofs.Math.Seq.{get_or-append_seam}
 use Rattle.bson_model.specs.Bytes.{NulFree}
@@ -44,12 +44,12 @@ looks_all x path s text tag split free =
       refl,
     )
 
--- either length that is said leads to all that is left, or both are one
+-- either length leads to all of the rest, or both are the same
 same_min : (all key behind said r : ℕ) → all ≡ key + behind → (r ≡ said) ⊎ (behind < 4) → min all (key + r + 16) ≡ min all (key + (said + 16))
 same_min all key behind said r is (inl one) = omega (arith, one)
 same_min all key behind said r is (inr few) = omega (arith, is, few)
 
--- a key ends, and this is behind it
+-- a key ends, and this follows it
 module _ (x : Barrier) (path : List Step) (s text behind : List ℕ) (tag : ℕ) (split : s ≡ tag ∷ text) (z : IsBehindZero text behind) where
   has_key : HasKey s z.0
   has_key = record { tag = tag; behind = behind; spelled = split ∙ ap (λ l. tag ∷ l) z.2; nul_free = z.1 }
@@ -76,7 +76,7 @@ module _ (x : Barrier) (path : List Step) (s text behind : List ℕ) (tag : ℕ)
   unfolding has_key
   looks_key not none = inr (inr (inr (z.0, has_key, not, none, key_len)))
 
--- a document with a barrier costs what is looked at
+-- the charge for a document with a barrier is the number of bytes that are looked at
 pub costs_fault : (limits : Limits) (b : List ℕ) (barrier : told.Barrier) (m : ℕ) → IsEnvelope b → TellsBarrier limits b (Some barrier) → AllAreAnsweredOneWay limits
     → ((x : Barrier) → barriers.IsBarrier barrier.kind x → LooksAt x (steps_of barrier.place) (drop barrier.place.offset b) m)
     → (¬ IsSound limits b) × Costs limits b (barrier.place.offset + m)

@@ -1,4 +1,4 @@
--- What searches cost, one after the other.
+-- The cost of searches, one after the other.
 use Rattle.std.proofs.Common.{◌≡◌, ℕ, ◌+◌, ◌*◌, ◌≤◌, List, [], ◌∷◌, ◌++◌, Bool, true, false, Option, None, Some, arith, drop, fold, sym, ap, ◌∙◌, subst, refl, inl, inr, append_assoc}
 use Rattle.std.proofs.lemmas.List.Elements.{All-append, All-cons, All-head, All-nil, All-tail}
 use Rattle.std.proofs.lemmas.List.Sums.{fold-append}
@@ -32,7 +32,7 @@ costs_behind limits front s (n ∷ ns) all =
     let here = cost_behind limits front s n (All-head (IsCostIn limits s) n ns all) in
     All-cons (IsCostIn limits (front ++ s)) n ns here (costs_behind limits front s ns (All-tail (IsCostIn limits s) n ns all))
 
--- what a search behind these bytes costs
+-- the cost of a search after these bytes
 pub charges_behind : (limits : Limits) (front s : List ℕ) (old new : Work) → Charges limits s old new → Charges limits (front ++ s) old new
 charges_behind limits front s old new p = record { costs = p.costs; each = costs_behind limits front s p.costs p.each; spent = p.spent }
 
@@ -75,7 +75,7 @@ pub left_on : (limits : Limits) (total : ℕ) (s : List ℕ) (old new : Work) (j
 left_on limits total s old new j more (inl here) = inl (unprobed_on limits total (drop j s) old new more here)
 left_on limits total s old new j more (inr (c, rest, is, split, next)) = inr (c, rest, is, split, unprobed_on limits total rest old new more next)
 
--- a look, and another
+-- no look, and another look
 pub works_none : (limits : Limits) (bytes : List ℕ) (last : Bool) (at : ℕ) (w : Work) → Works limits bytes last at w w
 works_none limits bytes last at w = record { charges = λ rest may. charges_none limits (bytes ++ rest) w; bounded = λ rest may bound. bound }
 

@@ -1,10 +1,10 @@
 -- The lemmas of this crate that crates above may cite; they cite no other.
 
--- the piece in front
+-- the piece at the front
 pub use Rattle.raw_resync.proofs.Fronts.{begins, is_sound}
--- what is charged, one after the other
+-- charges, one after the other
 pub use Rattle.raw_resync.proofs.Costing.{charges_none, charges_on, spent_more, unprobed_on, left_on}
--- places that are passed, one after the other
+-- passed places, one after the other
 pub use Rattle.raw_resync.proofs.Passing.{passes_none, passes_since}
 pub use Rattle.raw_resync.proofs.Joining.{charges_further, left_further, passes_join}
 -- whether a length is believed

@@ -1,4 +1,4 @@
--- What is in front of what is left of an input.
+-- What is at the front of the rest of an input.
 use Rattle.std.proofs.Common.{◌≡◌, ℕ, suc, ◌+◌, ◌-◌, ◌<◌, ◌≤◌, List, [], ◌∷◌, ◌++◌, Bool, arith, length, take, drop, sym, ap, ◌∙◌, subst, inl, inr, append-nil, length-append, length-drop, length-take-le}
 use Rattle.std.proofs.lemmas.List.{drop-append-le, drop-drop, take-append-drop, take-append-le, take-take}
 use Rattle.std.proofs.Math.Seq.{take-append_seam, drop-append_seam}
@@ -13,11 +13,11 @@ use Rattle.raw_resync.proofs.Begun.{sound_begun}
 pub said_front : (x y : List ℕ) → 4 ≤ length x → said_len (x ++ y) ≡ said_len x
 said_front x y four = ap (from_le_bytes w32) (take-append-le 4 x y four)
 
--- the length in front is that of the piece in front
+-- the length at the front is that of the piece at the front
 pub front_said : (most : ℕ) (s b rest : List ℕ) → IsPiece most b → s ≡ b ++ rest → said_len s ≡ length b
 front_said most s b rest is split = let enough : 5 ≤ length b = is.sound.0 in ap said_len split ∙ said_front b rest (omega arith) ∙ is.said
 
--- one piece alone is in front
+-- only one piece is at the front
 pub same_front : (most : ℕ) (s b rest c more : List ℕ) → IsPiece most b → s ≡ b ++ rest → IsPiece most c → s ≡ c ++ more → (b ≡ c) × (rest ≡ more)
 same_front most s b rest c more is split is' split' =
     let same : length b ≡ length c = sym (front_said most s b rest is split) ∙ front_said most s c more is' split' in
@@ -33,7 +33,7 @@ some_bytes most s b rest is split =
     let len : length s ≡ length b + length rest = ap length split ∙ length-append b rest in
     omega arith
 
--- no piece is in front of t, whatever follows it
+-- no piece is at the front of t, whatever follows it
 pub no_piece : (most : ℕ) (last : Bool) (t rest b more : List ℕ) → LacksPiece most last t → MayFollow last rest → IsPiece most b → ¬ (t ++ rest ≡ b ++ more)
 no_piece most last t rest b more (inl (is, some, inl short)) may piece split =
     let enough : 5 ≤ length b = piece.sound.0 in
@@ -61,7 +61,7 @@ head_same : (l more : List ℕ) (x : ℕ) (r : List ℕ) → 0 < length l → x 
 head_same [] more x r some is = absurd (omega (arith, some))
 head_same (y ∷ ys) more x r some is = let same : x ≡ y = cc in (ys, ap (λ z. z ∷ ys) (sym same))
 
--- what is behind the length in front of t is behind that of a document there
+-- what follows the length at the front of t follows that of a document there
 same_behind_length : (t rest b more : List ℕ) (x : ℕ) (r : List ℕ) → drop 4 t ≡ x ∷ r → 5 ≤ length b → t ++ rest ≡ b ++ more → (r' : List ℕ) × (drop 4 b ≡ x ∷ r')
 same_behind_length t rest b more x r is enough split =
     let size : length (drop 4 t) ≡ length t - 4 = length-drop 4 t in
@@ -70,7 +70,7 @@ same_behind_length t rest b more x r is enough split =
     head_same (drop 4 b) more x (r ++ rest) (omega (arith, left, enough))
     (sym (ap (λ l. l ++ rest) is) ∙ sym (drop-append-le 4 t rest (omega (arith, size, some))) ∙ ap (drop 4) split ∙ drop-append-le 4 b more (omega (arith, enough)))
 
--- no document without damage is in front of t, in which no tag is behind a length of more bytes
+-- no undamaged document is at the front of t if its length is more than there is, and no tag follows it
 no_tag : (limits : Limits) (t rest b more : List ℕ) → length t < said_len t → LacksTag t → IsSound limits b → ¬ (t ++ rest ≡ b ++ more)
 no_tag limits t rest b more longer (x, r, is, none) sound split =
     let enough : 5 ≤ length b = sound.piece.sound.0 in
@@ -86,7 +86,7 @@ no_tag limits t rest b more longer (x, r, is, none) sound split =
       | inr (kind, tag) ↦ none kind tag
     ]
 
--- where no piece is in front of t, it isn't empty
+-- where no piece is at the front of t, t isn't empty
 pub lacking_some : (most : ℕ) (last : Bool) (t : List ℕ) → LacksPiece most last t → 0 < length t
 lacking_some most last t (inl (is, some, short)) = some
 lacking_some most last t (inr (four, which)) = omega arith
@@ -95,7 +95,7 @@ pub goes_begins : (limits : Limits) (least : ℕ) (s : List ℕ) → GoesOnWith 
 goes_begins limits least s (inl none) = inl none
 goes_begins limits least s (inr (b, rest, sound, split, long, next)) = inr (rest, (b, sound, split))
 
--- what is left behind so many bytes
+-- the rest after this many bytes
 pub left_behind : (place : ℕ) (bytes rest : List ℕ) → place ≤ length bytes → drop place (bytes ++ rest) ≡ drop place bytes ++ rest
 left_behind place bytes rest within = drop-append-le place bytes rest within
 
@@ -104,7 +104,7 @@ not_nil t rest some none =
     let len : length t + length rest ≡ 0 = sym (length-append t rest) ∙ ap length none in
     absurd (omega arith)
 
--- no document without damage, and no end, is where no piece is
+-- where there is no piece, there is neither an undamaged document nor the end
 pub lacks_behind : (limits : Limits) (last : Bool) (place : ℕ) (bytes rest : List ℕ) → place ≤ length bytes → LacksPiece limits.bytes last (drop place bytes) → MayFollow last rest
     → ¬ EndsOrBegins limits (drop place (bytes ++ rest))
 lacks_behind limits last place bytes rest within lacks may (inl none) =
@@ -112,7 +112,7 @@ lacks_behind limits last place bytes rest within lacks may (inl none) =
 lacks_behind limits last place bytes rest within lacks may (inr (more, (b, sound, split))) =
     no_piece limits.bytes last (drop place bytes) rest b more lacks may sound.piece (sym (left_behind place bytes rest within) ∙ split)
 
--- there are bytes where no piece is told
+-- there are bytes where no piece is found
 pub told_some : (most : ℕ) (bytes : List ℕ) (last : Bool) (place : ℕ) → place ≤ length bytes → TellsFront most bytes last place front.NoPiece → place < length bytes
 told_some most bytes last place within (inl lacks) =
     let some : 0 < length (drop place bytes) = lacking_some most last (drop place bytes) lacks in
@@ -124,7 +124,7 @@ told_some most bytes last place within (inr (longer, (x, r, is, none))) =
     let size : length (drop place bytes) ≡ length bytes - place = length-drop place bytes in
     omega arith
 
--- nor where none is told
+-- neither is there where none is found
 pub none_behind : (limits : Limits) (last : Bool) (place : ℕ) (bytes rest : List ℕ) → place ≤ length bytes → TellsFront limits.bytes bytes last place front.NoPiece
     → MayFollow last rest → ¬ EndsOrBegins limits (drop place (bytes ++ rest))
 none_behind limits last place bytes rest within (inl lacks) may there = lacks_behind limits last place bytes rest within lacks may there
@@ -135,7 +135,7 @@ none_behind limits last place bytes rest within (inr (longer, (x, r, is, none)))
 none_behind limits last place bytes rest within (inr (longer, lacks)) may (inr (more, (b, sound, split))) =
     no_tag limits (drop place bytes) rest b more longer lacks sound (sym (left_behind place bytes rest within) ∙ split)
 
--- the piece in front of what is left behind so many bytes, and what is behind it
+-- the piece at the front of the rest, and what follows it
 pub split_front : (place len : ℕ) (bytes rest : List ℕ) → place + len ≤ length bytes
     → drop place (bytes ++ rest) ≡ take len (drop place bytes) ++ drop (place + len) (bytes ++ rest)
 split_front place len bytes rest within =
@@ -148,7 +148,7 @@ split_front place len bytes rest within =
 pub front_len : (place len : ℕ) (bytes : List ℕ) → place + len ≤ length bytes → length (take len (drop place bytes)) ≡ len
 front_len place len bytes within = let size : length (drop place bytes) ≡ length bytes - place = length-drop place bytes in length-take-le len (drop place bytes) (omega arith)
 
--- the piece in front
+-- the piece at the front
 pub front_piece : (most : ℕ) (a : List ℕ) (len : ℕ) → said_len a ≡ len → IsSoundLength most len → len ≤ length a → IsPiece most (take len a)
 front_piece most a len said sound within =
     let enough : 5 ≤ len = sound.0 in
@@ -156,9 +156,9 @@ front_piece most a len said sound within =
     let says : said_len (take len a) ≡ len = ap (from_le_bytes w32) (take-take 4 len a (omega arith)) ∙ said in
     record { said = says ∙ sym count; sound = subst (IsSoundLength most) (sym count) sound }
 
--- what is so of the piece in front of t
+-- what holds of the piece at the front of t
 module _ (limits : Limits) (t b rest : List ℕ) (is : IsPiece limits.bytes b) (split : t ≡ b ++ rest) where
-  -- it is without damage
+  -- it is undamaged
   pub begins : IsSound limits b → EndsOrBegins limits t
   begins sound = inr (rest, (b, sound, split))
 
@@ -169,11 +169,11 @@ module _ (limits : Limits) (t b rest : List ℕ) (is : IsPiece limits.bytes b) (
       absurd (omega arith)
   is_sound (inr (more, (c, sound, split'))) = subst (IsSound limits) (sym ((same_front limits.bytes t b rest c more is split sound.piece split').0)) sound
 
-  -- documents go on with it
+  -- documents continue with it
   pub goes_on : (least : ℕ) → least ≤ length b → IsSound limits b → EndsOrBegins limits rest → GoesOnWith limits least t
   goes_on least long sound next = inr (b, rest, sound, split, long, next)
 
-  -- and only so
+  -- and only if it is undamaged
   pub goes_only : (least : ℕ) → GoesOnWith limits least t → IsSound limits b × EndsOrBegins limits rest × (least ≤ length b)
   goes_only least (inl none) =
       let some : 0 < length t = some_bytes limits.bytes t b rest is split in

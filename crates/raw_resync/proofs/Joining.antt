@@ -1,4 +1,4 @@
--- Places that were passed in all that is left, from those in parts of it.
+-- Passed places in all of the rest, from those in parts of it.
 use Rattle.std.proofs.Common.{◌≡◌, ℕ, ◌+◌, ◌-◌, ◌≤◌, ◌⊎◌, List, ◌++◌, Bool, true, false, ◌&&◌, arith, take, drop, sym, subst, refl, inl, inr}
 use Rattle.std.proofs.lemmas.List.{drop-drop, take-append-drop}
 use Rattle.std.proofs.lemmas.Bool.{cases_lt}
@@ -14,7 +14,7 @@ use Rattle.raw_resync.proofs.Costing.{charges_behind}
 abbrev IsLeftOutAt : Limits → ℕ → Work → List ℕ → Type 0
 IsLeftOutAt limits total w t = IsUnprobed limits total t w ⊎ ((c : List ℕ) × (rest : List ℕ) × IsPiece limits.bytes c × (t ≡ c ++ rest) × IsUnprobed limits total rest w)
 
--- one that is left out behind n bytes
+-- a place that is left out, counted from n bytes before
 pub left_further : (limits : Limits) (total n j : ℕ) (s : List ℕ) (w : Work) → IsLeftOut limits total (drop n s) w j → IsLeftOut limits total s w (n + j)
 left_further limits total n j s w left = subst (IsLeftOutAt limits total w) (drop-drop j n s) left
 
@@ -23,7 +23,7 @@ goes_further limits n j s not goes =
     let none : 0 - j ≡ 0 - (n + j) = omega arith in
     not (subst (λ m. GoesOnWith limits m (drop j (drop n s))) (sym none) (subst (λ t. GoesOnWith limits (0 - (n + j)) t) (sym (drop-drop j n s)) goes))
 
--- what was charged behind n bytes
+-- the charge after n bytes
 pub charges_further : (limits : Limits) (n : ℕ) (s : List ℕ) (old new : Work) → Charges limits (drop n s) old new → Charges limits s old new
 charges_further limits n s old new p = subst (λ t. Charges limits t old new) (take-append-drop n s) (charges_behind limits (take n s) (drop n s) old new p)
 
@@ -38,7 +38,7 @@ one_false false b is = inl refl
 there : (n low j : ℕ) → n + low ≤ j → n + (j - n) ≡ j
 there n low j more = omega (arith, more)
 
--- places that were passed, and those behind n bytes
+-- passed places, and those after n bytes
 module _ {a b : Bool} (limits : Limits) (total from n low high : ℕ) (s : List ℕ) (w : Work) (start : from ≤ n + low) (more : low ≤ high) (p : PassesOver limits total s from (n + low) 0 w a)
     (q : PassesOver limits total (drop n s) low high 0 w b) where
   pub passes_join : PassesOver limits total s from (n + high) 0 w (a && b)

@@ -1,4 +1,4 @@
--- What a look at a place tells.
+-- What a look at a place finds.
 use Rattle.std.proofs.Common.{◌≡◌, ℕ, ◌+◌, ◌*◌, ◌-◌, ◌<◌, ◌≤◌, List, [], ◌++◌, Bool, true, false, Option, None, Some, Result, Ok, Err, IfOk, arith, length, take, drop, sym, ap, ◌∙◌, refl, inl, inr, length-append, length-drop}
 use Rattle.std.proofs.lemmas.List.{take-append-drop}
 use Rattle.raw_view.specs.Frame.Envelope.{IsEnvelope}
@@ -18,7 +18,7 @@ pub if_ok : {A E : Type 0} (P Q : A → Type 0) (r : Result A E) → ((x : A) �
 if_ok P Q (Ok x) on is = on x is
 if_ok P Q (Err e) on is = tt
 
--- how all that is left is split by a piece behind so many bytes
+-- how the rest is split by a piece at a place
 whole_split : (place len : ℕ) (bytes rest : List ℕ) → place + len ≤ length bytes
     → bytes ++ rest ≡ take place (bytes ++ rest) ++ (take len (drop place bytes) ++ drop (place + len) (bytes ++ rest))
 whole_split place len bytes rest within = sym (take-append-drop place (bytes ++ rest)) ∙ ap (λ l. take place (bytes ++ rest) ++ l) (split_front place len bytes rest within)
@@ -50,7 +50,7 @@ probes_piece limits bytes {last} at place len old new probed within is work prob
   tells = told_probed limits (take len (drop place bytes)) (at + (place + len)) old new probed probes;
 }
 
--- a piece that is left out, of all that is left
+-- a piece of the whole rest that is left out
 unprobed : (limits : Limits) (bytes rest : List ℕ) (at place len : ℕ) (w : Work) → place + len ≤ length bytes → IsPiece limits.bytes (take len (drop place bytes))
     → 8 * (at + (place + len)) ≤ w.spent + length (take len (drop place bytes)) → IsUnprobed limits (at + length (bytes ++ rest)) (drop place (bytes ++ rest)) w
 unprobed limits bytes rest at place len w within is few =
@@ -58,7 +58,7 @@ unprobed limits bytes rest at place len w within is few =
     let size : length (drop (place + len) (bytes ++ rest)) ≡ length (bytes ++ rest) - (place + len) = length-drop (place + len) (bytes ++ rest) in
     (take len (drop place bytes), drop (place + len) (bytes ++ rest), at + (place + len), is, split_front place len bytes rest within, omega (arith, all, size, within), few)
 
--- what is behind so many bytes is told by a piece
+-- what follows a piece is found
 pub behind_piece : (limits : Limits) (bytes : List ℕ) (last : Bool) (at place len : ℕ) (old new : Work) (probed : Option Bool) → place + len ≤ length bytes
     → IsPiece limits.bytes (take len (drop place bytes)) → ProbesPiece limits bytes last at place len old new probed
     → ChecksBehind limits bytes last at place old new (check_of probed)
@@ -76,7 +76,7 @@ behind_piece limits bytes last at place len old new (Some false) within is p = r
       p.tells (is_sound limits (drop place (bytes ++ rest)) (take len (drop place bytes)) (drop (place + len) (bytes ++ rest)) is (split_front place len bytes rest within) there);
 }
 
--- no piece is told behind so many bytes
+-- no piece is found at a place
 module _ (limits : Limits) (bytes : List ℕ) (last : Bool) (at place : ℕ) (w : Work) (within : place ≤ length bytes) (lacks : TellsFront limits.bytes bytes last place front.NoPiece) where
   pub behind_none : ChecksBehind limits bytes last at place w w check.Stops
   behind_none = record { works = works_none limits bytes last at w; tells = λ rest may. none_behind limits last place bytes rest within lacks may }
@@ -88,11 +88,11 @@ module _ (limits : Limits) (bytes : List ℕ) (last : Bool) (at place : ℕ) (w 
         (told_some limits.bytes bytes last place within lacks, λ goes. none_behind limits last place bytes rest within lacks may (goes_begins limits least (drop place (bytes ++ rest)) goes));
   }
 
--- nothing is left behind so many bytes
+-- nothing is left at a place
 nothing_left : (place : ℕ) (last : Bool) (bytes rest : List ℕ) → place ≤ length bytes → last ≡ true → drop place bytes ≡ [] → MayFollow last rest → drop place (bytes ++ rest) ≡ []
 nothing_left place last bytes rest within is none may = left_behind place bytes rest within ∙ ap (λ l. l ++ rest) none ∙ may is
 
--- a piece of so many bytes is behind so many of these bytes
+-- a piece of `len` bytes is at `place` of these bytes
 pub record IsPieceIn (limits : Limits) (bytes : List ℕ) (place len : ℕ) : Type 0 where
   pub within : place + len ≤ length bytes
   pub is : IsPiece limits.bytes (take len (drop place bytes))
@@ -124,7 +124,7 @@ module _ {limits : Limits} {bytes : List ℕ} {place len : ℕ} (p : IsPieceIn l
   pub no_envelope : (w : Work) → ¬ IsEnvelope (take len (drop place bytes)) → Checks limits bytes last at place len w w check.Stops
   no_envelope w none = no_sound w (λ sound. none sound.envelope)
 
-  -- no piece is behind it
+  -- no piece follows it
   pub no_second : (w : Work) → TellsFront limits.bytes bytes last (place + len) front.NoPiece → Checks limits bytes last at place len w w check.Stops
   no_second w lacks = record {
     works = works_none limits bytes last at w;
@@ -136,7 +136,7 @@ module _ {limits : Limits} {bytes : List ℕ} {place len : ℕ} (p : IsPieceIn l
       let bound : length (take len (drop place bytes)) ≤ limits.bytes = p.is.sound.1 in
       record { works = works_none limits bytes last at w; tells = λ rest may. (not, more, omega (arith, few, bound, size p)) }
 
-  -- it is all that is left
+  -- it is the whole rest
   pub is_last_piece : (old new : Work) (probed : Option Bool) → TellsFront limits.bytes bytes last (place + len) front.End → ProbesPiece limits bytes last at place len old new probed
       → Checks limits bytes last at place len old new (check_of probed)
   is_last_piece old new None (ends, none) q = record { works = q.works; tells = λ rest may. (some p, inl (unprobed limits bytes rest at place len new p.within p.is q.tells)) }
@@ -144,14 +144,14 @@ module _ {limits : Limits} {bytes : List ℕ} {place len : ℕ} (p : IsPieceIn l
       record { works = q.works; tells = λ rest may. goes p rest len (omega arith) q.tells (inl (nothing_left (place + len) last bytes rest p.within ends none may)) }
   is_last_piece old new (Some false) (ends, none) q = record { works = q.works; tells = λ rest may. (some p, λ there. q.tells ((only p rest len there).0)) }
 
-  -- it is damaged, or left out, and what is behind it says nothing
+  -- it is damaged or left out, so what follows it doesn't matter
   pub first_alone : (old new : Work) (probed : Option Bool) → ¬ (probed ≡ Some true) → ProbesPiece limits bytes last at place len old new probed
       → Checks limits bytes last at place len old new (check_of probed)
   first_alone old new None not q = record { works = q.works; tells = λ rest may. (some p, inl (unprobed limits bytes rest at place len new p.within p.is q.tells)) }
   first_alone old new (Some true) not q = absurd (not refl)
   first_alone old new (Some false) not q = record { works = q.works; tells = λ rest may. (some p, λ there. q.tells ((only p rest len there).0)) }
 
-  -- what is behind it tells, where it is without damage
+  -- it is undamaged, so what follows it decides
   second : (rest : List ℕ) (w : Work) (probed : Option Bool) → IsSound limits (take len (drop place bytes))
       → TellsBehind limits bytes last (at + length (bytes ++ rest)) (bytes ++ rest) (place + len) w (check_of probed)
       → TellsCheck limits bytes last (at + length (bytes ++ rest)) (bytes ++ rest) place len w (check_of probed)
@@ -159,14 +159,14 @@ module _ {limits : Limits} {bytes : List ℕ} {place len : ℕ} (p : IsPieceIn l
   second rest w (Some true) sound told = goes p rest len (omega arith) sound told
   second rest w (Some false) sound told = (some p, λ there. told ((only p rest len there).1))
 
-  -- another piece is behind it
+  -- another piece follows it
   pub two_pieces : {more : ℕ} {old mid new : Work} (probed : Option Bool) → IsPieceIn limits bytes (place + len) more → ProbesPiece limits bytes last at place len old mid (Some true)
       → ProbesPiece limits bytes last at (place + len) more mid new probed → Checks limits bytes last at place len old new (check_of probed)
   two_pieces {more} {old} {mid} {new} probed second_is first q =
       let behind = behind_piece limits bytes last at (place + len) more mid new probed second_is.within second_is.is q in
       record { works = works_on limits bytes last at old mid new first.works q.works; tells = λ rest may. second rest new probed first.tells (behind.tells rest may) }
 
-  -- it is as long as is asked for
+  -- it is at least as long as required
   long_told : (rest : List ℕ) (least : ℕ) (w : Work) (told : Check) → least ≤ len
       → TellsCheck limits bytes last (at + length (bytes ++ rest)) (bytes ++ rest) place len w told
       → TellsCheck limits bytes last (at + length (bytes ++ rest)) (bytes ++ rest) place least w told

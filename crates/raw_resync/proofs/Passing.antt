@@ -1,4 +1,4 @@
--- Places that are passed, one after the other.
+-- Passed places, one after the other.
 use Rattle.std.proofs.Common.{◌≡◌, ℕ, ◌+◌, ◌-◌, ◌<◌, ◌≤◌, List, [], ◌++◌, Bool, true, false, arith, length, drop, sym, subst, refl, inl, inr}
 use Rattle.std.proofs.Math.Nat.{eq-or-lt_of_le}
 use Rattle.std.proofs.lemmas.Bool.{cases_lt}
@@ -21,7 +21,7 @@ passes_none limits total s from end w = record {
   some = λ not. let impossible : ⊥ = cc in absurd impossible;
 }
 
--- more is charged since
+-- more was charged since
 pub passes_since : (limits : Limits) (total : ℕ) (s : List ℕ) (from to end : ℕ) (old new : Work) (all : Bool) → old.spent ≤ new.spent
     → PassesOver limits total s from to end old all → PassesOver limits total s from to end new all
 passes_since limits total s from to end old new all more p = record {
@@ -33,7 +33,7 @@ passes_since limits total s from to end old new all more p = record {
   some = λ not. let (j, low, high, left) = p.some not in (j, low, high, left_on limits total s old new j more left);
 }
 
--- the next place is one at which they don't go on
+-- documents don't continue at the next place
 pub passes_stop : (limits : Limits) (total : ℕ) (s : List ℕ) (from to end : ℕ) (w : Work) (all : Bool) → from ≤ to → ¬ GoesOnWith limits (end - to) (drop to s)
     → PassesOver limits total s from to end w all → PassesOver limits total s from (to + 1) end w all
 passes_stop limits total s from to end w all start stops p = record {
@@ -60,7 +60,7 @@ passes_left limits total s from to end w all start left p = record {
   some = λ not. (to, start, omega arith, left);
 }
 
--- they go on at none of the next places
+-- they continue at none of the next places
 passes_none_of : (limits : Limits) (total : ℕ) (s : List ℕ) (from mid to end : ℕ) (w : Work) (all : Bool) → mid ≤ to
     → ((j : ℕ) → mid ≤ j → j < to → ¬ GoesOnWith limits (end - j) (drop j s)) → PassesOver limits total s from mid end w all → PassesOver limits total s from to end w all
 passes_none_of limits total s from mid to end w all more none p = record {
@@ -75,7 +75,7 @@ passes_none_of limits total s from mid to end w all more none p = record {
   some = λ not. let (j, low, high, left) = p.some not in (j, low, omega (arith, high, more), left);
 }
 
--- what the loop keeps
+-- what the loop preserves
 pub record HasPassed (limits : Limits) (bytes : List ℕ) (is_last : Bool) (at from to end : ℕ) (old new : Work) (all : Bool) : Type 0 where
   pub low : from ≤ to
   pub within : to ≤ length bytes
@@ -91,7 +91,7 @@ has_passed_none limits bytes last at from end w within works = record {
   over = λ rest may. passes_none limits (at + length (bytes ++ rest)) (bytes ++ rest) from end w;
 }
 
--- no piece is in front of the places up to the next one
+-- no piece is at the front of the places before the next one
 pub has_passed_lacking : {limits : Limits} {bytes : List ℕ} {last : Bool} {at from end : ℕ} {old new : Work} {all : Bool} (place next : ℕ) → place < next → next ≤ length bytes
     → LacksPieces limits.bytes last bytes place next → HasPassed limits bytes last at from (place + 1) end old new all → HasPassed limits bytes last at from next end old new all
 has_passed_lacking {limits} {bytes} {last} {at} {from} {end} {old} {new} {all} place next more within none p = record {
@@ -137,17 +137,17 @@ module _ {limits : Limits} {bytes : List ℕ} {last : Bool} {at from to end leas
             passes_left limits (at + length (bytes ++ rest)) (bytes ++ rest) from to end new all p.low ((c.tells rest may).1) (since c.works rest may);
       }
 
--- a place at which they don't go on, or that is left out, has bytes behind it
+-- a place where documents don't continue, or that is left out, has bytes after it
 pub stops_within : (limits : Limits) (bytes : List ℕ) (last : Bool) (at place least : ℕ) (old new : Work) → Checks limits bytes last at place least old new check.Stops → place < length bytes
 stops_within limits bytes last at place least old new c = (c.tells [] (λ ends. refl)).0
 
 pub left_within : (limits : Limits) (bytes : List ℕ) (last : Bool) (at place least : ℕ) (old new : Work) → Checks limits bytes last at place least old new check.LeftOut → place < length bytes
 left_within limits bytes last at place least old new c = (c.tells [] (λ ends. refl)).0
 
--- what a search tells, where it stops at a place
+-- what a search finds that stops at a place
 module _ {limits : Limits} {bytes : List ℕ} {last : Bool} {at : ℕ} (q : Places) {to least : ℕ} {old mid new : Work} {all : Bool}
     (p : HasPassed limits bytes last at q.from to q.end old mid all) (is : least ≡ q.end - to) (high : to < q.until) where
-  -- documents go on there
+  -- documents continue there
   pub sought_found : Checks limits bytes last at to least mid new check.GoesOn → Seeks limits bytes last at q old new (sought.Found to all)
   sought_found c = record {
     works = works_on limits bytes last at old mid new p.works c.works;

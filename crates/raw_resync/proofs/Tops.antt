@@ -1,4 +1,4 @@
--- Lengths that are over any limit, by their last byte.
+-- Lengths that exceed any limit, by their last byte.
 use Rattle.std.proofs.Common.{◌≡◌, ℕ, zero, suc, ◌+◌, ◌-◌, ◌<◌, ◌≤◌, List, ◌∷◌, [], Bool, true, arith, drop, get_or, length, take, subst, sym, ap, ◌∙◌, refl, inr, length-drop, length-take-le}
 use Rattle.std.proofs.lemmas.List.{get_or-drop, get_or-take}
 use Rattle.memchr.specs.Find.{is_byte2}
@@ -18,13 +18,13 @@ long_said (a ∷ b ∷ []) four top = absurd (omega arith)
 long_said (a ∷ b ∷ c ∷ []) four top = absurd (omega arith)
 long_said (a ∷ b ∷ c ∷ d ∷ t) four top = omega (arith, top)
 
--- the bytes from one place on and before another
+-- the bytes from one place on, before another
 pub hay_len : (bytes : List ℕ) (from end : ℕ) → end ≤ length bytes → length (take (end - from) (drop from bytes)) ≡ end - from
 hay_len bytes from end within =
     let rest : length (drop from bytes) ≡ length bytes - from = length-drop from bytes in
     length-take-le (end - from) (drop from bytes) (omega (arith, rest, within))
 
--- no piece is in front of places whose length has another last byte
+-- no piece is at the front of places whose length has another last byte
 pub lacks_tops : {hay : List ℕ} (most : ℕ) (last : Bool) (bytes : List ℕ) (place end next : ℕ) → most < 33554432 → end ≤ length bytes → place + 4 ≤ end
     → hay ≡ take (end - (place + 1 + 3)) (drop (place + 1 + 3) bytes) → next ≤ place + 1 + length hay
     → ((k : ℕ) → k < next - (place + 1) → ¬ (is_byte2 0 1 (get_or hay k 0) ≡ true)) → LacksPieces most last bytes place next

@@ -1,4 +1,4 @@
--- What a search for the first 0 tells.
+-- What a search for the first 0 finds.
 use Rattle.std.proofs.Common.{◌≡◌, ◌≢◌, ℕ, ◌+◌, ◌<◌, ◌≤◌, ◌++◌, ◌∷◌, List, eqb, eqb-true, length, get_or, take, drop, zero, suc, ap, subst, arith}
 use Rattle.std.proofs.lemmas.Grind.{common_steps}
 use Rattle.std.proofs.lemmas.List.Elements.{All-more}

@@ -1,4 +1,4 @@
-//! What is charged for a document at fault.
+//! What a damaged document costs.
 #![tactic(auto)]
 
 ghost use Rattle.std.specs.Prelude.{◌≡◌, ◌≤◌, ◌<◌, ◌+◌, ◌^◌, ◌⊎◌, IfNone, IfSome, MatchBool, drop, length};
@@ -19,10 +19,10 @@ const REGULAR_EXPRESSION: u8 = 11;
 /// The tag of a code with a scope.
 const CODE_WITH_SCOPE: u8 = 15;
 
-/// So many bytes a value with texts has at most beside those that its length counts.
+/// The greatest number of bytes that a value with texts has besides those that its length counts.
 const AROUND: usize = 16;
 
-/// What is behind the first 0.
+/// The bytes after the first 0.
 fn behind_zero(bytes: &[u8]) -> Option<&[u8]>
     ensures found { IfSome result (λ rest. IsBehindZero bytes.now rest.now) }
     ensures none { IfNone result (NulFree bytes.now) }
@@ -31,8 +31,9 @@ fn behind_zero(bytes: &[u8]) -> Option<&[u8]>
     Some(bytes.split_at(at + 1).1)
 }
 
-/// How many bytes are looked at of a document from its first fault on: of the element at fault its tag and its key; its
-/// payload, too, where a text of it is read up to the fault, and that of a regular expression.
+/// The number of bytes of a document that are looked at from its first fault on: the tag and the key of the
+/// element at fault; also its payload, if a text in it is read up to the fault, and the texts of a regular
+/// expression.
 pub(crate) fn looked_at(document: RawDocument<'_>, barrier: &Barrier<'_>) -> usize
     requires { barrier.now.place.offset ≤ length (bytes_of document) }
     ensures looks { (x : within.Barrier) → IsBarrier barrier.now.kind x
@@ -56,7 +57,7 @@ pub(crate) fn looked_at(document: RawDocument<'_>, barrier: &Barrier<'_>) -> usi
     key
 }
 
-/// How many bytes are looked at of a regular expression behind its key.
+/// The number of bytes of a regular expression that are looked at, from its pattern on.
 fn looked_at_regex(bytes: &[u8]) -> usize
     ensures { LooksAtRegex bytes.now result }
 {
@@ -80,7 +81,7 @@ fn is_of_value(tag: u8, barrier: &Barrier<'_>) -> bool
     }
 }
 
-/// Whether a text isn't UTF-8, or is the code in front of a scope.
+/// Whether the fault is a text that isn't UTF-8, or comes after the code of a code with scope.
 fn is_behind_text(tag: u8, kind: &BarrierKind<'_>) -> bool
     ensures { (x : within.Barrier) → IsBarrier kind.now x → MatchBool result (IsBehindText tag x) (¬ IsBehindText tag x) }
 {
@@ -90,7 +91,7 @@ fn is_behind_text(tag: u8, kind: &BarrierKind<'_>) -> bool
     is_of_text(kind)
 }
 
-/// Whether a text isn't UTF-8.
+/// Whether the fault is a text that isn't UTF-8.
 fn is_of_text(kind: &BarrierKind<'_>) -> bool
     ensures { (x : within.Barrier) → IsBarrier kind.now x → MatchBool result (IsOfText x) (¬ IsOfText x) }
 {
@@ -100,7 +101,7 @@ fn is_of_text(kind: &BarrierKind<'_>) -> bool
     }
 }
 
-/// The length that the first four bytes say; 0 where they aren't there.
+/// The length that the first four bytes say; 0 if there are fewer bytes.
 fn length_in_front(bytes: &[u8]) -> usize
     ensures front { (result ≡ said_len bytes.now) ⊎ (length bytes.now < 4) }
     ensures few { result < 2 ^ 32 }

@@ -1,4 +1,4 @@
-//! Whether documents go on at a place.
+//! Whether documents continue at a place.
 #![tactic(auto)]
 
 ghost use Rattle.std.specs.Prelude.{◌≡◌, ◌≤◌, ◌+◌, IfOk, drop, false, length, take, true};
@@ -14,46 +14,47 @@ use raw_tree::Limits;
 use raw_view::{ElementType, RawDocument};
 use std::alloc::{AllocError, Global};
 
-/// Some bytes of an input, and what is asked of them.
+/// Part of an input, and what is known of it.
 #[derive(Clone, Copy)]
 pub struct Part<'a> {
     /// the bytes
     pub bytes: &'a [u8],
-    /// whether the input ends behind them
+    /// whether the input ends after them
     pub is_last: bool,
     /// where in the input they begin
     pub at: u64,
-    /// the limits of a document without damage
+    /// the limits of an undamaged document
     pub limits: Limits,
 }
 
-/// What is in front of what is left of an input.
+/// What is at the front of the remaining input.
 #[derive(Clone, Copy)]
 pub(crate) enum Front {
-    /// nothing: the input is at its end
+    /// nothing: the input ends here
     End,
-    /// no document has the length in front, or so many bytes aren't left, or no tag is behind it
+    /// no document: none has the length at the front, or the input is shorter than that, or the byte after the
+    /// length is no tag
     NoPiece,
-    /// it isn't known before so many bytes are there
+    /// that many bytes are needed before it is known
     Wants(usize),
-    /// so many bytes, as many as they say
+    /// a piece with that many bytes, as its length says
     Piece(usize),
 }
 
 /// What is found at a place.
 #[derive(Clone, Copy)]
 pub enum Check {
-    /// documents go on
+    /// documents continue
     GoesOn,
     /// they don't
     Stops,
     /// it could cost too much to know
     LeftOut,
-    /// it isn't known before so many bytes are there
+    /// that many bytes are needed before it is known
     Wants(usize),
 }
 
-/// What is in front behind so many of these bytes.
+/// What is at the front of the bytes from `place` on.
 #[inline(always)]
 pub(crate) fn front_at(part: Part<'_>, place: usize) -> Front
     requires { place ≤ length part.bytes.now }
@@ -80,7 +81,7 @@ pub(crate) fn front_at(part: Part<'_>, place: usize) -> Front
     }
 }
 
-/// Whether the byte behind a length is there, and is no tag.
+/// Whether there is a byte after the length that is no tag.
 #[inline(always)]
 fn lacks_tag(rest: &[u8]) -> bool
     requires { 4 ≤ length rest.now }
@@ -92,7 +93,7 @@ fn lacks_tag(rest: &[u8]) -> bool
     }
 }
 
-/// Whether documents go on behind so many of these bytes, with a first one of at least so many bytes.
+/// Whether documents continue at `place`, and the first has at least `least` bytes.
 #[inline(always)]
 pub(crate) fn check_at(
     alloc: Global,
@@ -117,7 +118,7 @@ pub(crate) fn check_at(
     check_piece(alloc, part, place, len, work)
 }
 
-/// Whether documents go on with a piece of so many bytes behind so many of these bytes.
+/// Whether documents continue at `place` with a piece of `len` bytes.
 fn check_piece(
     alloc: Global,
     part: Part<'_>,
@@ -149,7 +150,8 @@ fn check_piece(
     }
 }
 
-/// Whether one byte is behind a length, or a tag. The first bytes of a piece are looked at before its last one, which may be far off.
+/// Whether the length is followed by a single byte, or by a tag. The first bytes of a piece are looked at before
+/// its last one, which may be far away.
 #[inline(always)]
 fn may_be_sound(piece: &[u8]) -> bool
     requires { 4 ≤ length piece.now }
@@ -161,7 +163,8 @@ fn may_be_sound(piece: &[u8]) -> bool
     }
 }
 
-/// Whether the last byte is 0. For most places this is all that is looked at far off, so no error is made of it.
+/// Whether the last byte is 0. For most places this is the only byte far away that is looked at, so this makes no
+/// error.
 #[inline(always)]
 fn ends_with_zero(piece: &[u8]) -> bool
     ensures { result ≡ false → ¬ IsEnvelope piece.now }
@@ -172,7 +175,7 @@ fn ends_with_zero(piece: &[u8]) -> bool
     }
 }
 
-/// What is found at a place whose last piece is probed so.
+/// What is found at a place by probing its last piece.
 fn told(probed: Option<bool>) -> Check
     ensures { result ≡ check_of probed }
 {
@@ -183,8 +186,7 @@ fn told(probed: Option<bool>) -> Check
     }
 }
 
-/// Whether a piece of so many bytes behind so many of these bytes is a document without damage; `None` where it could cost too
-/// much to know.
+/// Whether the piece of `len` bytes at `place` is an undamaged document; `None` if it could cost too much to know.
 fn probe_piece(
     alloc: Global,
     part: Part<'_>,
@@ -203,7 +205,7 @@ fn probe_piece(
     probe(alloc, part.limits, document, end, work)
 }
 
-/// Whether behind so many of these bytes the input ends, or a document without damage begins.
+/// Whether the input ends at `place`, or an undamaged document begins there.
 pub fn check_behind(
     alloc: Global,
     part: Part<'_>,

@@ -1,4 +1,15 @@
-//! Where documents go on in a damaged dump.
+//! Where documents continue in a damaged dump, and how much may be spent on finding out.
+//!
+//! Begin at `seek` in `search.rt`, which tries one place after another. `check.rt` decides whether documents
+//! continue at a place, `probe.rt` whether a piece of the input is an undamaged document, and `charge.rt` what
+//! that costs.
+//!
+//! In `specs/`, `Pieces.antt` cuts bytes into documents, `Resync.antt` says where documents continue and which
+//! lengths aren't believed, `Charge.antt` says what finding out costs, and `Seeking.antt` what a search returns
+//! for part of an input.
+//!
+//! `dump_input`, `dump_runs` and `bsonraw_c` rest on this crate. How a search goes on may change, as long as the
+//! contracts of `seek` and `check_behind` stay; `proofs/Face.antt` has the lemmas that crates above may cite.
 #![tactic(auto)]
 
 mod charge;

@@ -1,4 +1,4 @@
-//! Whether a piece of an input is a document without damage.
+//! Whether a piece of an input is an undamaged document.
 #![tactic(auto)]
 
 ghost use Rattle.std.specs.Prelude.{◌≡◌, ◌≤◌, ◌<◌, ◌^◌, IfOk, length};
@@ -12,11 +12,11 @@ use raw_tree::{Limits, first_fault_within};
 use raw_view::RawDocument;
 use std::alloc::{AllocError, Global};
 
-/// At most so many bytes are charged for each byte up to the furthest end of a piece.
+/// The greatest number of bytes that are charged for each byte up to the furthest end of a piece.
 const MOST_FOR_EACH: u128 = 8;
 
-/// Whether a piece that ends at this offset of the input is a document without damage; `None` where it could cost too much
-/// to know.
+/// Whether a piece that ends at this offset of the input is an undamaged document; `None` if it could cost too
+/// much to know.
 pub(crate) fn probe(
     alloc: Global,
     limits: Limits,
@@ -39,7 +39,7 @@ pub(crate) fn probe(
     Ok(Some(probed.is_sound))
 }
 
-/// Whether a document is without damage, and what is charged for that.
+/// Whether a document is undamaged, and the charge for finding out.
 #[derive(Clone, Copy)]
 struct Probed {
     is_sound: bool,

@@ -1,4 +1,4 @@
-//! The next place at which documents go on.
+//! The next place at which documents continue.
 #![tactic(auto)]
 
 ghost use Rattle.std.specs.Prelude.{◌≤◌, ◌<◌, IfOk, length};
@@ -9,31 +9,31 @@ use crate::work::Work;
 use memchr::memchr2;
 use std::alloc::{AllocError, Global};
 
-/// The places that are looked at, counted from the first byte of a part.
+/// The places to look at, counted from the first byte of a part.
 #[derive(Clone, Copy)]
 pub struct Places {
-    /// from this one on
+    /// the first place
     pub from: usize,
-    /// and before this one
+    /// the place after the last
     pub until: usize,
-    /// the first of the documents that go on has to end here, or behind
+    /// the first document at the place has to end here or later
     pub end: usize,
 }
 
-/// What is found at places.
+/// What is found at the places.
 #[derive(Clone, Copy)]
 pub enum Sought {
-    /// documents go on at this place, and at none before
+    /// documents continue at this place, and at none before
     Found {
         place: usize,
-        /// whether no place before was left out
+        /// whether every place before it was looked at
         all: bool,
     },
-    /// documents go on at no place
+    /// documents continue at no place
     Nowhere {
         all: bool,
     },
-    /// documents go on at no place before this one, of which it isn't known before so many bytes are there
+    /// documents continue at no place before this one; for this one that many bytes are needed before it is known
     Wants {
         place: usize,
         count: usize,
@@ -41,7 +41,7 @@ pub enum Sought {
     },
 }
 
-/// Looks for the first of some places at which documents go on.
+/// Looks for the first place at which documents continue.
 pub fn seek(
     alloc: Global,
     part: Part<'_>,
@@ -67,10 +67,10 @@ pub fn seek(
     Ok(Sought::Nowhere { all })
 }
 
-/// Lengths from this one on have a last byte of at least 2.
+/// From this length on, the last byte of a length is at least 2.
 const TOO_LONG: usize = 1 << 25;
 
-/// The next place, or one behind it: in front of each place between no document has the length that is said there.
+/// The next place, or a later one: no document has the length at any of the places between.
 fn next_place(part: Part<'_>, place: usize, until: usize) -> usize
     requires { (place < length part.bytes.now) × (place < until) }
     ensures next { place < result }

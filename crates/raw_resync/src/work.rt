@@ -1,6 +1,6 @@
-//! What searches cost.
+//! The cost of searches.
 
-/// What the searches of an input cost so far. The range is over that of any sum.
+/// What the searches of an input have cost so far. The fields are wide enough for any sum.
 #[derive(Clone, Copy, Debug, PartialEq, Eq)]
 pub struct Work {
     /// how many bytes were charged
@@ -13,7 +13,7 @@ impl Work {
     ghost use Rattle.std.specs.Prelude.{◌≡◌};
     ghost use Rattle.raw_resync.specs.Seeking.{no_work};
 
-    /// There was no search.
+    /// No search yet.
     pub fn new() -> Work
         ensures { result ≡ no_work }
     {

@@ -1,4 +1,4 @@
--- A document more on a shelf.
+-- One more document on a shelf.
 use Rattle.std.proofs.Common.{true≢false, Bool, true, false, Result, Ok, Err, not, if◌then◌else◌, refl, ◌≡◌, inl, inr, ◌++◌, ◌∷◌, [], ℕ, zero, suc, List, Some, slice_get, Vec, Global, ap, arith, sym, ◌∙◌}
 use Rattle.std.proofs.lemmas.List.Elements.{Contains-append_right, Contains-push_cases}
 use Rattle.std.proofs.lemmas.Option.{none-some, same_Some}
@@ -21,7 +21,7 @@ same_bytes : AllAreSpelledOneWay as_document → (d b : List ℕ) (t : Tree) →
 same_bytes spelled d b t d_env d_canonical b_env b_canonical d_reads b_reads =
     sym (((spelled d d_env).unchanged t d_reads).1 d_canonical).1 ∙ (((spelled b b_env).unchanged t b_reads).1 b_canonical).1
 
--- nothing is among no documents; the first is, and the others are
+-- nothing is in a list of no documents; the first is in a list, and so are the others
 none_among : (x : List ℕ) → Contains [] x → ⊥
 none_among x h = absurd (omega (arith, h.1))
 
@@ -76,7 +76,7 @@ pub stored : (keys after : List (Vec ℕ Global)) (v : Vec ℕ Global) (new : Bo
     → after ≡ (if list_any (λ d. bytes_eq v.items d.items) keys then keys else keys ++ v ∷ []) → Stores (items keys) v.items (Ok new) (items after)
 stored keys after v new n a = stored_where keys after v (list_any (λ d. bytes_eq v.items d.items) keys) new refl n a
 
--- what is left is a shelf
+-- the list after a put is a shelf
 pub shelf_after : AllAreSpelledOneWay as_document → (before : List (List ℕ)) (b : List ℕ) (answer : Result Bool PutError) (after : List (List ℕ))
     → IsShelf before → IsEnvelope b → IsCanonical b → Stores before b answer after → IsShelf after
 shelf_after spelled before b (Ok true) after shelf env canonical s = rw (s.1) (shelf_more spelled before b shelf env canonical s.0)

@@ -1,8 +1,9 @@
+//! The error of a put.
 use raw_bson::Breach;
 use std::error::Error;
 use std::fmt;
 
-/// Why a document wasn't put on a shelf, which is then as it was.
+/// Why a document wasn't put on a shelf, which is unchanged.
 /// ```
 /// let twice = Vec::from_slice(alloc, b"\x13\0\0\0\x10a\0\x01\0\0\0\x10a\0\x02\0\0\0\0")?;
 /// let error = Shelf::new(alloc).put(RawDocumentBuf::from_bytes(twice)?).unwrap_err();

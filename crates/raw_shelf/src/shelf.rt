@@ -1,3 +1,4 @@
+//! The store itself.
 ghost use Rattle.std.specs.Prelude.{◌≡◌, ◌↔◌, [], length, IsTrue, option_map, slice_get};
 ghost use Rattle.raw_bson.specs.Document.{bytes_of};
 ghost use Rattle.raw_shelf.specs.Shelves.{IsShelf, Puts, Stores, items};
@@ -31,7 +32,7 @@ impl Model for Shelf {
     ghost invariant = { λ s. IsShelf (items s.documents.keys) };
 }
 
-/// Puts bytes last, unless they are there; returns whether they weren't. The only error is out of memory.
+/// Puts bytes last, unless they are there. Returns whether they were new. The only error is out of memory.
 fn store(documents: &mut IndexSet<Vec<u8>>, bytes: Vec<u8>) -> Result<bool, PutError>
     ensures { Stores (items documents.old.keys) bytes.items result (items documents.new.keys) }
 {
@@ -51,8 +52,8 @@ impl Shelf {
         }
     }
 
-    /// Puts a canonical document last, unless it is there; returns whether it wasn't. For one that isn't canonical the error
-    /// is its first breach. An error, out of memory too, leaves the shelf as it was.
+    /// Puts a canonical document last, unless it is there. Returns whether it was new. If the document isn't
+    /// canonical, the error is its first breach. An error, even out of memory, leaves the shelf unchanged.
     /// ```
     /// let mut shelf = Shelf::new(alloc);
     /// let mut document = RawDocumentBuf::new(alloc)?;
@@ -71,7 +72,7 @@ impl Shelf {
         store(&mut self.documents, document.into_bytes())
     }
 
-    /// How many documents there are.
+    /// The number of documents.
     /// ```
     /// let mut shelf = Shelf::new(alloc);
     /// for number in 0..100 {

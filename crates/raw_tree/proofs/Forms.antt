@@ -1,4 +1,4 @@
--- The encoding of a tree that is read.
+-- The encoding of a tree that was read.
 use Rattle.std.proofs.Common.{◌≡◌, ◌≤◌, ◌∷◌, [], List, ℕ, zero, suc, map, length, arith, ap, refl, subst, ◌∙◌}
 use Rattle.raw_tree.proofs.Common.{keep, Tree, Trees, Entries, leaf, array, document, code_with_scope, trees, entries, IsEnvelope, Frame, max_length, RawValue, AreBytes}
 use Rattle.raw_tree.proofs.Common.{IsValueCanonical, AreFramesCanonical, IsCanonicalUpTo, IsCanonicalAs, IsSpelledOneWay, IsEncoded, framed, encoding, encoded_len, entries_bytes, items_bytes}
@@ -10,13 +10,13 @@ use Rattle.raw_tree.proofs.reader.ReadTrees.{read_is_proper}
 use Rattle.raw_tree.proofs.Returns.{Returns, document_returns, array_returns}
 use Rattle.raw_tree.proofs.Spelled.{canonical_is_spelled}
 
--- the encoding of a tree that bytes are read as comes back
+-- the encoding of the tree of some bytes is read as that tree
 pub read_returns : (sort : Sort) (b : List ℕ) (t : Tree) → IsEnvelope b → ReadsAs sort b t → encoded_len t ≤ max_length → Returns sort (encoding t) t
 read_returns sort b t env (zero, r) l = absurd r
 read_returns as_document b t env (suc n, r) l = rw r.2 (document_returns (entries (keep r.0)) (rw r.2 at (read_is_proper as_document b t env (suc n, r))) (rw r.2 at l))
 read_returns as_array b t env (suc n, r) l = rw r.2 (array_returns (trees (map (λ q. q.1) r.0)) (rw r.2 at (read_is_proper as_array b t env (suc n, r))) (rw r.2 at l))
 
--- what is canonical is read, where nested bytes that are canonical are
+-- what is canonical is read, if nested canonical bytes are
 module _ (N : Sort → List ℕ → Type 0) (M : Sort → List ℕ → Tree → Type 0) (nested : (sort : Sort) (d : List ℕ) → N sort d → (pairs : List (List ℕ × Tree)) × M sort d (tree_of_pairs sort pairs)) where
   value_reads : (v : RawValue) → IsValueCanonical N v → (t : Tree) × StandsFor M v t
   value_reads (raw.single l) h = (leaf (leaf_in_order l), refl)

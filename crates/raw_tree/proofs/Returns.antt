@@ -1,4 +1,4 @@
--- A proper tree of a size in range is read from its encoding as that very tree, and the encoding is canonical.
+-- A proper tree that isn't too long is read from its encoding as the same tree, and the encoding is canonical.
 use Rattle.std.proofs.Common.{◌≡◌, ◌≤◌, ◌+◌, ◌++◌, ◌∷◌, [], ℕ, zero, suc, List, length, map, drop, decimal, arith, ap, sym, refl, ◌∙◌, append_assoc, length-append, IsUtf8, bytes_eq}
 use Rattle.raw_tree.proofs.Common.{IsAscii-decimal, IsUtf8-from_ascii, IsDistinct, AreBytes, NulFree, Leaf, keys_of, keys_in, InTrees, InEntries, well_formed_parts, nul_free_parts, ascending_parts}
 use Rattle.raw_tree.proofs.Common.{proper_subtype_parts, OfParts, Everywhere, IsLeafInRange, IsLeafNulFree, DoLeafOptionsAscend, IsLeafSubtypeProper, Tree, Trees, Entries, leaf, array, document}
@@ -16,11 +16,11 @@ use Rattle.raw_view.specs.Meaning as raw
 
 -- levels
 
--- where other bytes are canonical too, a value stays canonical
+-- if other bytes are canonical too, a value stays canonical
 value_canonical_on : (N M : Sort → List ℕ → Type 0) → ((sort : Sort) (b : List ℕ) → N sort b → M sort b) → (v : RawValue) → IsValueCanonical N v → IsValueCanonical M v
 value_canonical_on N M on v h = grind arith
 
--- so do the values of frames
+-- and so do the values of frames
 pub frames_canonical_on : (N M : Sort → List ℕ → Type 0) → ((sort : Sort) (b : List ℕ) → N sort b → M sort b) → (fs : List Frame) → AreFramesCanonical N fs → AreFramesCanonical M fs
 frames_canonical_on N M on [] h = h
 frames_canonical_on N M on (f ∷ fs) h = (h.0, h.1, value_canonical_on N M on h.0 h.2, frames_canonical_on N M on fs h.3)
@@ -31,11 +31,11 @@ canonical_up_to zero m l sort b h = absurd h
 canonical_up_to (suc n) zero l sort b h = absurd (omega arith)
 canonical_up_to (suc n) (suc m) l sort b h = grind (arith, frames_canonical_on, canonical_up_to n m)
 
--- a canonical value is so within some levels
+-- a canonical value is canonical within some levels
 value_canonical_level : (v : RawValue) → IsValueCanonical IsCanonicalAs v → (n : ℕ) × IsValueCanonical (IsCanonicalUpTo n) v
 value_canonical_level v h = grind arith
 
--- canonical frames are so within some levels
+-- canonical frames are canonical within some levels
 pub frames_canonical_level : (fs : List Frame) → AreFramesCanonical IsCanonicalAs fs → (n : ℕ) × AreFramesCanonical (IsCanonicalUpTo n) fs
 frames_canonical_level [] h = (0, h)
 frames_canonical_level (f ∷ fs) h =
@@ -57,8 +57,8 @@ leaf_in_order-same l h o = grind (arith, sorted_options-same)
 
 -- trees
 
--- What holds of a tree's payload: it is bytes, has the shape of the tree's kind whatever is behind it,
--- and means a value that is canonical and stands for the tree.
+-- What holds of the payload of a tree: it is bytes, has the shape of the tree's kind whatever follows it, and means a canonical value that
+-- stands for the tree.
 record IsReturned (t : Tree) : Type 0 where
   bytes : AreBytes (tree_payload t)
   shape : (r : List ℕ) → HasShape (kind_of_tree t) (tree_payload t) r
@@ -93,8 +93,7 @@ pairs_are : (es : Entries) → (entries (pairs_in es) ≡ es) × (keys_of (pairs
 pairs_are no_entry = (refl, refl)
 pairs_are (entry_then key t es) = let rest = pairs_are es in (ap (λ (x : Entries). entry_then key t x) rest.0, ap (λ (x : List (List ℕ)). key ∷ x) rest.1)
 
--- written elements are bytes, and with a 0 behind them have a walk, whose frames have these keys, stand for the pairs and
--- are canonical
+-- written elements are bytes; followed by a 0 they have a walk, whose frames have these keys, stand for the pairs and are canonical
 record AreWritten (es : Entries) : Type 0 where
   bytes : AreBytes (entries_bytes es)
   walk : IsWalk (entries_bytes es ++ 0 ∷ []) (frames_in es) Done
@@ -144,7 +143,7 @@ framed_array ts h l =
     let same = items_bytes-numbered 0 ts in
     rw same (framed_returns as_array (numbered 0 ts) (array ts) (ap array are.1) are.0 h (omega (arith, ap length same, length-items_bytes 0 ts)))
 
--- a code returns whose scope does
+-- a code returns if its scope does
 code_returned : (code : List ℕ) (es : Entries) → IsUtf8 code → Returns as_document (framed (entries_bytes es)) (document es)
     → 4 + (5 + length code) + (5 + entries_len es) ≤ max_length → IsReturned (code_with_scope code es)
 code_returned code es u h l =
@@ -162,12 +161,12 @@ code_returned code es u h l =
 
 -- every tree
 
--- what holds of proper trees, as of each part
+-- what holds of proper trees, for each kind of part
 abbrev Properly : (OfParts → Type 0) → Type 0
 Properly P = P well_formed_parts × P nul_free_parts × P ascending_parts × P proper_subtype_parts
 
 mutual
-  -- a proper tree of a size in range returns
+  -- a proper tree that isn't too long returns
   tree_returned : (t : Tree) → Properly (λ holds. Everywhere holds t) → encoded_len t ≤ max_length → IsReturned t
   tree_returned (leaf l) p b = leaf_returned l p.0 p.1 p.2 p.3 b
   tree_returned (array ts) p b =
@@ -178,7 +177,7 @@ mutual
       record { bytes = h.0.bytes; shape = λ r. h.0; value = raw.document (framed (entries_bytes es)); means = refl; stands = h.1; canonical = h.2 }
   tree_returned (code_with_scope code es) p b = code_returned code es p.0.0 (framed_document es p.0.1 (entries_written es (p.0.2, p.1.2, p.2.2, p.3.2) (omega arith)) (omega arith)) b
 
-  -- so do the members of a list
+  -- and so do the members of a list
   items_written : (n : ℕ) (ts : Trees) → Properly (λ holds. InTrees holds ts) → n + items_len n ts ≤ max_length → AreWritten (numbered n ts)
   items_written n no_tree p b = none_written
   items_written n (tree_then t ts) p b =
@@ -192,10 +191,10 @@ mutual
   entries_written (entry_then key t es) p b =
       one_written key t es p.0.0 p.1.0 (tree_returned t (p.0.1, p.1.1, p.2.1, p.3.1) (omega arith)) (entries_written es (p.0.2, p.1.2, p.2.2, p.3.2) (omega arith))
 
--- the encoding of a proper document of a size in range returns
+-- the encoding of a proper document that isn't too long returns
 pub document_returns : (es : Entries) → ComesBack as_document (document es)
 document_returns es p b = framed_document es p.well_formed.0 (entries_written es (p.well_formed.1, p.nul_free.1, p.options_ascend.1, p.subtypes_proper.1) (omega arith)) b
 
--- so does that of such a list
+-- and so does that of such a list
 pub array_returns : (ts : Trees) → ComesBack as_array (array ts)
 array_returns ts p b = framed_array ts (items_written 0 ts (p.well_formed, p.nul_free, p.options_ascend, p.subtypes_proper) (omega arith)) b

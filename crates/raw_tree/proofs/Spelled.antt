@@ -21,11 +21,11 @@ not_old subtype bytes n = grind arith
 not_two : (byte : ℕ) → byte ≢ 2 → subtype_of byte ≢ BinaryOld
 not_two byte n e = n (sym (subtype_byte-subtype_of byte) ∙ ap subtype_byte e)
 
--- a payload that means a value is the value's, and so is its kind
+-- a payload that means a value is the payload of that value, and the kinds are the same
 pub value_spelled : (k : ElementType) (p r : List ℕ) (v : RawValue) → HasShape k p r → MeansValue k p v → (payload_of v ≡ p) × (kind_of_raw v ≡ k)
 value_spelled k p r v x m = grind (arith, nil_from_length, not_old, not_two)
 
--- the options of a leaf stay as they are where they ascend
+-- the options of a leaf stay as they are if they ascend
 leaf_kept : (k : ElementType) (p : List ℕ) (l : Leaf) → MeansValue k p (raw.single l) → DoLeafOptionsAscend l → leaf_in_order l ≡ l
 leaf_kept k p l m a = grind (arith, sorted_options-same)
 
@@ -36,7 +36,7 @@ abbrev kind_of_sort : Sort → ElementType
 kind_of_sort as_document = kind.EmbeddedDocument
 kind_of_sort as_array = kind.Array
 
--- bytes with an envelope that are read and canonical are the encoding of the tree, which is of its kind
+-- bytes with an envelope that are read and are canonical are the encoding of the tree, which is of their kind
 abbrev AreSpelled : (Sort → List ℕ → Tree → Type 0) → (Sort → List ℕ → Type 0) → Type 0
 AreSpelled N C = (sort : Sort) (b : List ℕ) (t : Tree) → IsEnvelope b → N sort b t → C sort b → (encoding t ≡ b) × (kind_of_tree t ≡ kind_of_sort sort)
 
@@ -44,14 +44,14 @@ AreSpelled N C = (sort : Sort) (b : List ℕ) (t : Tree) → IsEnvelope b → N 
 abbrev pub IsTreeSpelled : Frame → Tree → Type 0
 IsTreeSpelled f t = (tree_payload t ≡ f.payload) × (kind_of_tree t ≡ f.kind)
 
--- the tree of a value that is canonical has its payload and its kind, where nested bytes are encoded
+-- the tree of a canonical value has its payload and its kind, if nested bytes are encoded
 tree_encoded : (N : Sort → List ℕ → Tree → Type 0) (C : Sort → List ℕ → Type 0) (v : RawValue) (t : Tree)
     → ((sort : Sort) (d : List ℕ) (u : Tree) → Holds v d → N sort d u → C sort d → (encoding u ≡ d) × (kind_of_tree u ≡ kind_of_sort sort))
     → ((l : Leaf) → v ≡ raw.single l → DoLeafOptionsAscend l → leaf_in_order l ≡ l) → StandsFor N v t → IsValueCanonical C v
     → (tree_payload t ≡ payload_of v) × (kind_of_tree t ≡ kind_of_raw v)
 tree_encoded N C v t nested kept h c = grind arith
 
--- so has that of a frame's value
+-- and so has the tree of a frame's value
 tree_spelled : (N : Sort → List ℕ → Tree → Type 0) (C : Sort → List ℕ → Type 0) → AreSpelled N C
     → (s : List ℕ) (f : Frame) (r : List ℕ) (v : RawValue) (t : Tree) → IsFrame s f r → Means f (value v) → StandsFor N v t → IsValueCanonical C v
     → IsTreeSpelled f t
@@ -60,8 +60,7 @@ tree_spelled N C spelled s f r v t at m h c =
     let whole = value_spelled f.kind f.payload r v at.payload_is m in
     (tree.0 ∙ whole.0, tree.1 ∙ whole.1)
 
--- the elements of pairs that are read along a walk, and the final 0, are the bytes of the walk, and their keys those of
--- its frames
+-- the elements of pairs that are read along a walk, followed by the final 0, are the bytes of the walk; their keys are those of its frames
 walk_spelled : (N : Sort → List ℕ → Tree → Type 0) (C : Sort → List ℕ → Type 0) → AreSpelled N C
     → (s : List ℕ) (frames : List Frame) (pairs : List (List ℕ × Tree)) → IsWalk s frames Done → StandForEach N frames pairs → AreFramesCanonical C frames
     → (entries_bytes (entries pairs) ++ 0 ∷ [] ≡ s) × (map (λ f. f.key) frames ≡ keys_of pairs)
@@ -90,7 +89,7 @@ spelled_within zero m sort b t env h c = absurd h
 spelled_within (suc n) zero sort b t env h c = absurd c
 spelled_within (suc n) (suc m) sort b t env h c = grind (arith, one_walk, pairs_spelled, walk_spelled, spelled_within n m)
 
--- what a canonical frame stands for has its payload and its kind
+-- the tree that a canonical frame stands for has its payload and its kind
 pub frame_spelled : (n : ℕ) (s : List ℕ) (f : Frame) (r : List ℕ) (v : RawValue) → IsFrame s f r → Means f (value v) → IsValueCanonical (IsCanonicalUpTo n) v
     → (t : Tree) → FrameStandsFor f t → IsTreeSpelled f t
 frame_spelled n s f r v at m c t (w, means, h) =

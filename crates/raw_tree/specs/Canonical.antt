@@ -1,5 +1,5 @@
--- The documents and arrays that come back as they are after they are read and written. The bytes b of a
--- document, or of an array, have an envelope.
+-- The documents and arrays that are the same after they are read and written. The bytes b of a document or of an array
+-- have an envelope.
 use Rattle.std.specs.Prelude.{◌≡◌, ◌+◌, ℕ, suc, zero, List, [], ◌∷◌, drop, map, decimal}
 use Rattle.std.specs.List.{IsDistinct}
 use Rattle.std.specs.Str.{bytes_eq}
@@ -9,19 +9,19 @@ use Rattle.raw_view.specs.Meaning.{RawValue, Means, value}
 use Rattle.raw_view.specs.Meaning as raw
 use Rattle.raw_tree.specs.reader.Reading.{Sort, as_document, as_array}
 
--- these are the decimals from this number on, in order
+-- these are the decimals from n on, in order
 abbrev pub AreDecimalsFrom : ℕ → List (List ℕ) → Type 0
 AreDecimalsFrom n [] = Unit {0}
 AreDecimalsFrom n (key ∷ keys) = (key ≡ decimal n) × AreDecimalsFrom (n + 1) keys
 
--- of a document no key is there twice; of an array the keys are the decimals from 0 in order
+-- in a document no key occurs twice; in an array the keys are the decimals from 0 on, in order
 abbrev pub AreKeysCanonical : Sort → List (List ℕ) → Type 0
 AreKeysCanonical as_document keys = IsDistinct bytes_eq keys
 AreKeysCanonical as_array keys = AreDecimalsFrom 0 keys
 
--- what holds of a value, where Nested says which nested bytes are canonical
+-- canonical values and frames; `Nested` says which nested bytes are canonical
 module _ (Nested : Sort → List ℕ → Type 0) where
-  -- the options of a regular expression never descend, and nested bytes are canonical
+  -- the options of a regular expression ascend, and nested bytes are canonical
   abbrev pub IsValueCanonical : RawValue → Type 0
   IsValueCanonical (raw.single l) = DoLeafOptionsAscend l
   IsValueCanonical (raw.document d) = Nested as_document d
@@ -33,8 +33,8 @@ module _ (Nested : Sort → List ℕ → Type 0) where
   AreFramesCanonical [] = Unit {0}
   AreFramesCanonical (f ∷ fs) = (v : RawValue) × Means f (value v) × IsValueCanonical v × AreFramesCanonical fs
 
--- the walk of these bytes, with at most so many levels, ends at the final 0, its keys are canonical, and so
--- is the value of each frame
+-- The bytes have at most n levels. Their walk ends at the final 0, its keys are canonical, and so is the value of each
+-- frame.
 abbrev pub IsCanonicalUpTo : ℕ → Sort → List ℕ → Type 0
 IsCanonicalUpTo zero sort b = ⊥
 IsCanonicalUpTo (suc n) sort b = (frames : List Frame) × IsWalk (drop 4 b) frames Done × AreKeysCanonical sort (map (λ f. f.key) frames) × AreFramesCanonical (IsCanonicalUpTo n) frames

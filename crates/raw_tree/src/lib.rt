@@ -1,5 +1,17 @@
-//! Trees of BSON values from bytes, the bytes that values and trees are written as, and walks over all levels of a document: its first
-//! fault, and whether it is canonical.
+//! Reads trees of BSON values from bytes, writes the bytes of values and trees, and walks over all levels of
+//! a document to find its first fault or to say whether it is canonical.
+//!
+//! Begin at `read` in `reader.rt` for trees from bytes, at `write` in `writer.rt` for bytes from trees, and
+//! at `Walk::next` in `walk.rt` for walks. `validator/step.rt` and `walk/faults.rt` use the walk. `put.rt`
+//! appends elements and values.
+//!
+//! In `specs/`, `reader/Reading.antt` says which tree bytes are read as, `Canonical.antt` which documents are
+//! canonical, `CanonicalForm.antt` states the main theorem, and `walk/Visits.antt` lists the elements of all
+//! levels.
+//!
+//! `raw_form`, `raw_resync`, `raw_bson`, the JSON crates, the programs and `bsonraw_c` rest on this crate.
+//! What is `#[doc(hidden)]` below is for them alone. `proofs/Face.antt` has the lemmas that they may cite;
+//! any other lemma may change.
 #![tactic(auto)]
 
 mod put;
@@ -10,7 +22,8 @@ mod writer;
 
 pub use put::payload::{is_nul_free, is_value_nul_free, payload_len};
 pub use put::total::total_len;
-// For `raw_bson`, `raw_form` and `bson_from_json` alone: they write where there is room, and that is their caller's to see.
+// For `raw_bson`, `raw_form` and `bson_from_json` alone. They write into vectors that have room; the caller
+// makes sure of that.
 #[doc(hidden)]
 pub use put::{put_element, put_head, put_raw_element, put_string, put_unset, set_len};
 pub use reader::levels::copied_pointer;
@@ -22,7 +35,7 @@ pub use reader::{
 pub use validator::breach::{Breach, Cause};
 pub use validator::validate;
 pub use validator::within::{PlacedBreach, ValidateError, validate_within};
-// For `raw_form` alone, which goes on from where a validation ends.
+// For `raw_form` alone, which continues where a validation ended.
 #[doc(hidden)]
 pub use validator::within::{Found, validate_to_depth};
 pub use walk::barrier::{Barrier, BarrierKind};
@@ -33,7 +46,7 @@ pub use walk::element::{element_at, next_element};
 pub use walk::faults::first_fault_within;
 #[doc(hidden)]
 pub use walk::faults::{FIRST, Start, first_behind};
-// For `raw_form` and `bson_json`, which make something of what a walk comes to.
+// For `raw_form` and `bson_json`, which produce output for each event of a walk.
 #[doc(hidden)]
 pub use walk::level::{Level, Waiting, behind};
 pub use walk::place::{PathStep, Place};

@@ -1,5 +1,5 @@
-//! Elements, values and their parts, put at the end of bytes that have room for them. Nothing is measured or reserved
-//! here, and no tree is known.
+//! Appends elements, values and their parts to bytes that have room for them. Nothing is measured or reserved
+//! here, and no trees occur.
 
 ghost use Rattle.std.specs.Prelude.{◌≡◌, ◌≤◌, ◌+◌, ◌-◌, ◌++◌, ◌∷◌, [], pos, length, take, drop, vec_len, vec_capacity};
 ghost use Rattle.bson_model.specs.Leaf as leaf;
@@ -22,7 +22,7 @@ use raw_view::{
     RawRegexRef,
 };
 
-/// Puts the bytes at the end, where there is room for them.
+/// Appends the bytes to `out`, which has room for them.
 #[inline(always)]
 pub(crate) fn put(out: &mut Vec<u8>, bytes: &[u8])
     requires { vec_len out.old + length bytes.now ≤ vec_capacity out.old }
@@ -35,7 +35,7 @@ pub(crate) fn put(out: &mut Vec<u8>, bytes: &[u8])
     };
 }
 
-/// Puts the four bytes of a length at the end, where there is room for them; `set_len` sets it later.
+/// Appends the four bytes of a length to `out`, which has room for them; `set_len` sets them later.
 #[inline(always)]
 pub fn put_unset(out: &mut Vec<u8>)
     requires { vec_len out.old + 4 ≤ vec_capacity out.old }
@@ -57,7 +57,8 @@ fn put_len(out: &mut Vec<u8>, len: usize)
     put(out, &(len as i32).to_le_bytes()[..]);
 }
 
-/// Puts the length of a text with its 0, the text and the 0 at the end, where there is room for them. BSON 1.1, `string`.
+/// Appends the length of a text with its 0, the text and the 0 to `out`, which has room for them. BSON 1.1,
+/// `string`.
 #[inline(always)]
 pub fn put_string(out: &mut Vec<u8>, text: &str)
     requires room { vec_len out.old + length (string_payload text.now) ≤ vec_capacity out.old }
@@ -165,7 +166,7 @@ fn put_regex(out: &mut Vec<u8>, regex: RawRegexRef<'_>)
     put_c_string(out, regex.options);
 }
 
-/// Puts the payload of the value at the end, where there is room for it.
+/// Appends the payload of the value to `out`, which has room for it.
 #[inline(always)]
 pub(crate) fn put_payload(out: &mut Vec<u8>, value: RawBsonRef<'_>)
     requires room { vec_len out.old + length (payload_of (value_of value)) ≤ vec_capacity out.old }
@@ -199,7 +200,7 @@ pub(crate) fn put_payload(out: &mut Vec<u8>, value: RawBsonRef<'_>)
     }
 }
 
-/// Puts a tag, a key and its 0 at the end, where there is room for them.
+/// Appends a tag, a key and its 0 to `out`, which has room for them.
 #[inline(always)]
 pub fn put_head(out: &mut Vec<u8>, tag: u8, key: &str)
     requires { vec_len out.old + (length key.now + 2) ≤ vec_capacity out.old }
@@ -211,7 +212,7 @@ pub fn put_head(out: &mut Vec<u8>, tag: u8, key: &str)
     put_c_string(out, key);
 }
 
-/// Puts the element of the value under the key at the end, where there is room for it.
+/// Appends the element with this key and this value to `out`, which has room for it.
 #[inline(always)]
 pub fn put_element(out: &mut Vec<u8>, key: &str, value: RawBsonRef<'_>)
     requires room { vec_len out.old + length (element_bytes key.now (value_of value))
@@ -227,7 +228,7 @@ pub fn put_element(out: &mut Vec<u8>, key: &str, value: RawBsonRef<'_>)
     put_payload(out, value);
 }
 
-/// Puts an element as it is at the end, where there is room for it.
+/// Appends an element as it is to `out`, which has room for it.
 #[inline(always)]
 pub fn put_raw_element(out: &mut Vec<u8>, element: RawElement<'_>)
     requires { vec_len out.old + (length (frame_of element).key + (2 + length (frame_of element).payload))
@@ -242,7 +243,7 @@ pub fn put_raw_element(out: &mut Vec<u8>, element: RawElement<'_>)
     put(out, element.payload());
 }
 
-/// Sets the four bytes at `start` to how many bytes there are from there on.
+/// Sets the four bytes at `start` to the number of bytes from `start` to the end.
 #[inline(always)]
 pub fn set_len(out: &mut Vec<u8>, start: usize)
     requires header { start + 4 ≤ vec_len out.old }

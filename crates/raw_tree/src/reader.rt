@@ -1,4 +1,4 @@
-//! The trees that bytes are read as.
+//! Trees from bytes.
 #![tactic(auto, using(std::proofs::lemmas::Grind::common_steps, bson_model::proofs::Face::tree_laws))]
 
 ghost use Rattle.std.specs.Prelude.{◌≡◌, ◌≤◌, ◌-◌, ◌/◌, length, IfOk, IfErr};
@@ -27,8 +27,9 @@ use raw_view::{
 };
 use std::alloc::Global;
 
-/// What these bytes are read as. Those that are nested in them are read as a level of their own, whose result
-/// goes to the level that waits for it. A level deeper than `depth` isn't entered, and no memory is asked for it.
+/// The content of the bytes of `nested`. The bytes nested in them are read as levels of their own, each of
+/// which is handed to the level that waits for it. A level deeper than `depth` isn't entered, and no memory
+/// is requested for it.
 pub(crate) fn read<'a>(
     alloc: Global,
     nested: RawLevel<'a>,
@@ -69,7 +70,7 @@ pub(crate) fn read<'a>(
     }
 }
 
-/// What these bytes are read as, however deep they are: no document has so many levels as `usize::MAX`.
+/// The content of the bytes of `nested`, however deep they are: no document has `usize::MAX` levels.
 fn read_all<'a>(alloc: Global, nested: RawLevel<'a>, steps: &mut Steps) -> Result<Contents<'a>>
     requires fresh { steps.old ≡ 0 }
     ensures tree { IfOk result (AreRead nested.entry.holder (bytes_of nested.entry.document)) }
@@ -79,11 +80,11 @@ fn read_all<'a>(alloc: Global, nested: RawLevel<'a>, steps: &mut Steps) -> Resul
     read(alloc, nested, usize::MAX, steps)
 }
 
-/// The tree of a document: its pairs in order, a repeated key in the place of its first occurrence with the
-/// value of its last. It fails exactly if a fault is at any level, also in a value that a later one
-/// would replace, with the first, depth first in byte order, and the key that this fault itself
-/// carries; or memory runs out. Every document has no more than one tree, and either that or a first fault.
-/// Its tree is written back as its own bytes exactly where it is canonical. BSON 1.1, `document`.
+/// The tree of a document: its pairs in order, a repeated key in its first place with its last value. It
+/// fails if and only if there is a fault at any level, even in a value that a later one would replace, or if
+/// memory runs out. The error is the first fault, depth first in byte order, with the key that this fault
+/// itself has. Every document has exactly one tree or exactly one first fault. Its tree is written back as
+/// its own bytes if and only if the document is canonical. BSON 1.1, `document`.
 /// ```
 /// let document = RawDocument::from_bytes(b"\x13\0\0\0\x10a\0\x01\0\0\0\x10a\0\x02\0\0\0\0")?;
 /// let tree = document_from_raw(alloc, document)?;
@@ -99,9 +100,10 @@ pub fn document_from_raw(alloc: Global, document: RawDocument<'_>) -> Result<Doc
     tree
 }
 
-/// The result of `document_from_raw`, and how many elements were framed for it, at all levels: on success as
-/// many as the document has; on a fault those up to it, with the element that has it, if it is no stop;
-/// where memory ran out, no more than that. Of n bytes never more than (n - 4) / 2. BSON 1.1, `document`.
+/// The result of `document_from_raw`, and how many elements were read for it at all levels. If it succeeds,
+/// these are all elements of the document. At a fault these are the elements before it and the element that
+/// has it, unless the fault is a stop. If memory ran out, these are no more than those. For n bytes the
+/// number is at most (n - 4) / 2. BSON 1.1, `document`.
 /// ```
 /// let document = RawDocument::from_bytes(b"\x0C\0\0\0\x10a\0\x01\0\0\0\0")?;
 /// let (tree, steps) = document_from_raw_counted(alloc, document);
@@ -134,8 +136,8 @@ pub fn document_from_raw_counted(
     (tree, steps)
 }
 
-/// The values of an array in order, without its keys. It fails as `document_from_raw` does, and
-/// the same holds of every array. BSON 1.1, `array`.
+/// The values of an array in order, without its keys. It fails as `document_from_raw` does, and what holds of
+/// every document there holds of every array here. BSON 1.1, `array`.
 /// ```
 /// let array = RawArray::from_doc(RawDocument::from_bytes(b"\x13\0\0\0\x10a\0\x01\0\0\0\x10b\0\x02\0\0\0\0")?);
 /// let list = list_from_raw(alloc, array)?;
@@ -159,9 +161,9 @@ pub fn list_from_raw(alloc: Global, array: RawArray<'_>) -> Result<Vec<Bson>>
     }
 }
 
-/// The value with parts of its own: of a nested document, an array or a scope the tree of its bytes, of a
-/// regular expression one with its options' characters in ascending order. The errors are the first fault
-/// of the nested bytes, with the key that this fault itself carries, and out of memory.
+/// A value that owns its parts: for a nested document, an array or a scope the tree of its bytes; for a
+/// regular expression one with its options in ascending order. The error is the first fault of the nested
+/// bytes, with the key that this fault itself has, or out of memory.
 /// ```
 /// assert_eq!(rt; bson_from_raw(alloc, RawBsonRef::Int32(7))?, Bson::Int32(7));
 /// ```
@@ -177,8 +179,8 @@ pub fn bson_from_raw(alloc: Global, value: RawBsonRef<'_>) -> Result<Bson>
     }
 }
 
-/// The value of an element with parts of its own, as `bson_from_raw` gives it. The fault that the payload
-/// itself means comes before any inside it.
+/// The value of an element, with parts of its own, as `bson_from_raw` returns it. A fault of the payload
+/// itself comes before any fault inside.
 pub fn bson_from_element(alloc: Global, element: RawElement<'_>) -> Result<Bson>
     ensures tree { IfOk result (λ t. FrameStandsFor (frame_of element.entry) (tree_of t)) }
     ensures fault { IfErr result (TellsFirstFaultOfFrame (frame_of element.entry)) }

@@ -1,4 +1,4 @@
-//! Whether documents are canonical, and where they first fail to be.
+//! Whether a document is canonical, and where it first isn't.
 #![tactic(auto)]
 
 ghost use Rattle.std.specs.Prelude.{◌≡◌, map, IfOk, IfErr, OnOk};
@@ -32,12 +32,13 @@ fn numbers_of(alloc: Global, steps: &[PathStep<'_>]) -> Result<Vec<usize>>
     Ok(numbers)
 }
 
-/// Whether a document is canonical: `None` exactly where it is, and it then has a tree, which is written back as its
-/// own bytes; else the first place, depth first in byte order, where it fails to be, and why. At each element the key
-/// is validated first, then the value, then what is inside. The only error is out of memory. BSON 1.1, `document`.
+/// Whether a document is canonical. `None` if and only if it is; then it has a tree, which is written back as
+/// its own bytes. Otherwise it returns the first place, depth first in byte order, where the document isn't
+/// canonical, and why. The key of an element is validated first, then its value, then what is inside the
+/// value. The only error is out of memory. BSON 1.1, `document`.
 ///
-/// No clause says so: no tree is built, and no depth fills the stack. Memory is taken for the keys of the levels that are open,
-/// for the levels that wait and for the path.
+/// Not in the contract: no tree is built, and no depth fills the stack. Memory is taken for the keys of the
+/// open levels, for the waiting levels and for the path.
 /// ```
 /// let document = RawDocument::from_bytes(b"\x13\0\0\0\x10a\0\x01\0\0\0\x10a\0\x02\0\0\0\0")?;
 /// let Some(breach) = validate(alloc, document)? else { unreachable!() };

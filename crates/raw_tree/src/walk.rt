@@ -30,31 +30,31 @@ use crate::walk::place::{Place, place_in};
 use raw_view::{Elements, RawBsonRef, RawDocument, RawElement, RawLevel};
 use std::alloc::Global;
 
-/// A walk over all levels of a document, depth first in byte order. It takes memory for the levels that wait, and no stack.
-/// The innermost level is beside it, so that its fields can stay in registers.
+/// A walk over all levels of a document, depth first in byte order. It takes memory for the waiting levels,
+/// and no stack. The innermost level is a separate value, so that its fields can stay in registers.
 #[derive(Drop)]
 pub struct Walk<'a> {
     pub document: RawDocument<'a>,
     /// how many levels may wait
     pub most_waiting: MostWaiting,
-    /// the levels that wait for the innermost, the outermost first
+    /// the levels that wait for the innermost one, the outermost first
     pub waiting: Vec<Waiting>,
 }
 
-/// What a walk comes to.
+/// The next event of a walk.
 #[derive(Drop)]
 pub enum Event<'a> {
     /// an element, and its value, which holds no level
     Whole(RawElement<'a>, RawBsonRef<'a>),
-    /// an element, and the level that its value holds: that is entered
+    /// an element, and the level that its value holds, which is entered
     Enter(RawElement<'a>, RawLevel<'a>),
-    /// the end of a level that was entered
+    /// the end of an entered level
     Leave,
     /// the end of the document
     End,
 }
 
-/// Why a walk can't go on.
+/// Why a walk can't continue.
 #[derive(Drop)]
 pub enum WalkError<'a> {
     /// a fault, or a level that is too deep, which isn't entered
@@ -64,7 +64,8 @@ pub enum WalkError<'a> {
 }
 
 impl<'a> Walk<'a> {
-    /// A walk for whose innermost level so many may wait, and the outermost level from this element on.
+    /// A walk, and the outermost level from `start` on. `most_waiting` limits how many levels may wait for
+    /// the innermost one.
     #[inline(always)]
     pub fn new(
         alloc: Global,
@@ -95,8 +96,8 @@ impl<'a> Walk<'a> {
         (walk, level)
     }
 
-    /// A walk over a document within limits, and its outermost level; or the limit that it is past as a whole. The depth may
-    /// still end the walk.
+    /// A walk over a document within limits, and its outermost level; or the limit that the document exceeds
+    /// as a whole. The depth may still end the walk.
     #[inline(always)]
     pub fn within(
         alloc: Global,
@@ -117,7 +118,7 @@ impl<'a> Walk<'a> {
         Err(WalkError::Barrier(Barrier { kind, place }))
     }
 
-    /// The next event, where the walk is in this level. Behind the end and an error it isn't called again.
+    /// The next event of the walk, which is in this level. It isn't called again after the end or an error.
     #[inline(always)]
     pub fn next(&mut self, alloc: Global, level: &mut Level<'a>) -> Result<Event<'a>, WalkError<'a>>
         requires { (document : RawDocument) × (most : ℕ) × (seen : List Visit) × HasCome document most self.old level.old seen }
@@ -160,7 +161,7 @@ impl<'a> Walk<'a> {
         level.number += 1;
     }
 
-    /// Enters the level that an element holds which was just looked at.
+    /// Enters the level of the element that was just looked at.
     #[inline(always)]
     pub(crate) fn enter(
         &mut self,
@@ -195,7 +196,7 @@ impl<'a> Walk<'a> {
         Ok(())
     }
 
-    /// Goes back to the level around the one that was just seen to be at its end, if there is one.
+    /// Returns to the outer level, if there is one, from the level whose end was just seen.
     #[inline(always)]
     pub(crate) fn leave(&mut self, level: &mut Level<'a>) -> bool
         requires { (outer : List Waiting) (w : Waiting)
@@ -210,8 +211,8 @@ impl<'a> Walk<'a> {
         true
     }
 
-    /// Where the element of the outermost level begins that holds the innermost level; in the outermost level itself what
-    /// begins at this offset.
+    /// Where in the outermost level the element begins that holds the innermost level. In the outermost level
+    /// itself it is `offset`.
     pub(crate) fn outermost(&self, offset: usize) -> usize
         ensures { result ≡ outermost_of self.now.waiting.items offset }
     {
@@ -221,7 +222,7 @@ impl<'a> Walk<'a> {
         }
     }
 
-    /// The barrier of this kind at the element with this number and key in the innermost level, and where it is.
+    /// The barrier of this kind, placed at the element with this number and key in the innermost level.
     pub(crate) fn barrier(
         &self,
         alloc: Global,

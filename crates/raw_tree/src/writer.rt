@@ -1,4 +1,4 @@
-//! The bytes that trees are written as.
+//! Bytes from trees.
 #![tactic(auto, using(std::proofs::lemmas::Grind::common_steps, bson_model::proofs::Face::tree_laws))]
 
 ghost use Rattle.std.specs.Prelude.{◌≡◌, ◌≤◌, ◌+◌, ◌++◌, ◌∷◌, [], vec_len, vec_capacity, IfOk, IfErr, OnOk};
@@ -38,15 +38,15 @@ fn tag(container: Container<'_>) -> u8
     kind.to_tag()
 }
 
-/// A payload that is being written: the members of its container that are left, and where it starts.
+/// A payload that is being written: the remaining members of its container, and where it starts.
 #[derive(Clone, Copy)]
 struct Payload<'a> {
     members: Members<'a>,
     start: usize,
 }
 
-/// Puts what the payload of a container begins with at the end, where there is room for the whole; its lengths
-/// aren't set.
+/// Appends the beginning of the payload of a container, for all of which there is room. Its lengths aren't
+/// set yet.
 #[inline(always)]
 fn put_opening(out: &mut Vec<u8>, container: Container<'_>)
     requires room { vec_len out.old + encoded_len (tree_of_container container) ≤ vec_capacity out.old }
@@ -66,7 +66,7 @@ fn put_opening(out: &mut Vec<u8>, container: Container<'_>)
 }
 
 impl<'a> Payload<'a> {
-    /// Starts the payload of a container at the end, where there is room for it.
+    /// Appends the beginning of the payload of a container, for which there is room.
     #[tactic(auto, using(std::proofs::lemmas::Grind::common_steps, crate::proofs::writer::WrittenMembers::begins))]
     #[inline(always)]
     fn start(out: &mut Vec<u8>, container: Container<'a>) -> Payload<'a>
@@ -85,7 +85,7 @@ impl<'a> Payload<'a> {
         }
     }
 
-    /// Ends the payload, all of whose members are put, and sets its lengths.
+    /// Ends the payload, whose members were all written, and sets its lengths.
     #[inline(always)]
     fn end(self, out: &mut Vec<u8>)
         requires begun { members_start (begun_of self) ≤ vec_len out.old }
@@ -104,7 +104,7 @@ impl<'a> Payload<'a> {
     }
 }
 
-/// The text of a key, that of a number in the buffer.
+/// The text of a key; the decimal of a number is written into the buffer.
 #[inline(always)]
 fn text<'a>(key: Key<'a>, buffer: &'a mut Buffer) -> &'a str
     ensures { result.now ≡ key_bytes key.entry }
@@ -115,8 +115,8 @@ fn text<'a>(key: Key<'a>, buffer: &'a mut Buffer) -> &'a str
     }
 }
 
-/// Puts the payload of a container into these empty bytes, which have room for it. The containers round the one
-/// whose members are put wait in memory; the only error is out of memory.
+/// Writes the payload of a container into `out`, which is empty and has room for it. The containers around
+/// the one that is being written wait in memory. The only error is out of memory.
 #[tactic(auto, using(std::proofs::lemmas::Grind::common_steps, crate::proofs::writer::WrittenMembers::room_left))]
 fn write(alloc: Global, out: &mut Vec<u8>, container: Container<'_>) -> Result<()>
     requires empty { out.old.items ≡ [] }
@@ -150,7 +150,7 @@ fn write(alloc: Global, out: &mut Vec<u8>, container: Container<'_>) -> Result<(
     }
 }
 
-/// No bytes yet, with room for the tree of which this is measured; or why the tree isn't written.
+/// No bytes, with room for a tree of this measured length; or why the tree can't be written.
 fn room_for(alloc: Global, measured: Option<usize>) -> Result<Vec<u8>>
     ensures ok { (t : Tree) → Measures t measured → IfOk result (HasRoomFor t) }
     ensures err { (t : Tree) → Measures t measured → IfErr result (IsRefused t) }
@@ -164,7 +164,7 @@ fn room_for(alloc: Global, measured: Option<usize>) -> Result<Vec<u8>>
     Ok(Vec::with_capacity(alloc, len)?)
 }
 
-/// The payload of a container; or why it isn't written.
+/// The payload of a container, or why it can't be written.
 fn encoded(alloc: Global, container: Container<'_>) -> Result<Vec<u8>>
     ensures ok { IfOk result (λ out. IsEncoded (tree_of_container container.entry) out.items) }
     ensures bytes { IfOk result (λ out. AreBytes out.items) }
@@ -175,11 +175,11 @@ fn encoded(alloc: Global, container: Container<'_>) -> Result<Vec<u8>>
     Ok(out)
 }
 
-/// The bytes of a document. BSON 1.1, `document`. It fails, without a key, first if a key, a pattern or
-/// options at any depth hold a 0, then where the bytes would be over 2147483647, and then where memory runs
-/// out; it reserves the whole once. Of every document's tree without such a 0, whose options never descend
-/// and whose subtypes are those that their bytes give, what is written is canonical, and is read as
-/// that very tree; that the tree of a `Document` is well formed, `attest_document` says.
+/// The bytes of a document. BSON 1.1, `document`. It fails, without a key, for the first of these reasons: a
+/// key, a pattern or options at any depth contain a 0; the bytes would be more than 2147483647; memory runs
+/// out. It reserves memory for the whole once. If options never descend and each subtype is the one that its
+/// byte gives, what is written is canonical and is read as the same tree. `attest_document` says that the
+/// tree of a `Document` is well formed.
 /// ```
 /// let mut tree = Document::new(alloc);
 /// tree.put(String::from_str(alloc, "a")?, Bson::Int32(1))?;
@@ -195,8 +195,8 @@ pub fn encode(alloc: Global, document: &Document) -> Result<Vec<u8>>
     encoded(alloc, Container::Document(document))
 }
 
-/// The bytes of a list, its keys the decimals from 0. BSON 1.1, `array`. It fails as `encode` does, in
-/// the same order. What is written of every list comes back likewise.
+/// The bytes of a list, whose keys are the decimals from 0. BSON 1.1, `array`. It fails as `encode` does, for
+/// the same reasons in the same order. The same holds of what is written of a list.
 #[tactic(auto, using(std::proofs::lemmas::Grind::common_steps, crate::proofs::Forms::list_enveloped, crate::proofs::Returns::array_returns))]
 pub fn encode_list(alloc: Global, values: &[Bson]) -> Result<Vec<u8>>
     ensures ok { IfOk result (λ bytes. IsEncoded (tree_of_list values.now) bytes.items) }

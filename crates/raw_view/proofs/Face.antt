@@ -13,13 +13,13 @@ pub use Rattle.raw_view.proofs.Unique.Walks.{one_frame, one_stop, one_walk, the_
 pub use Rattle.raw_view.proofs.Unique.Items.{the_items}
 pub use Rattle.raw_view.proofs.Unique.LookUps.{one_look_up}
 pub use Rattle.raw_view.proofs.Unique.Meanings.{one_meaning}
--- an element is one before any bytes
+-- an element is one before any following bytes
 pub use Rattle.raw_view.proofs.Frames.Standing.{stands_anywhere}
 -- documents, and bytes that begin with their own length
 pub use Rattle.raw_view.proofs.Frames.Payloads.{counted_whole, document_framed}
 -- what is written by the format
 pub use Rattle.raw_view.proofs.Frames.Written.{length-framed, length-scoped_payload, AreBytes-leaf, AreBytes-scoped, AreBytes-framed, AreBytes-element, leaf_shape, declared_shape, framed_is_envelope, leaf_means, scoped_means}
--- the document at the front of bytes, and the length that they begin with: four bytes read one
+-- the document at the front of bytes, and the length that they begin with: four bytes read as one length
 pub use Rattle.raw_view.proofs.Bytes.Headers.{first_four, header_of_front}
 pub use Rattle.raw_view.proofs.Frames.FirstDocuments.{refused_none, one_first}
 pub use Rattle.raw_view.proofs.Bytes.Numbers.{read_front, IsLe32-same}

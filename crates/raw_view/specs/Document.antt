@@ -1,4 +1,4 @@
--- What a view shows.
+-- The bytes of a view.
 use Rattle.std.specs.Prelude.{ℕ, List}
 use Rattle.raw_view.specs.declared.document.RawDocument.{RawDocument}
 

@@ -13,6 +13,7 @@ use Rattle.raw_view.specs.Frame.Envelope.{Refuses}
 use Rattle.raw_view.specs.declared.first_document.NoDocument.{NoDocument}
 use Rattle.raw_view.specs.declared.first_document.NoDocument.TheVariants as no
 
+-- the UTF-8 bytes of a text that may be absent
 abbrev pub text_of : {Z : Type 0} → Option (String Z) → Option (List ℕ)
 text_of None = None
 text_of (Some text) = Some (string_bytes text)
@@ -25,18 +26,18 @@ key_of e = text_of e.key
 abbrev pub IsSameError : Error → Error → Type 0
 IsSameError s t = (t.kind ≡ s.kind) × (key_of t ≡ key_of s)
 
--- malformed, for a reason of which this holds
+-- the error is malformed, and this holds of its reason
 abbrev pub IsMalformed : ErrorKind → (Reason → Type 0) → Type 0
 IsMalformed (kind.MalformedValue reason) P = P reason
 IsMalformed (kind.Utf8EncodingError _) P = ⊥
 IsMalformed kind.OutOfMemory P = ⊥
 
--- the error says for which reason, the first one, b has no envelope; it has no key
+-- the error says the first reason why b has no envelope; it has no key
 pub record TellsRefusal (b : List ℕ) (e : Error) : Type 0 where
   pub reason : IsMalformed e.kind (Refuses b)
   pub key : key_of e ≡ None
 
--- the reason of an envelope for which no document is at the front of bytes
+-- the reason for an envelope that corresponds to the reason why no document is at the front
 abbrev pub reason_of : NoDocument → Reason
 reason_of no.TooShort = reason.TooShort
 reason_of no.LengthIncorrect = reason.LengthIncorrect
@@ -46,35 +47,35 @@ reason_of (no.NotTerminated len) = reason.NotTerminated
 abbrev pub TellsFirst : NoDocument → Error → Type 0
 TellsFirst why e = (e.kind ≡ kind.MalformedValue (reason_of why)) × (key_of e ≡ None)
 
--- a reason that reading has: none of the two of writing, and none of the two of limits
+-- a reason that reading gives: neither one of the two of writing nor one of the two of limits
 abbrev pub IsReadingReason : Reason → Type 0
 IsReadingReason r = (r ≢ reason.InteriorNul) × (r ≢ reason.TooLong) × (r ≢ reason.TooManyBytes) × (r ≢ reason.TooDeep)
 
--- a kind of error whose reason, if it has one, is one that reading has
+-- a kind of error that reading gives: its reason, if it has one, is a reading reason
 abbrev pub IsReadingKind : ErrorKind → Type 0
 IsReadingKind k = (r : Reason) → k ≡ kind.MalformedValue r → IsReadingReason r
 
--- the fault that an error of this kind says
+-- an error of this kind says this fault
 abbrev pub SaysFault : ErrorKind → Fault → Type 0
 SaysFault (kind.MalformedValue why) fault = fault ≡ Malformed why
 SaysFault (kind.Utf8EncodingError _) fault = fault ≡ Utf8
 SaysFault kind.OutOfMemory fault = ⊥
 
--- no memory was left; the error has no key
+-- memory ran out; the error has no key
 pub record IsOutOfMemory (e : Error) : Type 0 where
   pub kind_is : e.kind ≡ kind.OutOfMemory
   pub no_key : key_of e ≡ None
 
--- The error has a kind of which P holds, and a copy of the key. Where there is a key, memory may have run out
--- for the copy: then the error is out of memory, and has no key.
+-- The kind of the error satisfies P, and the error has a copy of the key. If there is a key, memory may have run out
+-- for the copy instead: then the error is out of memory and has no key.
 abbrev pub CarriesKey : (ErrorKind → Type 0) → Option (List ℕ) → Error → Type 0
 CarriesKey P None e = P e.kind × (key_of e ≡ None)
 CarriesKey P (Some key) e = (P e.kind × (key_of e ≡ Some key)) ⊎ IsOutOfMemory e
 
--- so of this one kind
+-- the same for one kind
 abbrev pub HasKeyCopy : ErrorKind → Option (List ℕ) → Error → Type 0
 HasKeyCopy what key e = CarriesKey (λ k. k ≡ what) key e
 
--- so of a kind that says the fault; no reading fault has a reason of writing or of limits
+-- the same for each kind that says the fault; no reading fault has a reason of writing or of limits
 abbrev pub TellsFault : Error → Fault → Option (List ℕ) → Type 0
 TellsFault e fault key = CarriesKey (λ k. SaysFault k fault × IsReadingKind k) key e

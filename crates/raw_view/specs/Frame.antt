@@ -1,6 +1,6 @@
--- What is in a document: frames, and where they end. Relations between whole byte lists: s is what is
--- left of a document, p a payload, r what is behind it, each a list of bytes; that they are bytes is what
--- the envelope of the document says.
+-- What is in a document: frames, and where they end. These are relations between whole byte lists. In all of them s is
+-- what is left of a document, p is a payload, and r is what follows the payload. That their elements are bytes is part
+-- of the envelope of the document.
 pub mod Number
 pub mod Format
 pub mod Envelope
@@ -22,7 +22,7 @@ use Rattle.raw_view.specs.declared.element_type.ElementType.TheVariants as kind
 use Rattle.raw_view.specs.declared.error.Reason.{Reason}
 use Rattle.raw_view.specs.declared.error.Reason.TheVariants as reason
 
--- p is the string of this text, which may hold a 0 and need not be UTF-8
+-- p is the string of `text`, which may contain a 0 and need not be UTF-8
 pub record IsString (p text : List ℕ) : Type 0 where
   pub fits : length text < max_length
   pub spelled : p ≡ string_payload text
@@ -31,12 +31,12 @@ pub record IsString (p text : List ℕ) : Type 0 where
 abbrev pub HasText : List ℕ → Type 0
 HasText p = (text : List ℕ) × IsString p text
 
--- p is the binary of this subtype's byte and these bytes
+-- p is the binary with this subtype byte and these bytes
 pub record IsBinary (p : List ℕ) (subtype : ℕ) (bytes : List ℕ) : Type 0 where
   pub fits : length bytes ≤ max_length
   pub spelled : p ≡ plain_binary_payload subtype bytes
 
--- p is the regular expression of this pattern and these options, each a UTF-8 text without a 0
+-- p is the regular expression with this pattern and these options, each a UTF-8 text without a 0
 pub record IsRegex (p pattern options : List ℕ) : Type 0 where
   pub spelled : p ≡ regex_payload pattern options
   pub pattern_nul_free : NulFree pattern
@@ -44,20 +44,20 @@ pub record IsRegex (p pattern options : List ℕ) : Type 0 where
   pub options_nul_free : NulFree options
   pub options_text : IsUtf8 options
 
--- p is the pointer of this namespace and this identifier
+-- p is the pointer with this namespace and this identifier
 pub record IsDbPointer (p namespace id : List ℕ) : Type 0 where
   pub fits : length namespace < max_length
   pub id_len : length id ≡ 12
   pub spelled : p ≡ pointer_payload namespace id
 
--- p, with r behind it, has at least four bytes, and they begin with the length of p.
--- So a code with scope is framed by its length alone, and where that is under four the next element
--- begins inside its length bytes. BSON 1.1, `code_w_s`.
+-- p and the following bytes r are at least four bytes, which begin with the length of p. So a code with scope is cut
+-- off by its declared length alone. If that is less than four, the next element begins inside the length itself. BSON
+-- 1.1, `code_w_s`.
 pub record HasDeclaredLength (p r : List ℕ) : Type 0 where
   pub enough : 4 ≤ length (p ++ r)
   pub header : IsLe32 (take 4 (p ++ r)) (pos (length p))
 
--- p is a payload of this kind where r is behind it
+-- p is a payload of this kind, followed by r
 abbrev pub HasShape : ElementType → List ℕ → List ℕ → Type 0
 HasShape kind.Double p r = length p ≡ 8
 HasShape kind.String p r = HasText p
@@ -81,7 +81,7 @@ HasShape kind.Decimal128 p r = length p ≡ 16
 HasShape kind.MaxKey p r = length p ≡ 0
 HasShape kind.MinKey p r = length p ≡ 0
 
--- p is a payload of this kind where some bytes are behind it
+-- p is a payload of this kind, whatever follows it
 abbrev pub HasPayload : ElementType → List ℕ → Type 0
 HasPayload kind p = (r : List ℕ) × HasShape kind p r
 
@@ -91,18 +91,18 @@ pub record Frame : Type 0 where
   pub key : List ℕ
   pub payload : List ℕ
 
--- the frame is at the front of s as an element, and r is left behind it
+-- the frame is at the front of s as an element, and r follows it
 pub record IsFrame (s : List ℕ) (f : Frame) (r : List ℕ) : Type 0 where
   pub spelled : s ≡ element_of f.kind f.key (f.payload ++ r)
   pub key_nul_free : NulFree f.key
   pub key_utf8 : IsUtf8 f.key
   pub payload_is : HasShape f.kind f.payload r
 
--- a code with scope whose declared length takes in fewer bytes than the length itself has
+-- a code with scope whose declared length is less than four
 abbrev pub IsShortScope : Frame → Type 0
 IsShortScope f = (f.kind ≡ kind.JavaScriptCodeWithScope) × (length f.payload < 4)
 
--- the frame is an element, whatever is behind it
+-- the frame is an element whatever follows it
 abbrev pub StandsAnywhere : Frame → Type 0
 StandsAnywhere f = (r : List ℕ) → IsFrame (element_of f.kind f.key (f.payload ++ r)) f r
 
@@ -110,27 +110,27 @@ StandsAnywhere f = (r : List ℕ) → IsFrame (element_of f.kind f.key (f.payloa
 abbrev pub HasNoFrame : List ℕ → Type 0
 HasNoFrame s = (f : Frame) (r : List ℕ) → ¬ IsFrame s f r
 
--- how reading fails: the bytes are malformed, for this reason, or a text isn't UTF-8
+-- how reading fails: the bytes are malformed for this reason, or a text isn't UTF-8
 pub data Fault : Type 0 where
   Malformed : Reason → Fault
   Utf8 : Fault
 
--- s is a tag, the key up to the next 0, and what is behind that 0
+-- s is a tag, the key up to the next 0, and what follows that 0
 pub record HasKey (s : List ℕ) (key : List ℕ) : Type 0 where
   pub tag : ℕ
   pub behind : List ℕ
   pub spelled : s ≡ tagged tag key behind
   pub nul_free : NulFree key
 
--- z begins with bytes up to a 0 that aren't UTF-8
+-- z begins with bytes that aren't UTF-8, up to a 0
 abbrev pub BeginsWithBadText : List ℕ → Type 0
 BeginsWithBadText z = (x w : List ℕ) × (z ≡ c_string x w) × NulFree x × ¬ IsUtf8 x
 
--- a pattern that has its 0 isn't UTF-8, or options that have theirs aren't, behind a pattern that is
+-- the pattern ends with a 0 and isn't UTF-8; or the pattern is UTF-8, and the options end with a 0 and aren't
 abbrev pub HasBadRegexText : List ℕ → Type 0
 HasBadRegexText z = BeginsWithBadText z ⊎ ((x w : List ℕ) × (z ≡ c_string x w) × NulFree x × IsUtf8 x × BeginsWithBadText w)
 
--- behind a key with this tag is a regular expression of which a text isn't UTF-8
+-- the tag is that of a regular expression, and after the key its pattern or its options aren't UTF-8
 abbrev pub HasBadText : ℕ → List ℕ → Type 0
 HasBadText tag behind = (tag ≡ tag_of kind.RegularExpression) × HasBadRegexText behind
 
@@ -138,14 +138,14 @@ HasBadText tag behind = (tag ≡ tag_of kind.RegularExpression) × HasBadRegexTe
 abbrev pub HasNoString : List ℕ → Type 0
 HasNoString z = (string behind : List ℕ) → z ≡ string ++ behind → ¬ HasText string
 
--- why no pointer is at the front of z: no string is; or behind the string that is, twelve bytes aren't left
+-- why no pointer is at the front of z: no string is there; or fewer than twelve bytes follow the string
 abbrev pub IsPointerReason : List ℕ → Reason → Type 0
 IsPointerReason z why =
     (HasNoString z × IsStringReason z why)
     ⊎ ((string behind : List ℕ) × (z ≡ string ++ behind) × HasText string × (why ≡ reason.PastEnd (length string + 12) (length z)))
 
--- Why no payload of this kind is at the front of z, where none is. One of no bytes always is; of a regular expression
--- that isn't, and whose texts are UTF-8, one has no 0.
+-- Why no payload of this kind is at the front of z. A payload of no bytes is always there. A regular expression whose
+-- texts are UTF-8 can only lack a 0.
 abbrev pub IsPayloadReason : ElementType → List ℕ → Reason → Type 0
 IsPayloadReason kind.Double z why = why ≡ reason.PastEnd 8 (length z)
 IsPayloadReason kind.String z why = IsStringReason z why
@@ -169,14 +169,15 @@ IsPayloadReason kind.Decimal128 z why = why ≡ reason.PastEnd 16 (length z)
 IsPayloadReason kind.MaxKey z why = ⊥
 IsPayloadReason kind.MinKey z why = ⊥
 
--- why no element of this tag is there, z behind its key: no kind has the tag; or no payload of its kind is in front
+-- why no element with this tag is there, where z follows the key: no kind has the tag; or no payload of its kind is at
+-- the front of z
 abbrev pub IsElementReason : ℕ → List ℕ → Reason → Type 0
 IsElementReason tag z why =
     (((k : ElementType) → tag ≢ tag_of k) × (why ≡ reason.InvalidTag tag))
     ⊎ ((k : ElementType) × (tag ≡ tag_of k) × IsPayloadReason k z why)
 
--- Where frames end without the final 0: no byte is left; the key isn't UTF-8; or there is a key and no
--- frame. The last is a fault of text only for the texts of a regular expression.
+-- Where frames end without the final 0: no byte is left; the key isn't UTF-8; or there is a key but no frame. In the
+-- last case the fault is that of a text only for the texts of a regular expression.
 abbrev pub IsStop : List ℕ → Fault → Option (List ℕ) → Type 0
 IsStop s (Malformed why) None = (s ≡ []) × (why ≡ reason.Overflowed)
 IsStop s Utf8 None = (key : List ℕ) × HasKey s key × ¬ IsUtf8 key
@@ -188,17 +189,17 @@ pub data End : Type 0 where
   Done : End
   Stopped : Fault → Option (List ℕ) → End
 
--- what is left, s, is such an end
+-- the walk ends in this way, with s left
 abbrev pub EndsIn : List ℕ → End → Type 0
 EndsIn s Done = s ≡ 0 ∷ []
 EndsIn s (Stopped fault key) = IsStop s fault key
 
--- these frames are in s one behind the other, and what is left behind them ends so
+-- these frames follow one another in s, and the walk ends in this way after them
 abbrev pub IsWalk : List ℕ → List Frame → End → Type 0
 IsWalk s [] end = EndsIn s end
 IsWalk s (f ∷ fs) end = (r : List ℕ) × IsFrame s f r × IsWalk r fs end
 
--- these frames are in s one behind the other, and r is left behind them
+-- these frames follow one another in s, and r follows them
 abbrev pub LeadsTo : List ℕ → List Frame → List ℕ → Type 0
 LeadsTo s [] r = s ≡ r
 LeadsTo s (f ∷ fs) r = (t : List ℕ) × IsFrame s f t × LeadsTo t fs r

@@ -1,5 +1,5 @@
--- What a payload means: a value, or a fault. A payload p here is one that was framed, so it has the shape of
--- its kind.
+-- The meaning of a payload: a value, or a fault. A payload p here was cut off by its frame, so it has the shape of its
+-- kind.
 pub mod Item
 pub mod Value
 pub mod Typed
@@ -19,7 +19,7 @@ use Rattle.raw_view.specs.declared.error.Reason.TheVariants as reason
 use Rattle.raw_view.specs.Frame.Reasons.{IsStringReason}
 use Rattle.raw_view.specs.Frame.{Frame, IsString, HasNoString, IsBinary, IsRegex, IsDbPointer, Fault, Malformed, Utf8}
 
--- a value: one that holds no others, or the bytes of a nested document, of an array, of a code's scope
+-- a value: one that holds no others, or the bytes of a nested document, of an array, or of a code and its scope
 pub data RawValue : Type 0 where
   single : Leaf → RawValue
   document : List ℕ → RawValue
@@ -34,17 +34,17 @@ kind_of_raw (document _) = kind.EmbeddedDocument
 kind_of_raw (array _) = kind.Array
 kind_of_raw (scoped _ _) = kind.JavaScriptCodeWithScope
 
--- outer is what an old binary has in place of these bytes
+-- outer is what an old binary has instead of these bytes
 pub record HasInnerLength (outer bytes : List ℕ) : Type 0 where
   pub fits : length bytes ≤ max_length
   pub spelled : outer ≡ inner_payload bytes
 
--- p is the code with scope of this code and these bytes as its scope
+-- p is the code with scope that has this code, and these bytes as its scope
 pub record IsCodeWithScope (p code scope : List ℕ) : Type 0 where
   pub fits : length p ≤ max_length
   pub spelled : p ≡ scoped_payload code scope
 
--- p is the timestamp of this time and this increment
+-- p is the timestamp with this time and this increment
 pub record IsTimestamp (p : List ℕ) (time increment : ℕ) : Type 0 where
   pub time_fits : time < 2 ^ 32
   pub increment_fits : increment < 2 ^ 32
@@ -54,7 +54,7 @@ pub record IsTimestamp (p : List ℕ) (time increment : ℕ) : Type 0 where
 abbrev pub SpellsText : List ℕ → List ℕ → Type 0
 SpellsText p text = IsString p text × IsUtf8 text
 
--- the value of a binary by its subtype's byte
+-- the value of a binary with this subtype byte
 abbrev pub IsBinaryValue : ℕ → List ℕ → RawValue → Type 0
 IsBinaryValue subtype bytes v =
     ((subtype ≢ 2) × (v ≡ single (binary (subtype_of subtype) bytes)))
@@ -84,7 +84,7 @@ MeansValue kind.Decimal128 p v = v ≡ single (decimal128 p)
 MeansValue kind.MaxKey p v = v ≡ single max_key
 MeansValue kind.MinKey p v = v ≡ single min_key
 
--- a fault: how reading fails, and the key that it carries
+-- a fault: how reading fails, and the key that the fault carries
 pub record KeyedFault : Type 0 where
   pub fault : Fault
   pub key : Option (List ℕ)
@@ -109,32 +109,32 @@ SpellsNoText p = (text : List ℕ) × IsString p text × ¬ IsUtf8 text
 abbrev pub Overflows : ℤ → Type 0
 Overflows inner = (negsuc 3 ≤ℤ inner) × (inner ≤ℤ negsuc 0)
 
--- the fault of an old binary's bytes, outer
+-- the fault of `outer`, the bytes of an old binary
 pub data OldBinaryFault (key outer : List ℕ) (fault : KeyedFault) : Type 0 where
-  -- they are under four
+  -- there are fewer than four
   no_inner_length : length outer < 4 → fault ≡ malformed_at reason.OldNoInner key → OldBinaryFault key outer fault
   -- the inner length is from -4 to -1
   overflow : (inner : ℤ) → 4 ≤ length outer → IsLe32 (take 4 outer) inner → Overflows inner → fault ≡ malformed reason.AddOverflow → OldBinaryFault key outer fault
-  -- it is any other which plus 4 isn't theirs
+  -- the inner length is any other, and isn't their number less four
   wrong_inner_length : (inner : ℤ) → 4 ≤ length outer → IsLe32 (take 4 outer) inner → (¬ Overflows inner) → (inner +ℤ pos 4) ≢ pos (length outer)
       → fault ≡ malformed_at reason.OldWrongInner key → OldBinaryFault key outer fault
 
--- what is behind the four length bytes of a code with scope doesn't begin with a string
+-- after its four length bytes, a code with scope doesn't begin with a string
 abbrev pub HasNoCode : List ℕ → Type 0
 HasNoCode p = HasNoString (drop 4 p)
 
 -- the fault of a code with scope
 pub data ScopeFault (key p : List ℕ) (fault : KeyedFault) : Type 0 where
-  -- it has under 14 bytes
+  -- it has fewer than 14 bytes
   too_small : length p < 14 → fault ≡ malformed_at reason.CodeTooSmall key → ScopeFault key p fault
-  -- no string is behind its length, for this reason
+  -- no string follows its length, for this reason
   no_code : (why : Reason) → 14 ≤ length p → HasNoCode p → IsStringReason (drop 4 p) why → fault ≡ malformed why → ScopeFault key p fault
-  -- the string's text isn't UTF-8
+  -- the text of the string isn't UTF-8
   code_no_text : (code scope : List ℕ) → 14 ≤ length p → IsCodeWithScope p code scope → (¬ IsUtf8 code) → fault ≡ not_text → ScopeFault key p fault
-  -- exactly the rest has no envelope, for this reason
+  -- the rest has no envelope, for this reason
   no_scope : (code scope : List ℕ) (why : Reason) → 14 ≤ length p → IsCodeWithScope p code scope → IsUtf8 code → Refuses scope why → fault ≡ malformed why → ScopeFault key p fault
 
--- the payload p of this kind, under this key, means this fault; the kinds that are not here mean none
+-- the payload p of this kind, under this key, means this fault; a kind that isn't here means none
 abbrev pub MeansFault : ElementType → List ℕ → List ℕ → KeyedFault → Type 0
 MeansFault kind.String key p fault = SpellsNoText p × (fault ≡ not_text)
 MeansFault kind.JavaScriptCode key p fault = SpellsNoText p × (fault ≡ not_text)

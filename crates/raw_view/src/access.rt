@@ -1,3 +1,4 @@
+//! The errors of typed getters.
 ghost use Rattle.std.specs.Prelude.{◌≡◌, ◌⊎◌, []};
 
 use crate::element_type::ElementType;
@@ -31,7 +32,7 @@ pub enum ValueAccessErrorKind {
     OutOfMemory,
 }
 
-/// Why a typed getter has no value, and the key, or the index in decimal, that was asked for.
+/// Why a typed getter has no value, with the key or the index in decimal that was asked for.
 /// ```
 /// let document = RawDocument::from_bytes(b"\x0C\0\0\0\x10a\0\x01\0\0\0\0")?;
 /// let Err(error) = document.get_str(alloc, "a") else { unreachable!() };
@@ -49,14 +50,15 @@ impl ValueAccessError {
     ghost use Rattle.raw_view.specs.Errors.Access.{key_asked, HasKeyAsked};
     ghost use Rattle.raw_view.specs.declared.access.ValueAccessErrorKind.TheVariants as access;
 
-    /// The key asked for, or the index in decimal; empty where memory ran out.
+    /// The key that was asked for, or the index in decimal. It is empty if memory ran out.
     pub fn key(&self) -> &str
         ensures { result.now ≡ key_asked self.now }
     {
         self.key.as_str()
     }
 
-    /// With a copy of the key; where it finds no memory, the error says that and has the empty key.
+    /// An error with a copy of the key. If there is no memory for the copy, the error is out of memory and
+    /// has the empty key.
     pub(crate) fn new(alloc: Global, kind: ValueAccessErrorKind, key: &str) -> ValueAccessError
         ensures { HasKeyAsked kind key.now result }
     {
@@ -69,7 +71,8 @@ impl ValueAccessError {
         }
     }
 
-    /// With the index in decimal; where it finds no memory, the error says that and has the empty key.
+    /// An error with the index in decimal. If there is no memory for the text, the error is out of memory and
+    /// has the empty key.
     pub(crate) fn at_index(
         alloc: Global,
         kind: ValueAccessErrorKind,

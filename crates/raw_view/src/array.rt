@@ -1,3 +1,4 @@
+//! Views of arrays: iteration, and access by index.
 ghost use Rattle.std.specs.Prelude.{◌≡◌, ◌↔◌, IsTrue, Some, length, drop, [], ◌∷◌};
 
 use crate::access::ValueAccessResult;
@@ -68,7 +69,7 @@ impl<'a> RawArray<'a> {
         self.document.as_bytes()
     }
 
-    /// Whether iteration yields no item, which is exactly where there are five bytes.
+    /// Whether iteration yields no item. It yields none if and only if the array has five bytes.
     pub fn is_empty(self) -> bool
         ensures five { IsTrue result ↔ (length (array_bytes_of self.entry) ≡ 5) }
         ensures no_item { IsTrue result ↔ AreItems (array_bytes_of self.entry) [] }
@@ -76,9 +77,9 @@ impl<'a> RawArray<'a> {
         self.document.is_empty()
     }
 
-    /// The values in order, each fault in its value's place, and then the fault at which the elements stop,
-    /// if there is one. Nothing is copied but the key that a fault carries. On n bytes at most
-    /// (n - 4) / 2 + 1 items. The bytes alone determine what the items are.
+    /// The values in order, each fault in the place of its value, then the fault at which the elements stop,
+    /// if there is one. Only the key of a fault is copied. There are at most (n - 4) / 2 + 1 items for n
+    /// bytes. The bytes alone determine the items.
     /// ```
     /// let array = RawArray::from_doc(RawDocument::from_bytes(b"\x0C\0\0\0\x10a\0\x01\0\0\0\0")?);
     /// for value in array.iter(alloc) {
@@ -95,9 +96,9 @@ impl<'a> RawArray<'a> {
         RawArrayIter::new(alloc, self.document)
     }
 
-    /// The item at this place, counted from 0, faults and the stop counted too: a value, or its fault. Past
-    /// the last item, so past a stop, `None`. Nothing is looked into or copied of the items before it.
-    /// The bytes and the place alone determine what is found.
+    /// The item at `index`, counted from 0: a value, or its fault. Faults and the stop count as items. After
+    /// the last item, and so after a stop, it is `None`. The items before it are neither decoded nor copied.
+    /// The bytes and the index alone determine the result.
     /// ```
     /// let array = RawArray::from_doc(RawDocument::from_bytes(b"\x0C\0\0\0\x10a\0\x01\0\0\0\0")?);
     /// assert_eq!(rt; array.get(alloc, 0)?, Some(RawBsonRef::Int32(1)));
@@ -119,28 +120,28 @@ impl<'a> RawArray<'a> {
         }
     }
 
-    /// What a typed getter returns.
+    /// What a typed getter returns for the item at `index`.
     fn get_typed<T: Typed<'a>>(self, alloc: Global, index: usize) -> ValueAccessResult<T>
         ensures { GetsAt T.value_as T.kind (array_bytes_of self.entry) index result }
     {
         typed_at_index(alloc, self.get(alloc, index), index)
     }
 
-    /// The 64 bits of a double at this place, counted from 0; else why there is none, with the index in decimal.
+    /// The 64 bits of the double at `index`, counted from 0, or an error with the index in decimal.
     pub fn get_f64(self, alloc: Global, index: usize) -> ValueAccessResult<DoubleBits>
         ensures { GetsAt typed.f64_value variants.Double (array_bytes_of self.entry) index result }
     {
         self.get_typed::<DoubleBits>(alloc, index)
     }
 
-    /// The text of a string at this place, counted from 0; else why there is none, with the index in decimal.
+    /// The text of the string at `index`, counted from 0, or an error with the index in decimal.
     pub fn get_str(self, alloc: Global, index: usize) -> ValueAccessResult<&'a str>
         ensures { GetsAt typed.str_value variants.String (array_bytes_of self.entry) index result }
     {
         self.get_typed::<&'a str>(alloc, index)
     }
 
-    /// A nested document at this place, counted from 0; else why there is none, with the index in decimal.
+    /// The nested document at `index`, counted from 0, or an error with the index in decimal.
     pub fn get_document(self, alloc: Global, index: usize) -> ValueAccessResult<RawDocument<'a>>
         ensures { GetsAt typed.document_value variants.EmbeddedDocument
             (array_bytes_of self.entry) index result }
@@ -148,14 +149,15 @@ impl<'a> RawArray<'a> {
         self.get_typed::<RawDocument<'a>>(alloc, index)
     }
 
-    /// An array at this place, counted from 0; else why there is none, with the index in decimal.
+    /// The array at `index`, counted from 0, or an error with the index in decimal.
     pub fn get_array(self, alloc: Global, index: usize) -> ValueAccessResult<RawArray<'a>>
         ensures { GetsAt typed.array_value variants.Array (array_bytes_of self.entry) index result }
     {
         self.get_typed::<RawArray<'a>>(alloc, index)
     }
 
-    /// Bytes and their subtype at this place, counted from 0; else why there is none, with the index in decimal.
+    /// The bytes and the subtype of the binary at `index`, counted from 0, or an error with the index in
+    /// decimal.
     pub fn get_binary(self, alloc: Global, index: usize) -> ValueAccessResult<RawBinaryRef<'a>>
         ensures { GetsAt typed.binary_value variants.Binary
             (array_bytes_of self.entry) index result }
@@ -163,7 +165,7 @@ impl<'a> RawArray<'a> {
         self.get_typed::<RawBinaryRef<'a>>(alloc, index)
     }
 
-    /// An ObjectId at this place, counted from 0; else why there is none, with the index in decimal.
+    /// The ObjectId at `index`, counted from 0, or an error with the index in decimal.
     pub fn get_object_id(self, alloc: Global, index: usize) -> ValueAccessResult<ObjectId>
         ensures { GetsAt typed.object_id_value variants.ObjectId
             (array_bytes_of self.entry) index result }
@@ -171,7 +173,7 @@ impl<'a> RawArray<'a> {
         self.get_typed::<ObjectId>(alloc, index)
     }
 
-    /// A boolean at this place, counted from 0; else why there is none, with the index in decimal.
+    /// The boolean at `index`, counted from 0, or an error with the index in decimal.
     pub fn get_bool(self, alloc: Global, index: usize) -> ValueAccessResult<bool>
         ensures { GetsAt typed.bool_value variants.Boolean
             (array_bytes_of self.entry) index result }
@@ -179,7 +181,7 @@ impl<'a> RawArray<'a> {
         self.get_typed::<bool>(alloc, index)
     }
 
-    /// A time at this place, counted from 0; else why there is none, with the index in decimal.
+    /// The date at `index`, counted from 0, or an error with the index in decimal.
     pub fn get_datetime(self, alloc: Global, index: usize) -> ValueAccessResult<DateTime>
         ensures { GetsAt typed.datetime_value variants.DateTime
             (array_bytes_of self.entry) index result }
@@ -187,7 +189,7 @@ impl<'a> RawArray<'a> {
         self.get_typed::<DateTime>(alloc, index)
     }
 
-    /// A regular expression at this place, counted from 0; else why there is none, with the index in decimal.
+    /// The regular expression at `index`, counted from 0, or an error with the index in decimal.
     pub fn get_regex(self, alloc: Global, index: usize) -> ValueAccessResult<RawRegexRef<'a>>
         ensures { GetsAt typed.regex_value variants.RegularExpression
             (array_bytes_of self.entry) index result }
@@ -195,7 +197,7 @@ impl<'a> RawArray<'a> {
         self.get_typed::<RawRegexRef<'a>>(alloc, index)
     }
 
-    /// A timestamp at this place, counted from 0; else why there is none, with the index in decimal.
+    /// The timestamp at `index`, counted from 0, or an error with the index in decimal.
     pub fn get_timestamp(self, alloc: Global, index: usize) -> ValueAccessResult<Timestamp>
         ensures { GetsAt typed.timestamp_value variants.Timestamp
             (array_bytes_of self.entry) index result }
@@ -203,7 +205,7 @@ impl<'a> RawArray<'a> {
         self.get_typed::<Timestamp>(alloc, index)
     }
 
-    /// A signed 32-bit number at this place, counted from 0; else why there is none, with the index in decimal.
+    /// The signed 32-bit number at `index`, counted from 0, or an error with the index in decimal.
     /// ```
     /// let array = RawArray::from_doc(RawDocument::from_bytes(b"\x0C\0\0\0\x10a\0\x01\0\0\0\0")?);
     /// assert_eq!(rt; array.get_i32(alloc, 0)?, 1);
@@ -214,7 +216,7 @@ impl<'a> RawArray<'a> {
         self.get_typed::<i32>(alloc, index)
     }
 
-    /// A signed 64-bit number at this place, counted from 0; else why there is none, with the index in decimal.
+    /// The signed 64-bit number at `index`, counted from 0, or an error with the index in decimal.
     pub fn get_i64(self, alloc: Global, index: usize) -> ValueAccessResult<i64>
         ensures { GetsAt typed.i64_value variants.Int64 (array_bytes_of self.entry) index result }
     {

@@ -1,3 +1,4 @@
+//! Borrowed values.
 ghost use Rattle.std.specs.Prelude.{◌≡◌, IfOk, IfErr};
 
 use crate::array::RawArray;
@@ -93,7 +94,7 @@ impl<'a> RawBsonRef<'a> {
     }
 }
 
-/// Bytes with a subtype; of an old binary without the inner length. BSON 1.1, `binary`.
+/// Bytes with a subtype. The bytes of an old binary exclude the inner length. BSON 1.1, `binary`.
 /// ```
 /// let binary = RawBinaryRef { subtype: BinarySubtype::Generic, bytes: b"ab" };
 /// assert_eq!(rt; RawBsonRef::from(binary).as_binary(), Some(binary));
@@ -109,7 +110,7 @@ pub struct RawBinaryRef<'a> {
 impl RawBinaryRef<'_> {
     ghost use Rattle.raw_view.specs.Errors.{IsOutOfMemory};
 
-    /// A copy; the only error is out of memory.
+    /// A copy that owns its bytes. The only error is out of memory.
     /// ```
     /// let binary = RawBinaryRef { subtype: BinarySubtype::Generic, bytes: b"ab" };
     /// assert_eq!(rt; binary.to_binary(alloc)?.bytes.as_slice(), b"ab".as_slice());

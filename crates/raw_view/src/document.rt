@@ -1,3 +1,4 @@
+//! Views of documents: iteration, look-up by key, and typed getters.
 ghost use Rattle.std.specs.Prelude.{◌≡◌, ◌↔◌, IsOk, IfOk, IfErr, IsTrue, None, Some, drop, length, [], ◌∷◌};
 ghost use Rattle.raw_view.specs.Frame.ElementSteps.{frame_of};
 ghost use Rattle.raw_view.specs.Frame.Envelope.{IsEnvelope};
@@ -19,9 +20,8 @@ use bson_model::{DateTime, DoubleBits, ObjectId, Timestamp};
 use std::alloc::Global;
 use std::fmt;
 
-/// The bytes of one document with a sound envelope: at least five bytes, the first four are the length of
-/// the whole, the last is 0. What is inside is looked at only where a call needs it.
-/// BSON 1.1, `document`.
+/// The bytes of one document with a sound envelope: at least five bytes, the first four are the length of the
+/// whole, the last is 0. The content is read only where a call needs it. BSON 1.1, `document`.
 /// ```
 /// let document = RawDocument::from_bytes(b"\x0C\0\0\0\x10a\0\x01\0\0\0\0")?;
 /// assert_eq!(rt; document.get_i32(alloc, "a")?, 1);
@@ -33,7 +33,7 @@ pub struct RawDocument<'a> {
     ghost envelope: { IsEnvelope bytes.now },
 }
 
-/// Whether this is the element's key.
+/// Whether `key` is the element's key.
 pub(crate) fn has_key(element: RawElement<'_>, key: &str) -> bool
     ensures { IsTrue result ↔ ((frame_of element.entry).key ≡ key.now) }
 {
@@ -59,8 +59,9 @@ impl<'a> RawDocument<'a> {
     ghost use Rattle.raw_view.specs.declared.element.RawElement.{RawElement};
     ghost use Rattle.raw_view.specs.declared.error.Error.{Error};
 
-    /// A view of the bytes, for a sound envelope; else the first of: too short, wrong length, not
-    /// terminated. The header is compared with the whole length. These errors have no key.
+    /// A view of the bytes if their envelope is sound. Otherwise the error is the first of these that
+    /// applies: too short, wrong length, not terminated. The length in the header must be that of all the
+    /// bytes. These errors have no key.
     /// ```
     /// assert!(rt; RawDocument::from_bytes(b"\x05\0\0\0\0").is_ok());
     /// assert!(rt; RawDocument::from_bytes(b"\x06\0\0\0\0").is_err());
@@ -83,7 +84,7 @@ impl<'a> RawDocument<'a> {
         Ok(RawDocument { bytes })
     }
 
-    /// The document of bytes that were framed as one.
+    /// The document in bytes that were already found to have an envelope.
     pub(crate) fn framed(bytes: &'a [u8]) -> RawDocument<'a>
         requires { IsEnvelope bytes.now }
         ensures { bytes_of result ≡ bytes.now }
@@ -99,7 +100,7 @@ impl<'a> RawDocument<'a> {
         self.bytes
     }
 
-    /// Whether iteration yields no item, which is exactly where there are five bytes.
+    /// Whether iteration yields no item. It yields none if and only if the document has five bytes.
     pub fn is_empty(self) -> bool
         ensures five { IsTrue result ↔ (length (bytes_of self.entry) ≡ 5) }
         ensures no_item { IsTrue result ↔ AreItems (bytes_of self.entry) [] }
@@ -107,10 +108,10 @@ impl<'a> RawDocument<'a> {
         self.as_bytes().len() == 5
     }
 
-    /// The elements in order, and then the fault at which they stop, if there is one. No value is
-    /// resolved and nothing is copied but the key of that fault. On n bytes at most (n - 4) / 2 + 1 items.
-    /// The bytes alone determine the elements and the fault: a document has one walk, since at most one
-    /// element is at the front of any bytes.
+    /// The elements in order, then the fault at which they stop, if there is one. No value is decoded, and
+    /// only the key of that fault is copied. There are at most (n - 4) / 2 + 1 items for n bytes. The bytes
+    /// alone determine the elements and the fault: at most one element is at the front of any bytes, so a
+    /// document has one walk.
     /// ```
     /// let document = RawDocument::from_bytes(b"\x0C\0\0\0\x10a\0\x01\0\0\0\0")?;
     /// for element in document.iter_elements(alloc) {
@@ -129,9 +130,9 @@ impl<'a> RawDocument<'a> {
         RawIter::new(alloc, self)
     }
 
-    /// The keys and values in order, each fault in its value's place, and then the fault at which the
-    /// elements stop, if there is one. Nothing is copied but the key that a fault carries. On n bytes at
-    /// most (n - 4) / 2 + 1 items. The bytes alone determine what the items are.
+    /// The keys and values in order, each fault in the place of its value, then the fault at which the
+    /// elements stop, if there is one. Only the key of a fault is copied. There are at most (n - 4) / 2 + 1
+    /// items for n bytes. The bytes alone determine the items.
     /// ```
     /// let document = RawDocument::from_bytes(b"\x0C\0\0\0\x10a\0\x01\0\0\0\0")?;
     /// for item in document.iter(alloc) {
@@ -149,10 +150,9 @@ impl<'a> RawDocument<'a> {
         Iter::<'a>::new(alloc, self)
     }
 
-    /// What the first element with this key means: its value, or its fault. Where no element has the key,
-    /// the fault at which the elements stop, if there is one, else `None`. No value of another key is looked
-    /// into, and nothing behind the element that is found. The bytes and the key alone determine what is
-    /// found.
+    /// The value of the first element with this key, or its fault. If no element has the key: the fault at
+    /// which the elements stop, if there is one, otherwise `None`. Values of other keys and bytes after the
+    /// found element are not read. The bytes and the key alone determine the result.
     /// ```
     /// let document = RawDocument::from_bytes(b"\x0C\0\0\0\x10a\0\x01\0\0\0\0")?;
     /// assert_eq!(rt; document.get(alloc, "a")?, Some(RawBsonRef::Int32(1)));
@@ -179,9 +179,9 @@ impl<'a> RawDocument<'a> {
         Ok(None)
     }
 
-    /// Whether an element with this key is in the document. Where none is, the fault at which the
-    /// elements stop, if there is one, as `get` returns it. No value is looked into, and nothing behind the
-    /// element that is found. The bytes and the key alone determine the result.
+    /// Whether an element has this key. If none has: the fault at which the elements stop, if there is one,
+    /// as `get` returns it. No value is decoded, and bytes after the found element are not read. The bytes
+    /// and the key alone determine the result.
     /// ```
     /// let document = RawDocument::from_bytes(b"\x0C\0\0\0\x10a\0\x01\0\0\0\0")?;
     /// assert!(rt; document.contains_key(alloc, "a")?);
@@ -204,14 +204,14 @@ impl<'a> RawDocument<'a> {
         Ok(false)
     }
 
-    /// What a typed getter returns.
+    /// What a typed getter returns for `key`.
     fn get_typed<T: Typed<'a>>(self, alloc: Global, key: &str) -> ValueAccessResult<T>
         ensures { GetsByKey T.value_as T.kind (bytes_of self.entry) key.now result }
     {
         typed_at_key(alloc, self.get(alloc, key), key)
     }
 
-    /// The 64 bits of a double under this key; else why there is none, with the key.
+    /// The 64 bits of the double under `key`, or an error with the key.
     /// ```
     /// let document = RawDocument::from_bytes(b"\x10\0\0\0\x01a\0\0\0\0\0\0\0\xE0\x3F\0")?;
     /// assert_eq!(rt; document.get_f64(alloc, "a")?.to_f64(), 0.5);
@@ -222,7 +222,7 @@ impl<'a> RawDocument<'a> {
         self.get_typed::<DoubleBits>(alloc, key)
     }
 
-    /// The text of a string under this key; else why there is none, with the key.
+    /// The text of the string under `key`, or an error with the key.
     /// ```
     /// let document = RawDocument::from_bytes(b"\x0E\0\0\0\x02a\0\x02\0\0\0x\0\0")?;
     /// assert_eq!(rt; document.get_str(alloc, "a")?, "x");
@@ -233,7 +233,7 @@ impl<'a> RawDocument<'a> {
         self.get_typed::<&'a str>(alloc, key)
     }
 
-    /// A nested document under this key; else why there is none, with the key.
+    /// The nested document under `key`, or an error with the key.
     /// ```
     /// let document = RawDocument::from_bytes(b"\x14\0\0\0\x03a\0\x0C\0\0\0\x10b\0\x07\0\0\0\0\0")?;
     /// assert_eq!(rt; document.get_document(alloc, "a")?.get_i32(alloc, "b")?, 7);
@@ -245,7 +245,7 @@ impl<'a> RawDocument<'a> {
         self.get_typed::<RawDocument<'a>>(alloc, key)
     }
 
-    /// An array under this key; else why there is none, with the key.
+    /// The array under `key`, or an error with the key.
     /// ```
     /// let document = RawDocument::from_bytes(b"\x14\0\0\0\x04a\0\x0C\0\0\0\x100\0\x07\0\0\0\0\0")?;
     /// assert_eq!(rt; document.get_array(alloc, "a")?.get_i32(alloc, 0)?, 7);
@@ -256,7 +256,7 @@ impl<'a> RawDocument<'a> {
         self.get_typed::<RawArray<'a>>(alloc, key)
     }
 
-    /// Bytes and their subtype under this key; else why there is none, with the key.
+    /// The bytes and the subtype of the binary under `key`, or an error with the key.
     pub fn get_binary(self, alloc: Global, key: &str) -> ValueAccessResult<RawBinaryRef<'a>>
         ensures { GetsByKey typed.binary_value variants.Binary
             (bytes_of self.entry) key.now result }
@@ -264,7 +264,7 @@ impl<'a> RawDocument<'a> {
         self.get_typed::<RawBinaryRef<'a>>(alloc, key)
     }
 
-    /// An ObjectId under this key; else why there is none, with the key.
+    /// The ObjectId under `key`, or an error with the key.
     pub fn get_object_id(self, alloc: Global, key: &str) -> ValueAccessResult<ObjectId>
         ensures { GetsByKey typed.object_id_value variants.ObjectId
             (bytes_of self.entry) key.now result }
@@ -272,7 +272,7 @@ impl<'a> RawDocument<'a> {
         self.get_typed::<ObjectId>(alloc, key)
     }
 
-    /// A boolean under this key; else why there is none, with the key.
+    /// The boolean under `key`, or an error with the key.
     /// ```
     /// let document = RawDocument::from_bytes(b"\x09\0\0\0\x08a\0\x01\0")?;
     /// assert_eq!(rt; document.get_bool(alloc, "a")?, true);
@@ -283,7 +283,7 @@ impl<'a> RawDocument<'a> {
         self.get_typed::<bool>(alloc, key)
     }
 
-    /// A time under this key; else why there is none, with the key.
+    /// The date under `key`, or an error with the key.
     /// ```
     /// let document = RawDocument::from_bytes(b"\x10\0\0\0\x09a\0\xE8\x03\0\0\0\0\0\0\0")?;
     /// assert_eq!(rt; document.get_datetime(alloc, "a")?, DateTime::from_millis(1000));
@@ -295,7 +295,7 @@ impl<'a> RawDocument<'a> {
         self.get_typed::<DateTime>(alloc, key)
     }
 
-    /// A regular expression under this key; else why there is none, with the key.
+    /// The regular expression under `key`, or an error with the key.
     pub fn get_regex(self, alloc: Global, key: &str) -> ValueAccessResult<RawRegexRef<'a>>
         ensures { GetsByKey typed.regex_value variants.RegularExpression
             (bytes_of self.entry) key.now result }
@@ -303,7 +303,7 @@ impl<'a> RawDocument<'a> {
         self.get_typed::<RawRegexRef<'a>>(alloc, key)
     }
 
-    /// A timestamp under this key; else why there is none, with the key.
+    /// The timestamp under `key`, or an error with the key.
     pub fn get_timestamp(self, alloc: Global, key: &str) -> ValueAccessResult<Timestamp>
         ensures { GetsByKey typed.timestamp_value variants.Timestamp
             (bytes_of self.entry) key.now result }
@@ -311,7 +311,7 @@ impl<'a> RawDocument<'a> {
         self.get_typed::<Timestamp>(alloc, key)
     }
 
-    /// A signed 32-bit number under this key; else why there is none, with the key.
+    /// The signed 32-bit number under `key`, or an error with the key.
     /// ```
     /// let document = RawDocument::from_bytes(b"\x0C\0\0\0\x10a\0\x01\0\0\0\0")?;
     /// assert_eq!(rt; document.get_i32(alloc, "a")?, 1);
@@ -323,7 +323,7 @@ impl<'a> RawDocument<'a> {
         self.get_typed::<i32>(alloc, key)
     }
 
-    /// A signed 64-bit number under this key; else why there is none, with the key.
+    /// The signed 64-bit number under `key`, or an error with the key.
     /// ```
     /// let document = RawDocument::from_bytes(b"\x10\0\0\0\x12a\0\x01\0\0\0\0\0\0\0\0")?;
     /// assert_eq!(rt; document.get_i64(alloc, "a")?, 1);

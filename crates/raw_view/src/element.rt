@@ -1,3 +1,4 @@
+//! Elements, and their values.
 ghost use Rattle.std.specs.Prelude.{◌≡◌, length, IfOk, IfErr, IfSome, IfNone};
 ghost use Rattle.bson_model.specs.Bytes.{NulFree};
 ghost use Rattle.raw_view.specs.Frame.{HasPayload};
@@ -14,7 +15,7 @@ use crate::value::{
 use bson_model::{DateTime, Decimal128, DoubleBits, ObjectId};
 use std::alloc::Global;
 
-/// One element: its key, its kind and the bytes of its payload, whose value isn't resolved.
+/// One element: its key, its kind and the bytes of its payload, which is not decoded yet.
 /// ```
 /// let document = RawDocument::from_bytes(b"\x0C\0\0\0\x10a\0\x01\0\0\0\0")?;
 /// for element in document.iter_elements(alloc) {
@@ -42,14 +43,14 @@ impl<'a> RawElement<'a> {
         self.key
     }
 
-    /// How many bytes the payload has.
+    /// The length of the payload in bytes.
     pub fn len(self) -> usize
         ensures { result ≡ length (frame_of self.entry).payload }
     {
         self.payload.len()
     }
 
-    /// The bytes of the payload as they are, unexamined.
+    /// The bytes of the payload as they are.
     pub fn payload(self) -> &'a [u8]
         ensures { result.now ≡ (frame_of self.entry).payload }
     {
@@ -71,7 +72,7 @@ impl<'a> RawElement<'a> {
     ghost use Rattle.raw_view.specs.Meaning.{KeyedFault, Means, value, faulty};
     ghost use Rattle.raw_view.specs.Meaning.Value.{value_of};
 
-    /// The value of a kind whose payloads all mean one; `None` for the kinds whose payload can be at fault.
+    /// The value of a kind of which every payload means one; `None` for a kind whose payload can be at fault.
     #[inline(always)]
     fn faultless_value(self) -> Option<RawBsonRef<'a>>
         ensures value { IfSome result (λ v. Means (frame_of self.entry) (value (value_of v))) }
@@ -115,8 +116,8 @@ impl<'a> RawElement<'a> {
         }
     }
 
-    /// What the payload means, as `value` gives it, but a fault borrows its key: nothing is copied, and no memory is
-    /// taken.
+    /// The value of the payload, or its fault. It is what `value` returns, but a fault borrows its key:
+    /// nothing is copied, and no memory is taken.
     #[inline(always)]
     pub fn resolve(self) -> std::result::Result<RawBsonRef<'a>, BorrowedError<'a>>
         ensures value { IfOk result (λ v. Means (frame_of self.entry) (value (value_of v))) }
@@ -162,9 +163,9 @@ impl<'a> RawElement<'a> {
     ghost use Rattle.raw_view.specs.Meaning.{Meaning, Means};
     ghost use Rattle.raw_view.specs.OneReading.{IsTheMeaning};
 
-    /// The value that the payload means, with its parts borrowed from the document; or its fault, with a
-    /// copy of the key where it carries one. Where that copy finds no memory, the error says so instead.
-    /// The kind, the key and the payload alone determine what is meant.
+    /// The value of the payload, with its parts borrowed from the document, or its fault. A fault that has a
+    /// key has a copy of it; if there is no memory for the copy, the error is out of memory. The kind, the
+    /// key and the payload alone determine the result.
     #[inline(always)]
     pub fn value(self, alloc: Global) -> Result<RawBsonRef<'a>>
         ensures meaning { (m : Meaning) × Means (frame_of self.entry) m × TellsMeaning result m }

@@ -1,10 +1,11 @@
+//! The kinds of elements, and their tags.
 ghost use Rattle.std.specs.Prelude.{◌≡◌, ◌≢◌, ◌↔◌, MatchOption, Some};
 ghost use Rattle.raw_view.specs.Frame.Kind.{kind_text, tag_of};
 ghost use Rattle.raw_view.specs.declared.element_type.ElementType.{ElementType};
 
 use std::fmt;
 
-/// The kinds of element. BSON 1.1, `element`.
+/// The kinds of elements. BSON 1.1, `element`.
 /// ```
 /// assert_eq!(rt; ElementType::from(2), Some(ElementType::String));
 /// assert_eq!(rt; ElementType::Int32.to_tag(), 16);
@@ -56,7 +57,7 @@ pub enum ElementType {
 }
 
 impl ElementType {
-    /// The kind that a tag says; `None` for a byte that is no tag.
+    /// The kind with this tag; `None` for a byte that is no tag.
     #[inline(always)]
     pub fn from(tag: u8) -> Option<ElementType>
         ensures of_its_tag { (kind : ElementType) → (result ≡ Some kind) ↔ (tag ≡ tag_of kind) }

@@ -1,3 +1,4 @@
+//! Errors: why bytes are malformed, how a call fails, and at which key.
 ghost use Rattle.std.specs.Prelude.{◌≡◌, None};
 ghost use Rattle.std.specs.Option.{option_copied};
 ghost use Rattle.raw_view.specs.Errors.{IsReadingKind, IsReadingReason};
@@ -23,43 +24,43 @@ pub enum Reason {
     Overflowed,
     /// No kind has this tag.
     InvalidTag(u8),
-    /// A string has only so many bytes left, under four.
+    /// A string has only this many bytes left for its length, fewer than four.
     StringHeadShort(usize),
     /// A declared length is under 0.
     NegativeLength,
     /// A string's declared length is 0.
     StringTooSmall,
-    /// A string takes so many bytes, and only so many are left.
+    /// A string takes the first number of bytes, and only the second number is left.
     StringPastEnd(usize, usize),
     /// A string's last byte isn't 0.
     StringNotTerminated,
-    /// A payload takes so many bytes, and only so many are left.
+    /// A payload takes the first number of bytes, and only the second number is left.
     PastEnd(usize, usize),
-    /// A nested document's declared length is so small, under 5.
+    /// A nested document's declared length is this, less than 5.
     DocumentTooSmall(usize),
     /// A nested document's last byte isn't 0.
     NestedNotTerminated,
-    /// A declared length has only so many bytes left, under four.
+    /// A declared length has only this many bytes left, fewer than four.
     LengthHeadShort(usize),
     /// A pattern or options have no 0 that ends them.
     NoTerminator,
     /// A boolean is this byte, neither 0 nor 1.
     BadBoolean(u8),
-    /// An old binary has under four bytes, so no inner length.
+    /// An old binary has fewer than four bytes, so no inner length.
     OldNoInner,
     /// An old binary's inner length is from -4 to -1.
     AddOverflow,
-    /// An old binary's inner length doesn't fit its outer one.
+    /// An old binary's inner length isn't its outer length less four.
     OldWrongInner,
-    /// A code with scope has under 14 bytes.
+    /// A code with scope has fewer than 14 bytes.
     CodeTooSmall,
-    /// A key, a pattern or options that are to be written hold a 0.
+    /// A key, a pattern or options to be written contain a 0.
     InteriorNul,
-    /// A document that is to be written would have over 2147483647 bytes.
+    /// A document to be written would have more than 2147483647 bytes.
     TooLong,
     /// A document has more bytes than the caller allows.
     TooManyBytes,
-    /// Documents, arrays and scopes are deeper in one another than the caller allows.
+    /// Documents, arrays and scopes are nested deeper than the caller allows.
     TooDeep,
 }
 
@@ -127,11 +128,11 @@ pub enum ErrorKind {
     },
     /// A text isn't UTF-8.
     Utf8EncodingError(Utf8Error),
-    /// Memory ran out, for the key that the error should carry or for the result.
+    /// Memory ran out, for the key of the error or for the result.
     OutOfMemory,
 }
 
-/// Why a call failed, and at which key where that is known.
+/// Why a call failed, and at which key if that is known.
 /// ```
 /// let document = RawDocument::from_bytes(b"\x09\0\0\0\x08a\0\x02\0")?;
 /// let Err(error) = document.get(alloc, "a") else { unreachable!() };
@@ -223,7 +224,7 @@ impl Clone for Error {
     }
 }
 
-/// An error that borrows the key: what a step returns that copies nothing. It is never out of memory.
+/// An error that borrows its key, from a step that copies nothing. It is never out of memory.
 #[derive(Debug, Drop)]
 pub struct BorrowedError<'a> {
     /// how the step failed
@@ -264,7 +265,8 @@ impl<'a> BorrowedError<'a> {
         }
     }
 
-    /// The error with a copy of the key. Where the copy finds no memory, it says that and has no key.
+    /// The error with a copy of the key. If there is no memory for the copy, the error is out of memory and
+    /// has no key.
     #[cold]
     #[inline(never)]
     pub fn into_error(self, alloc: Global) -> Error

@@ -15,18 +15,19 @@ use crate::front::payload::declared_len;
 /// ```
 #[derive(Clone, Copy, Debug, PartialEq, Eq)]
 pub enum NoDocument {
-    /// There are under five bytes.
+    /// There are fewer than five bytes.
     TooShort,
-    /// The length with which the bytes begin is under five, or over their number.
+    /// The length at the front is less than five, or more than the number of bytes.
     LengthIncorrect,
-    /// The bytes begin with this length, which is sound, but the last of so many isn't 0.
+    /// The length at the front is this and fits, but the last byte of that many isn't 0.
     NotTerminated(usize),
 }
 
 impl<'a> RawDocument<'a> {
-    /// The document at the front of the bytes, and what is behind it; else the first of: too short, a length that isn't
-    /// sound, and not terminated, with the length, by which a caller can go on to what is behind the damage. One
-    /// document at most is at the front of any bytes. BSON 1.1, `document`.
+    /// The document at the front of the bytes, and the bytes after it. Otherwise the error is the first of
+    /// these that applies: too short, a length that doesn't fit, not terminated. The last has the length, so
+    /// that a caller can skip the damaged document. At most one document is at the front of any bytes. BSON
+    /// 1.1, `document`.
     /// ```
     /// let (first, behind) = RawDocument::split_first(b"\x05\0\0\0\0and more")?;
     /// assert!(rt; first.is_empty() && behind == b"and more".as_slice());

@@ -1,3 +1,4 @@
+//! The element at the front of bytes.
 ghost use Rattle.std.specs.Prelude.{◌≢◌, length, IfOk, IfErr, IfSome};
 ghost use Rattle.std.specs.Option.{option_copied};
 ghost use Rattle.raw_view.specs.Frame.ElementSteps.{frame_of};
@@ -15,8 +16,8 @@ use crate::error::{BorrowedError, Reason};
 use crate::front::c_string::{split_plain_text, split_text};
 use crate::front::payload::{front_len, plain_len};
 
-/// The element at the front of the bytes that are left, and the bytes behind it, for most elements in few steps; `None`
-/// says nothing.
+/// The element at the front of the remaining bytes, and the bytes after it, in few steps for most elements.
+/// `None` means that `any_front` has to be asked.
 #[inline(always)]
 pub(crate) fn plain_front<'a>(rest: &'a [u8]) -> Option<(RawElement<'a>, &'a [u8])>
     ensures { IfSome result (λ x. IsFrame rest.now (frame_of x.0) x.1.now) }
@@ -29,8 +30,8 @@ pub(crate) fn plain_front<'a>(rest: &'a [u8]) -> Option<(RawElement<'a>, &'a [u8
     Some((RawElement { key, kind, payload }, rest))
 }
 
-/// The element at the front of the bytes that are left, which aren't one alone, and the bytes behind it; or the fault at
-/// which the elements stop. Nothing is copied.
+/// The element at the front of the remaining bytes, of which there are none or at least two, and the bytes
+/// after it; or the fault at which the elements stop. Nothing is copied.
 #[inline(never)]
 pub(crate) fn any_front<'a>(rest: &'a [u8]) -> Result<(RawElement<'a>, &'a [u8]), BorrowedError<'a>>
     requires ends { EndsWithNul rest.now }

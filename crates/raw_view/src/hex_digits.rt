@@ -1,3 +1,4 @@
+//! Bytes as hexadecimal digits, for `Debug`.
 use std::fmt;
 
 /// Bytes as lower case hex digits, for the Debug texts of this crate and of those above.

@@ -1,3 +1,4 @@
+//! The public iterators: over elements, over keys and values, and over the values of arrays.
 ghost use Rattle.std.specs.Prelude.{◌≡◌, Some, drop};
 
 use crate::bson_ref::RawBsonRef;
@@ -8,8 +9,8 @@ use crate::error::{Error, Result};
 use std::alloc::Global;
 use std::marker::{Model, PhantomData};
 
-/// The elements of a document, in order, and then the fault at which they stop, if there is one. A clause
-/// sees the bytes that are left to read, and `None` from a stop on.
+/// The elements of a document in order, then the fault at which they stop, if there is one. A clause sees the
+/// bytes that are left to read, and `None` after a stop.
 #[derive(Drop)]
 pub struct RawIter<'a> {
     elements: Elements<'a>,
@@ -56,7 +57,7 @@ impl<'a> Iterator for RawIter<'a> {
     }
 }
 
-/// What an iterator over items gives for an element: its value, or its key and its value.
+/// What an iterator over items yields for an element: its value, or its key and its value.
 pub trait FromElement<'a>: Sized + Drop {
     ghost use Rattle.std.specs.Prelude.{Result};
     ghost use Rattle.raw_view.specs.Errors.Answers.{Says};
@@ -68,7 +69,7 @@ pub trait FromElement<'a>: Sized + Drop {
     // what one result says of an item
     ghost tells: { Result Self Error → Item → Type 0 };
 
-    /// What the element means, or its fault.
+    /// The value of the element, or its fault.
     fn from_element(element: RawElement<'a>, alloc: Global) -> Result<Self>
         ensures { (m : Meaning) × Means (frame_of element.entry) m
             × tells result (entry (frame_of element.entry).key m) };
@@ -113,21 +114,22 @@ impl<'a> FromElement<'a> for (&'a str, RawBsonRef<'a>) {
     }
 }
 
-/// What the elements of a document mean, in order; a fault in its place, and at the end the fault at which the elements
-/// stop, if there is one. A clause sees the bytes that are left to read, and `None` from a stop on.
+/// The values of the elements of a document in order, each fault in the place of its value, then the fault at
+/// which the elements stop, if there is one. A clause sees the bytes that are left to read, and `None` after
+/// a stop.
 #[derive(Drop)]
 pub struct Items<'a, T> {
     elements: RawIter<'a>,
     given: PhantomData<T>,
 }
 
-/// The keys and values of a document, in order; a value's fault in its place, and at the end the fault at
-/// which the elements stop, if there is one. A clause sees the bytes that are left to read, and `None` from
-/// a stop on.
+/// The keys and values of a document in order, each fault in the place of its value, then the fault at which
+/// the elements stop, if there is one. A clause sees the bytes that are left to read, and `None` after a
+/// stop.
 pub type Iter<'a> = Items<'a, (&'a str, RawBsonRef<'a>)>;
 
-/// The values of an array, in order; a value's fault in its place, and at the end the fault at which the
-/// elements stop, if there is one. A clause sees the bytes that are left to read, and `None` from a stop on.
+/// The values of an array in order, each fault in the place of its value, then the fault at which the
+/// elements stop, if there is one. A clause sees the bytes that are left to read, and `None` after a stop.
 pub type RawArrayIter<'a> = Items<'a, RawBsonRef<'a>>;
 
 impl<'a, T> Model for Items<'a, T> {

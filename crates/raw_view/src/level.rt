@@ -1,9 +1,10 @@
+//! The level that a value holds: a nested document, an array or a scope.
 ghost use Rattle.raw_view.specs.Meaning.Value.{HoldsLevel, value_of};
 
 use crate::bson_ref::RawBsonRef;
 use crate::document::RawDocument;
 
-/// What a level is inside: a document, an array, or this code, whose scope it is.
+/// What holds a level: a document, an array, or this code, whose scope the level is.
 #[derive(Clone, Copy, Debug, PartialEq, Eq)]
 pub enum Holder<'a> {
     /// a nested document
@@ -14,7 +15,7 @@ pub enum Holder<'a> {
     Code(&'a str),
 }
 
-/// A level that a value holds: its elements, of an array too as those of a document.
+/// A level that a value holds. The elements of an array are read as those of a document.
 /// ```
 /// let scope = RawDocument::from_bytes(b"\x05\0\0\0\0")?;
 /// let level = RawLevel { document: scope, holder: Holder::Code("f()") };
@@ -25,13 +26,13 @@ pub enum Holder<'a> {
 pub struct RawLevel<'a> {
     /// the bytes of the document, the array or the scope
     pub document: RawDocument<'a>,
-    /// which of these they are
+    /// what holds it
     pub holder: Holder<'a>,
 }
 
 impl<'a> RawBsonRef<'a> {
-    /// The level that the value holds, if it is a document, an array or code with a scope; no other kind holds one. BSON
-    /// 1.1, `element`.
+    /// The level that the value holds. Only a document, an array and a code with scope hold one. BSON 1.1,
+    /// `element`.
     /// ```
     /// let document = RawDocument::from_bytes(b"\x05\0\0\0\0")?;
     /// let array = RawBsonRef::Array(RawArray::from_doc(document));

@@ -1,5 +1,15 @@
-//! Borrowed views of raw BSON documents. Values borrow from the document, and damage is met only where it is
-//! touched.
+//! Borrowed views of raw BSON documents. Values borrow from the document, and damage is found only where a
+//! call looks.
+//!
+//! Begin at `RawDocument` in `document.rt`, and at `Elements::next` in `elements.rt`, which every look-up and
+//! iterator calls. `front/` cuts elements off the bytes; `value.rt` and `value/` read their payloads.
+//!
+//! In `specs/`, `Frame/Format.antt` has the productions of BSON 1.1, `Frame.antt` reads them from bytes,
+//! `Meaning.antt` says what a payload means, and `LookUp.antt` what a look-up finds.
+//!
+//! All crates that read bytes rest on this one: `raw_tree` first, then `raw_form`, `raw_bson` and the
+//! programs. After a change of a body or a contract they are all proved again. `proofs/Face.antt` has the
+//! lemmas that they may cite; any other lemma may change.
 #![tactic(auto)]
 
 mod access;

@@ -1,4 +1,4 @@
-//! What the payload of one kind means, where others of that kind are at fault.
+//! The values of payloads that can be at fault.
 
 ghost use Rattle.std.specs.Prelude.{◌≡◌, length, ℕ, List, IfOk, IfErr};
 ghost use Rattle.std.specs.Str.{IsUtf8};
@@ -73,7 +73,7 @@ pub(crate) fn timestamp_of(payload: &[u8]) -> Timestamp
     }
 }
 
-/// The bytes of an old binary, without their inner length.
+/// The bytes of an old binary after their inner length.
 fn inner_bytes<'a>(key: &'a str, outer: &'a [u8]) -> Result<&'a [u8], BorrowedError<'a>>
     ensures inner { IfOk result (λ inner. HasInnerLength outer.now inner.now) }
     ensures fault { IfErr result

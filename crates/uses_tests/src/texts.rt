@@ -1,10 +1,11 @@
-//! What is printed of a refusal that has no document to show it: an example of `PutError` has the other one.
+//! What is printed of an error of the shelf that has no document to show it: an example of `PutError` shows the
+//! other one.
 
 use raw_shelf::PutError;
 use std::alloc::Global;
 use std::process::Abort;
 
-/// Whether the refusal has this text, and this `Debug` text.
+/// Whether the error has this text, and this `Debug` text.
 fn is_printed(alloc: Global, error: &PutError, text: &str, debug_text: &str) -> bool {
     match (format!(in alloc; "{error}"), format!(in alloc; "{error:?}")) {
         (Ok(printed), Ok(debugged)) => {

@@ -17,7 +17,7 @@ tens i j le = pow-le-pow_right (lit< tt) le
 pub some_tens : (i : ℕ) → 0 < 10 ^ i
 some_tens i = one-le-pow i 10 (lit< tt)
 
--- zeros behind zeros
+-- zeros after zeros
 pub joined : (a i j : ℕ) → a * 10 ^ i * 10 ^ j ≡ a * 10 ^ (i + j)
 joined a i j = mul_assoc a (10 ^ i) (10 ^ j) ∙ ap (λ (x : ℕ). a * x) (sym (pow-add 10 i j))
 
@@ -27,7 +27,7 @@ one_more a i = let s : suc i ≡ i + 1 = omega arith in ap (λ (x : ℕ). a * 10
 pub at_least : (a i : ℕ) → a ≤ a * 10 ^ i
 at_least a i = omega (arith, mul-le-mul_left a (some_tens i))
 
--- zeros that both have are left out
+-- zeros that both have are dropped
 pub without_both : (a b i j k : ℕ) → a * 10 ^ i ≡ b * 10 ^ k → i + j ≡ k → a ≡ b * 10 ^ j
 without_both a b i j k e s =
     let t : k ≡ j + i = omega arith in
@@ -37,27 +37,27 @@ without_both a b i j k e s =
 pub small : (count : ℕ) → count ≤ 33 → 10 ^ count < 340282366920938463463374607431768211456
 small count le = omega (arith, tens count 33 le)
 
--- more than 33 zeros behind a number are too many
+-- more than 33 zeros after a number are too many
 pub too_many : (a count : ℕ) → 0 < a → 33 < count → 10000000000000000000000000000000000 ≤ a * 10 ^ count
 too_many a count some many = omega (arith, mul-le-mul_right (10 ^ count) some, tens 34 count (omega arith))
 
--- of a number of at most 34 digits, more zeros aren't left out
+-- a number of at most 34 digits doesn't end with more zeros
 pub none_before : (a count c : ℕ) → 0 < a → a < 10 ^ 34 → 33 < count → a ≡ c * 10 ^ count → ⊥
 none_before a count zero some few many e = omega arith
 none_before a count (suc c) some few many e = omega (arith, too_many (suc c) count (omega arith) many)
 
--- a remainder says that there is no quotient
+-- if there is a remainder, there is no quotient
 none_with_rest : (a m c : ℕ) → (a % m ≡ 0 → ⊥) → a ≡ c * m → ⊥
 none_with_rest a m c rest e = rest (ap (λ (x : ℕ). x % m) e ∙ mul-mod_left c m)
 
--- one zero less at the end, where there is one
+-- one zero fewer at the end, if there is one
 pub one_less : (a left i : ℕ) → a ≡ left * 10 ^ i → left % 10 ≡ 0 → a ≡ left / 10 * 10 ^ (i + 1)
 one_less a left i is none =
     let whole : left ≡ left / 10 * 10 ^ 1 = omega (arith, none) in
     let s : 1 + i ≡ i + 1 = omega arith in
     is ∙ ap (λ (x : ℕ). x * 10 ^ i) whole ∙ joined (left / 10) 1 i ∙ ap (λ (x : ℕ). left / 10 * 10 ^ x) s
 
--- another digit at the end: no more zeros are left out
+-- another digit at the end: no more zeros are dropped
 pub none_behind_digit : (a left i count c : ℕ) → a ≡ left * 10 ^ i → i < count → (left % 10 ≡ 0 → ⊥) → a ≡ c * 10 ^ count → ⊥
 none_behind_digit a left i count c is less digit e =
     let j = count - i - 1 in
@@ -99,7 +99,7 @@ module _ (a up down : ℕ) where
       let s : up + 6176 - (n + down) ≡ (up + 6176 - down - 12287) + (12287 - n) = omega arith in
       omega (arith, is.few_digits, e ∙ ap (λ (x : ℕ). a * 10 ^ x) s ∙ sym (joined a (up + 6176 - down - 12287) (12287 - n)), at_least (a * 10 ^ (up + 6176 - down - 12287)) (12287 - n))
 
--- .. so many zeros behind the number are the exponent's
+-- .. the zeros after the number belong to the exponent
 module _ (d a k up down : ℕ) (is : d ≡ a * 10 ^ k) where
   scaled : d * 10 ^ (up + 6176) ≡ a * 10 ^ (up + k + 6176)
   scaled =
@@ -112,7 +112,7 @@ module _ (d a k up down : ℕ) (is : d ≡ a * 10 ^ k) where
   pub without_zeros : (c n : ℕ) → IsExactly d up down c n → IsExactly a (up + k) down c n
   without_zeros c n e = record { few_digits = e.few_digits; in_range = e.in_range; same = sym scaled ∙ e.same }
 
-  -- a full coefficient takes no zero more
+  -- a full coefficient takes no more zeros
   full_reach : 10 ^ 33 ≤ a → (c n : ℕ) → IsExactly a (up + k) down c n → up + k + 6176 ≤ n + down
   full_reach full c n e =
       elim (cases_lt (n + down) (up + k + 6176)) [
@@ -138,12 +138,12 @@ module _ (d a k up down : ℕ) (is : d ≡ a * 10 ^ k) where
         ];
   }
 
--- exponents that were read: just those, or both too great, or both too small
+-- exponents that were read: exactly those, or both too great, or both too small
 abbrev pub Reaches : ℕ → ℕ → ℕ → ℕ → ℕ → Type 0
 Reaches up down k up' down' =
     ((up' ≡ up + k) × (down' ≡ down)) ⊎ ((down + 20000 ≤ up) × (down' + 20000 ≤ up')) ⊎ ((up + k + 20000 ≤ down) × (up' + 20000 ≤ down'))
 
--- nothing but 0 has too great an exponent
+-- only 0 has too great an exponent
 pub none_above : (a up down c n : ℕ) → 0 < a → down + 20000 ≤ up → IsExactly a up down c n → ⊥
 none_above a up down c n some far is =
     let within = is.in_range in
@@ -187,7 +187,7 @@ least d up down up' down' c n e far far' p =
       nearest = λ other m is. omega arith;
     }
 
--- if what was read is none, it isn't 0
+-- if what was read has no coefficient, it isn't 0
 some_there : (a up down : ℕ) → ((c n : ℕ) → IsExactly a up down c n → ⊥) → 0 < a
 some_there a up down none =
     elim (eq-zero-or-pos a) [
@@ -235,7 +235,7 @@ pub moved : (a k up down up' down' : ℕ) → FitsDecimal128 a k → Reaches up 
 moved a k up down up' down' room reaches None p = tt
 moved a k up down up' down' room reaches (Some r) p = preferred (a * 10 ^ k) a k refl room reaches r.0 r.1 p
 
--- what digits write, one behind the other
+-- what digits write, one after the other
 all_at : (ds : List ℕ) (i : ℕ) → AllDigits 10 ds → i < length ds → digit_value (get_or ds i 0) < 10
 all_at [] i h l = absurd (omega arith)
 all_at (d ∷ ds) zero h l = h.0
@@ -268,7 +268,7 @@ after_rest n [] (suc i) = refl
 after_rest n (d ∷ ds) zero = refl
 after_rest n (d ∷ ds) (suc i) = after_rest (n * 10 + digit_value d) ds i
 
--- a digit that there is no room for
+-- a digit for which there is no room
 pub full_too_long : (a k digit : ℕ) → 10 ^ 33 ≤ a → 0 < digit → digit < 10 → FitsNoDecimal128 (a * 10 ^ k * 10 + digit)
 full_too_long a k digit full some one c zero few e = omega (arith, at_least a k)
 full_too_long a k digit full some one c (suc j) few e = omega (arith, one_more c j)
@@ -314,7 +314,7 @@ too_long_behind xs ys h long = subst FitsNoDecimal128 (sym (after-append 0 xs ys
 pub after_both : (xs ys : List ℕ) (n : ℕ) → digits_value_after 10 0 xs ≡ n → digits_value_after 10 0 (xs ++ ys) ≡ digits_value_after 10 n ys
 after_both xs ys n e = after-append 0 xs ys ∙ ap (λ (x : ℕ). digits_value_after 10 x ys) e
 
--- a number of too many digits is none
+-- a number with too many digits has no coefficient
 pub none_long : (d up down c n : ℕ) → FitsNoDecimal128 d → IsExactly d up down c n → ⊥
 none_long d up down c n long is =
     elim (cases_lt (n + down) (up + 6176)) [

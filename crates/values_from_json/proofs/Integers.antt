@@ -23,7 +23,7 @@ parses_written z bs r fits (inr is) h = parses_minus_0 r (subst (λ l. ParsesSig
 differ : (xs ys : List ℕ) → false ≡ bytes_eq xs ys → xs ≡ ys → ⊥
 differ xs ys unlike same = false≢true (unlike ∙ (bytes_eq-Decides xs ys).1 same)
 
--- a text that isn't read writes no integer
+-- a text that can't be read writes no integer
 pub none_written : {E : Type 0} (z : ℤ) (bs : List ℕ) (r : Result ℤ E) (e : E) → FitsSigned w64 z → WritesInteger bs z → ParsesSigned w64 10 bs r → r ≡ Err e → ⊥
 none_written z bs r e fits is h err = false≢true (ap is_ok (sym err ∙ parses_written z bs r fits is h))
 

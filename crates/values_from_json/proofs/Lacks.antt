@@ -1,4 +1,4 @@
--- Tokens that begin with no value of a wrapper.
+-- Tokens that don't begin with a value of a wrapper.
 use Rattle.std.proofs.Common.{◌≡◌, ◌⊎◌, ◌<◌, ◌^◌, ◌++◌, [], ◌∷◌, ℕ, ℤ, pos, List, Ok, codes, FitsSigned, Result, Err, IfErr, OnErr, append_assoc, get_or, ap, sym, subst, ◌∙◌, inl, inr, arith, rules}
 use Rattle.std.specs.Int.{w32, w64}
 use Rattle.std.proofs.lemmas.Int.{ints}
@@ -56,7 +56,7 @@ pub no_integer : {old new : List Token} {s bs : List ℕ} → TakesToken old new
     → (t : List ℕ) (n : ℕ) → WritesUnsigned t n → LacksToken old (Token.number t)
 no_integer e same none t n w rest f = none (pos n) (wide n w.1) (subst (λ (x : List ℕ). WritesInteger x (pos n)) (same_number e f ∙ sym same) w.0)
 
--- one below 0, or of more than 32 bits
+-- one below 0 or of more than 32 bits
 pub no_unsigned : {old new : List Token} {s bs : List ℕ} (z : ℤ) → TakesToken old new (Token.number s) → bs ≡ s → ((y : ℤ) → FitsSigned w64 y → WritesInteger bs y → y ≡ z)
     → ((n : ℕ) → n < 2 ^ 32 → pos n ≡ z → ⊥) → (t : List ℕ) (n : ℕ) → WritesUnsigned t n → LacksToken old (Token.number t)
 no_unsigned z e same only large t n w rest f =
@@ -77,7 +77,7 @@ no_time e same none (json.object ms) l w rest f = clash e f
 behind : {old a b rest : List Token} {k : List ℕ} → TakesToken old a Token.begin_object → TakesToken a b (Token.key k) → old ≡ Token.begin_object ∷ Token.key k ∷ rest → b ≡ rest
 behind e f g = cc
 
--- an object whose digits are those of no id
+-- an object whose digits aren't those of an id
 pub no_pointed : {old a b : List Token} → TakesToken old a Token.begin_object → TakesToken a b (Token.key (codes "$oid"))
     → ((s id : List ℕ) → decode_sized s 12 ≡ Ok id → LacksToken b (Token.string s)) → (s id : List ℕ) → decode_sized s 12 ≡ Ok id → LacksJson old (pointed s)
 no_pointed e f none s id is rest g = none s id is (Token.end_object ∷ rest) (behind e f g)
@@ -105,14 +105,14 @@ module _ {old a : List Token} (e : TakesToken old a Token.begin_object) (k k' : 
   no_key none j j' ms (inr is) rest g = none.1 _ (behind_brace e (g ∙ ap (λ (x : Members). json_tokens (json.object x) ++ rest) is))
 
   module _ (differ : k ≡ k' → ⊥) {b : List Token} (f : TakesToken a b (Token.key k)) where
-    -- nor the value behind the first key
+    -- nor the value after the first key
     pub no_first : (j j' : Json) → LacksJson b j → (ms : Members) → AreTwo k j k' j' ms → LacksJson old (json.object ms)
     no_first j j' none ms (inl is) rest g =
         let more = Token.key k' ∷ (json_tokens j' ++ (Token.end_object ∷ [])) in
         none (more ++ rest) (behind e f (g ∙ ap (λ (x : Members). json_tokens (json.object x) ++ rest) is) ∙ append_assoc (json_tokens j) more rest)
     no_first j j' none ms (inr is) rest g = differ (other_key e f (g ∙ ap (λ (x : Members). json_tokens (json.object x) ++ rest) is))
 
-    -- nor that behind the second
+    -- nor the one after the second
     pub no_second : {c d : List Token} {s : List ℕ} → TakesToken b c (Token.string s) → TakesToken c d (Token.key k') → (t : List ℕ) (j' : Json) → LacksJson d j'
         → (ms : Members) → AreTwo k (json.string t) k' j' ms → LacksJson old (json.object ms)
     no_second h i t j' none ms (inl is) rest g =
@@ -123,7 +123,7 @@ module _ {old a : List Token} (e : TakesToken old a Token.begin_object) (k k' : 
 pub differ_at_1 : (k k' : List ℕ) → (get_or k 1 0 ≡ get_or k' 1 0 → ⊥) → k ≡ k' → ⊥
 differ_at_1 k k' n e = n (ap (λ (l : List ℕ). get_or l 1 0) e)
 
--- what is no object is no binary, and no pointer
+-- what isn't an object is neither a binary nor a pointer
 pub no_binary : (old : List Token) → ((text digits bytes : List ℕ) (subtype : ℕ) → decode_of standard text ≡ Ok bytes → decode_sized (two_hex_digits digits) 1 ≡ Ok (subtype ∷ [])
     → (ms : Members) → AreTwo (codes "base64") (json.string text) (codes "subType") (json.string digits) ms → LacksJson old (json.object ms)) → TakesNone IsBinary old
 no_binary old none json.null l w rest f = w

@@ -1,4 +1,4 @@
--- What no value of a wrapper is next by, in terms of its tokens.
+-- When no value of a wrapper is next, in terms of the tokens.
 use Rattle.std.proofs.Common.{◌≡◌, ◌++◌, ◌∙◌, ℕ, List, true, Ok, ap, codes}
 use Rattle.hex.specs.Hex.{decode_sized}
 use Rattle.json.specs.Json.{Json}

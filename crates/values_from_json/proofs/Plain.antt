@@ -1,4 +1,4 @@
--- Numbers without a wrapper: texts that are none.
+-- Texts that aren't numbers without a wrapper.
 use Rattle.std.proofs.Common.{◌≡◌, ℕ, ℤ, pos, negsuc, suc, List, [], ◌∷◌, true, false, decimal, FitsSigned, ap, sym, ◌∙◌, inl, inr, refl, arith}
 use Rattle.std.specs.Int.{w64}
 use Rattle.std.specs.Fmt.{signed_decimal}

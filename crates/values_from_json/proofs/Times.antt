@@ -25,7 +25,7 @@ written text behind clocks z days ahead millis (year, month, day, few, civil, is
   e ∙ ap (λ (d : ℤ). ((d *ℤ pos 86400000) +ℤ pos millis) -ℤ (ahead *ℤ pos 60000)) number,
 )
 
--- a fraction, and what is behind it
+-- a fraction, and what follows it
 abbrev pub FractionThen : List ℕ → ℕ → List ℕ → Type 0
 FractionThen text millis behind = (fraction : List ℕ) × WritesFraction fraction millis × (text ≡ fraction ++ behind)
 
@@ -51,12 +51,12 @@ fraction_3 {text} {r0} {r1} {r2} {r3} {a} {b} {c} t r x s y u z = (
 pub ahead_zone : {text behind : List ℕ} {minutes : ℕ} (z : ℤ) → text ≡ 43 ∷ behind → IsDistance behind minutes → z ≡ pos minutes → WritesZone text z
 ahead_zone {text} {behind} {minutes} z t d e = inr (behind, minutes, d, inl (t, e))
 
--- a text begins with a time of day of so many seconds
+-- a text begins with a time of day of this many seconds
 abbrev pub SecondsThen : List ℕ → List ℕ → ℕ → Type 0
 SecondsThen text behind seconds = (hour minute second : ℕ) × (hour < 24) × (minute < 60) × (second < 60)
     × (text ≡ time_text hour minute second ++ behind) × (seconds ≡ (hour * 60 + minute) * 60 + second)
 
--- a number that is far from the borders of 64 bits
+-- a number far from the limits of 64 bits
 pub fits : (z : ℤ) → negsuc 9000000000000000000 ≤ℤ z → z ≤ℤ pos 9000000000000000000 → FitsSigned w64 z
 fits (pos n) low high = record { sfits = omega (arith, ints, high) }
 fits (negsuc n) low high = record { sfits = omega (arith, ints, low) }

@@ -14,7 +14,7 @@ use Rattle.values_from_json.specs.Wrapped.{InString, IsBinary, IsDate, IsDbPoint
 use Rattle.values_from_json.specs.declared.wrapper.Wrapper.{Wrapper}
 use Rattle.values_from_json.specs.declared.wrapper.Wrapper.TheVariants as wrapper
 
--- they are wrappers' keys
+-- they are keys of wrappers
 pub wrapped_key : (k : List ℕ) (j : Json) (l : Leaf) → IsWrapped k j l → is_wrapper_key k ≡ true
 wrapped_key k j l (inl (e, is)) = ap is_wrapper_key e
 wrapped_key k j l (inr (inl (e, is))) = ap is_wrapper_key e

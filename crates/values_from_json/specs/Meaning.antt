@@ -1,4 +1,4 @@
--- What a JSON value says as Extended JSON v2, canonical or relaxed. The bytes of texts are UTF-8.
+-- The meaning of a JSON value as Extended JSON v2, canonical or relaxed. The bytes of texts are UTF-8.
 use Rattle.std.specs.Prelude.{◌≡◌, ◌⊎◌, ◌||◌, ℕ, Bool, false, List, [], ◌∷◌, codes}
 use Rattle.std.specs.List.{list_any}
 use Rattle.std.specs.Str.{bytes_eq}
@@ -16,6 +16,7 @@ wrapper_keys =
     ∷ codes "$uuid" ∷ codes "$date" ∷ codes "$regularExpression" ∷ codes "$timestamp" ∷ codes "$code" ∷ codes "$scope"
     ∷ codes "$dbPointer" ∷ codes "$symbol" ∷ codes "$undefined" ∷ codes "$minKey" ∷ codes "$maxKey" ∷ []
 
+-- whether this is the key of a wrapper
 abbrev pub is_wrapper_key : List ℕ → Bool
 is_wrapper_key key = list_any (λ name. bytes_eq name key) wrapper_keys
 
@@ -24,9 +25,10 @@ abbrev pub has_wrapper_key : Members → Bool
 has_wrapper_key no_members = false
 has_wrapper_key (member key j ms) = is_wrapper_key key || has_wrapper_key ms
 
+-- These say what a value, the items of an array and the members of an object mean.
 abbrev mutual
-  -- The value says this tree. An object is a document where it has no wrapper's key: {"$ref": .., "$id": ..} (a DBRef) and
-  -- {"$regex": .., "$options": ..} are. Else it has to be a wrapper, whose keys it has, in any order, and no other.
+  -- The value means this tree. An object without a wrapper's key is a document: so are {"$ref": .., "$id": ..} (a DBRef) and {"$regex": ..,
+  -- "$options": ..}. Any other object has to be a wrapper, with its keys in any order and no others.
   pub Means : Json → Tree → Type 0
   Means json.null t = t ≡ leaf null
   Means (json.boolean b) t = t ≡ leaf (boolean b)
@@ -40,17 +42,17 @@ abbrev mutual
   AreItems no_items ts = ts ≡ no_tree
   AreItems (item j js) ts = (t : Tree) × (rest : Trees) × Means j t × AreItems js rest × (ts ≡ tree_then t rest)
 
-  -- Document: <document object (with Extended JSON extensions)>: its members in order, those of repeated keys too
+  -- Document: <document object (with Extended JSON extensions)>: its members in order, even with repeated keys
   pub AreMembers : Members → Entries → Type 0
   AreMembers no_members es = es ≡ no_entry
   AreMembers (member key j ms) es = (t : Tree) × (rest : Entries) × Means j t × AreMembers ms rest × (es ≡ entry_then key t rest)
 
-  -- the whole text, or a scope: a document, whatever its keys
+  -- the whole text, or a scope: a document, whatever its keys are
   pub IsWhole : Json → Entries → Type 0
   IsWhole (json.object ms) es = AreMembers ms es
   IsWhole _ es = ⊥
 
-  -- an object of one member that writes a value which holds no others
+  -- an object of one member that writes a value, where the value holds no others
   pub WrapsOne : Members → Tree → Type 0
   WrapsOne (member key j no_members) t = (l : Leaf) × IsWrapped key j l × (t ≡ leaf l)
   WrapsOne _ t = ⊥

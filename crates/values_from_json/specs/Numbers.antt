@@ -1,5 +1,5 @@
--- Numbers. Extended JSON v2, "Special rules for parsing JSON numbers": a number without a fraction and an exponent is the smallest
--- BSON integer type that is it exactly; every other number is a Double. An integer that takes more than 64 bits is none.
+-- Numbers, by the "Special rules for parsing JSON numbers" of Extended JSON v2. A number without a fraction and an exponent has the
+-- smallest BSON integer type that holds it; every other number is a Double. An integer of more than 64 bits has no meaning.
 use Rattle.std.specs.Prelude.{◌≡◌, ◌⊎◌, ◌==◌, ◌||◌, Bool, ℕ, ℤ, pos, true, List, Some, codes, Float, to_bits, FitsSigned}
 use Rattle.std.specs.List.{list_any}
 use Rattle.std.specs.Int.{w32, w64}
@@ -9,19 +9,19 @@ use Rattle.fast_float.specs.Parse.{parse_float}
 use Rattle.json.specs.Print.{IsNumber}
 use Rattle.bson_model.specs.Leaf.{Leaf, double, int32, int64}
 
--- the text writes the integer: a minus before one below 0, its digits, no 0 in front of others; 0 may have a minus
+-- The text writes the integer: a minus if it is negative, then its digits, without leading zeros. 0 may have a minus.
 abbrev pub WritesInteger : List ℕ → ℤ → Type 0
 WritesInteger s z = (s ≡ signed_decimal z) ⊎ ((s ≡ codes "-0") × (z ≡ pos 0))
 
--- the text is a number of JSON, and these are the 64 bits of the double nearest to it, which is finite
+-- the text is a JSON number, and these are the 64 bits of the double nearest to it, which is finite
 abbrev pub WritesFinite : List ℕ → ℕ → Type 0
 WritesFinite s bits = (x : Float) × IsNumber s × (parse_float binary64 s ≡ Some x) × (float_is_finite x ≡ true) × (bits ≡ to_bits binary64 x)
 
--- whether a number of JSON has a fraction or an exponent: a point, e or E
+-- whether a JSON number has a fraction or an exponent: a point, e or E
 abbrev pub is_fractional : List ℕ → Bool
 is_fractional s = list_any (λ b. (b == 46) || (b == 101) || (b == 69)) s
 
--- a number without a wrapper: Int32 or else Int64, or where it has a fraction or an exponent a Double
+-- a number without a wrapper: Int32, otherwise Int64; with a fraction or an exponent a Double
 abbrev pub IsPlain : List ℕ → Leaf → Type 0
 IsPlain s l =
     ((z : ℤ) × WritesInteger s z × FitsSigned w32 z × (l ≡ int32 z))
@@ -40,12 +40,15 @@ IsQuotedInt64 s l = (z : ℤ) × WritesInteger s z × FitsSigned w64 z × (l ≡
 abbrev pub infinity_bits : ℕ
 infinity_bits = 0x7FF0_0000_0000_0000
 
+-- the bits of minus infinity
 abbrev pub minus_infinity_bits : ℕ
 minus_infinity_bits = 0xFFF0_0000_0000_0000
 
+-- the bits of NaN
 abbrev pub nan_bits : ℕ
 nan_bits = 0x7FF8_0000_0000_0000
 
+-- the text writes the double with these bits
 abbrev pub WritesDouble : List ℕ → ℕ → Type 0
 WritesDouble s bits =
     ((s ≡ codes "Infinity") × (bits ≡ infinity_bits))

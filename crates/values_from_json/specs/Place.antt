@@ -1,4 +1,4 @@
--- Places in a text of UTF-8: lines, and characters in a line.
+-- Places in a UTF-8 text: lines, and characters in a line.
 use Rattle.std.specs.Prelude.{◌≡◌, ◌⊎◌, ◌+◌, ◌==◌, ℕ, Bool, nat_lt, not, ◌||◌, List, [], ◌∷◌, ◌++◌, take, length, ◌≤◌}
 use Rattle.std.specs.List.{count_by}
 use Rattle.values_from_json.specs.declared.error.JsonError.{JsonError}
@@ -11,19 +11,19 @@ is_line_feed b = b == 10
 abbrev pub begins_character : ℕ → Bool
 begins_character b = nat_lt b 128 || not (nat_lt b 192)
 
--- how many line feeds there are
+-- the number of line feeds
 abbrev pub line_feeds : List ℕ → ℕ
 line_feeds b = count_by is_line_feed b
 
--- how many characters begin
+-- the number of characters that begin
 abbrev pub characters : List ℕ → ℕ
 characters b = count_by begins_character b
 
--- no line is begun behind these bytes
+-- these bytes are empty or end with a line feed
 abbrev pub EndsLine : List ℕ → Type 0
 EndsLine b = (b ≡ []) ⊎ ((front : List ℕ) × (b ≡ front ++ 10 ∷ []))
 
--- the bytes b go on with this line, which is their last
+-- after some whole lines, the bytes b end with this line, which is the last
 abbrev pub IsLastLine : List ℕ → List ℕ → Type 0
 IsLastLine b line = (front : List ℕ) × (b ≡ front ++ line) × EndsLine front × (line_feeds line ≡ 0)
 

@@ -1,4 +1,4 @@
--- Why a text is no document's, in words.
+-- Why a text isn't that of a document, in words.
 use Rattle.std.specs.Prelude.{ℕ, List, ◌++◌, codes, decimal}
 use Rattle.values_from_json.specs.declared.error.JsonError.{JsonError}
 use Rattle.values_from_json.specs.declared.error.JsonReason.{JsonReason}
@@ -26,7 +26,7 @@ wrapper_words wrapper.Undefined = codes "this is not {\"$undefined\": true}"
 wrapper_words wrapper.MinKey = codes "this is not {\"$minKey\": 1}"
 wrapper_words wrapper.MaxKey = codes "this is not {\"$maxKey\": 1}"
 
--- why a text is no document's
+-- why a text isn't that of a document
 abbrev pub reason_words : JsonReason → List ℕ
 reason_words reason.OutOfMemory = codes "out of memory"
 reason_words reason.TooManyBytes = codes "more bytes than allowed"

@@ -1,4 +1,4 @@
--- What was taken from the tokens of a text.
+-- What was taken of the tokens of a text.
 use Rattle.std.specs.Prelude.{◌≡◌, ◌⊎◌, [], ◌∷◌, ◌++◌, ℕ, List, codes}
 use Rattle.bson_model.specs.Leaf.{Leaf}
 use Rattle.json.specs.Json.{Json, Members, object, string}
@@ -18,19 +18,19 @@ Takes Writes old new l = (j : Json) × (old ≡ json_tokens j ++ new) × Writes 
 abbrev pub TakesTwo : List Token → List Token → List ℕ → Json → List ℕ → Json → Type 0
 TakesTwo old new key j key' j' = (ms : Members) × (old ≡ json_tokens (object ms) ++ new) × AreTwo key j key' j' ms
 
--- no token is there that JSON has
+-- JSON has no such tokens at the front
 abbrev pub NoToken : List Token → Type 0
 NoToken ts = (ts ≡ []) ⊎ ((rest : List Token) × (ts ≡ bad ∷ rest))
 
--- this token isn't the first
+-- this token isn't first
 abbrev pub LacksToken : List Token → Token → Type 0
 LacksToken ts token = (rest : List Token) → ¬ TakesToken ts rest token
 
--- this JSON value isn't
+-- this JSON value isn't first
 abbrev pub LacksJson : List Token → Json → Type 0
 LacksJson ts j = (rest : List Token) → ¬ (ts ≡ json_tokens j ++ rest)
 
--- no JSON value that writes a value is the first
+-- no JSON value that writes a value is first
 abbrev pub TakesNone : (Json → Leaf → Type 0) → List Token → Type 0
 TakesNone Writes ts = (j : Json) (l : Leaf) → Writes j l → LacksJson ts j
 

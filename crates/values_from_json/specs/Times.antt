@@ -1,7 +1,8 @@
--- Times in ISO 8601 as RFC 3339 has it: milliseconds since the beginning of 1970, UTC.
+-- Times in ISO 8601, in the form of RFC 3339: milliseconds since the beginning of 1970, UTC.
 use Rattle.std.specs.Prelude.{◌≡◌, ◌⊎◌, ℕ, ℤ, pos, neg_ℤ, ◌+◌, ◌*◌, ◌/◌, ◌%◌, ◌<◌, ◌+ℤ◌, ◌-ℤ◌, ◌*ℤ◌, ◌≤ℤ◌, List, [], ◌∷◌, ◌++◌}
 use Rattle.jiff_core.specs.Calendar.{IsCivilDate, days_from_civil}
 
+-- the digit of a number below 10
 abbrev pub digit_of : ℕ → ℕ
 digit_of n = 48 + n
 
@@ -25,7 +26,7 @@ clock hour minute = two_digits hour ++ (58 ∷ two_digits minute)
 abbrev pub time_text : ℕ → ℕ → ℕ → List ℕ
 time_text hour minute second = clock hour minute ++ (58 ∷ two_digits second)
 
--- no fraction of a second, or a point and one to three digits: so many milliseconds
+-- the milliseconds of a fraction of a second: no fraction, or a point and one to three digits
 abbrev pub WritesFraction : List ℕ → ℕ → Type 0
 WritesFraction text millis =
     ((text ≡ []) × (millis ≡ 0))
@@ -38,21 +39,21 @@ abbrev pub IsDistance : List ℕ → ℕ → Type 0
 IsDistance text minutes =
     (hour minute : ℕ) × (hour < 24) × (minute < 60) × ((text ≡ clock hour minute) ⊎ (text ≡ two_digits hour ++ two_digits minute)) × (minutes ≡ hour * 60 + minute)
 
--- a zone: Z, or how many minutes its clocks are ahead of UTC, or behind it
+-- a zone: Z, or how many minutes its clocks are ahead of UTC or behind it
 abbrev pub WritesZone : List ℕ → ℤ → Type 0
 WritesZone text ahead =
     ((text ≡ 90 ∷ []) × (ahead ≡ pos 0))
     ⊎ ((distance : List ℕ) × (minutes : ℕ) × IsDistance distance minutes
     × (((text ≡ 43 ∷ distance) × (ahead ≡ pos minutes)) ⊎ ((text ≡ 45 ∷ distance) × (ahead ≡ neg_ℤ (pos minutes)))))
 
--- a time of day and a zone, behind the T: so many milliseconds of the day that clocks show, and how far they are ahead
+-- a time of day and a zone, after the T: the milliseconds of the day that the clocks show, and how many minutes they are ahead of UTC
 abbrev pub WritesClock : List ℕ → ℕ → ℤ → Type 0
 WritesClock text millis ahead =
     (hour minute second part : ℕ) × (fraction zone : List ℕ) × (hour < 24) × (minute < 60) × (second < 60)
     × WritesFraction fraction part × WritesZone zone ahead × (text ≡ time_text hour minute second ++ (fraction ++ zone))
     × (millis ≡ ((hour * 60 + minute) * 60 + second) * 1000 + part)
 
--- a time: what the zone's clocks show, less how far they are ahead
+-- a time: what the clocks of the zone show, less the minutes that they are ahead of UTC
 abbrev pub WritesTime : List ℕ → ℤ → Type 0
 WritesTime s z =
     (year month day millis : ℕ) × (clocks : List ℕ) × (ahead : ℤ)
@@ -60,6 +61,6 @@ WritesTime s z =
     × (s ≡ date_text year month day ++ (84 ∷ clocks))
     × (z ≡ ((days_from_civil (pos year) month day *ℤ pos 86400000) +ℤ pos millis) -ℤ (ahead *ℤ pos 60000))
 
--- less than a day ahead, or behind
+-- less than a day ahead of UTC or behind it
 abbrev pub IsAhead : ℤ → Type 0
 IsAhead ahead = (neg_ℤ (pos 1440) ≤ℤ ahead) × (ahead ≤ℤ pos 1440)

@@ -1,6 +1,5 @@
--- Objects that write one value which JSON has no words for: the type wrappers of Extended JSON v2, each known by its key.
--- Here are the values that hold no others. The comment over each is its line of the specification's table, written
--- from memory.
+-- Objects that write one value for which JSON has no notation: the type wrappers of Extended JSON v2, each known by its key. These are the
+-- wrappers that hold no other values. The comment of each is its line of the specification's table, written from memory.
 use Rattle.std.specs.Prelude.{◌≡◌, ◌⊎◌, ℕ, ℤ, pos, ◌<◌, ◌^◌, true, List, [], ◌∷◌, Some, Ok, codes, FitsSigned}
 use Rattle.std.specs.Int.{w64}
 use Rattle.base64.specs.Engines.{standard}
@@ -39,8 +38,8 @@ abbrev pub two_hex_digits : List ℕ → List ℕ
 two_hex_digits (digit ∷ []) = 48 ∷ digit ∷ []
 two_hex_digits digits = digits
 
--- Binary: {"$binary": {"base64": <base64-encoded (with padding as =) payload as a string>,
--- "subType": <BSON binary type as a one- or two-character hex string>}}. Of subtype 2 the payload is without its inner length.
+-- Binary: {"$binary": {"base64": <base64-encoded (with padding as =) payload as a string>, "subType": <BSON binary type as a one- or
+-- two-character hex string>}}. The payload of subtype 2 excludes the inner length.
 abbrev pub IsBinary : Json → Leaf → Type 0
 IsBinary (object ms) l =
     (text digits bytes : List ℕ) × (subtype : ℕ) × AreTwo (codes "base64") (string text) (codes "subType") (string digits) ms
@@ -73,7 +72,7 @@ IsRegex (object ms) l =
     × (l ≡ regular_expression pattern (sorted_options options))
 IsRegex _ l = ⊥
 
--- a JSON integer of 32 bits without a sign
+-- an unsigned JSON integer of 32 bits
 abbrev pub WritesUnsigned : List ℕ → ℕ → Type 0
 WritesUnsigned s n = WritesInteger s (pos n) × (n < 2 ^ 32)
 
@@ -92,7 +91,7 @@ IsDbPointer (object ms) l =
     × (decode_sized digits 12 ≡ Ok id) × (l ≡ db_pointer namespace id)
 IsDbPointer _ l = ⊥
 
--- a member under this key, whose value is this
+-- a member with this key and this value
 abbrev pub Under : List ℕ → Json → List ℕ → Json → Type 0
 Under name v key j = (key ≡ name) × (j ≡ v)
 

@@ -1,10 +1,10 @@
-//! Codes that come behind their scopes, which a look through the text finds.
+//! Codes that come after their scopes. They are found by one pass over the text.
 
 use crate::error::JsonReason;
 use json::{Reader as Tokens, Scratch, Token};
 use std::alloc::Global;
 
-/// A code that may be behind a scope.
+/// A code that may come after a scope.
 #[derive(Drop)]
 pub struct Code {
     /// where the scope begins
@@ -12,7 +12,7 @@ pub struct Code {
     text: String,
 }
 
-/// The codes that are left of a text.
+/// The remaining codes of a text.
 #[derive(Clone, Copy)]
 pub struct Codes<'a> {
     left: &'a [Code],
@@ -23,7 +23,7 @@ impl<'a> Codes<'a> {
         Codes { left }
     }
 
-    /// Takes the code behind the scope that begins there, and all before it.
+    /// Takes the code that comes after the scope at `place`, and all codes before it.
     pub fn take(&mut self, place: usize) -> Option<&'a str> {
         let number = self.left.iter().position(|code| code.place == place)?;
         match self.left.get(number..) {
@@ -36,12 +36,12 @@ impl<'a> Codes<'a> {
     }
 }
 
-/// A look through the tokens of a text.
+/// A pass over the tokens of a text.
 #[derive(Drop)]
 struct Look {
     alloc: Global,
     codes: Vec<Code>,
-    /// of each level that is open the number of its code, if it is the value of `$scope`
+    /// for each open level the number of its code, if the level is the value of `$scope`
     levels: Vec<Option<usize>>,
     /// whether the value of `$scope` is next
     is_scope: bool,
@@ -49,8 +49,8 @@ struct Look {
     next: Option<usize>,
 }
 
-/// What may be codes behind scopes in a text, in the order of these: the strings under `$code` right behind objects under
-/// `$scope`.
+/// What may be codes after scopes in a text, in the order of the scopes: the strings under `$code` that directly
+/// follow objects under `$scope`.
 pub fn codes_of(alloc: Global, text: &str) -> Result<Vec<Code>, JsonReason> {
     let mut scratch = Scratch::new(alloc);
     let mut tokens = Tokens::new(text, &mut scratch)?;
@@ -70,7 +70,7 @@ pub fn codes_of(alloc: Global, text: &str) -> Result<Vec<Code>, JsonReason> {
 }
 
 impl Look {
-    /// Passes a token that begins there.
+    /// Passes a token that begins at `place`.
     fn pass(&mut self, token: Token<'_>, place: usize) -> Result<(), JsonReason> {
         let is_scope = self.is_scope;
         let next = self.next;

@@ -149,7 +149,7 @@ fn zone(text: &[u8]) -> Option<i64>
     }
 }
 
-/// A time of day, as milliseconds, and how many minutes its clocks are ahead of UTC.
+/// The milliseconds of a time of day, and how many minutes its clocks are ahead of UTC.
 fn clock(text: &[u8]) -> Option<(u32, i64)>
     ensures clock { IfSome result (λ found. WritesClock text.now found.0 found.1) }
     ensures none { result ≡ None → (millis : ℕ) (ahead : ℤ) → ¬ WritesClock text.now millis ahead }
@@ -161,7 +161,7 @@ fn clock(text: &[u8]) -> Option<(u32, i64)>
     Some((seconds * 1000 + millis, ahead))
 }
 
-/// The milliseconds from 1970 on to so many of a day, by clocks that are so many minutes ahead of UTC.
+/// The milliseconds since 1970 of a day and a time of day, by clocks that are `ahead` minutes ahead of UTC.
 fn instant(days: i64, millis: i64, ahead: i64) -> i64
     requires days { IsEpochDay days }
     requires millis { IsBetween (pos 0) (pos 86399999) millis }
@@ -171,7 +171,7 @@ fn instant(days: i64, millis: i64, ahead: i64) -> i64
     days * DAY + millis - ahead * 60_000
 }
 
-/// The milliseconds from 1970 on to the time that a text writes, as `2012-12-24T12:15:30.501Z`.
+/// The milliseconds since 1970 of the time that a text writes, as `2012-12-24T12:15:30.501Z`.
 pub fn millis_of(text: &[u8]) -> Option<i64>
     ensures some { IfSome result (λ millis. WritesTime text.now millis) }
     ensures none { result ≡ None → (z : ℤ) → ¬ WritesTime text.now z }

@@ -1,4 +1,4 @@
-//! Decimal128 from text: IEEE 754-2008, in the binary encoding of coefficients, as BSON has it.
+//! Decimal128 from text: IEEE 754-2008, in the binary encoding of coefficients, which BSON uses.
 ghost use Rattle.std.specs.Prelude.{◌≡◌, ◌+◌, ◌*◌, ◌^◌, ◌<◌, ◌≤◌, ◌++◌, ◌↔◌, min, map, ℕ, List, IfSome, IfOk, OnErr, IsTrue, None, length, if◌then◌else◌};
 ghost use Rattle.std.specs.Char.{to_ascii_lowercase};
 ghost use Rattle.std.specs.Str.Parse.{AllDigits, digits_value, digits_value_after, starts_with_minus};
@@ -10,16 +10,16 @@ use crate::error::JsonReason;
 use crate::wrapper::Wrapper;
 use fast_float::Numeral;
 
-/// One over the greatest coefficient, which has 34 digits.
+/// The greatest coefficient, which has 34 digits, plus one.
 const COEFFICIENTS: u128 = 10_000_000_000_000_000_000_000_000_000_000_000;
 
 /// The least coefficient of 34 digits.
 const LEAST_FULL: u128 = 1_000_000_000_000_000_000_000_000_000_000_000;
 
-/// What is added to an exponent where it is kept.
+/// What is added to an exponent before it is stored.
 const BIAS: u128 = 6176;
 
-/// The greatest exponent, as it is kept.
+/// The greatest exponent, as it is stored.
 const GREATEST: u128 = 12287;
 
 const INFINITY: u128 = 0x7800 << 112;
@@ -28,10 +28,10 @@ const NAN: u128 = 0x7C00 << 112;
 
 const SIGN: u128 = 1 << 127;
 
-/// What a text that isn't a decimal is refused with.
+/// The error for a text that isn't a decimal.
 const NO_DECIMAL: JsonReason = JsonReason::Malformed(Wrapper::NumberDecimal);
 
-/// Digits that were read: a number, and how many zeros are behind it.
+/// Digits that were read: a number, and the number of zeros that follow it.
 #[derive(Clone, Copy)]
 struct Kept {
     coefficient: u128,
@@ -39,7 +39,7 @@ struct Kept {
     ghost room: { FitsDecimal128 coefficient zeros },
 }
 
-/// The bytes of the Decimal128 that a text writes, which is exactly its value: no digit is rounded away.
+/// The bytes of the Decimal128 that a text writes. It is exactly the value of the text; no digit is rounded away.
 pub(crate) fn decimal_of(text: &[u8]) -> Result<[u8; 16], JsonReason>
     ensures some { IfOk result (λ bytes. WritesDecimal text.now bytes) }
     ensures none { OnErr result ((bytes : List ℕ) → ¬ WritesDecimal text.now bytes) }
@@ -59,7 +59,7 @@ pub fn decimal128_of(text: &[u8]) -> Option<[u8; 16]>
     }
 }
 
-/// Whether a text begins with a minus, and what is behind its sign.
+/// Whether a text begins with a minus, and what follows its sign.
 fn split_sign(text: &[u8]) -> (bool, &[u8])
     ensures negative { result.0 ≡ starts_with_minus text.now }
     ensures behind { result.1.now ≡ without_sign text.now }
@@ -71,7 +71,7 @@ fn split_sign(text: &[u8]) -> (bool, &[u8])
     }
 }
 
-/// The bits of the Decimal128 that a text behind its sign writes.
+/// The bits of the Decimal128 that a text without its sign writes.
 fn bits_of(is_negative: bool, size: &[u8]) -> Result<u128, JsonReason>
     ensures some { IfOk result (λ bits. WritesBits is_negative size.now bits) }
     ensures none { OnErr result ((bits : ℕ) → ¬ WritesBits is_negative size.now bits) }
@@ -101,7 +101,7 @@ fn is_word(text: &[u8], word: &[u8]) -> bool
     text.eq_ignore_ascii_case(word)
 }
 
-/// The coefficient and the exponent, as it is kept, that a text of digits writes.
+/// The coefficient and the exponent, as it is stored, that a text of digits writes.
 fn finite_of(size: &[u8]) -> Result<(u128, u128), JsonReason>
     ensures some { IfOk result (λ r. WritesFinite size.now r.0 r.1) }
     ensures none { OnErr result ((c n : ℕ) → ¬ WritesFinite size.now c n) }
@@ -119,7 +119,7 @@ fn finite_of(size: &[u8]) -> Result<(u128, u128), JsonReason>
     scale(kept, is_negative, exponent, fraction.len() as u128).ok_or(JsonReason::InexactDecimal)
 }
 
-/// The digits times 10 to an exponent, less so many digits that are behind the point.
+/// The digits times 10 to an exponent, less one for each digit after the point.
 fn scale(kept: Kept, is_negative: bool, exponent: u128, after_point: u128) -> Option<(u128, u128)>
     requires zeros { kept.zeros ≤ 2 ^ 63 }
     requires exponent { exponent ≤ 2 ^ 70 }
@@ -136,7 +136,7 @@ fn scale(kept: Kept, is_negative: bool, exponent: u128, after_point: u128) -> Op
     settle(kept.coefficient, zeros + exponent, after_point)
 }
 
-/// The number that digits write before a point and behind it.
+/// The number that the digits before and after a point write.
 fn digits_of(whole: &[u8], fraction: &[u8]) -> Option<Kept>
     requires whole { AllDigits 10 whole.now }
     requires fraction { AllDigits 10 fraction.now }
@@ -152,7 +152,7 @@ fn digits_of(whole: &[u8], fraction: &[u8]) -> Option<Kept>
     kept.with_digits(whole)?.with_digits(fraction)
 }
 
-/// The number that the digits of an exponent write; one of many digits is only far from 0.
+/// The number that the digits of an exponent write. If there are many digits, it is any number far from 0.
 fn size_of(digits: &[u8]) -> u128
     requires { AllDigits 10 digits.now }
     ensures { result ≡ min (digits_value 10 digits.now) (2 ^ 70) }
@@ -165,7 +165,7 @@ fn size_of(digits: &[u8]) -> u128
 }
 
 impl Kept {
-    /// The same with more digits behind it.
+    /// The same number followed by more digits.
     fn with_digits(self, digits: &[u8]) -> Option<Kept>
         requires digits { AllDigits 10 digits.now }
         requires bound { self.zeros + length digits.now ≤ 2 ^ 63 }
@@ -181,7 +181,7 @@ impl Kept {
         Some(kept)
     }
 
-    /// The same with a digit behind it, which is 0 if there is no room for it.
+    /// The same number followed by a digit; if there is no room, the digit must be 0.
     fn with_digit(self, digit: u8) -> Option<Kept>
         requires digit { digit < 10 }
         requires bound { self.zeros < 2 ^ 63 }
@@ -205,7 +205,7 @@ impl Kept {
     }
 }
 
-/// The number, its coefficient times 10 to `up` less `down`, with the nearest exponent that there is, as it is kept.
+/// The coefficient times 10 to the power of `up` less `down`, with the nearest possible exponent, as it is stored.
 fn settle(coefficient: u128, up: u128, down: u128) -> Option<(u128, u128)>
     requires few { coefficient < 10 ^ 34 }
     requires bound { up < 2 ^ 100 }
@@ -228,7 +228,7 @@ fn settle(coefficient: u128, up: u128, down: u128) -> Option<(u128, u128)>
     Some((coefficient, GREATEST))
 }
 
-/// What is before so many zeros at the end of a number.
+/// The number without `count` zeros at its end, if it has them.
 fn without_zeros(number: u128, count: u128) -> Option<u128>
     requires some { 0 < number }
     requires few { number < 10 ^ 34 }
@@ -248,7 +248,7 @@ fn without_zeros(number: u128, count: u128) -> Option<u128>
     Some(left)
 }
 
-/// A number with so many zeros behind it, if there is room for them.
+/// The number followed by `count` zeros, if there is room for them.
 fn with_zeros(number: u128, count: u128) -> Option<u128>
     requires some { 0 < number }
     ensures some { IfSome result (λ c. (c < 10 ^ 34) × (c ≡ number * 10 ^ count)) }

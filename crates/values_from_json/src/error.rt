@@ -1,4 +1,4 @@
-//! Why a text isn't read, and where.
+//! Why a text can't be read, and where.
 ghost use Rattle.std.specs.Prelude.{◌≡◌, Some};
 ghost use Rattle.values_from_json.specs.Place.{IsPlaceIn};
 ghost use Rattle.values_from_json.specs.Reasons.{error_words, reason_words};
@@ -8,14 +8,14 @@ use crate::wrapper::Wrapper;
 use std::alloc::{AllocError, AllocFailed};
 use std::fmt;
 
-/// Why a text isn't read as a document.
+/// Why a text can't be read as a document.
 #[derive(Clone, Copy, Debug, PartialEq, Eq)]
 pub enum JsonReason {
     /// Memory ran out.
     OutOfMemory,
-    /// The document would have more bytes than allowed, or over 2147483647.
+    /// The document would have more bytes than allowed, or more than 2147483647.
     TooManyBytes,
-    /// Objects, arrays and scopes are deeper in one another than allowed.
+    /// Objects, arrays and scopes are nested deeper than allowed.
     TooDeep,
     /// The text ends inside the document.
     EndOfText,
@@ -31,9 +31,9 @@ pub enum JsonReason {
     ExpectedComma,
     /// A value has to be here.
     ExpectedValue,
-    /// The text goes on behind the document.
+    /// The text continues after the document.
     TextBehind,
-    /// This is no number as JSON writes them.
+    /// This is no JSON number.
     BadNumber,
     /// This integer takes more than 64 bits.
     IntegerTooLarge,
@@ -43,13 +43,13 @@ pub enum JsonReason {
     ControlCharacter,
     /// JSON has no such escape.
     BadEscape,
-    /// An escape is one half of a surrogate pair, and the other half isn't beside it.
+    /// An escape is one half of a surrogate pair, and the other half isn't next to it.
     LoneSurrogate,
-    /// A key, a pattern or options hold U+0000, which BSON ends them with.
+    /// A key, a pattern or options contain U+0000, which ends them in BSON.
     InteriorNul,
-    /// The object has a key of this one, and isn't one.
+    /// The object has a key of this wrapper, but isn't one.
     Malformed(Wrapper),
-    /// No Decimal128 is exactly this decimal.
+    /// No Decimal128 equals this decimal.
     InexactDecimal,
     /// The bytes that were written aren't a document. No text is known to give this error.
     Unsound,
@@ -106,16 +106,16 @@ impl JsonReason {
     }
 }
 
-/// Why a text isn't read, and where.
+/// Why a text can't be read, and where.
 /// ```
 /// let error = from_json(alloc, "{\"a\":\n  1,,}", Limits { bytes: 1000, depth: 10 }).unwrap_err();
 /// assert_eq!(rt; (error.reason, error.line, error.column), (JsonReason::ExpectedKey, 2, 5));
 /// ```
 #[derive(Clone, Copy, Debug, PartialEq, Eq)]
 pub struct JsonError {
-    /// why
+    /// the reason
     pub reason: JsonReason,
-    /// how many bytes of the text are before the place
+    /// the number of bytes of the text before the place
     pub offset: usize,
     /// the number of the place's line, from 1 on
     pub line: usize,
@@ -139,7 +139,7 @@ impl fmt::Display for JsonError {
 
 impl std::error::Error for JsonError {}
 
-/// The error at this place of a text, or at its end if the place is beyond it.
+/// The error at `place` of a text, or at its end if the place is beyond it.
 pub fn error_at(reason: JsonReason, text: &[u8], place: usize) -> JsonError
     ensures reason { result.reason ≡ reason }
     ensures place { IsPlaceIn text.now result }

@@ -1,4 +1,4 @@
-//! What is wrong where a text isn't read: a slow look at the place.
+//! What is wrong at a place where a text can't be read. This is slow, and runs only once.
 ghost use Rattle.std.specs.Prelude.{◌<◌, ◌≤◌, length, IfOk};
 
 use crate::error::JsonReason;
@@ -17,17 +17,17 @@ pub enum Wanted {
     Item,
     /// the value of a member
     Value,
-    /// the key of a wrapper's object, or its value
+    /// a key in a wrapper's object, or its value
     Part(Wrapper),
-    /// behind the token at the place, the brace of this wrapper
+    /// after the token at the place, the closing brace of this wrapper
     End(Wrapper),
-    /// behind the token at the place, a comma or an end
+    /// after the token at the place, a comma or an end
     Comma,
-    /// behind the token at the place, nothing
+    /// after the token at the place, nothing
     EndOfText,
 }
 
-/// Why a text isn't read, and how many bytes are left from the place on that this is about.
+/// Why a text can't be read, and how many bytes are left from the place on that this is about.
 #[derive(Clone, Copy)]
 pub(crate) struct Fault {
     pub(crate) reason: JsonReason,
@@ -51,7 +51,7 @@ fn about(reason: JsonReason, rest: &[u8]) -> Fault {
     }
 }
 
-/// What is wrong at a place of a text where this is wanted, and isn't.
+/// What is wrong at a place of a text where `wanted` should be.
 pub(crate) fn fault_at(text: &[u8], place: usize, wanted: Wanted) -> Fault {
     let place = place.min(text.len());
     let (before, rest) = text.split_at(place);
@@ -92,7 +92,7 @@ fn is_space(byte: u8) -> bool {
     matches!(byte, b' ' | b'\t' | b'\n' | b'\r')
 }
 
-/// What is wrong where a key is wanted.
+/// What is wrong where a key should be.
 fn key_fault(rest: &[u8]) -> Fault {
     match rest {
         [b'"', ..] => behind_token(rest, JsonReason::ExpectedColon),
@@ -100,7 +100,7 @@ fn key_fault(rest: &[u8]) -> Fault {
     }
 }
 
-/// What is wrong where a value is wanted: a string, or it has a colon behind it; a number; or anything else.
+/// What is wrong where a value should be: a string, perhaps followed by a colon; a number; or anything else.
 fn value_fault(rest: &[u8], reason: JsonReason, of_number: JsonReason) -> Fault {
     match rest {
         [b'"', ..] => behind_token(rest, reason),
@@ -110,7 +110,7 @@ fn value_fault(rest: &[u8], reason: JsonReason, of_number: JsonReason) -> Fault 
     }
 }
 
-/// What is wrong in the string that is here, or this behind the token that is here.
+/// What is wrong in the string at the front; otherwise this reason, after the token at the front.
 fn behind_token(rest: &[u8], reason: JsonReason) -> Fault {
     let behind = match rest {
         [b'"', string @ ..] => match behind_string(string) {
@@ -131,7 +131,7 @@ fn behind_space(rest: &[u8]) -> &[u8] {
     &rest[space..]
 }
 
-/// What is behind a number, `true`, `false` or `null`.
+/// What follows a number, `true`, `false` or `null`.
 fn behind_word(rest: &[u8]) -> &[u8] {
     let word = rest
         .iter()
@@ -151,7 +151,7 @@ fn is_cut(rest: &[u8]) -> bool {
     }
 }
 
-/// Whether this is a number of JSON without an exponent and without these bytes.
+/// Whether this is a JSON number without an exponent and without these bytes.
 fn is_numeral(text: &[u8], without: &[u8]) -> bool {
     match str::from_utf8(text) {
         Ok(number) => {
@@ -162,7 +162,7 @@ fn is_numeral(text: &[u8], without: &[u8]) -> bool {
     }
 }
 
-/// What is behind a string, from behind its first quote on; else what is wrong in it.
+/// What follows a string, which begins after its first quote; or what is wrong in it.
 fn behind_string(string: &[u8]) -> Result<&[u8], Fault> {
     let mut rest = string;
     'string: loop {
@@ -176,7 +176,7 @@ fn behind_string(string: &[u8]) -> Result<&[u8], Fault> {
     }
 }
 
-/// What is behind an escape; else what is wrong in it.
+/// What follows an escape; or what is wrong in it.
 fn behind_escape(rest: &[u8]) -> Result<&[u8], Fault>
     ensures { IfOk result (λ behind. length behind.now < length rest.now) }
 {
@@ -192,7 +192,8 @@ fn behind_escape(rest: &[u8]) -> Result<&[u8], Fault>
     }
 }
 
-/// What is behind the digits of an escape `\u`, and behind the second escape of a surrogate pair; else what is wrong in `escape`.
+/// What follows the digits of an escape `\u` and the second escape of a surrogate pair; or what is wrong in
+/// `escape`.
 fn behind_unicode<'a>(escape: &'a [u8], digits: &'a [u8]) -> Result<&'a [u8], Fault>
     ensures { IfOk result (λ behind. length behind.now ≤ length digits.now) }
 {
@@ -210,7 +211,7 @@ fn behind_unicode<'a>(escape: &'a [u8], digits: &'a [u8]) -> Result<&'a [u8], Fa
     }
 }
 
-/// The number of four hex digits, and what is behind them; else what is wrong in `escape`.
+/// The number of four hex digits, and what follows them; or what is wrong in `escape`.
 fn code_unit<'a>(escape: &[u8], digits: &'a [u8]) -> Result<(u32, &'a [u8]), Fault>
     ensures { IfOk result (λ found. length found.1.now ≤ length digits.now) }
 {

@@ -30,7 +30,7 @@ pub fn integer_of(text: &[u8]) -> Option<i64>
     None
 }
 
-/// The bits of the double that is nearest to a number of JSON, if it is finite.
+/// The bits of the double nearest to a JSON number, if that is finite.
 pub fn double_of(text: &str) -> Option<u64>
     ensures some { IfSome result (λ bits. WritesFinite text.now bits) }
     ensures none { result ≡ None → (bits : ℕ) → ¬ WritesFinite text.now bits }

@@ -1,8 +1,8 @@
-//! Lines and characters of a text, which are counted in its bytes.
+//! Lines and characters of a text, counted in its bytes.
 ghost use Rattle.std.specs.Prelude.{◌≡◌, ◌+◌};
 ghost use Rattle.values_from_json.specs.Place.{IsLastLine, characters, line_feeds};
 
-/// How many line feeds there are.
+/// The number of line feeds.
 pub fn count_line_feeds(text: &[u8]) -> usize
     ensures { result ≡ line_feeds text.now }
 {
@@ -15,7 +15,7 @@ pub fn count_line_feeds(text: &[u8]) -> usize
     count
 }
 
-/// How many characters begin.
+/// The number of characters that begin.
 pub fn count_characters(text: &[u8]) -> usize
     ensures { result ≡ characters text.now }
 {
@@ -28,7 +28,7 @@ pub fn count_characters(text: &[u8]) -> usize
     count
 }
 
-/// What is behind the last line feed.
+/// The bytes after the last line feed.
 pub fn last_line(text: &[u8]) -> &[u8]
     ensures { IsLastLine text.now result.now }
 {

@@ -33,7 +33,7 @@ use std::alloc::Global;
 #[derive(Drop)]
 pub struct Source<'a> {
     text: &'a [u8],
-    /// those that are left
+    /// the remaining tokens
     pub tokens: Tokens<'a>,
     /// where the last token begins, or what an error is about
     pub place: usize,
@@ -50,7 +50,7 @@ impl<'a> Source<'a> {
         }
     }
 
-    /// Takes a token; else the error says what is there in place of what was wanted.
+    /// Takes a token. Otherwise the error says what is there instead of what was wanted.
     pub fn token(&mut self, wanted: Wanted) -> Result<Token<'a>, JsonReason>
         ensures some { IfOk result (λ token. TakesToken self.old.tokens self.new.tokens (token_of token)) }
         ensures none { OnErr result (NoToken self.old.tokens) }
@@ -62,7 +62,7 @@ impl<'a> Source<'a> {
         }
     }
 
-    /// Why what is at the place isn't what was wanted. The place is set to what is wrong there.
+    /// Why what is at the place isn't what was wanted. The place is moved to what is wrong.
     #[cold]
     pub fn fault(&mut self, wanted: Wanted) -> JsonReason
         ensures { self.new.tokens ≡ self.old.tokens }
@@ -72,7 +72,7 @@ impl<'a> Source<'a> {
         fault.reason
     }
 
-    /// Whether no token is left; else the error.
+    /// Ok if no token is left, otherwise the error.
     pub fn end_of_text(&mut self) -> Result<(), JsonReason>
         ensures some { OnOk result (self.old.tokens ≡ []) }
         ensures none { OnErr result (self.old.tokens ≢ []) }
@@ -83,7 +83,7 @@ impl<'a> Source<'a> {
         }
     }
 
-    /// Takes the brace of a wrapper's object.
+    /// Takes the closing brace of a wrapper's object.
     pub fn end(&mut self, wrapper: Wrapper) -> Result<(), JsonReason>
         ensures some { OnOk result (TakesToken self.old.tokens self.new.tokens end_object) }
         ensures none { OnErr result (LacksToken self.old.tokens end_object) }
@@ -98,7 +98,7 @@ impl<'a> Source<'a> {
         }
     }
 
-    /// The error of a token that isn't what a wrapper has there: what a colon is behind is a key.
+    /// The error for a token that a wrapper doesn't have there. A token before a colon is a key.
     #[cold]
     fn other(&mut self, wrapper: Wrapper, token: Token<'a>, is_key: bool) -> JsonReason
         ensures { self.new.tokens ≡ self.old.tokens }
@@ -110,7 +110,7 @@ impl<'a> Source<'a> {
         }
     }
 
-    /// Takes the brace of an object that is a wrapper's value.
+    /// Takes the opening brace of an object that is a wrapper's value.
     pub fn begin(&mut self, wrapper: Wrapper) -> Result<(), JsonReason>
         ensures some { OnOk result (TakesToken self.old.tokens self.new.tokens begin_object) }
         ensures none { OnErr result (LacksToken self.old.tokens begin_object) }
@@ -154,7 +154,7 @@ impl<'a> Source<'a> {
         }
     }
 
-    /// Takes this key of a wrapper.
+    /// Takes the key `name` of a wrapper.
     pub(crate) fn named(&mut self, wrapper: Wrapper, name: &str) -> Result<(), JsonReason>
         ensures some { OnOk result (TakesToken self.old.tokens self.new.tokens (key name.now)) }
         ensures none { OnErr result (LacksToken self.old.tokens (key name.now)) }
@@ -167,7 +167,7 @@ impl<'a> Source<'a> {
         }
     }
 
-    /// Takes the first of two keys of a wrapper; says whether it is the second of these.
+    /// Takes the first of two keys of a wrapper. Returns whether it is the second of these.
     fn is_swapped(
         &mut self,
         wrapper: Wrapper,
@@ -187,7 +187,7 @@ impl<'a> Source<'a> {
         }
     }
 
-    /// Takes the code behind a scope, which has to be this one, and the brace of both.
+    /// Takes the code after a scope, which has to be `code`, and the closing brace of both.
     pub fn code(&mut self, code: &str) -> Result<(), JsonReason>
         ensures some { OnOk result (self.old.tokens ≡ key (codes "$code") ∷ string code.now ∷ end_object ∷ self.new.tokens) }
         ensures none { OnErr result ((rest : List Taken) → self.old.tokens ≢ key (codes "$code") ∷ string code.now ∷ end_object ∷ rest) }
@@ -392,7 +392,7 @@ impl<'a> Source<'a> {
         }
     }
 
-    /// Takes a number of 32 bits without a sign.
+    /// Takes an unsigned number of 32 bits.
     fn unsigned(&mut self) -> Result<u32, JsonReason>
         ensures some { IfOk result (λ n. (s : List ℕ) × TakesToken self.old.tokens self.new.tokens (number s) × WritesUnsigned s n) }
         ensures none { OnErr result ((s : List ℕ) (n : ℕ) → WritesUnsigned s n → LacksToken self.old.tokens (number s)) }

@@ -1,10 +1,10 @@
-//! The objects that write a value which JSON has no words for.
+//! The objects that write a value for which JSON has no notation.
 ghost use Rattle.std.specs.Prelude.{◌≡◌, false, MatchOption};
 ghost use Rattle.values_from_json.specs.Keys.{wrapper_key};
 ghost use Rattle.values_from_json.specs.Meaning.{is_wrapper_key};
 ghost use Rattle.values_from_json.specs.Reasons.{wrapper_words};
 
-/// What the keys of an object say that it writes: not a document, but one value.
+/// What an object is, by its keys, if it isn't a document: one value.
 #[derive(Clone, Copy, Debug, PartialEq, Eq)]
 pub enum Wrapper {
     /// `{"$oid": 24 hex digits}`
@@ -29,7 +29,7 @@ pub enum Wrapper {
     Timestamp,
     /// `{"$code": text}`, or with `"$scope": document`
     Code,
-    /// the same, its scope first
+    /// the same, with the scope first
     Scope,
     /// `{"$dbPointer": {"$ref": text, "$id": an object id}}`
     DbPointer,
@@ -54,7 +54,7 @@ pub fn wrapper_of_key(key: &str) -> Option<Wrapper>
 }
 
 impl Wrapper {
-    /// The wrapper that has this key, which begins with a dollar, if one has it.
+    /// The wrapper with this key, which begins with a dollar, if there is one.
     fn with_dollar(key: &str) -> Option<Wrapper>
         ensures { MatchOption result (is_wrapper_key key.now ≡ false) (λ wrapper. key.now ≡ wrapper_key wrapper) }
     {
@@ -80,7 +80,7 @@ impl Wrapper {
         }
     }
 
-    /// In words, that an object isn't one.
+    /// A message that an object isn't such a wrapper.
     pub(crate) fn words(self) -> &'static str
         ensures { result.now ≡ wrapper_words self }
     {

@@ -2,7 +2,7 @@
 use Rattle.values_to_json.proofs.Common.{IsCivilDate, IsInstantText, cases_lt, day_count, day_count-day, day_count-end, day_count-epoch, day_count-last_of_year, day_count-next_month, day_count-next_year, days_from_civil, days_from_civil-day_count, days_in_month, days_in_month_bounds, days_in_year, ints}
 use Rattle.std.proofs.Common.{◌≡◌, ◌+◌, ◌<◌, ◌≤◌, ◌/◌, ◌%◌, ℕ, pos, ◌+ℤ◌, ◌*ℤ◌, zero, suc, List, arith, refl, subst, inl, inr}
 
--- the day that is so many behind 1 January 1970
+-- the day that is n days after 1 January 1970
 record Day (n : ℕ) : Type 0 where
   year : ℕ
   month : ℕ

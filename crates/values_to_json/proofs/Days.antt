@@ -22,7 +22,7 @@ later_year (negsuc k) m d h e =
 pub year_of : (d : Date) → neg_ℤ (pos 719_528) ≤ℤ epoch_day d → (k : ℕ) × (d.year ≡ pos k) × (k < 10000)
 year_of d e = later_year d.year d.month d.day (civil d) e
 
--- the day of a time, from the milliseconds since the first day that there is
+-- the day of a time, from the milliseconds since the first day
 pub day_of_time : (z day : ℤ) (since : ℕ) → HasInstantText z → z +ℤ pos 377_705_116_800_000 ≡ pos since → day +ℤ pos 4_371_587 ≡ pos (since / 86_400_000)
     → (neg_ℤ (pos 719_528) ≤ℤ day) × (z ≡ (day *ℤ pos 86_400_000) +ℤ pos (since % 86_400_000))
 day_of_time z day since h e d = (omega (arith, ints, h.0, e, d), omega (arith, ints, e, d))

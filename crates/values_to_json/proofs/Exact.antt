@@ -91,7 +91,7 @@ same_size f s u k =
     round_same f s (u * 5 ^ k * 10 ^ 0) (10 ^ k) u (2 ^ k) (ten_pos k) (pow_pos k)
     (ap (λ (n : ℕ). n * 2 ^ k) one ∙ mul_assoc u (5 ^ k) (2 ^ k) ∙ ap (λ (n : ℕ). u * n) (sym ten))
 
--- the bits of so many of the smallest values
+-- the bits of a multiple of the smallest value
 abbrev counted_bits : Format → Bool → ℕ → ℕ
 counted_bits f s n = cond s (top f) 0 + (size n - prec f) * hid f + n / 2 ^ (size n - prec f)
 
@@ -106,7 +106,7 @@ bits_are f (fin t m e) s n (sign, size_is) =
 same_count : (f : Format) (x y : Float) (s : Bool) (n : ℕ) → T (fits f x) → T (fits f y) → HasValue x s n (2 ^ low f) → HasValue y s n (2 ^ low f) → x ≡ y
 same_count f x y s n p q v w = sym (of_bits-to_bits f x p) ∙ ap (of_bits f) (bits_are f x s n v ∙ sym (bits_are f y s n w)) ∙ of_bits-to_bits f y q
 
--- a value of so many of the smallest ones
+-- a value that is a multiple of the smallest one
 record IsCounted (f : Format) (s : Bool) (m : ℕ) (e : ℤ) : Type 0 where
   count : ℕ
   is : fin s m e ≡ round f s count (2 ^ low f)

@@ -1,4 +1,4 @@
--- How long the text of a Decimal128 is at most.
+-- The greatest length of the text of a Decimal128.
 use Rattle.values_to_json.proofs.Common.{Decimal, Finite, Infinity, NaN, coefficient_of, combination, decimal128_text, decimal_of, decimal_text, eqb-false, eqb-true, exponent_text, finite_text, from_le_bytes, length-append, length-decimal-le_wide, length-drop, length-replicate, length-take-le, nat_tests, plain_text, scientific_text, sign_text, w64}
 use Rattle.std.proofs.Common.{◌≡◌, ℕ, ◌+◌, ◌-◌, ◌*◌, ◌/◌, ◌%◌, ◌^◌, ◌<◌, ◌≤◌, ◌||◌, Bool, true, false, cond, nat_eq, nat_lt, nat_le, List, [], ◌∷◌, ◌++◌, length, take, drop, replicate, codes, decimal, refl, sym, ap, ◌∙◌, arith, lit<}
 use Rattle.std.proofs.Math.Nat.{div-div-eq-div-mul}
@@ -62,7 +62,7 @@ coefficient_small n = grind (arith, nat_tests)
 small_exponent : (q : ℕ) → ¬ (q / 4096 % 4 ≡ 3) → q % 16384 < 12288
 small_exponent q h = omega (arith, h)
 
--- and one behind two bits that are both 1
+-- and one after two bits that are both 1
 behind_ones : (q : ℕ) → q / 16384 % 4 ≡ 3 → ¬ (q / 2048 % 32 ≡ 31) → ¬ (q / 2048 % 32 ≡ 30) → q % 16384 < 12288
 behind_ones q ones nan infinite = omega (arith, ones, nan, infinite)
 

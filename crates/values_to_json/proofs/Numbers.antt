@@ -12,7 +12,7 @@ nan_fields : (s : Bool) (x t : ℕ) → x ≡ 2047 → 0 < t → of_fields binar
 unfolding of_fields
 nan_fields s x t e h = rw e (second t (inf s) nan h)
 
--- over the bits of infinity are NaNs
+-- what is greater than the bits of infinity is a NaN
 pub bits_nan : (b : ℕ) → 0x7ff0_0000_0000_0000 < b % 0x8000_0000_0000_0000 → of_bits binary64 b ≡ nan
 unfolding of_bits
 bits_nan b h = nan_fields _ (b % 0x8000_0000_0000_0000 / 0x10_0000_0000_0000) (b % 0x10_0000_0000_0000) (omega arith) (omega arith)

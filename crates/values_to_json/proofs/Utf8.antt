@@ -15,7 +15,7 @@ pub record Text : Type 0 where
   pub bytes : List ℕ
   pub utf8 : IsUtf8 bytes
 
--- texts one behind the other
+-- texts one after the other
 abbrev pub joined : Text → List Text → List ℕ
 joined t [] = t.bytes
 joined t (u ∷ us) = t.bytes ++ joined u us
@@ -140,13 +140,13 @@ behind_ascii : (ds : List ℕ) → IsAscii ds → IsAscii (behind_point ds)
 behind_ascii [] h = IsAscii-nil
 behind_ascii (d ∷ ds) h = IsAscii-cons 46 (d ∷ ds) (omega arith) h
 
--- digits with an exponent of so many less 6177
+-- digits with an exponent
 abbrev scientific : (ds : List ℕ) → ℕ → IsAscii ds → Text
 scientific ds reach h =
     let exponent = choice (nat_lt 6176 reach) (whole (literal (codes "E+") refl) (number (reach - 6177) ∷ [])) (whole (literal (codes "E-") refl) (number (6177 - reach) ∷ [])) in
     whole (ascii (take 1 ds) (IsAscii-take ds 1 h)) (ascii (behind_point (drop 1 ds)) (behind_ascii (drop 1 ds) (IsAscii-drop ds 1 h)) ∷ exponent ∷ [])
 
--- digits of which so many are behind the point
+-- digits with some of them after the point
 abbrev plain : (ds : List ℕ) → ℕ → IsAscii ds → Text
 plain ds places h =
     let cut = length ds - places in

@@ -1,4 +1,4 @@
--- Values that hold no others as Extended JSON v2 has them.
+-- Values that hold no others, in Extended JSON v2.
 use Rattle.std.specs.Prelude.{◌≡◌, ℕ, ℤ, Bool, true, false, List, [], ◌∷◌, ◌++◌, codes, decimal, from_bits}
 use Rattle.std.specs.Fmt.{signed_decimal}
 use Rattle.std.specs.Float.{binary64}
@@ -15,31 +15,36 @@ use Rattle.values_to_json.specs.Doubles.{IsDoubleJson}
 use Rattle.values_to_json.specs.declared.style.Format.{Format}
 use Rattle.values_to_json.specs.declared.style.Format.TheVariants.{Relaxed, Canonical}
 
+-- a number of 32 bits: its digits, or wrapped
 abbrev pub int32_json : Format → ℤ → List ℕ
 int32_json Relaxed z = signed_decimal z
 int32_json Canonical z = codes "{\"$numberInt\":\"" ++ (signed_decimal z ++ codes "\"}")
 
+-- a number of 64 bits: its digits, or wrapped
 abbrev pub int64_json : Format → ℤ → List ℕ
 int64_json Relaxed z = signed_decimal z
 int64_json Canonical z = codes "{\"$numberLong\":\"" ++ (signed_decimal z ++ codes "\"}")
 
+-- a boolean
 abbrev pub boolean_json : Bool → List ℕ
 boolean_json false = codes "false"
 boolean_json true = codes "true"
 
--- the bytes in base64 (RFC 4648, section 4), and the subtype as two digits in hex; of subtype 2 without the inner length
+-- the bytes in base64 (RFC 4648, section 4), and the subtype as two hexadecimal digits; the bytes of subtype 2 exclude the inner length
 abbrev pub binary_json : BinarySubtype → List ℕ → List ℕ
 binary_json subtype bytes =
     codes "{\"$binary\":{\"base64\":\"" ++ (encode_of standard bytes ++ (codes "\",\"subType\":\"" ++ (encode_lower (subtype_byte subtype ∷ []) ++ codes "\"}}")))
 
+-- the twelve bytes as 24 hexadecimal digits
 abbrev pub object_id_json : List ℕ → List ℕ
 object_id_json bytes = codes "{\"$oid\":\"" ++ (encode_lower bytes ++ codes "\"}")
 
--- pattern and options as they are
+-- the pattern and the options as they are
 abbrev pub regex_json : List ℕ → List ℕ → List ℕ
 regex_json pattern options =
     codes "{\"$regularExpression\":{\"pattern\":" ++ (quoted pattern ++ (codes ",\"options\":" ++ (quoted options ++ codes "}}")))
 
+-- the namespace and the identifier
 abbrev pub pointer_json : List ℕ → List ℕ → List ℕ
 pointer_json namespace id =
     codes "{\"$dbPointer\":{\"$ref\":" ++ (quoted namespace ++ (codes ",\"$id\":" ++ (codes "{\"$oid\":\"" ++ (encode_lower id ++ codes "\"}}}"))))

@@ -18,10 +18,10 @@ const FIRST_MILLIS: i64 = -62_167_219_200_000;
 /// The last millisecond of the year 9999.
 const LAST_MILLIS: i64 = 253_402_300_799_999;
 
-/// How many milliseconds a day has.
+/// The number of milliseconds of a day.
 const DAY: u64 = 86_400_000;
 
-/// How many milliseconds 1 January 1970 is behind the first day that `Date` has.
+/// The number of milliseconds from the first day of `Date` to 1 January 1970.
 const EPOCH: i64 = 4_371_587 * 86_400_000;
 
 /// A number below 10 as a digit.
@@ -32,7 +32,7 @@ fn digit(number: u64) -> u8
     b'0' + number as u8
 }
 
-/// A day and a second of it, as in `2012-12-24T12:15:30`.
+/// A day and a second of that day, as in `2012-12-24T12:15:30`.
 fn seconds(year: u64, month: u64, day: u64, second: u64) -> [u8; 19]
     requires year { year < 10000 }
     requires month { month < 100 }
@@ -64,7 +64,7 @@ fn seconds(year: u64, month: u64, day: u64, second: u64) -> [u8; 19]
     ]
 }
 
-/// Milliseconds behind a second, as in `.501`.
+/// The milliseconds after a second, as in `.501`.
 fn fraction(millis: u64) -> [u8; 4]
     requires { millis < 1000 }
     ensures { result ≡ 46 ∷ three_digits millis }
@@ -77,7 +77,7 @@ fn fraction(millis: u64) -> [u8; 4]
     ]
 }
 
-/// How many milliseconds a time of the years 0 to 9999 is behind the beginning of the first day that `Date` has.
+/// The number of milliseconds from the first day of `Date` to a time of the years 0 to 9999.
 fn since_first_day(millis: i64) -> u64
     requires { HasInstantText millis }
     ensures { millis +ℤ pos 377705116800000 ≡ pos result }
@@ -85,7 +85,7 @@ fn since_first_day(millis: i64) -> u64
     (millis + EPOCH) as u64
 }
 
-/// Writes a time of the years 0 to 9999 as ISO 8601 has it.
+/// Writes a time of the years 0 to 9999 in ISO 8601.
 fn put_instant<W: Write>(out: &mut W, millis: i64) -> io::Result<()>
     requires { HasInstantText millis }
     ensures { OnOk result ((text : List ℕ) × IsInstantText millis text
@@ -105,8 +105,9 @@ fn put_instant<W: Write>(out: &mut W, millis: i64) -> io::Result<()>
     }
 }
 
-/// Writes a time, as milliseconds from 1970 on, as ISO 8601 has it: as `2012-12-24T12:15:30.501Z`, without a fraction where that
-/// is 0. Whether it is of the years 0 to 9999; of another nothing is written, and it is no error.
+/// Writes a time, given in milliseconds since 1970, in ISO 8601, as `2012-12-24T12:15:30.501Z`, without a fraction
+/// if that is 0. Returns whether the time is in the years 0 to 9999. If it isn't, nothing is written, and that is
+/// no error.
 pub fn write_time<W: Write>(out: &mut W, millis: i64) -> io::Result<bool>
     ensures has_text { IfOk result (λ has_text. IsTrue has_text ↔ HasInstantText millis) }
     ensures text { result ≡ Ok true → (text : List ℕ) × IsInstantText millis text
@@ -121,7 +122,7 @@ pub fn write_time<W: Write>(out: &mut W, millis: i64) -> io::Result<bool>
     Ok(true)
 }
 
-/// Writes a time of so many milliseconds since the epoch.
+/// Writes a time, given in milliseconds since 1970.
 pub fn put_date<W: Write>(out: &mut W, format: Format, millis: i64) -> io::Result<()>
     ensures { OnOk result ((text : List ℕ) × IsDateJson format millis text
         × Appends (W.contents out.old) (W.contents out.new) text) }

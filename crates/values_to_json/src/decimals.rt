@@ -14,7 +14,7 @@ use itoa::Buffer;
 use std::io;
 use std::io::Write;
 
-/// What a Decimal128 is.
+/// The value of a Decimal128.
 pub(crate) enum Decimal {
     /// no number
     NaN,
@@ -27,10 +27,10 @@ pub(crate) enum Decimal {
 /// The greatest coefficient has 34 digits.
 const COEFFICIENTS: u128 = 10_000_000_000_000_000_000_000_000_000_000_000;
 
-/// What is added to an exponent where it is kept.
+/// What is added to an exponent before it is stored.
 const BIAS: u64 = 6176;
 
-/// The number of eight bytes, least first.
+/// The number of eight bytes, least significant byte first.
 fn number_of(bytes: &[u8]) -> u64
     requires { length bytes.now ≡ 8 }
     ensures { result ≡ from_le_bytes w64 bytes.now }
@@ -64,7 +64,7 @@ fn parts_of(low: u64, high: u64) -> Decimal
     )
 }
 
-/// Writes a sign where the number is negative.
+/// Writes a minus sign if the number is negative.
 fn put_sign<W: Write>(out: &mut W, is_negative: bool) -> io::Result<()>
     ensures { OnOk result (Appends (W.contents out.old) (W.contents out.new) (sign_text is_negative)) }
 {
@@ -96,7 +96,7 @@ fn put_scientific<W: Write>(out: &mut W, digits: &[u8], exponent: u64) -> io::Re
     put_words(out, text.format(BIAS + 1 - reach))
 }
 
-/// Writes digits of which so many are behind the point.
+/// Writes digits with a point before the last `places` of them.
 fn put_plain<W: Write>(out: &mut W, digits: &[u8], places: usize) -> io::Result<()>
     ensures { OnOk result (Appends (W.contents out.old) (W.contents out.new) (plain_text digits.now places)) }
 {
@@ -126,7 +126,7 @@ fn put_finite<W: Write>(out: &mut W, digits: &[u8], exponent: u64) -> io::Result
     put_plain(out, digits, (BIAS - exponent) as usize)
 }
 
-/// Writes what a Decimal128 is.
+/// Writes the value of a Decimal128.
 fn put_parts<W: Write>(out: &mut W, parts: Decimal) -> io::Result<()>
     ensures { OnOk result
         (Appends (W.contents out.old) (W.contents out.new) (decimal_text parts)) }

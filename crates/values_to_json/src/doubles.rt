@@ -12,10 +12,10 @@ use ryu::Buffer;
 use std::io;
 use std::io::Write;
 
-/// The bits of infinity; without the sign, those of NaNs are greater.
+/// The bits of infinity. Without the sign, the bits of NaNs are greater.
 const INFINITY: u64 = 0x7ff0_0000_0000_0000;
 
-/// The number of these bits as text, and whether it is finite.
+/// The number with these bits as text, and whether it is finite.
 fn text_of(bits: u64, digits: &mut Buffer) -> (bool, &str)
     ensures finite { result.0 ≡ float_is_finite (from_bits binary64 bits) }
     ensures text { IsDoubleText (from_bits binary64 bits) result.1.now }
@@ -35,7 +35,7 @@ fn text_of(bits: u64, digits: &mut Buffer) -> (bool, &str)
     (false, text)
 }
 
-/// Writes a number in an object that says its kind.
+/// Writes a number in an object that gives its kind.
 fn put_wrapped<W: Write>(out: &mut W, text: &str) -> io::Result<()>
     ensures { OnOk result
         (Appends (W.contents out.old) (W.contents out.new) (wrapped_double text.now)) }
@@ -43,7 +43,7 @@ fn put_wrapped<W: Write>(out: &mut W, text: &str) -> io::Result<()>
     put_between(out, "{\"$numberDouble\":\"", text, "\"}")
 }
 
-/// Writes the number of these bits.
+/// Writes the number with these bits.
 pub fn put_double<W: Write>(out: &mut W, format: Format, bits: u64) -> io::Result<()>
     ensures { OnOk result ((text : List ℕ) × IsDoubleJson format (from_bits binary64 bits) text
         × Appends (W.contents out.old) (W.contents out.new) text) }

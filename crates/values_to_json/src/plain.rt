@@ -1,4 +1,4 @@
-//! Texts that are written as they are.
+//! Whether a text is written as it is.
 #![tactic(auto)]
 
 ghost use Rattle.std.specs.Prelude.{◌≡◌, ◌≤◌, ◌+◌, length};
@@ -8,10 +8,10 @@ ghost use Rattle.json.specs.Written.{PlainBetween};
 
 use std::simd::prelude::*;
 
-/// How many bytes of a long text are looked at in one step.
+/// The number of bytes of a long text that one step tests.
 const LANES: usize = 16;
 
-/// Whether the N bytes from a place on are written as they are.
+/// Whether the N bytes from `at` on are written as they are.
 #[inline(always)]
 fn are_plain<const N: usize>(bytes: &[u8], at: usize) -> bool
     requires few { N ≤ 64 }
@@ -25,7 +25,7 @@ fn are_plain<const N: usize>(bytes: &[u8], at: usize) -> bool
     (quotes | backslashes | controls).to_bitmask() == 0
 }
 
-/// The same of N to twice as many bytes, by looks at both ends that overlap.
+/// The same of N to 2 N bytes, by tests of both ends that may overlap.
 #[inline(always)]
 fn are_ends_plain<const N: usize>(bytes: &[u8]) -> bool
     requires few { N ≤ 32 }

@@ -8,10 +8,10 @@ ghost use Rattle.values_to_json.specs.Written.{AppendsFront};
 use std::io;
 use std::io::Write;
 
-/// How many bytes are written in one call.
+/// The number of bytes that are written in one call.
 const BLOCK: usize = 64;
 
-/// Writes these bytes, as `write_all` does: what it leaves behind an error is a front of them.
+/// Writes these bytes, as `write_all` does. If it fails, a prefix of them was written.
 pub fn put_all<W: Write>(out: &mut W, bytes: &[u8]) -> io::Result<()>
     ensures written { OnOk result (Appends (W.contents out.old) (W.contents out.new) bytes.now) }
     ensures front { OnErr result (AppendsFront (W.contents out.old) (W.contents out.new) bytes.now) }
@@ -77,7 +77,7 @@ pub fn put_between<W: Write>(out: &mut W, before: &str, text: &str, behind: &str
     put_words(out, behind)
 }
 
-/// Writes a byte so many times.
+/// Writes a byte `count` times.
 pub fn put_repeated<W: Write>(out: &mut W, byte: u8, count: usize) -> io::Result<()>
     ensures { OnOk result (Appends (W.contents out.old) (W.contents out.new) (replicate count byte)) }
 {

@@ -20,7 +20,7 @@ fn is_escaped(byte: u8) -> bool
     byte < 32 || byte == b'"' || byte == b'\\'
 }
 
-/// How many bytes in front are written as they are.
+/// The number of bytes at the front that are written as they are.
 #[inline]
 fn plain_len(bytes: &[u8]) -> usize
     ensures within { result ≤ length bytes.now }
@@ -60,7 +60,7 @@ fn short_escape(byte: u8) -> u8
     }
 }
 
-/// Writes a byte of a text, escaped where JSON wants it.
+/// Writes a byte of a text, escaped if JSON requires it.
 #[cold]
 #[inline(never)]
 #[tactic(auto, unfolding(json::specs::Print::escape_byte))]
@@ -78,7 +78,7 @@ fn put_escape<W: Write>(out: &mut W, byte: u8) -> io::Result<()>
     put(out, &[byte])
 }
 
-/// Writes the bytes of a text, escaped where JSON wants it.
+/// Writes the bytes of a text, escaped where JSON requires it.
 #[cold]
 #[inline(never)]
 fn put_escaped<W: Write>(out: &mut W, bytes: &[u8]) -> io::Result<()>
@@ -97,7 +97,7 @@ fn put_escaped<W: Write>(out: &mut W, bytes: &[u8]) -> io::Result<()>
     }
 }
 
-/// Writes the bytes of a text, in one part where none is escaped.
+/// Writes the bytes of a text, in one call if none is escaped.
 #[inline]
 fn put_inside<W: Write>(out: &mut W, bytes: &[u8]) -> io::Result<()>
     ensures { OnOk result (Appends (W.contents out.old) (W.contents out.new) (escape bytes.now)) }

@@ -1,4 +1,4 @@
-//! What a text is given to, block by block.
+//! What takes a text block by block.
 #![tactic(auto)]
 
 ghost use Rattle.std.specs.Prelude.{◌≡◌, ◌≤◌, ℕ, List, [], length, Some, OnErr, OnOk};
@@ -9,7 +9,7 @@ use std::alloc::Global;
 use std::io;
 use std::io::Write;
 
-/// Why a text isn't taken whole.
+/// Why a text wasn't taken whole.
 #[derive(Debug, Drop)]
 pub enum Failure {
     OutOfMemory,
@@ -18,10 +18,10 @@ pub enum Failure {
 
 /// Takes a text block by block.
 pub trait Sink {
-    // that it keeps texts of so many bytes, and was given this one
+    // it keeps texts of at most this many bytes, and was given this text
     ghost has: { Self → ℕ → List ℕ → Type 0 };
 
-    /// Takes a block. What it has behind an error is a front of it.
+    /// Takes a block. If it fails, it has taken a prefix of the block.
     fn accept(&mut self, block: &[u8]) -> Result<(), Failure>
         ensures taken { OnOk result (Grows has self.old self.new block.now) }
         ensures front { OnErr result (GrowsFront has self.old self.new block.now) };
@@ -38,14 +38,14 @@ impl<W: Write> Sink for W {
     }
 }
 
-/// How long a text is, and the text if it isn't longer than was asked for.
+/// The length of a text, and the text if it isn't longer than requested.
 #[derive(Debug, Drop)]
 pub struct Measured {
     pub len: usize,
     pub text: Option<String>,
 }
 
-/// Counts a text, and keeps it as long as it has at most so many bytes.
+/// Counts a text, and keeps it as long as it has at most `most` bytes.
 #[derive(Drop)]
 pub struct Counted {
     pub most: usize,
@@ -54,7 +54,7 @@ pub struct Counted {
 }
 
 impl Counted {
-    /// Of no text yet.
+    /// For a text of which nothing was given yet.
     pub fn new(alloc: Global, most: usize) -> Counted
         ensures most { result.most ≡ most }
         ensures len { result.len ≡ 0 }

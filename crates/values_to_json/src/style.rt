@@ -4,9 +4,9 @@
 /// Which format of Extended JSON v2.
 #[derive(Clone, Copy, Debug, PartialEq, Eq)]
 pub enum Format {
-    /// numbers and times as JSON and ISO 8601 have them, where they can
+    /// numbers and times as in JSON and ISO 8601, where these can say them
     Relaxed,
-    /// each number and time in an object that says its kind
+    /// each number and time in an object that gives its kind
     Canonical,
 }
 
@@ -15,7 +15,7 @@ pub enum Format {
 pub enum Layout {
     /// on one line, without spaces
     OneLine,
-    /// a line for each member, indented by two spaces a level
+    /// a line for each member, indented by two spaces for each level
     Indented,
 }
 

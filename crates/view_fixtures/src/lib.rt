@@ -1,5 +1,10 @@
-//! What `view_tests` and `bson_tests` share: bytes and the faults that are in them, a borrowed value of each kind, and checks of results. It
-//! is apart from both, as the code of a crate of tests is proved twice, without its tests and with them.
+//! What `view_tests` and `bson_tests` share: documents, the faults in them, a borrowed value of each kind, and
+//! checks of results. It is a crate of its own because the code of a crate of tests is proved twice, without its
+//! tests and with them.
+//!
+//! Begin at `Checks` in `checks.rt`, which every test uses, and at `ALL_KINDS` in `documents.rt`.
+//!
+//! Only the two crates of tests rest on it, so anything here may change.
 #![tactic(auto)]
 
 mod checks;

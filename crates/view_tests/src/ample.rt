@@ -1,5 +1,5 @@
-//! With ample memory no call is out of memory: the checks of `memory` without leave for it. A contract allows it at any time where a
-//! call takes memory, so a body that gave up each time would be proved.
+//! With ample memory no call is out of memory: these are the checks of `memory` that don't allow it. A contract
+//! allows out of memory wherever a call takes memory, so a body that always gave up would be proved.
 
 use crate::fixtures::{BOOLEAN_TWO, Checks, KEY_NOT_UTF8};
 use crate::memory::{errors, pairs};

@@ -1,3 +1,4 @@
+//! Accessors: each has the value of its own kind alone.
 use crate::fixtures::*;
 use crate::required::view;
 use raw_view::{RawBsonRef, RawDocument};

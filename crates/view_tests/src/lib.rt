@@ -1,6 +1,11 @@
-//! Tests of `bson_model` and `raw_view` through their public calls; `bson_tests` has those of what is above. These begin as soon as
-//! `raw_view` and `view_fixtures` are proved. `bin/test` runs those of the module `memory` with each request for memory refused in turn,
-//! alone.
+//! Tests of `bson_model` and `raw_view` through their public calls; `bson_tests` has those of the crates above.
+//! They begin as soon as `raw_view` and `view_fixtures` are proved.
+//!
+//! Begin at `tables.rt`, which says what is returned for the shared documents, and at `texts.rt`, which says what
+//! is printed.
+//!
+//! `bin/test` runs each test of the module `memory` alone, with each request for memory failing in turn. Nothing
+//! rests on this crate.
 #![tactic(auto)]
 
 #[cfg(test)]

@@ -1,4 +1,4 @@
-//! What is printed of reasons. `c/tests/reasons.c` has documents with each.
+//! The texts of reasons. `c/tests/reasons.c` has documents with each.
 
 use crate::fixtures::has_texts;
 use crate::required::require_row;

@@ -14,7 +14,7 @@ type Row = (&'static [u8], &'static str, &'static str, &'static str);
 
 /// Look-ups with a fault.
 const LOOK_UPS: &[Row] = &[
-    // the key is a quote and a line end, and is printed as it stands
+    // the key is a quote and a line end, and is printed as it is
     (
         b"\x08\0\0\0\x14\"\n\0",
         "",
@@ -72,7 +72,7 @@ fn errors_are_printed(rt: HostRuntime) {
     }
 }
 
-/// Whether the error that memory ran out has its texts.
+/// Whether the error for out of memory has its texts.
 fn is_out_of_memory_printed(alloc: Global) -> bool {
     let debug_text = "Error { kind: OutOfMemory, key: None }";
     let_go!(

@@ -1,3 +1,4 @@
+//! Checks of results that own memory.
 use crate::fixtures::{Checks, is_same};
 use raw_bson::{RawArrayBuf, RawBson, RawBsonRef, RawDocumentBuf, Result};
 
@@ -9,7 +10,7 @@ pub(crate) trait OwnedChecks {
     /// Whether the result is an array of these bytes, or out of memory.
     fn is_array(self, answer: &Result<RawArrayBuf>, bytes: &[u8]) -> bool;
 
-    /// Whether the result is just these bytes, or out of memory.
+    /// Whether the result is exactly these bytes, or out of memory.
     fn is_list(self, answer: &Result<Vec<u8>>, bytes: &[u8]) -> bool;
 
     /// Whether the result is this value, or out of memory.

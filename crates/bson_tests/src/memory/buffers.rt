@@ -1,3 +1,4 @@
+//! Appends and pushes.
 use crate::fixtures::*;
 use crate::memory::asserts::OwnedChecks;
 use raw_bson::{
@@ -7,8 +8,8 @@ use raw_bson::{
 use std::alloc::Global;
 use std::process::Abort;
 
-// Each call returns what it returns with ample memory, or out of memory without a key, and the buffer is then as it was. So the
-// same call goes well when it is made again.
+// Each call returns what it returns with ample memory; or it returns out of memory without a key, and the buffer
+// is unchanged. So the same call succeeds when it is repeated.
 
 /// Whether new buffers are empty, or memory ran out.
 pub(crate) fn are_empty(checks: Checks) -> bool {
@@ -48,7 +49,7 @@ pub(crate) fn is_first_appended(checks: Checks, view: RawDocument<'_>) -> bool {
     }
 }
 
-/// Whether the bytes are those after a call that went well; else memory ran out, and they are those before.
+/// Whether the bytes are those after a call that succeeded; otherwise memory ran out, and they are those before.
 fn is_changed(
     checks: Checks,
     answer: &Result<()>,
@@ -72,7 +73,7 @@ fn is_number_appended(checks: Checks, document: &mut RawDocumentBuf) -> bool {
     )
 }
 
-/// The same of a buffer, if there is memory for it.
+/// The same for a buffer, if there is memory for it.
 fn has_number_appended(checks: Checks, made: &mut Result<RawDocumentBuf>) -> bool {
     match made {
         Ok(document) => is_number_appended(checks, document),
@@ -102,7 +103,7 @@ fn is_pushed_again(array: &mut RawArrayBuf, after: &[u8]) -> bool {
     let_go!(made = array.push(RawBson::Null); made.is_ok()) && array.as_bytes() == after
 }
 
-/// Whether a null is pushed, at once or, where memory ran out and nothing changed, when it is pushed again.
+/// Whether a null is pushed, at once or, if memory ran out and nothing changed, the second time.
 fn is_null_pushed(checks: Checks, array: &mut RawArrayBuf, around: (&[u8], &[u8])) -> bool {
     let_go!(
         made = array.push(RawBson::Null);
@@ -136,7 +137,7 @@ pub(crate) fn are_pushed(checks: Checks) -> bool {
     )
 }
 
-/// The key of the next push shows that one that ran out of memory left the count as it was.
+/// The key of the next push shows that one that ran out of memory left the count unchanged.
 #[test]
 fn push_or_out_of_memory(rt: HostRuntime) {
     assert!(rt; are_pushed(Checks::refusable(rt.alloc())));

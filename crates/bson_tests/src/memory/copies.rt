@@ -1,3 +1,4 @@
+//! Copies of borrowed and owned values.
 use crate::fixtures::*;
 use crate::memory::asserts::OwnedChecks;
 use crate::memory::kinds::has_memory;
@@ -5,9 +6,9 @@ use raw_bson::{ElementType, RawBson, RawBsonRef, RawDocument, RawElement, ToRawB
 use std::alloc::{AllocError, Global};
 use std::process::Abort;
 
-// Each copy is equal, or there is none because memory ran out, and what is copied is as it was.
+// Each copy is equal, or there is none because memory ran out, and what is copied is unchanged.
 
-/// Whether the clone is the wanted value; without one memory ran out, and the value has memory of its own.
+/// Whether the clone is the expected value. If there is none, memory ran out, and the value has memory of its own.
 fn is_clone(
     checks: Checks,
     copy: &Result<RawBson, AllocError>,
@@ -20,7 +21,8 @@ fn is_clone(
     }
 }
 
-/// Whether the value is the wanted one, and can be cloned; or memory ran out for a value that has memory of its own.
+/// Whether the value is the expected one, and can be cloned; or memory ran out for a value that has memory of its
+/// own.
 fn is_copy(
     checks: Checks,
     value: &raw_bson::Result<RawBson>,
@@ -68,7 +70,7 @@ fn is_two(checks: Checks, answer: &raw_bson::Result<RawBson>) -> bool {
     }
 }
 
-/// Whether the value of the first element isn't copied, for that.
+/// Whether the value of the first element isn't copied for that reason.
 pub(crate) fn has_fault(checks: Checks, view: RawDocument<'_>) -> bool {
     match first_element(checks.alloc, view) {
         Some(element) => let_go!(made = element.to_raw_bson(checks.alloc); is_two(checks, &made)),

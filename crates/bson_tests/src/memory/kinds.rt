@@ -1,3 +1,4 @@
+//! Which kinds have memory of their own.
 use raw_bson::ElementType;
 
 /// Whether an owned value of this kind has memory of its own: texts, documents, arrays and binaries, and the kinds that

@@ -1,3 +1,4 @@
+//! Calls that take no memory.
 use crate::fixtures::*;
 use raw_bson::{Limits, RawDocument};
 use raw_form::flatten_within;
@@ -6,7 +7,7 @@ use std::process::Abort;
 
 // `bin/test` counts the requests for memory of each test, and there are none here.
 
-/// Of the document.
+/// The limits of the document.
 const LIMITS: Limits = Limits {
     bytes: 19,
     depth: 2,

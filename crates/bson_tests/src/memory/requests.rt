@@ -1,3 +1,4 @@
+//! How many requests for memory an append and a conversion make.
 use crate::fixtures::*;
 use crate::memory::asserts::OwnedChecks;
 use raw_bson::{RawBson, RawBsonRef, RawDocumentBuf, Result};
@@ -49,7 +50,7 @@ fn are_appended(document: &mut RawDocumentBuf) -> bool {
     are_right && document.as_bytes() == THREE_INT32
 }
 
-/// Whether they are to the empty document where there is room for them.
+/// Whether they are appended to the empty document if there is room for them.
 fn are_numbers_appended(room: Vec<u8>) -> bool {
     match empty_in(room) {
         Ok(mut document) => are_appended(&mut document),
@@ -70,12 +71,12 @@ fn turned(alloc: Global, value: RawBson) -> Result<RawBson> {
     RawBson::try_from_bson(alloc, value.into_bson(alloc)?)
 }
 
-/// Whether this one is what it was then.
+/// Whether the value is what it was before.
 fn is_turned(checks: Checks, value: RawBson, want: RawBsonRef<'_>) -> bool {
     let_go!(made = turned(checks.alloc, value); checks.is_value(&made, want))
 }
 
-/// One request for the text, and none for what it becomes; none for a number.
+/// One request for the text, and none for the tree that it becomes; none for a number.
 #[test]
 fn a_text_that_becomes_a_tree_asks_for_nothing(rt: HostRuntime) {
     let checks = Checks::ample(rt.alloc());

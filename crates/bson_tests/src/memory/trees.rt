@@ -1,3 +1,4 @@
+//! Trees: reading, writing, conversions and canonical forms.
 use crate::fixtures::*;
 use crate::memory::asserts::OwnedChecks;
 use crate::memory::parts::is_part;
@@ -9,8 +10,8 @@ use raw_bson::{
 use std::alloc::{AllocError, Global};
 use std::process::Abort;
 
-// `bin/test` runs these with each request for memory refused in turn, alone: each call returns what it returns with
-// ample memory, or out of memory without a key. What is looked at of a tree takes no memory.
+// `bin/test` runs these alone, with each request for memory failing in turn. Each call returns what it returns
+// with ample memory, or out of memory without a key. A look at a tree takes no memory.
 
 /// A document, an array, a text, a regular expression and code with a scope.
 pub(crate) const PARTS: &[u8] = b"\x3D\0\0\0\
@@ -21,7 +22,7 @@ pub(crate) const PARTS: &[u8] = b"\x3D\0\0\0\
 \x0Fc\0\x0F\0\0\0\x02\0\0\0g\0\x05\0\0\0\0\
 \0";
 
-/// The same with another key in the array and other options' order.
+/// The same with another key in the array and the options in another order.
 pub(crate) const OTHER_SPELLING: &[u8] = b"\x3D\0\0\0\
 \x03d\0\x07\0\0\0\x0A\0\0\
 \x04l\0\x08\0\0\0\x0Ax\0\0\
@@ -62,7 +63,7 @@ fn is_tree(checks: Checks, answer: &Result<Document>) -> bool {
     }
 }
 
-/// Whether the buffer has these parts, also within limits, and is as it was then, if there was memory for it.
+/// Whether the buffer has these parts, within limits too, and is unchanged, if there was memory for it.
 fn is_buffer_read(checks: Checks, answer: &Result<RawDocumentBuf>) -> bool {
     match answer {
         Ok(buffer) => {
@@ -79,13 +80,13 @@ fn taken(alloc: Global) -> Result<Document> {
     document_of(alloc, OTHER_SPELLING)?.into_document()
 }
 
-/// Whether the parts are counted: five, and one in the document and one in the array.
+/// Whether the parts are counted: five, one more in the document, and one more in the array.
 fn is_counted(checks: Checks, view: RawDocument<'_>) -> bool {
     let (answer, steps) = document_from_raw_counted(checks.alloc, view);
     let_go!(made = answer; is_tree(checks, &made) && (made.is_err() || steps.count() == 7))
 }
 
-/// Whether the document has these parts, also within limits.
+/// Whether the document has these parts, within limits too.
 pub(crate) fn is_view_read(checks: Checks, view: RawDocument<'_>) -> bool {
     let_go!(made = document_from_raw(checks.alloc, view); is_tree(checks, &made))
         && let_go!(
@@ -95,7 +96,7 @@ pub(crate) fn is_view_read(checks: Checks, view: RawDocument<'_>) -> bool {
         && is_counted(checks, view)
 }
 
-/// Whether so have buffers of these bytes, that are read and that are taken.
+/// Whether buffers with these bytes have them, whether read or taken.
 pub(crate) fn are_buffers_read(checks: Checks) -> bool {
     let_go!(made = document_of(checks.alloc, OTHER_SPELLING); is_buffer_read(checks, &made))
         && let_go!(made = taken(checks.alloc); is_tree(checks, &made))
@@ -107,7 +108,7 @@ fn trees_of_documents_or_out_of_memory(rt: HostRuntime) {
     assert!(rt; is_view_read(checks, view(&rt, OTHER_SPELLING)) && are_buffers_read(checks));
 }
 
-/// Whether each call that writes the tree gives its bytes, or runs out of memory, and leaves the tree as it was.
+/// Whether each call that writes the tree returns its bytes, or runs out of memory, and leaves the tree unchanged.
 fn is_written(checks: Checks, tree: &Document) -> bool {
     let_go!(
         made = RawDocumentBuf::from_document(checks.alloc, tree);
@@ -163,7 +164,7 @@ fn there_and_back(alloc: Global, element: RawElement<'_>) -> Result<Bson> {
     there(alloc, element)?.into_bson(alloc)
 }
 
-/// Whether the element and its value become the tree under its key, and that the value and the tree again.
+/// Whether the element and its value become the tree under its key, and the tree becomes the value and the tree again.
 fn is_element_right(checks: Checks, element: RawElement<'_>, value: RawBsonRef<'_>) -> bool {
     let key = element.key();
     let_go!(made = bson_from_element(checks.alloc, element); is_part_made(checks, key, &made))
@@ -229,7 +230,7 @@ fn are_form(checks: Checks, made: &std::result::Result<Vec<u8>, AllocError>) -> 
     }
 }
 
-/// Whether so many levels are.
+/// Whether a document of `levels` levels is.
 pub(crate) fn are_levels_form(checks: Checks, levels: usize) -> bool {
     let_go!(
         made = nested(checks.alloc, &[IN_A_DOCUMENT], levels, EMPTY);

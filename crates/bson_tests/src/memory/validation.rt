@@ -1,3 +1,4 @@
+//! Validation, first faults, tokens and canonical forms within limits.
 use crate::fixtures::*;
 use crate::memory::asserts::OwnedChecks;
 use raw_bson::{Breach, Cause, Limits, RawDocument, Result, validate};
@@ -7,16 +8,16 @@ use raw_form::{
 };
 use std::process::Abort;
 
-// `bin/test` runs these with each request for memory refused in turn, alone: the result is the one with ample memory,
-// or out of memory without a key.
+// `bin/test` runs these alone, with each request for memory failing in turn. The result is the one with ample
+// memory, or out of memory without a key.
 
 /// What `validate_within` returns.
 type Placed<'a> = std::result::Result<Option<PlacedBreach<'a>>, ValidateError<'a>>;
 
-/// The path to a breach, and why it is one; none of a canonical document.
+/// The path to a breach, and why it is one; `None` for a canonical document.
 type Wanted<'a> = Option<(&'a [usize], Cause)>;
 
-/// Whether the result is the wanted one, or out of memory.
+/// Whether the result is the expected one, or out of memory.
 fn is_breach(checks: Checks, answer: &Result<Option<Breach>>, want: Wanted<'_>) -> bool {
     match (answer, want) {
         (Ok(Some(breach)), Some((path, cause))) => {
@@ -46,13 +47,13 @@ fn is_placed(checks: Checks, answer: &Placed<'_>, want: Wanted<'_>) -> bool {
     }
 }
 
-/// Of any document here.
+/// Limits for any document here.
 const LIMITS: Limits = Limits {
     bytes: 1000,
     depth: 10,
 };
 
-/// Whether this is found of the document, or memory runs out.
+/// Whether this is found in the document, or memory runs out.
 fn is_found(checks: Checks, view: RawDocument<'_>, want: Wanted<'_>) -> bool {
     let_go!(made = validate(checks.alloc, view); is_breach(checks, &made, want))
         && let_go!(
@@ -83,7 +84,7 @@ const DISTINCT_KEYS: &[u8] = b"\xA9\0\0\0\
 \x0A40\0\
 \0";
 
-/// The same, but that the last key is the first.
+/// The same, but with the first key once more at the end.
 const FIRST_KEY_LAST: &[u8] = b"\xA9\0\0\0\
 \x0A00\0\x0A01\0\x0A02\0\x0A03\0\x0A04\0\x0A05\0\x0A06\0\x0A07\0\x0A08\0\x0A09\0\
 \x0A10\0\x0A11\0\x0A12\0\x0A13\0\x0A14\0\x0A15\0\x0A16\0\x0A17\0\x0A18\0\x0A19\0\
@@ -92,7 +93,7 @@ const FIRST_KEY_LAST: &[u8] = b"\xA9\0\0\0\
 \x0A00\0\
 \0";
 
-/// A document of all kinds has no breach, and of many keys one where a key comes again.
+/// A document of all kinds has no breach; one with many keys has one where a key is repeated.
 pub(crate) fn keys(rt: &impl Abort, checks: Checks) {
     assert!(*rt;
         is_found(checks, view(rt, ALL_KINDS), None)
@@ -124,7 +125,7 @@ fn is_barrier(
     }
 }
 
-/// Whether the first barrier is the stop in the document of a document with a stop.
+/// Whether the first barrier is the stop in the nested document.
 pub(crate) fn is_stopped(checks: Checks, stopped: RawDocument<'_>) -> bool {
     let_go!(
         made = first_fault_within(checks.alloc, stopped, LIMITS);
@@ -132,7 +133,7 @@ pub(crate) fn is_stopped(checks: Checks, stopped: RawDocument<'_>) -> bool {
     )
 }
 
-/// Whether the result counts so many tokens, or is out of memory.
+/// Whether the result counts this many tokens, or is out of memory.
 fn are_tokens(
     checks: Checks,
     answer: &std::result::Result<usize, FlattenError<'_>>,
@@ -153,8 +154,8 @@ pub(crate) fn is_flattened(checks: Checks, document: RawDocument<'_>) -> bool {
     )
 }
 
-/// The keys b, a, b, of which the last holds a document; a code whose scope has the keys x and x; an array under the keys z and
-/// the empty one, with options out of order.
+/// The keys b, a, b, the last of which holds a document; a code whose scope has the keys x and x; an array with
+/// the keys z and the empty one, whose options are out of order.
 const MIXED: &[u8] = b"F\0\0\0\x10b\0\x01\0\0\0\x0Aa\0\x03b\0\x09\0\0\0\x08y\0\x01\0\
     \x0Fc\0\x16\0\0\0\x02\0\0\0f\0\x0C\0\0\0\x0Ax\0\x08x\0\x01\0\
     \x04d\0\x0F\0\0\0\x0Bz\0p\0mi\0\x0A\0\0\0";
@@ -164,7 +165,7 @@ const MIXED_FORM: &[u8] = b"\x3D\0\0\0\x03b\0\x09\0\0\0\x08y\0\x01\0\x0Aa\0\
     \x0Fc\0\x13\0\0\0\x02\0\0\0f\0\x09\0\0\0\x08x\0\x01\0\
     \x04d\0\x10\0\0\0\x0B\x30\0p\0im\0\x0A\x31\0\0\0";
 
-/// Whether these bytes have that form, or memory runs out. They have as many bytes and levels as is allowed.
+/// Whether these bytes have that form, or memory runs out. They have exactly as many bytes and levels as allowed.
 fn is_form(checks: Checks, bytes: &[u8]) -> bool {
     let limits = Limits {
         bytes: bytes.len(),

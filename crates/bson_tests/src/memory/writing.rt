@@ -1,3 +1,4 @@
+//! Writing of trees, and the error for a 0.
 use crate::fixtures::{Checks, EMPTY, is_refused, let_go};
 use crate::memory::asserts::OwnedChecks;
 use raw_bson::{Bson, Document, Reason, Result, encode, encode_list};
@@ -28,7 +29,7 @@ fn with_nul(alloc: Global) -> Result<Document> {
     Ok(document)
 }
 
-/// Whether the tree isn't written for a 0, if there was memory for it.
+/// Whether the tree isn't written because of a 0, if there was memory for it.
 fn is_nul_refused(checks: Checks, made: &Result<Document>) -> bool {
     match made {
         Ok(tree) =>

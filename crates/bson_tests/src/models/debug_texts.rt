@@ -1,4 +1,5 @@
-//! The `Debug` texts of values and trees: those that Rust's `derive` gives, and of views and buffers their bytes as hexadecimal digits.
+//! The `Debug` texts of values and trees: those of Rust's `derive`; for views and buffers their bytes as
+//! hexadecimal digits.
 
 use crate::fixtures::*;
 use raw_bson::{ElementType, RawBson, RawBsonRef, Result, ToRawBson};
@@ -41,7 +42,7 @@ const VALUES: &[Row] = &[
     ),
 ];
 
-/// Whether the value has the one text, and the other one where it owns its parts.
+/// Whether the borrowed value has the first text, and the owned value the second.
 fn is_value_printed(
     alloc: Global,
     value: RawBsonRef<'_>,

@@ -1,4 +1,5 @@
-//! Documents of many levels. `bin/test` also runs the first of these on a stack of 256 KiB, and sees that all is released.
+//! Documents of many levels. `bin/test` also runs the first of these on a stack of 256 KiB, and checks that all
+//! memory is released.
 
 use crate::fixtures::*;
 use bson_model::Document;
@@ -10,7 +11,7 @@ fn is_branch(made: &raw_bson::Result<Document>) -> bool {
     matches!(made, Ok(tree) if tree.len() == 3)
 }
 
-/// Whether these bytes are read as a branch, which is dropped.
+/// Whether these bytes are read as a branch, which is then dropped.
 fn is_let_go(alloc: Global, bytes: &[u8]) -> bool {
     let_go!(made = tree_of(alloc, bytes); is_branch(&made))
 }
@@ -37,7 +38,7 @@ fn are_levels_equal(alloc: Global, bytes: &[u8]) -> bool {
     )
 }
 
-/// So many levels.
+/// The bytes of `levels` nested levels of this kind.
 fn levels(rt: &impl Abort, alloc: Global, level: Level, levels: usize) -> Vec<u8> {
     nested(alloc, &[level], levels, EMPTY).expect(rt, "no memory for the levels")
 }
@@ -45,13 +46,14 @@ fn levels(rt: &impl Abort, alloc: Global, level: Level, levels: usize) -> Vec<u8
 #[test]
 fn levels_are_compared(rt: HostRuntime) {
     for (row, (level, _)) in TEXTS.iter().enumerate() {
-        // as many as the page of `Bson` says
+        // as many as the comment of `Bson` says
         let bytes = levels(&rt, rt.alloc(), *level, 40_000);
         require_row(&rt, are_levels_equal(rt.alloc(), &bytes), "levels", row);
     }
 }
 
-/// A text of levels: what is before and behind the levels, before and behind the next one in each, and in the last.
+/// A text of levels: what is before and after all levels, before and after the next level in each, and in the
+/// innermost.
 struct LevelsText {
     outside: (&'static str, &'static str),
     around: (&'static str, &'static str),
@@ -89,12 +91,12 @@ const TEXTS: &[(Level, LevelsText)] = &[
     ),
 ];
 
-/// What is between these two, where they begin and end the text.
+/// What is between these two, if the text begins and ends with them.
 fn inside<'a>(text: &'a str, around: (&str, &str)) -> Option<&'a str> {
     text.strip_prefix(around.0)?.strip_suffix(around.1)
 }
 
-/// What is in so many levels, where each has these two around the next one.
+/// What is inside `levels` levels, where each has these two around the next one.
 fn inside_levels<'a>(text: &'a str, around: (&str, &str), levels: usize) -> Option<&'a str> {
     let mut rest = text;
     for _ in 0..levels {
@@ -103,7 +105,7 @@ fn inside_levels<'a>(text: &'a str, around: (&str, &str), levels: usize) -> Opti
     Some(rest)
 }
 
-/// Whether this is the text of so many levels.
+/// Whether this is the text of `levels` levels.
 fn is_text_of_levels(text: &str, wanted: &LevelsText, levels: usize) -> bool {
     match inside(text, wanted.outside) {
         Some(whole) => inside_levels(whole, wanted.around, levels) == Some(wanted.innermost),
@@ -111,7 +113,7 @@ fn is_text_of_levels(text: &str, wanted: &LevelsText, levels: usize) -> bool {
     }
 }
 
-/// Whether this was printed of so many levels.
+/// Whether this was printed of `levels` levels.
 fn is_printed(made: &Result<String, AllocError>, wanted: &LevelsText, levels: usize) -> bool {
     match made {
         Ok(text) => is_text_of_levels(text.as_str(), wanted, levels),
@@ -119,7 +121,7 @@ fn is_printed(made: &Result<String, AllocError>, wanted: &LevelsText, levels: us
     }
 }
 
-/// Whether the tree was made, and is printed so.
+/// Whether the tree was made, and is printed like this.
 fn is_tree_printed(
     alloc: Global,
     made: &raw_bson::Result<Document>,
@@ -143,7 +145,7 @@ fn are_levels_printed(alloc: Global, bytes: &[u8], wanted: &LevelsText, levels: 
 #[test]
 fn levels_are_printed(rt: HostRuntime) {
     for (row, (level, wanted)) in TEXTS.iter().enumerate() {
-        // as many as the page of `Bson` says
+        // as many as the comment of `Bson` says
         let bytes = levels(&rt, rt.alloc(), *level, 15_000);
         let is_right = are_levels_printed(rt.alloc(), &bytes, wanted, 15_000);
         require_row(&rt, is_right, "levels", row);

@@ -1,3 +1,4 @@
+//! A recursion down a tree.
 use crate::fixtures::{let_go, tree_of};
 use bson_model::{Bson, Document};
 use std::process::Abort;
@@ -35,7 +36,7 @@ fn leaves_of_document(document: &Document) -> u64 {
     count
 }
 
-/// How many leaves the tree has; none where there was no memory for it.
+/// How many leaves the tree has; 0 if there was no memory for it.
 fn leaves(made: &raw_bson::Result<Document>) -> u64 {
     match made {
         Ok(document) => leaves_of_document(document),
@@ -43,7 +44,7 @@ fn leaves(made: &raw_bson::Result<Document>) -> u64 {
     }
 }
 
-/// An array of a number and of code over a null, and a boolean.
+/// An array of a number and of a code with a null in its scope, and a boolean.
 const TREE: &[u8] = b"\x2D\0\0\0\x04a\0\x21\0\0\0\x100\0\x01\0\0\0\x0F1\0\
 \x12\0\0\0\x02\0\0\0f\0\x08\0\0\0\x0Ax\0\0\0\x08b\0\x01\0";
 

@@ -1,4 +1,4 @@
-//! What is said of the calls that write trees and forms.
+//! Checks of the calls that write trees and forms.
 
 use raw_bson::Result;
 

@@ -1,14 +1,15 @@
+//! How many elements a conversion reads.
 use crate::fixtures::*;
 use raw_bson::{Document, RawDocument, Reason, Result, document_from_raw_counted};
 use std::alloc::Global;
 use std::process::Abort;
 
-/// Whether nothing was left for an element, behind so many.
+/// Whether nothing was left where an element should be, after this many.
 fn is_overflow(answer: &Result<Document>, found: usize, count: usize) -> bool {
     found == count && is_refused(answer, Reason::Overflowed, None)
 }
 
-/// Whether so many elements are framed of the document until nothing is left for one.
+/// Whether this many elements of the document are read until nothing is left.
 fn is_counted(alloc: Global, view: RawDocument<'_>, count: usize) -> bool {
     let (answer, steps) = document_from_raw_counted(alloc, view);
     let_go!(made = answer; is_overflow(&made, steps.count(), count))

@@ -1,3 +1,4 @@
+//! Documents of a million levels.
 use crate::fixtures::*;
 use crate::trees::checks::is_written;
 use raw_bson::{Bson, Document, Error, RawArrayBuf, RawBson, encode, encode_list, list_from_raw};
@@ -5,9 +6,9 @@ use std::alloc::{AllocError, Global};
 use std::mem;
 use std::process::Abort;
 
-// `bin/test` runs these on a stack of 256 KiB, which has less than a byte for each of a million levels. It
-// also counts what these tests ask for, and that all of it is released. `rt try --test` needs a greater stack
-// and minutes for them.
+// `bin/test` runs these on a stack of 256 KiB, which is less than a byte for each of a million levels. It also
+// counts what these tests request, and checks that all of it is released. `rt try --test` needs a larger stack,
+// and minutes.
 
 const MILLION: usize = 1_000_000;
 
@@ -25,7 +26,7 @@ fn is_million(alloc: Global, tree: &Document, bytes: &[u8]) -> bool {
         && let_go!(made = encode(alloc, tree); is_written(&made, bytes))
 }
 
-/// Whether the tree was made, and is that.
+/// Whether the tree was made, and has a million levels.
 fn is_million_read(alloc: Global, made: &Result<Document, Error>, bytes: &[u8]) -> bool {
     match made {
         Ok(tree) => is_million(alloc, tree, bytes),
@@ -38,7 +39,7 @@ fn come_back(alloc: Global, bytes: &[u8]) -> bool {
     let_go!(made = tree_of(alloc, bytes); is_million_read(alloc, &made, bytes))
 }
 
-/// Whether those of these kinds do.
+/// Whether a million levels of these kinds do.
 fn are_read(rt: &impl Abort, alloc: Global, kinds: &[Level]) -> bool {
     let_go!(made = million(rt, alloc, kinds); come_back(alloc, &made))
 }
@@ -67,7 +68,7 @@ fn are_forgotten(alloc: Global, bytes: &[u8]) -> bool {
     }
 }
 
-/// The same levels, which are never dropped: what `bin/test` compares the requests for memory with.
+/// The same levels, which are never dropped: `bin/test` compares the requests for memory with these.
 #[test]
 fn a_million_levels_in_turn_are_forgotten(rt: HostRuntime) {
     assert!(rt;
@@ -107,7 +108,7 @@ fn is_pushed_and_read(alloc: Global, array: &mut RawArrayBuf, bytes: &[u8]) -> b
         )
 }
 
-/// Whether an array takes and gives them.
+/// Whether an array takes and returns them.
 fn are_deep_documents_read(
     alloc: Global,
     made: &mut Result<RawArrayBuf, Error>,
@@ -130,7 +131,8 @@ fn a_list_of_deep_documents_comes_back(rt: HostRuntime) {
     );
 }
 
-/// Whether this text is that of an owned document, with two digits for each of so many bytes. `views::debug_texts` has digits.
+/// Whether this text is that of an owned document, with two digits for each of `len` bytes. `models::debug_texts`
+/// has texts with digits.
 fn is_printed_text(text: &str, len: usize) -> bool {
     match text.strip_prefix("Document(RawDocumentBuf { data: \"") {
         Some(rest) => match rest.strip_suffix("\" })") {
@@ -173,7 +175,7 @@ fn owned_levels(alloc: Global, bytes: &[u8]) -> Result<RawBson, Error> {
     Ok(RawBson::from(document_of(alloc, bytes)?))
 }
 
-/// Whether the value of the document of these bytes is.
+/// Whether the value of the document of these bytes is so.
 fn is_owned_value(alloc: Global, bytes: &[u8]) -> bool {
     let_go!(made = owned_levels(alloc, bytes); is_value(alloc, &made, bytes))
 }

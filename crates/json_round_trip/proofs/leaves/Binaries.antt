@@ -1,4 +1,4 @@
--- Base64 and hex stand in a JSON string as they are, and are read as their bytes.
+-- Base64 and hex are in a JSON string as they are, and are read as their bytes.
 use Rattle.std.proofs.Common.{◌≡◌, ◌+◌, ◌*◌, ◌/◌, ◌%◌, ◌<◌, ℕ, zero, suc, true, inl, List, [], ◌∷◌, length, replicate, codes, Ok, refl, sym, ap, ◌∙◌, arith}
 use Rattle.std.proofs.lemmas.Bool.{and_from}
 use Rattle.base64.specs.Engines.{standard}

@@ -67,7 +67,7 @@ module _ (s : List ℕ) (c e : ℕ) (few : c < 10 ^ 34) (within : e ≤ 12287) (
       let top : e' + w.down ≡ w.up + 6176 = omega arith in
       (sym (eq_of_mul-eq-mul_right (10 ^ (w.up + 6176)) (one-le-pow (w.up + 6176) 10 (omega arith)) c c' (same ∙ ap (λ (x : ℕ). c' * 10 ^ x) top)), exponent)
 
--- texts behind their signs
+-- texts after their signs
 
 signed : (negative : Bool) (s : List ℕ) → IsInRange 48 57 (get_or s 0 0) → (starts_with_minus (sign_text negative ++ s) ≡ negative) × (without_sign (sign_text negative ++ s) ≡ s)
 signed true s h = (refl, refl)
@@ -76,7 +76,7 @@ signed false s h =
     let plus = ne_eqb (get_or s 0 0) 43 (λ e. omega arith) in
     (minus, rw (minus, plus) refl)
 
--- a text of these bits, and of no others, which stands in a JSON string as it is
+-- a text of exactly these bits, which is in a JSON string as it is
 pub record WritesJust (s bytes : List ℕ) : Type 0 where
   pub plain : are_plain s ≡ true
   pub writes : WritesDecimal s bytes

@@ -83,7 +83,7 @@ one_double s a b (inr (inr (inr w))) (inr (inl (other, same))) = absurd (no_numb
 one_double s a b (inr (inr (inr w))) (inr (inr (inl (other, same)))) = absurd (no_number s (inr (inr other)) w.1)
 one_double s a b (inr (inr (inr w))) (inr (inr (inr v))) = one_value s a b w v
 
--- it stands in a JSON string as it is
+-- it is in a JSON string as it is
 
 exponent_plain : (negative : Bool) (ds : List ℕ) → AllDigits 10 ds → are_plain (exponent_text negative ds) ≡ true
 exponent_plain negative [] h = refl

@@ -1,4 +1,4 @@
--- The text of an integer writes no other, and stands in a JSON string as it is.
+-- The text of an integer writes no other, and is in a JSON string as it is.
 use Rattle.std.proofs.Common.{◌≡◌, ◌<◌, ◌^◌, ℕ, ℤ, pos, negsuc, suc, true, List, get_or, codes, decimal, FitsSigned, inl, inr, refl, sym, ap, subst, ◌∙◌, arith}
 use Rattle.std.specs.Fmt.{signed_decimal}
 use Rattle.std.specs.Int.{w32, w64}
@@ -22,7 +22,7 @@ pub integer_plain : (z : ℤ) → mag z < 2 ^ 63 → are_plain (signed_decimal z
 integer_plain (pos n) h = plain_digits (decimal n) (decimal_is_IsNumeral n (omega arith)).0.1
 integer_plain (negsuc n) h = plain_digits (decimal (suc n)) (decimal_is_IsNumeral (suc n) (omega arith)).0.1
 
--- no text of an integer is that of a 0 below 0
+-- no integer has the text of a negative 0
 no_minus_0 : (z : ℤ) → mag z < 2 ^ 63 → signed_decimal z ≡ codes "-0" → ⊥
 no_minus_0 (pos n) h e =
     let is = decimal_is_IsNumeral n (omega arith) in

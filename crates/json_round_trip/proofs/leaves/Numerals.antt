@@ -1,4 +1,4 @@
--- The text of a coefficient and an exponent writes just these.
+-- The text of a coefficient and an exponent writes exactly these.
 use Rattle.std.proofs.Common.{◌≡◌, ◌+◌, ◌-◌, ◌^◌, ◌<◌, ◌≤◌, ◌||◌, ◌==◌, nat_lt, cond, ℕ, zero, suc, Bool, true, false, List, [], ◌∷◌, ◌++◌, length, length-append, get_or, take, drop, replicate, codes, decimal, inl, inr, refl, sym, ap, ◌∙◌, arith, append-nil}
 use Rattle.std.proofs.lemmas.Bool.{cases_Bool, ltb-true, ltb-false, lt-ltb, eqb-true, and_parts, leb-true}
 use Rattle.std.proofs.lemmas.Fmt.{decimal_is_IsNumeral_wide}
@@ -18,7 +18,7 @@ or_left : (a b : Bool) → (a || b) ≡ false → a ≡ false
 or_left false b t = refl
 or_left true b t = t
 
--- the text writes a number whose own exponent, kept as 6176 more, is this one
+-- the text writes a number whose own exponent, stored plus 6176, is this one
 pub record Written (s : List ℕ) (d e : ℕ) : Type 0 where
   pub up : ℕ
   pub down : ℕ
@@ -116,7 +116,7 @@ whole_writes ds d e w some is level =
     }) in
     of_parts ds d e p (rw same at scanned) some refl (is ∙ ap (digits_value 10) (sym (append-nil ds))) (omega arith)
 
--- digits with a point in front of so many of them, or in front of zeros and all of them
+-- digits with a point before the last of them, or before zeros and all of them
 abbrev with_point : List ℕ → ℕ → Bool → List ℕ
 with_point ds places within = cond within (take (length ds - places) ds ++ (46 ∷ drop (length ds - places) ds)) (codes "0." ++ (replicate (places - length ds) 48 ++ ds))
 
@@ -149,7 +149,7 @@ digits_write ds e all some few within =
       | inr t ↦ rw t (plain_writes ds e (6176 - e) all some (let n = ltb-false 6176 e (or_left _ _ t) in omega arith) (6176 - e == 0) refl)
     ]
 
--- it stands in a JSON string as it is
+-- it is in a JSON string as it is
 
 behind_plain : (ds : List ℕ) → AllDigits 10 ds → are_plain (behind_point ds) ≡ true
 behind_plain [] h = refl

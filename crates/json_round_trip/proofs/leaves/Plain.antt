@@ -1,4 +1,4 @@
--- Texts that stand in a JSON string as they are.
+-- Texts that are in a JSON string as they are.
 use Rattle.std.proofs.Common.{◌≡◌, ◌<◌, ◌≤◌, ◌&&◌, ◌||◌, ◌==◌, nat_lt, not, ℕ, zero, suc, Bool, true, false, List, [], ◌∷◌, ◌++◌, length, get_or, replicate, refl, ap, ◌∙◌, arith}
 use Rattle.std.proofs.lemmas.Bool.{and_from, and_parts, eqb-false, le-ltb, ltb-false, ne_eqb}
 use Rattle.std.proofs.lemmas.Str.Parse.{digit_from_value}
@@ -8,7 +8,7 @@ use Rattle.json.specs.Print.{escape}
 use Rattle.json.specs.Run.{is_plain}
 use Rattle.json.proofs.Printed.Strings.{escape_byte_plain}
 
--- no quote, no backslash, no control
+-- no quote, no backslash, no control character
 abbrev pub are_plain : List ℕ → Bool
 are_plain [] = true
 are_plain (x ∷ xs) = is_plain x && are_plain xs

@@ -1,4 +1,4 @@
--- What is printed of a value that holds no others says it, and no other.
+-- What is printed of a value that holds no others means it, and no other.
 use Rattle.std.proofs.Common.{ℕ, ℤ, Bool, true, false, List, [], ◌∷◌, codes, decimal, from_bits, inl, inr, refl, sym, ap, ◌∙◌, arith, append-nil}
 use Rattle.std.specs.Float.{binary64}
 use Rattle.std.specs.Fmt.{signed_decimal}

@@ -1,4 +1,4 @@
--- The names of definitions and of lemmas of crates below, and of specs, that proofs of canonical forms and of tokens cite. It declares nothing.
+-- The names of definitions and lemmas of lower crates and of specs that proofs of canonical forms and of tokens cite. It declares nothing.
 pub use Rattle.bson_model.proofs.Face.{keep-distinct, keep-last}
 pub use Rattle.bson_model.specs.Leaf.{Leaf}
 pub use Rattle.bson_model.specs.Pairs.{keep, keys_of, with_pair}

@@ -1,4 +1,4 @@
--- The tokens of visits, and what a flattening keeps of them.
+-- The tokens of visits, and what the loop of flattening preserves.
 use Rattle.std.proofs.Common.{◌-◌, ◌≡◌, ◌∙◌, ◌≤◌, ◌<◌, ◌+◌, ◌++◌, ◌∷◌, [], ℕ, suc, List, Ok, fold, length, arith, ap, refl, length-append, append_assoc, append-nil, zero, sym}
 use Rattle.std.proofs.lemmas.Grind.{fold-append}
 use Rattle.raw_form.proofs.canonical.Common.{AreInside, AreTokens, AreTokensOf, Frame, HasTokens, IsTokenOf, Means, NestedUpTo, RawValue, same_from_push, size_of, tag_of, value, Limits, ReadsUpTo, Tree, as_document, filled_from, read_within}
@@ -9,7 +9,7 @@ use Rattle.raw_view.specs.Meaning as raw
 use Rattle.raw_tree.specs.Visits.{HasVisits, Visit, VisitsEach, VisitsLevel, VisitsValue, enter, leave, whole}
 use Rattle.raw_tree.proofs.Face.{filled_more}
 
--- the token of a frame at this offset, in a level that so many others are around, with so many tokens inside
+-- the token of a frame at this offset, in a level inside `depth` others, with `inside` tokens inside
 abbrev pub token_of : (inside depth offset : ℕ) → Frame → Token
 token_of inside depth offset f =
     record { tag = tag_of f.kind; depth = depth; key_at = offset + 1; key_len = length f.key; payload_at = offset + (2 + length f.key); payload_len = length f.payload; inside = inside }
@@ -17,18 +17,18 @@ token_of inside depth offset f =
 one_token : {inside depth offset : ℕ} {f : Frame} {t : Token} → IsTokenOf depth offset f inside t → t ≡ token_of inside depth offset f
 one_token is i = record { tag = is.tag i; depth = is.depth_is i; key_at = is.key_at i; key_len = is.key_len i; payload_at = is.payload_at i; payload_len = is.payload_len i; inside = is.inside_is i }
 
--- Visits have come to a level, of which these tokens are. Around it are others, the innermost first, each with its tokens and that
--- of the element that holds the next level, which doesn't say yet how many are inside.
+-- Visits have come to a level, which has these tokens. Around it are others, the innermost first, each with its tokens and the token of the
+-- element that holds the next level. That token doesn't have its number of inner tokens yet.
 pub record Flat : Type 0 where
   pub tokens : List Token
   pub around : List (List Token × Token)
 
--- the level has come to its end
+-- the level has ended
 abbrev pub flat_left : List Token → List (List Token × Token) → Flat
 flat_left ts [] = record { tokens = ts; around = [] }
 flat_left ts ((front, t) ∷ around) = record { tokens = front ++ record t { inside = length ts } ∷ ts; around = around }
 
--- one visit more
+-- one more visit
 abbrev pub flat_with : Flat → Visit → Flat
 flat_with m (whole offset f v) = record { tokens = m.tokens ++ token_of 0 (length m.around) offset f ∷ []; around = m.around }
 flat_with m (enter offset f v) = record { tokens = []; around = (m.tokens, token_of 0 (length m.around) offset f) ∷ m.around }
@@ -42,7 +42,7 @@ flat_more vs x = fold-append flat_with (record { tokens = []; around = [] }) vs 
 
 -- the visits of nested bytes have their tokens
 
--- visits put such tokens behind those of the level
+-- visits append such tokens to those of the level
 abbrev Puts : (List Token → Type 0) → Flat → List Visit → Type 0
 Puts Are m vs = (ts : List Token) × Are ts × (fold flat_with m vs ≡ record { tokens = m.tokens ++ ts; around = m.around })
 
@@ -84,16 +84,16 @@ visits_flat (suc n) start d vs m (frames, walk, each) =
     let (ts, are, same) = each_flat n (visits_flat n) (start + 4) frames vs m each in
     (ts, (frames, walk, are), same)
 
--- what a flattening keeps
+-- what the loop of flattening preserves
 
--- the token at a place in a room says how many are inside
+-- the token at a place in a room gets the number of tokens inside
 filled_inside : (size : ℕ) (front rest : List Token) (t : Token) (room : List Token)
     → with_inside (length front) size (filled_from 0 room (front ++ t ∷ rest)) ≡ filled_from 0 room (front ++ record t { inside = size } ∷ rest)
 filled_inside size front rest t [] = refl
 filled_inside size [] rest t (x ∷ room) = refl
 filled_inside size (u ∷ front) rest t (x ∷ room) = ap (λ (ts : List Token). u ∷ ts) (filled_inside size front rest t room)
 
--- the tokens of a level and of those around it are all of these, and the list has the places of those of the elements that hold levels
+-- the tokens of a level and of those around it are these in all; the list has the places of those whose elements hold levels
 abbrev pub AreAll : List Token → List (List Token × Token) → List Token → List ℕ → Type 0
 AreAll ts [] all list = (all ≡ ts) × (list ≡ [])
 AreAll ts ((front, t) ∷ around) all list = (before : List Token) × (outer : List ℕ) × (all ≡ before ++ t ∷ ts) × (list ≡ outer ++ length before ∷ []) × AreAll front around before outer
@@ -108,8 +108,8 @@ many_around ts [] all list (same, none) = grind (arith, none)
 many_around ts ((front, t) ∷ around) all list (before, outer, same, is, are) =
     grind (arith, many_around front around before outer are, ap length is, ap length same, length-append outer (length before ∷ []), length-append before (t ∷ ts))
 
--- So many tokens are in front of the room, as many as it has room for, and the list has the places of those of the elements whose levels
--- are open, of which there are so many; what is next begins at this offset.
+-- The front of the room has the tokens so far, as many as fit. The list has the places of those whose levels are open. What is next begins
+-- at this offset.
 pub record IsFlattening (room : List Token) (m : Flat) (list : List ℕ) (count : ℕ) (now : List Token) (waiting offset : ℕ) : Type 0 where
   pub all : List Token
   pub are : AreAll m.tokens m.around all list

@@ -1,4 +1,4 @@
--- The loops over the elements of a document that look for a repeated key, and that list the last places of its keys.
+-- The loops over the elements of a document that look for a repeated key and list the last places of its keys.
 use Rattle.std.proofs.Common.{◌≡◌, ◌∙◌, ◌<◌, ◌≤◌, ◌+◌, ◌++◌, ◌∷◌, [], ℕ, Bool, List, Option, None, Some, drop, length, ltb, slice_get, arith, ap, refl, sym, add-one, append_assoc, append-nil, drop-cons, length-append, length-drop, length-set}
 use Rattle.std.proofs.lemmas.Bool.Decides.{nat_tests}
 use Rattle.std.proofs.lemmas.List.{drop-drop}
@@ -15,7 +15,7 @@ use Rattle.key_set.proofs.Face.{first_at, position_is}
 use Rattle.raw_form.specs.Staying.{AreFramesAt, IsFrameAt, IsLeftAt, TakesMember}
 use Rattle.raw_form.proofs.rewritten.Members.{pair_over, pair_taken}
 
--- Of pairs these have been passed, of which this holds; those of what is left are behind them.
+-- These pairs were passed, and this holds of them; those of the rest follow.
 pub record HasPassed (P : List (List ℕ × Tree) → Type 0) (left : Option (List ℕ)) (pairs : List (List ℕ × Tree)) : Type 0 where
   pub passed : List (List ℕ × Tree)
   pub rest : List (List ℕ × Tree)
@@ -44,7 +44,7 @@ pub left_more : (old new : Option (List ℕ)) (e : RawElement) → TakesFrame ol
 left_more None new e h = cc
 left_more (Some s) new e (r, at, is) = rw is (omega (arith, frame_size s (frame_of e) r at))
 
--- a pair that is kept, and its place
+-- a kept pair, and its place
 
 kept_keys : (k : List ℕ) (t : Tree) (kept : List (List ℕ × Tree)) → keys_of (with_pair k t kept) ≡ with_key (keys_of kept) k (first_at (bytes_eq k) (keys_of kept))
 kept_keys k t [] = refl
@@ -65,7 +65,7 @@ kept_more : (d : List ℕ) (own : List (List ℕ)) (places : List ℕ) (place : 
 kept_more d own places place key known passed t known_is (keys, frames) is =
     rw (keep-last passed key t, known_is, ← keys) (kept_keys key t (keep passed), kept_places d place key t places (keep passed) frames is)
 
--- the last places of the keys of the pairs passed are listed, and what is left begins here
+-- the last places of the keys of the passed pairs are listed, and the rest begins here
 pub record AreListed (d : List ℕ) (set : KeySet) (listed : List (Bor (List ℕ))) (places : List ℕ) (left : Option (List ℕ)) (offset : ℕ) : Type 0 where
   pub below : List (List ℕ)
   pub own : List (List ℕ)
@@ -87,7 +87,7 @@ behind_frame d place f r at =
     let same : place + (size_of f + 0) ≡ place + size_of f = omega arith in
     sym (drop_frame (drop place d) f r 0 at) ∙ drop-drop (size_of f + 0) place d ∙ ap (λ (n : ℕ). drop n d) same
 
--- one more of the elements
+-- one more element
 pub listed_more : {d : List ℕ} {set : KeySet} {listed : List (Bor (List ℕ))} {places : List ℕ} {left : Option (List ℕ)} {offset : ℕ} (is : AreListed d set listed places left offset)
     → (new : Option (List ℕ)) (e : RawElement) → TakesFrame left (Some e) new → (after : KeySet) (refs : List (Bor (List ℕ))) (known : Option ℕ) (at : List ℕ) (end : ℕ)
     → TellsPlace is.below is.own (frame_of e).key after refs known → at ≡ put_at known offset places → end ≡ offset + size_of (frame_of e)
@@ -112,7 +112,7 @@ listed_more {d} {places = places} {left} {offset} is new e takes after refs know
           (λ passed t stands kept. rw put (kept_more d is.own places offset f.key known passed t (told.place_is ∙ position_is (bytes_eq f.key) is.own) kept (here t stands)));
     }
 
--- what is left of the places
+-- the rest of the places
 
 more_behind : (i : ℕ) (xs : List ℕ) (x : ℕ) → slice_get xs i ≡ Some x → drop i xs ≡ x ∷ drop (i + 1) xs
 more_behind i xs x e = rw (add-one, drop-cons xs i x (slice_get_within xs i x e), get_or_from_slice_get xs i x x e) refl

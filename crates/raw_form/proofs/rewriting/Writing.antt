@@ -1,4 +1,4 @@
--- What the loop that rewrites keeps, and what it tells where it ends.
+-- What the loop of rewriting preserves, and what follows where it ends.
 use Rattle.std.proofs.Common.{Result, Ok, Err, IfErr, IsErrAnd, IsTrue, ◌⊎◌, ◌≡◌, ◌∙◌, ◌≤◌, ◌+◌, ◌++◌, ◌∷◌, [], inl, inr, ℕ, List, Option, None, Some, length, arith, ap, refl, sym, length-append, reverse}
 use Rattle.std.proofs.lemmas.List.{reverse-append}
 use Rattle.bson_model.specs.Tree.{no_entry}
@@ -26,11 +26,11 @@ opening_within t h = grind (arith, length-append)
 
 -- members
 
--- what the element means stands for the tree that is written of it
+-- the meaning of the element stands for the tree that is written for it
 pub value_stands : (m : Member) (t : Tree) → IsMemberOf m t → (v : RawValue) → Means (frame_of m.element) (value v) → StandsFor ReadsAs v t
 value_stands m t ((w, says, stands), own) v means = rw (one_value_of (frame_of m.element) w v says means) at stands
 
--- the tree is written as the element is read
+-- the tree is written as the element was read
 pub own_of : (m : Member) (t : Tree) → IsMemberOf m t → IsTrue m.is_known ⊎ IsPlain (frame_of m.element).kind → IsWrittenAs (frame_of m.element).kind (frame_of m.element).payload t
 own_of m t (stands, own) (inl known) = own known t stands
 own_of m t (stands, own) (inr plain) = plain_own (frame_of m.element) plain m.element.framed t stands
@@ -55,22 +55,22 @@ module _ (m : Member) (t : Tree) (k : ElementType) (key p : List ℕ) (key_is : 
 
 -- levels
 
--- what is left of the level is to be written of the tree
+-- the rest of the level is still to be written of the tree
 pub record IsBegun (level : Rewritten) (x : Begun) : Type 0 where
   pub start_is : level.start ≡ x.start
   pub code : HasCode x.tree level.code_len
   pub left : IsLeft level.keys level.elements x.left
 
--- so it is of each of these levels
+-- the same of each of these levels
 abbrev pub AreBegun : List Rewritten → List Begun → Type 0
 AreBegun [] xs = xs ≡ []
 AreBegun (w ∷ ws) xs = (x : Begun) × (rest : List Begun) × (xs ≡ x ∷ rest) × IsBegun w x × AreBegun ws rest
 
--- the bytes are what is written so far of a tree of b
+-- the bytes are what was written so far of a tree of b
 pub record IsRewriting (b : List ℕ) (ws : List Rewritten) (level : Rewritten) (out : List ℕ) : Type 0 where
   pub tree : Tree
   pub read : Reads b tree
-  -- those that wait, the innermost first
+  -- the waiting levels, the innermost first
   pub outer : List Begun
   pub here : Begun
   pub waits : AreBegun (reverse ws) outer
@@ -110,7 +110,7 @@ module _ {b : List ℕ} {ws : List Rewritten} {level : Rewritten} {out : List �
           let writing = rw outer_is at (writing_ends is.writing none) in
           record { tree = is.tree; read = is.read; outer = rest; here = x; waits = waits; begun = begun; writing = rw ended_is writing }
 
--- the next member of the level; the level is behind it
+-- the next member of the level, which is after it now
 pub record IsMember (b : List ℕ) (ws : List Rewritten) (out : List ℕ) (new : Rewritten) (m : Member) : Type 0 where
   pub level : Rewritten
   pub is : IsRewriting b ws level out
@@ -131,7 +131,7 @@ module _ {b : List ℕ} {ws : List Rewritten} {out : List ℕ} {new : Rewritten}
       let len : entries_len is.here.left ≡ (2 + length (member_key m) + encoded_len next.0) + entries_len next.1 = rw next.2 refl in
       omega (arith, room is, len)
 
-  -- it is put as a whole
+  -- it is written as a whole
   pub rewriting_put : {held : Option RawLevel} → ((h : RawLevel) → held ≡ Some h → ⊥) → (more : List ℕ) → PutsMember m next.0 held out more → IsRewriting b ws new more
   rewriting_put {held = (Some h)} none more put = absurd (none h refl)
   rewriting_put {held = None} none more e =

@@ -1,4 +1,4 @@
--- What is left of a level that is rewritten, and which of it is written as it is.
+-- The rest of a level that is being rewritten, and which part of it is written as it is.
 use Rattle.std.proofs.Common.{IsTrue, eqb, not, ◌⊎◌, inl, inr, ◌≡◌, ◌≤◌, ◌<◌, ◌-◌, ◌∷◌, [], zero, suc, ℕ, List, Option, None, Some, drop, length, arith, ap, refl, sym, length-drop}
 use Rattle.raw_form.proofs.canonical.Common.{AreFramesCanonical, AreLeftOwn, BeginsAt, Frame, HasPayload, IsCanonicalUpTo, IsFrame, IsFrame-shorter, IsOwnForm, IsOwnUpTo, IsPlain, IsRest, IsSingle, IsWrittenAs, LeadsTo, Leaf, RawElement, RawValue, ReadsAs, Sort, StandForEach, StandsFor, Start, TakesFrame, TakesPair, Tree, each_read, frame_of, kind_of_raw, one_frame, payload_of, value_spelled}
 use Rattle.std.proofs.lemmas.Bool.Decides.{nat_tests}
@@ -11,7 +11,7 @@ use Rattle.raw_tree.proofs.Face.{frame_spelled, walk_over, walk_step}
 
 -- pairs
 
--- bytes that are read as a tree are read as pairs behind their length
+-- bytes that are read as a tree are read as pairs after their length
 pub read_pairs : {sort : Sort} {d : List ℕ} {t : Tree} → ReadsAs sort d t → (pairs : List (List ℕ × Tree)) × ReadsRest ReadsAs (drop 4 d) pairs × (t ≡ tree_of_pairs sort pairs)
 read_pairs (zero, h) = absurd h
 read_pairs (suc n, h) = (h.0, (h.1.0, h.1.1, each_read n h.1.0 h.0 h.1.2), h.2)
@@ -37,15 +37,15 @@ shows_leaf v h = grind arith
 plain_value : (v : RawValue) (t : Tree) → IsPlain (kind_of_raw v) → StandsFor ReadsAs v t → IsWrittenAs (kind_of_raw v) (payload_of v) t
 plain_value v t plain h = grind arith
 
--- so its element is
+-- and so is its element
 pub plain_own : (f : Frame) → IsPlain f.kind → ∥ HasPayload f.kind f.payload ∥₁ → IsOwnForm f
 plain_own f plain shape t (v, means, stands) =
     let spelled : (payload_of v ≡ f.payload) × (kind_of_raw v ≡ f.kind) = ∥∥₁_elim shape (hlevel props) (λ s. value_spelled f.kind f.payload s.0 v s.1 means) in
     rw (← spelled.0, ← spelled.1) (plain_value v t (rw (sym spelled.1) at plain) stands)
 
--- what is in front of a start
+-- what is before a start
 
--- of frames that lead on from the same bytes one that comes before the end of the canonical ones is one of these
+-- frames lead on from the same bytes; one that comes before the end of the canonical ones is one of these
 own_before : (n : ℕ) (s : List ℕ) (passed : List Frame) (r : List ℕ) (frames : List Frame) {q : List ℕ} {f : Frame} {p : List ℕ} → LeadsTo s passed r
     → AreFramesCanonical (IsCanonicalUpTo n) passed → LeadsTo s frames q → IsFrame q f p → (length frames < length passed) ⊎ (length r < length q) → IsOwnForm f
 own_before n s [] r frames l c k at (inl few) = absurd (omega (arith, few))
@@ -62,11 +62,11 @@ known_to n d start passed s reaches canonical number begins = record {
   before = λ frames q f p leads at less. own_before n (drop 4 d) passed s frames reaches canonical leads at (inr (omega (arith, less, begins)));
 }
 
--- none is in front of the first element
+-- none is before the first element
 pub known_to_first : (d : List ℕ) (start : Start) → 5 ≤ length d → start.number ≡ 0 → start.offset ≡ 4 → IsOwnUpTo d start
 known_to_first d start enough number offset = known_to 0 d start [] (drop 4 d) refl tt number (omega (arith, enough, offset, length-drop 4 d))
 
--- one less is left
+-- one fewer is left
 pub one_known : (n less : ℕ) (old new : Option (List ℕ)) (e : RawElement) → less ≡ n - 1 → AreLeftOwn n old → TakesFrame old (Some e) new
     → (IsTrue (not (eqb n 0)) → IsOwnForm (frame_of e)) × AreLeftOwn less new
 one_known n less None new e one own h = cc

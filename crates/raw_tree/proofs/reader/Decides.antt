@@ -1,4 +1,4 @@
--- What bytes with an envelope come to, to a depth: a tree, or a first barrier; and how many frames are in them, or until the fault.
+-- The outcome of bytes with an envelope to a depth: a tree, or a first barrier; and how many frames are in them, or come before the fault.
 use Rattle.std.proofs.Common.{◌≡◌, ◌⊎◌, inl, inr, ◌≤◌, ◌<◌, ◌+◌, ◌*◌, ◌++◌, ◌∷◌, [], ℕ, zero, suc, List, Option, None, Some, length, drop, arith, refl, length-drop}
 use Rattle.raw_tree.proofs.Common.{AreBytes, Tree, IsEnvelope, Frame, IsFrame, IsStop, IsWalk, End, Done, Stopped, LeadsTo, RawValue, KeyedFault, Means, Meaning, value, faulty, Barrier, FirstFaultWithin}
 use Rattle.raw_tree.proofs.Common.{fault_of, too_deep, too_many_bytes, CountsIn, CountsFrames, CountsToFaultAt, HasFrameCountUpTo, HasFramesToFault, HasFramesToFaultUpTo, HasFramesUntilFault, HoldsAs, IsSingle}
@@ -11,14 +11,14 @@ use Rattle.raw_tree.proofs.reader.FrameCounts.{counts_more, each_counted, one_un
 use Rattle.raw_tree.proofs.reader.Loops.{document_read, each_read, holds_bytes, value_read, nested_envelope, nested_beside, stand_more}
 use Rattle.raw_tree.proofs.reader.OneTree.{deep_long, first_fault, never_too_many, tree_or_fault}
 
--- frames that are passed
+-- passed frames
 
 -- a walk goes through s
 abbrev HasWalk : List ℕ → Type 0
 HasWalk s = (frames : List Frame) × (end : End) × IsWalk s frames end
 
--- Up to s frames of the bytes b are passed: they stand for the pairs, with at most so many levels inside, and are so many with those
--- that are in them. The walk goes on.
+-- The frames of the bytes b before s were passed. They stand for the pairs, with at most `inside` levels inside, and are n with all frames
+-- inside them. The walk continues.
 pub record Passed (inside : ℕ) (b s : List ℕ) (pairs : List (List ℕ × Tree)) (n : ℕ) : Type 0 where
   pub frames : List Frame
   pub leads : LeadsTo (drop 4 b) frames s
@@ -39,20 +39,20 @@ none_passed inside b env = record {
   walk = document_has_walk b env;
 }
 
--- the walk goes on behind a frame
+-- the walk continues after a frame
 walk_behind : (s : List ℕ) (f : Frame) (r : List ℕ) → HasWalk s → IsFrame s f r → HasWalk r
 walk_behind s f r ([], Done, w) at = absurd (no_frame_at_final s w f r at)
 walk_behind s f r ([], Stopped fault key, w) at = absurd (no_frame_at_stop s fault key w f r at)
 walk_behind s f r (g ∷ gs, end, w) at = (gs, end, rw (one_frame s g f w.0 r w.1 at).1 at w.2)
 
--- what bytes come to
+-- the outcome of bytes
 
--- to this depth bytes are read as a tree, and so many frames are in them; or they have this first barrier, and so many until it, if it is a fault
+-- to this depth bytes are read as a tree and n frames are in them; or they have this first barrier, and n frames up to it if it is a fault
 abbrev pub IsOutcome : ℕ → Sort → List ℕ → Option Barrier → ℕ → Type 0
 IsOutcome depth sort b None n = (t : Tree) × ReadsUpTo depth sort b t × HasFrameCountUpTo depth b n
 IsOutcome depth sort b (Some x) n = FirstFaultWithin depth b x × ((fault : KeyedFault) → x ≡ fault_of fault → HasFramesToFault b n)
 
--- they come to something behind at least so many frames
+-- the bytes have an outcome, after at least this many frames
 pub record HasOutcome (depth : ℕ) (sort : Sort) (b : List ℕ) (least : ℕ) : Type 0 where
   pub x : Option Barrier
   pub n : ℕ
@@ -60,7 +60,7 @@ pub record HasOutcome (depth : ℕ) (sort : Sort) (b : List ℕ) (least : ℕ) :
   pub small : 2 * n + 4 ≤ length b
   pub is : IsOutcome depth sort b x n
 
--- and behind fewer
+-- and after fewer
 at_least : {depth : ℕ} {sort : Sort} {b : List ℕ} {m : ℕ} (k : ℕ) → k ≤ m → HasOutcome depth sort b m → HasOutcome depth sort b k
 at_least k l h = record { x = h.x; n = h.n; more = omega (arith, l, h.more); small = h.small; is = h.is }
 
@@ -77,7 +77,7 @@ held_stands depth (raw.scoped code e) sort d t (s, same) read =
 pub held_counts : (depth : ℕ) (v : RawValue) (sort : Sort) (d : List ℕ) (n : ℕ) → HoldsAs v sort d → HasFrameCountUpTo depth d n → CountsIn (HasFrameCountUpTo depth) (value v) n
 held_counts depth v sort d n holds count = grind arith
 
--- a value that holds no nested bytes stands for the same tree to any depth, and no frame is in it
+-- a value without nested bytes stands for the same tree to any depth, and no frame is in it
 none_inside : (inside : ℕ) (v : RawValue) (t : Tree) → IsSingle v → StandsFor ReadsAs v t → StandsFor (ReadsUpTo inside) v t × CountsIn (HasFrameCountUpTo inside) (value v) 0
 none_inside inside v t none h = grind arith
 
@@ -88,18 +88,18 @@ single_or_nested (raw.document d) = inr (as_document, d, (refl, refl))
 single_or_nested (raw.array d) = inr (as_array, d, (refl, refl))
 single_or_nested (raw.scoped code d) = inr (as_document, d, (refl, refl))
 
--- the value of the frame in front of s, behind which r is left
+-- the value of the frame at the front of s, which r follows
 pub record IsAhead (s : List ℕ) (f : Frame) (v : RawValue) (r : List ℕ) : Type 0 where
   pub frame : IsFrame s f r
   pub means : Means f (value v)
 
--- the value stands for the tree, and so many frames are in it; the frame leaves two bytes for each, and for itself
+-- the value stands for the tree, and m frames are in it; the frame has at least two bytes for each of these and for itself
 pub record Stands (inside : ℕ) (s : List ℕ) (v : RawValue) (r : List ℕ) (t : Tree) (m : ℕ) : Type 0 where
   pub tree : StandsFor (ReadsUpTo inside) v t
   pub counts : CountsIn (HasFrameCountUpTo inside) (value v) m
   pub small : 2 * m + length r + 2 ≤ length s
 
--- so it is of a value that holds nested bytes
+-- this holds of a value with nested bytes
 pub nested_stands : {inside : ℕ} {s : List ℕ} {f : Frame} {v : RawValue} {r : List ℕ} (at : IsAhead s f v r) (sort : Sort) (d : List ℕ) (t : Tree) (m : ℕ) → HoldsAs v sort d
     → StandsFor (ReadsUpTo inside) v t → HasFrameCountUpTo inside d m → 2 * m + 4 ≤ length d → Stands inside s v r t m
 nested_stands {inside} {s} {f} {v} {r} at sort d t m holds stands count small = record {
@@ -108,7 +108,7 @@ nested_stands {inside} {s} {f} {v} {r} at sort d t m holds stands count small = 
   small = omega (arith, small, nested_beside s f r v d at.frame at.means (holds_bytes v sort d holds));
 }
 
--- and of one that holds none
+-- and of one without
 pub single_stands : {inside : ℕ} {s : List ℕ} {f : Frame} {v : RawValue} {r : List ℕ} (at : IsAhead s f v r) (t : Tree) → IsSingle v → StandsFor ReadsAs v t → Stands inside s v r t 0
 single_stands {inside} {s} {f} {v} {r} at t single stands =
     let none = none_inside inside v t single stands in
@@ -133,7 +133,7 @@ module _ {inside n : ℕ} {b s : List ℕ} {pairs : List (List ℕ × Tree)} (is
   means_fault sort fault f r at m = ((is.frames, pairs, s, is.leads, is.each, inr (f, r, at, inl m)), λ g e. counts_to 0 (n + 1) (own_fault f r fault at m refl))
 
   module _ {f : Frame} {v : RawValue} {r : List ℕ} (at : IsAhead s f v r) where
-    -- or nested bytes of a frame have a barrier
+    -- or the nested bytes of a frame have a barrier
     pub barred_inside : (sort of : Sort) (d : List ℕ) (x : Barrier) (m : ℕ) → Holds v d → IsOutcome inside of d (Some x) m → IsOutcome (suc inside) sort b (Some x) (n + 1 + m)
     barred_inside sort of d x m holds (bars, until) =
         let to = λ (fault : KeyedFault) (e : x ≡ fault_of fault).
@@ -153,7 +153,7 @@ module _ {inside n : ℕ} {b s : List ℕ} {pairs : List (List ℕ × Tree)} (is
           walk = walk_behind s f r is.walk at.frame;
         }
 
-    -- Where the nested bytes come to something, so do these: what is behind the frame is looked at where it is passed.
+    -- if the nested bytes have an outcome, so have these: what follows the frame is looked at if the frame is passed
     pub comes_inside : (sort of : Sort) (d : List ℕ) (m : ℕ) → HoldsAs v of d → HasOutcome inside of d m
         → ((more : List (List ℕ × Tree)) (k : ℕ) → Passed inside b r more k → HasOutcome (suc inside) sort b k) → HasOutcome (suc inside) sort b (n + 1 + m)
     comes_inside sort of d m holds h on = from h.x h.is
@@ -169,12 +169,12 @@ module _ {inside n : ℕ} {b s : List ℕ} {pairs : List (List ℕ × Tree)} (is
             let out = barred_inside sort of d x h.n (holds_bytes v of d holds) bars in
             record { x = Some x; n = n + 1 + h.n; more = omega (arith, h.more); small = omega (arith, is.small, h.small, shorter); is = out }
 
--- all bytes with an envelope come to something
+-- all bytes with an envelope have an outcome
 abbrev AllComeTo : ℕ → Type 0
 AllComeTo depth = (sort : Sort) (d : List ℕ) → IsEnvelope d → HasOutcome depth sort d 0
 
 module _ (inside : ℕ) (nested : AllComeTo inside) (sort : Sort) where
-  -- a frame is in front
+  -- a frame is at the front
   behind_frame : {b s : List ℕ} {pairs : List (List ℕ × Tree)} {n : ℕ} (is : Passed inside b s pairs n) (f : Frame) (r : List ℕ) → IsFrame s f r
       → ((more : List (List ℕ × Tree)) (k : ℕ) → Passed inside b r more k → HasOutcome (suc inside) sort b k) → HasOutcome (suc inside) sort b (n + 1)
   behind_frame {b = b} {s = s} {n = n} is f r at on = from (has_meaning f r s is.bytes at)
@@ -205,7 +205,7 @@ come_to (suc depth) sort b env =
     let none = none_passed depth b env in
     along depth (come_to depth) sort none.walk.0 none.walk.1 none none.walk.2
 
--- so they do behind frames that are passed, and behind a frame more
+-- and so after passed frames and one more frame
 module _ (sort : Sort) {inside n : ℕ} {b s : List ℕ} {pairs : List (List ℕ × Tree)} (is : Passed inside b s pairs n) where
   pub outcome_from : HasOutcome (suc inside) sort b n
   outcome_from = along inside (come_to inside) sort is.walk.0 is.walk.1 is is.walk.2
@@ -213,9 +213,9 @@ module _ (sort : Sort) {inside n : ℕ} {b s : List ℕ} {pairs : List (List ℕ
   pub outcome_behind : (f : Frame) (r : List ℕ) → IsFrame s f r → HasOutcome (suc inside) sort b (n + 1)
   outcome_behind f r at = behind_frame inside (come_to inside) sort is f r at (λ more k on. along inside (come_to inside) sort on.walk.0 on.walk.1 on on.walk.2)
 
--- what is told of that
+-- what follows from an outcome
 
--- a level is too deep, or so many are the frames until the first fault
+-- a level is too deep, or this is the number of frames up to the first fault
 pub outcome_until : (depth : ℕ) (sort : Sort) (b : List ℕ) (x : Option Barrier) (n : ℕ) → IsOutcome depth sort b x n → FirstFaultWithin depth b too_deep ⊎ HasFramesUntilFault b n
 outcome_until depth sort b None n (t, read, count) = inr (inl ((λ fault bad. tree_or_fault sort b t fault (depth, read) bad), (depth, count)))
 outcome_until depth sort b (Some (fault_of fault)) n h = inr (inr (h.1 fault refl))
@@ -225,7 +225,7 @@ outcome_until depth sort b (Some too_many_bytes) n h = absurd (never_too_many de
 pub decided_within : (depth : ℕ) (sort : Sort) (b : List ℕ) → IsEnvelope b → ((t : Tree) × ReadsUpTo depth sort b t) ⊎ ((x : Barrier) × FirstFaultWithin depth b x)
 decided_within depth sort b env = let h = come_to depth sort b env in grind (arith, h.is)
 
--- no level is deeper than there are bytes
+-- no level is deeper than the number of bytes
 fault_found : (n : ℕ) (b : List ℕ) (x : Barrier) → length b < n → FirstFaultWithin n b x → (fault : KeyedFault) × FirstFault b fault
 fault_found n b (fault_of fault) more h = (fault, first_fault n b fault h)
 fault_found n b too_deep more h = absurd (omega (arith, more, deep_long n b h))
@@ -249,7 +249,7 @@ counted b env =
 pub until_small : (b : List ℕ) (n : ℕ) → IsEnvelope b → HasFramesUntilFault b n → 2 * n + 4 ≤ length b
 until_small b n env h = let c = counted b env in omega (arith, one_until b n c.0 h c.2, c.1)
 
--- a value stands for a tree, or has a first fault, where its nested bytes have an envelope
+-- a value stands for a tree or has a first fault, if its nested bytes have an envelope
 pub value_decided : (v : RawValue) → ((d : List ℕ) → Holds v d → IsEnvelope d) → ((t : Tree) × StandsFor ReadsAs v t) ⊎ ((fault : KeyedFault) × FirstFaultOfValue v fault)
 value_decided v env =
     elim (single_or_nested v) [

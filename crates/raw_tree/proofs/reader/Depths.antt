@@ -1,5 +1,5 @@
--- Depths: of all bytes with an envelope there is one, and bytes are read within some levels exactly where they are
--- read and are at most so deep.
+-- Depths: all bytes with an envelope have exactly one depth. Bytes are read within n levels if and only if they are read and are at most n
+-- deep.
 use Rattle.std.proofs.Common.{◌≡◌, ◌≤◌, ◌∷◌, [], ℕ, max, zero, suc, List, length, arith, refl, sym, ◌∙◌}
 use Rattle.raw_tree.proofs.Common.{le-max_left, le-max_right, max-le, Tree, Frame, Done, RawValue, Meaning, value, AllHaveOneDepth, IsSoDeep}
 use Rattle.raw_tree.proofs.Common.{IsGreatestDepth, HasDepthUpTo, HasDepth, Sort, StandsFor, StandForEach, ReadsUpTo, ReadsAs}
@@ -7,9 +7,9 @@ use Rattle.raw_view.proofs.Face.{one_walk, one_meaning}
 use Rattle.raw_tree.proofs.reader.FrameCounts.{AgreeOn, has_measures}
 use Rattle.raw_tree.proofs.reader.Loops.{reads_up_to, stand_each_on, stands_on}
 
--- what is read within some levels is at most so deep
+-- what is read within n levels is at most n deep
 
--- each tree that nested bytes are read as shows a depth of at most n, within which it is read
+-- each tree that nested bytes are read as gives a depth of at most n, within which it is read
 abbrev pub AreShallow : ℕ → (Sort → List ℕ → Tree → Type 0) → Type 0
 AreShallow n N = (sort : Sort) (d : List ℕ) (t : Tree) → N sort d t → (k : ℕ) × HasDepthUpTo n d k × (k ≤ n) × ReadsUpTo k sort d t
 
@@ -48,13 +48,13 @@ one_depth_within zero m b k j h i = absurd h
 one_depth_within (suc n) zero b k j h i = absurd i
 one_depth_within (suc n) (suc m) b k j h i = grind (arith, greatest_same, one_walk, one_depth_within n m)
 
--- so what is read and at most so deep is read within so many levels
+-- so what is read and is at most n deep is read within n levels
 pub read_to_depth : (n : ℕ) (sort : Sort) (b : List ℕ) (t : Tree) (k : ℕ) → ReadsAs sort b t → HasDepth b k → k ≤ n → ReadsUpTo n sort b t
 read_to_depth n sort b t k h deep few =
     let least = shallow_within h.0 sort b t h.1 in
     reads_up_to least.0 n (omega (arith, one_depth_within h.0 deep.0 b least.0 k least.1 deep.1, few)) sort b t least.3
 
--- and there is one
+-- and there is one depth
 pub one_depth : AllHaveOneDepth
 one_depth b env =
     let k = (has_measures (length b) b (omega arith) env).1 in

@@ -1,5 +1,5 @@
--- How many frames are in bytes: of all bytes with an envelope there is one number, as there is one depth; and one number at most
--- until the first fault.
+-- The number of frames in bytes. All bytes with an envelope have exactly one, as they have exactly one depth, and at most one up to the
+-- first fault.
 use Rattle.std.proofs.Common.{◌≡◌, inl, inr, ◌≤◌, ◌+◌, ◌*◌, ◌++◌, ◌∷◌, [], ℕ, max, zero, suc, List, length, drop, arith, refl, sym, ◌∙◌, length-drop}
 use Rattle.raw_tree.proofs.Common.{AreBytes, IsEnvelope, Frame, IsFrame, IsWalk, End, KeyedFault, Meaning, Means, AllHaveOneFrameCount, CountsIn, BarsFront, fault_of, CountsFrames, HasFrameCountUpTo}
 use Rattle.raw_tree.proofs.Common.{HasFrameCount, CountsToFaultAt, HasFramesToFaultUpTo, HasFramesToFault, HasFramesUntilFault, IsSoDeep, IsGreatestDepth, HasDepthUpTo, ReadsAs, FirstFault}
@@ -12,11 +12,11 @@ use Rattle.raw_tree.proofs.walk.OneEnd.{IsBlocked, passed_once}
 
 -- counts
 
--- where other bytes have the same counts, so many frames are in what a frame means
+-- if other bytes have the same counts, n frames are in what a frame means
 counts_on : (N M : List ℕ → ℕ → Type 0) → ((b : List ℕ) (n : ℕ) → N b n → M b n) → (m : Meaning) (n : ℕ) → CountsIn N m n → CountsIn M m n
 counts_on N M on m n h = grind arith
 
--- so many are the frames
+-- n is the number of the frames
 counts_each_on : (N M : List ℕ → ℕ → Type 0) → ((b : List ℕ) (n : ℕ) → N b n → M b n) → (fs : List Frame) (n : ℕ) → CountsFrames N fs n → CountsFrames M fs n
 counts_each_on N M on [] n h = h
 counts_each_on N M on (f ∷ fs) n h = (h.0, h.1, h.2, h.3, counts_on N M on h.0 h.1 h.4, counts_each_on N M on fs h.2 h.5, h.6)
@@ -25,23 +25,23 @@ counts_each_on N M on (f ∷ fs) n h = (h.0, h.1, h.2, h.3, counts_on N M on h.0
 pub each_counted : (levels : ℕ) (fs : List Frame) (n : ℕ) → CountsFrames (HasFrameCountUpTo levels) fs n → CountsFrames HasFrameCount fs n
 each_counted levels fs n h = counts_each_on (HasFrameCountUpTo levels) HasFrameCount (λ b k count. (levels, count)) fs n h
 
--- one frame more
+-- one more frame
 pub counts_more : (N : List ℕ → ℕ → Type 0) (fs : List Frame) (n : ℕ) (f : Frame) (m : Meaning) (inside : ℕ) → CountsFrames N fs n → Means f m
     → CountsIn N m inside → CountsFrames N (fs ++ f ∷ []) (n + 1 + inside)
 counts_more N [] n f m inside h is c = (m, inside, 0, is, c, refl, omega (arith, h))
 counts_more N (g ∷ fs) n f m inside h is c = (h.0, h.1, h.2 + 1 + inside, h.3, h.4, counts_more N fs h.2 f m inside h.5 is c, omega (arith, h.6))
 
--- a number
+-- a count exists
 
--- shorter bytes with an envelope have a number, of which this holds beside their length
+-- shorter bytes with an envelope have a count, of which this holds together with their length
 abbrev HaveWithin : ℕ → (List ℕ → ℕ → Type 0) → Type 0
 HaveWithin n N = (d : List ℕ) → length d ≤ n → IsEnvelope d → (k : ℕ) × N d k
 
--- they have so many frames, at most half of their bytes
+-- they have this many frames, at most half their bytes
 abbrev IsSmallCount : ℕ → List ℕ → ℕ → Type 0
 IsSmallCount levels b n = HasFrameCountUpTo levels b n × (2 * n + 4 ≤ length b)
 
--- so has what a frame means
+-- and so has what a frame means
 meaning_counted : (n : ℕ) (N : List ℕ → ℕ → Type 0) → HaveWithin n N → (s : List ℕ) (f : Frame) (r : List ℕ) (m : Meaning) → length s ≤ n + 1 → IsFrame s f r → Means f m → (k : ℕ) × CountsIn N m k
 meaning_counted n N shorter s f r m size at is = grind (arith, nested_envelope, nested_shorter)
 
@@ -95,15 +95,15 @@ one_count_within (suc n) (suc m) b j k h i = grind (arith, counts_each_same, one
 one_count : AgreeOn HasFrameCount HasFrameCount
 one_count b j k h i = one_count_within h.0 i.0 b j k h.1 i.1
 
--- and just one
+-- and exactly one
 pub one_frame_count : AllHaveOneFrameCount
 one_frame_count b env =
     let k = (has_measures (length b) b (omega arith) env).0 in
     (k.0, (length b, k.1.0), omega (arith, k.1.1), λ other h. one_count b other k.0 h (length b, k.1.0))
 
--- until the first fault
+-- up to the first fault
 
--- where a count ends, there is the fault
+-- where a count ends there is the fault
 at_fault_fails : (N : List ℕ → ℕ → Type 0) (r : List ℕ) (before n : ℕ) → CountsToFaultAt N r before n → (fault : KeyedFault) × BarsFront FaultIn r (fault_of fault)
 at_fault_fails N r before n (stop fault stops is) = (fault, inl stops)
 at_fault_fails N r before n (own_fault f q fault at m is) = (fault, inr (f, q, at, inl m))
@@ -137,14 +137,14 @@ to_fault_same (suc n) (suc m) b j k h i =
     let before : i.3 ≡ h.3 = counts_each_same HasFrameCount HasFrameCount one_count h.0 i.3 h.3 (rw same.0 at i.6) h.6 in
     at_fault_same (HasFramesToFaultUpTo n) (HasFramesToFaultUpTo m) (to_fault_same n m) h.2 h.3 j k h.7 (rw (same.1, before) at i.7)
 
--- bytes that are counted to a fault have one
+-- bytes that are counted up to a fault have one
 to_fault_fails : (b : List ℕ) (n : ℕ) → HasFramesToFault b n → (fault : KeyedFault) × FirstFault b fault
 to_fault_fails b n (zero, h) = absurd h
 to_fault_fails b n (suc levels, h) =
     let bad = at_fault_fails (HasFramesToFaultUpTo levels) h.2 h.3 n h.7 in
     (bad.0, fault_behind b bad.0 (h.0, h.1, h.2, h.4, h.5, bad.1))
 
--- bytes have one number of frames until the first fault at most
+-- bytes have at most one number of frames up to the first fault
 pub one_until : (b : List ℕ) (j k : ℕ) → HasFramesUntilFault b j → HasFramesUntilFault b k → j ≡ k
 one_until b j k (inl h) (inl i) = one_count b j k h.1 i.1
 one_until b j k (inl h) (inr i) = let bad = to_fault_fails b k i in absurd (h.0 bad.0 bad.1)

@@ -1,5 +1,5 @@
--- The steps of a loop over levels: an element is put, or its level waits for it; a level is read and goes to the
--- one that waits; a fault, out of memory or the end is returned; and what is left shrinks.
+-- The steps of a loop over levels: an element is put, or its level waits for it; a level that was read goes to the one that waits; a fault,
+-- out of memory or the end is returned; and less remains.
 use Rattle.std.proofs.Common.{◌≡◌, inl, inr, ◌<◌, ◌≤◌, ◌+◌, ◌-◌, ◌/◌, take, length-take, ◌++◌, ◌∷◌, [], ℕ, suc, List, Option, None, Some, Result, Ok, Err, IfOk, IfErr, length, drop, arith, ap, refl, ◌∙◌, subst, length-drop, length-append, sum_by, reverse, Bor}
 use Rattle.std.proofs.lemmas.List.{length-reverse, reverse-append}
 use Rattle.raw_tree.proofs.Common.{sum_by_push, Tree, tree_of, Bson, IsEnvelope, bytes_of, frame_of, IsOutOfMemory, Frame, RawValue, KeyedFault, BorrowedError, Barrier, max_length, value_of}
@@ -28,7 +28,7 @@ level_begins inside n u level is = record {
   total = omega arith;
 }
 
--- behind the final 0 the value that is made of a level is the one that holds its bytes, within as many levels
+-- after the final 0, the value that is made of a level is the one that holds its bytes, within as many levels
 level_stands : {inside n : ℕ} {i : Nested × ℕ} {level : Level} (is : IsReading inside i level n) → is.rest ≡ 0 ∷ [] → (t : Bson) → DraftsTree level.holder level.draft t
     → StandsFor (ReadsUpTo (suc inside)) (held_value i.0) (tree_of t)
 level_stands {inside} {i = i} is end t drafts =
@@ -36,7 +36,7 @@ level_stands {inside} {i = i} is end t drafts =
     let read = (ends is.passed (sort_of i.0.holder) end).0 in
     subst (λ (h : Holder). StandsFor (ReadsUpTo (suc inside)) (holding h b) (tree_of t)) is.held (drafts is.pairs (suc inside) b is.drafted (rw is.held read))
 
--- and the outermost level is what is read
+-- and the outermost level is the result
 level_finished : {inside n : ℕ} {u : Nested} {level : Level} (is : IsReading inside (u, 0) level n) → is.rest ≡ 0 ∷ [] → (c : Contents) → Finishes level.holder level.draft c
     → TellsReading (suc inside) u (Ok c) n
 level_finished {inside} {n} {u} is end c fin =
@@ -49,7 +49,7 @@ level_finished {inside} {n} {u} is end c fin =
     let no_fault = λ (fault : KeyedFault) (bad : FirstFault b fault). tree_or_fault sort b (tree_of_pairs sort is.pairs) fault (suc inside, read) bad in
     ((fin.0 ∙ is.held, rw tree read), tt, inr (inl (no_fault, count), count))
 
--- a level that goes on with the value in front, which stands for a tree
+-- a level that continues with the value at the front, which stands for a tree
 level_put : {inside n all : ℕ} {i : Nested × ℕ} {left : Option (List ℕ)} (level on : Level) {f : Frame} (is : IsReading inside i (with_left level left) n) (v : RawValue) (t : Tree) (m : ℕ)
     (front : Front is.rest f v level.elements) → Stands inside is.rest v front.0 t m → IsOneMore level f.key t on → all ≡ n + 1 + m → IsReading inside i on all
 level_put level on {f = f} is v t m front stands more grown = record {
@@ -63,7 +63,7 @@ level_put level on {f = f} is v t m front stands more grown = record {
   total = omega (arith, grown, is.total);
 }
 
--- what a look tells of a value in front of what is left of a level
+-- what a look says of a value at the front of the rest of a level
 module _ {s : List ℕ} {old : Option (List ℕ)} (left : old ≡ Some s) (new : Option (List ℕ)) (e : RawElement) where
   pub front_whole : (v : RawBsonRef) → Sees old new (seen.Whole e v) → HasValue (seen.Whole e v) → Front s (frame_of e) (value_of v) new
   front_whole v sees has = let at = rw left at sees in (at.0, record { frame = at.2; means = has.0 }, at.5)
@@ -73,8 +73,8 @@ module _ {s : List ℕ} {old : Option (List ℕ)} (left : old ≡ Some s) (new :
 
 -- the levels
 
--- the state of the loop: to a depth it reads the nested bytes u, some levels wait, and the innermost reads on; the frames
--- that they have passed are so many
+-- The state of the loop. It reads the nested bytes u to a depth; some levels wait, and the innermost one is read. They have passed n
+-- frames.
 pub record AreReading (depth : ℕ) (u : Nested) (ws : List Waiting) (level : Level) (n : ℕ) : Type 0 where
   pub inside : ℕ
   pub inner : Nested × ℕ
@@ -87,7 +87,7 @@ levels_begin {less = less} {u = u} {level = level} d none unread =
     record { inside = less; inner = (u, 0); waiting = rw none refl; reading = level_begins less 0 u level unread; levels = omega (arith, ap length none, d) }
 
 module _ (depth : ℕ) (u : Nested) {n : ℕ} (e : Error) where
-  -- memory runs out, behind so many frames
+  -- memory runs out after n frames
   memory_told : IsOutOfMemory e → IsTold None n depth (u, 0) → TellsReading depth u (Err e) n
   memory_told memory (m, same, h) =
       elim (outcome_until depth (sort_of u.holder) (bytes_of u.document) h.x h.n h.is) [
@@ -95,7 +95,7 @@ module _ (depth : ℕ) (u : Nested) {n : ℕ} (e : Error) where
         | inr until ↦ (tt, inl memory, inr (h.n, until, omega (arith, same, h.more), inl memory))
       ]
 
-  -- or the first barrier is behind them
+  -- or the first barrier comes after them
   barrier_told : (x : Barrier) → SaysBarrier e x → IsTold (Some x) n depth (u, 0) → TellsReading depth u (Err e) n
   barrier_told x says (m, same, h) =
       elim (outcome_until depth (sort_of u.holder) (bytes_of u.document) (Some x) m h) [
@@ -104,7 +104,7 @@ module _ (depth : ℕ) (u : Nested) {n : ℕ} (e : Error) where
       ]
 
 module _ {depth n : ℕ} {u : Nested} {ws : List Waiting} {level : Level} (are : AreReading depth u ws level n) where
-  -- what is told of the innermost level is told of the outermost
+  -- what holds of the innermost level holds of the outermost
   told : (x : Option Barrier) (all : ℕ) → IsTold x all (suc are.inside) are.inner → IsTold x all depth (u, 0)
   told x all h = told_outward x all are.inside depth (u, 0) (reverse ws) are.inner (omega (arith, length-reverse ws, are.levels)) are.waiting h
 
@@ -114,7 +114,7 @@ module _ {depth n : ℕ} {u : Nested} {ws : List Waiting} {level : Level} (are :
   passed_told : IsTold None n depth (u, 0)
   passed_told = told None n (are.reading.here, are.reading.total, outcome_from sort are.reading.passed)
 
-  -- what has been read is at most half of the bytes, so that one more can be counted
+  -- the frames that were read are at most half of the bytes, so one more can be counted
   pub few_frames : n < max_length
   few_frames = let h = passed_told in omega (arith, h.1, h.2.more, h.2.small, u.document.envelope.header.fits)
 
@@ -122,7 +122,7 @@ module _ {depth n : ℕ} {u : Nested} {ws : List Waiting} {level : Level} (are :
   pub ran_out : (e : Error) → IsOutOfMemory e → TellsReading depth u (Err e) n
   ran_out e memory = memory_told depth u e memory passed_told
 
-  -- a look tells a stop, or the fault that an element means
+  -- a look finds a stop, or the fault that an element means
   module _ (new : Option (List ℕ)) (e : BorrowedError) (answer : Error) (copy : HasKeyCopy e.kind (option_copied e.key) answer) where
     pub failed : (key : Option (Bor (List ℕ))) → Sees level.elements new (seen.Fault key e) → TellsReading depth u (Err answer) (n + frames_in (seen.Fault key e))
     failed None sees =
@@ -139,7 +139,7 @@ module _ {depth n : ℕ} {u : Nested} {ws : List Waiting} {level : Level} (are :
     at_end : are.reading.rest ≡ 0 ∷ []
     at_end = rw are.reading.left at sees
 
-    -- of the outermost level
+    -- in the outermost level
     pub finished : (result : Result Contents Error) → ws ≡ [] → IfOk result (Finishes level.holder level.draft) → IfErr result IsOutOfMemory → TellsReading depth u result n
     finished (Err e) none fin memory = ran_out e memory
     finished (Ok c) none fin memory =
@@ -148,7 +148,7 @@ module _ {depth n : ℕ} {u : Nested} {ws : List Waiting} {level : Level} (are :
         let levels : suc are.inside ≡ depth = omega (arith, are.levels, ap length none) in
         rw (← levels) (level_finished is (rw is.left at sees) c fin)
 
-    -- or of one inside, and the level that waits for it goes on
+    -- or in an inner one, and the level that waits for it continues
     pub popped : {less : List Waiting} (w on : Waiting) → ws ≡ less ++ w ∷ [] → PutsLevel level w on → AreReading depth u less on.level n
     popped {less} w on e (t, drafts, more) =
         let (outer, waits, linked) = rw (e, reverse-append less (w ∷ [])) at are.waiting in
@@ -164,7 +164,7 @@ module _ {depth n : ℕ} {u : Nested} {ws : List Waiting} {level : Level} (are :
           levels = omega (arith, are.levels, ap length e, length-append less (w ∷ []));
         }
 
-  -- a value is in front
+  -- a value is at the front
   module _ {f : Frame} {new : Option (List ℕ)} (v : RawValue) (front : Front are.reading.rest f v new) where
     -- memory runs out
     pub ran_out_behind : (e : Error) → IsOutOfMemory e → TellsReading depth u (Err e) (n + 1)
@@ -177,9 +177,9 @@ module _ {depth n : ℕ} {u : Nested} {ws : List Waiting} {level : Level} (are :
         let put = level_put {left = level.elements} (with_left level new) on are.reading v t 0 front (single_stands front.1 t single stands) more (omega arith) in
         record { inside = are.inside; inner = are.inner; waiting = are.waiting; reading = put; levels = are.levels }
 
-  -- nested bytes are in front
+  -- nested bytes are at the front
   module _ {f : Frame} {new : Option (List ℕ)} (v : Nested) (front : Front are.reading.rest f (held_value v) new) where
-    -- and as many levels wait as may
+    -- and as many levels wait as are allowed
     pub too_deep_inside : (e : Error) → depth ≤ suc (length ws) → SaysBarrier e too_deep → TellsReading depth u (Err e) (n + 1)
     too_deep_inside e many says =
         let none : are.inside ≡ 0 = omega (arith, many, are.levels) in
@@ -206,14 +206,14 @@ pub tells_half : {X : Type 0} (b : List ℕ) (result : Result X Error) (n : ℕ)
 tells_half b (Ok x) n env h = omega (arith, until_small b n env h.0)
 tells_half b (Err e) n env h = omega (arith, until_small b h.0 env h.1, h.2)
 
--- where nothing is popped, nothing waits
+-- if nothing is popped, nothing waits
 pub no_more : (n : ℕ) (old new : List Waiting) → length old ≡ n → old ≡ new ++ [] → new ≡ take (n - 1) old → old ≡ []
 no_more n [] new l e f = refl
 no_more n (w ∷ ws) new l e f = absurd (omega (arith, l, ap length e, ap length f, length-append new [], length-take (n - 1) (w ∷ ws)))
 
 -- what is left
 
--- of the levels that wait, and how many they are
+-- in the waiting levels, and how many these are
 abbrev pub left_in : List Waiting → ℕ
 left_in ws = sum_by (λ w. left_of w.level.elements + 1) ws
 
@@ -221,7 +221,7 @@ left_in ws = sum_by (λ w. left_of w.level.elements + 1) ws
 pub step_smaller : {s : List ℕ} {f : Frame} (v : RawValue) (old new : Option (List ℕ)) (n : ℕ) → old ≡ Some s → Front s f v new → left_of new + n < left_of old + n
 step_smaller {s} {f} v old new n left front = rw (left, front.2) (omega (arith, IsFrame-shorter s f front.0 front.1.frame))
 
--- and more than its nested bytes, so that what is left shrinks as its level begins to wait
+-- and more than its nested bytes, so less remains when its level begins to wait
 pub inward_smaller : {s : List ℕ} {f : Frame} (old inner : Level) (ws more : List Waiting) (w : Waiting) (v : Nested) → old.elements ≡ Some s → Front s f (held_value v) w.level.elements
     → more ≡ ws ++ w ∷ [] → IsUnread v inner → left_of inner.elements + left_in more < left_of old.elements + left_in ws
 inward_smaller {s} {f} old inner ws more w v left front e unread =
@@ -230,7 +230,7 @@ inward_smaller {s} {f} old inner ws more w v left front e unread =
     let beside = nested_beside s f front.0 (held_value v) d front.1.frame front.1.means (held_holds v.holder d) in
     rw (unread.0, e, left) (omega (arith, push, ap left_of front.2, length-drop 4 d, beside))
 
--- and as a level that waits reads on
+-- and when a waiting level continues
 pub outward_smaller : (n : ℕ) (ws less : List Waiting) (w : Waiting) → ws ≡ less ++ w ∷ [] → left_of w.level.elements + left_in less < n + left_in ws
 outward_smaller n ws less w e =
     rw e (omega (arith, sum_by_push (λ (x : Waiting). left_of x.level.elements + 1) less w))

@@ -1,4 +1,4 @@
--- Within limits bytes are read as one tree or have one first barrier, and never both; to a depth that no document has all are read.
+-- Within limits, bytes are read as one tree or have one first barrier, and never both. To a depth that no document has, all bytes are read.
 use Rattle.std.proofs.Common.{◌⊎◌, inl, inr, ◌<◌, ◌≤◌, ℕ, List, Result, IfOk, IfErr, length, arith, refl}
 use Rattle.raw_tree.proofs.Common.{cases_lt, Tree, IsEnvelope, Barrier, too_many_bytes, ReadsWithin, FirstBarrier, AllAreAnsweredOneWay, as_document, ReadsUpTo, Limits, bytes_of, max_length, Error}
 use Rattle.raw_tree.proofs.Common.{TellsFrames, AreRead, TellsReading, too_deep, FirstFaultWithin, TellsFirstFault, Contents, Nested}
@@ -41,11 +41,11 @@ answered_one_way limits b env = record {
 
 -- all levels
 
--- in no document a level is deeper than the greatest length
+-- no level of a document is deeper than the greatest length
 never_too_deep : (n : ℕ) (b : List ℕ) → IsEnvelope b → max_length < n → FirstFaultWithin n b too_deep → ⊥
 never_too_deep n b env more h = omega (arith, env.header.fits, deep_long n b h)
 
--- what is returned to such a depth is returned of all levels
+-- what is returned for such a depth is returned for all levels
 pub told_of_all : (depth : ℕ) (u : Nested) → max_length < depth → (result : Result Contents Error) (n : ℕ) → TellsReading depth u result n
     → IfOk result (AreRead u.holder (bytes_of u.document)) × IfErr result (TellsFirstFault (bytes_of u.document)) × TellsFrames (bytes_of u.document) result n
 told_of_all depth u more result n told = grind (arith, first_fault, never_too_deep, never_too_many)

@@ -1,5 +1,4 @@
--- What a loop over elements keeps: nested bytes are shorter, some number of levels serves, frames that stand for
--- trees.
+-- What a loop over elements preserves: nested bytes are shorter, some number of levels suffices, frames stand for trees.
 use Rattle.std.proofs.Common.{◌≡◌, ◌≤◌, ◌+◌, ◌++◌, ◌∷◌, [], ℕ, zero, suc, List, length, drop, arith, ap, refl, length-append}
 use Rattle.raw_tree.proofs.Common.{Tree, Entries, document, IsEnvelope, Frame, IsFrame, HasShape, IsWalk, Done, RawValue, Means, MeansValue, value, ElementType, Sort}
 use Rattle.raw_tree.proofs.Common.{as_document, tree_of_pairs, StandsFor, StandForEach, ReadsUpTo, ReadsAs, Holds, HoldsAs}
@@ -17,7 +16,7 @@ nested_envelope s f r v d b m h = (nested_in f.kind f.payload r v d b.payload_is
 pub holds_bytes : (v : RawValue) (sort : Sort) (d : List ℕ) → HoldsAs v sort d → Holds v d
 holds_bytes v sort d h = grind arith
 
--- they are shorter by two than the bytes where the frame is, beside what is left behind it
+-- they are at least two shorter than the bytes that begin with the frame, without those after it
 pub nested_beside : (s : List ℕ) (f : Frame) (r : List ℕ) (v : RawValue) (d : List ℕ) → IsFrame s f r → Means f (value v) → Holds v d → length d + length r + 2 ≤ length s
 nested_beside s f r v d b m h =
     omega (arith, (nested_in f.kind f.payload r v d b.payload_is m h).1, ap length b.spelled, length-append f.key (0 ∷ (f.payload ++ r)), length-append f.payload r)
@@ -27,11 +26,11 @@ nested_shorter s f r v d b m h = omega (arith, nested_beside s f r v d b m h)
 
 -- levels
 
--- where other bytes are read as the same trees, a value stands for the same tree
+-- if other bytes are read as the same trees, a value stands for the same tree
 pub stands_on : (N M : Sort → List ℕ → Tree → Type 0) → ((sort : Sort) (b : List ℕ) (t : Tree) → N sort b t → M sort b t) → (v : RawValue) (t : Tree) → StandsFor N v t → StandsFor M v t
 stands_on N M on v t h = grind arith
 
--- so do the values of frames
+-- and so do the values of frames
 pub stand_each_on : (N M : Sort → List ℕ → Tree → Type 0) → ((sort : Sort) (b : List ℕ) (t : Tree) → N sort b t → M sort b t)
     → (fs : List Frame) (pairs : List (List ℕ × Tree)) → StandForEach N fs pairs → StandForEach M fs pairs
 stand_each_on N M on [] pairs h = h
@@ -78,7 +77,7 @@ document_read b t h = grind arith
 
 -- a caller's loop
 
--- one frame more is read
+-- one more frame is read
 pub stand_more : (Nested : Sort → List ℕ → Tree → Type 0) (fs : List Frame) (pairs : List (List ℕ × Tree)) (f : Frame) (v : RawValue) (t : Tree)
     → StandForEach Nested fs pairs → Means f (value v) → StandsFor Nested v t → StandForEach Nested (fs ++ f ∷ []) (pairs ++ (f.key, t) ∷ [])
 stand_more Nested [] pairs f v t h m st = (v, t, [], m, st, ap (λ x. x ++ (f.key, t) ∷ []) h, refl)

@@ -1,5 +1,5 @@
--- Reading is determined: bytes are read as one tree at most, have one first fault at most, and never both; so it is of
--- trees and barriers within a depth, and to a depth that is greater than the length nothing is too deep.
+-- Reading is determined. Bytes are read as at most one tree, have at most one first fault, and never both. The same holds of trees and
+-- barriers within a depth. To a depth greater than the length nothing is too deep.
 use Rattle.std.proofs.Common.{◌≡◌, inl, inr, ◌≤◌, ◌++◌, ◌∷◌, [], ℕ, zero, suc, List, length, drop, ap, sym, ◌∙◌, arith, length-drop}
 use Rattle.raw_tree.proofs.Common.{Tree, Frame, IsFrame, IsStop, IsWalk, Done, LeadsTo, RawValue, KeyedFault, Means, value, faulty, Barrier, too_deep, too_many_bytes, fault_of, IsFaultWith, BarsFrame}
 use Rattle.raw_tree.proofs.Common.{BarsFront, FirstFaultWithin, Sort, StandsFor, StandForEach, ReadsUpTo, ReadsAs, Holds, FirstFaultUpTo, FirstFault, FirstFaultOfValue}
@@ -9,11 +9,11 @@ use Rattle.raw_tree.proofs.walk.OneEnd.{IsBlocked, passed_once, passed_whole}
 
 -- values
 
--- a frame means one value at most
+-- a frame means at most one value
 pub one_value_of : (f : Frame) (v w : RawValue) → Means f (value v) → Means f (value w) → v ≡ w
 one_value_of f v w a b = let same : value v ≡ value w = one_meaning f (value v) (value w) a b in cc
 
--- one fault at most
+-- at most one fault
 pub one_fault_of : (f : Frame) (x y : KeyedFault) → Means f (faulty x) → Means f (faulty y) → x ≡ y
 one_fault_of f x y a b = let same : faulty x ≡ faulty y = one_meaning f (faulty x) (faulty y) a b in cc
 
@@ -21,7 +21,7 @@ one_fault_of f x y a b = let same : faulty x ≡ faulty y = one_meaning f (fault
 pub value_nor_fault : (f : Frame) (v : RawValue) (x : KeyedFault) → Means f (value v) → Means f (faulty x) → ⊥
 value_nor_fault f v x a b = let same : value v ≡ faulty x = one_meaning f (value v) (faulty x) a b in cc
 
--- a value holds the nested bytes of one list at most
+-- a value holds at most one list of nested bytes
 pub one_nested : (v : RawValue) (d e : List ℕ) → Holds v d → Holds v e → d ≡ e
 one_nested v d e a b = grind arith
 
@@ -48,15 +48,15 @@ one_tree_within zero m sort b t u h k = absurd h
 one_tree_within (suc n) zero sort b t u h k = absurd k
 one_tree_within (suc n) (suc m) sort b t u h k = grind (arith, one_walk, stand_each_same, one_tree_within n m)
 
--- bytes are read as one tree at most
+-- bytes are read as at most one tree
 pub one_tree : (sort : Sort) (b : List ℕ) (t u : Tree) → ReadsAs sort b t → ReadsAs sort b u → t ≡ u
 one_tree sort b t u h k = one_tree_within h.0 k.0 sort b t u h.1 k.1
 
--- nested bytes in a value that stands for a tree are read as one
+-- nested bytes in a value that stands for a tree are read as a tree
 held_read : (N : Sort → List ℕ → Tree → Type 0) (v : RawValue) (t : Tree) (d : List ℕ) → StandsFor N v t → Holds v d → (sort : Sort) × (u : Tree) × N sort d u
 held_read N v t d h holds = grind arith
 
--- frames that are passed
+-- passed frames
 
 -- they stand for trees
 abbrev pub AreRead : (Sort → List ℕ → Tree → Type 0) → List Frame → Type 0
@@ -69,11 +69,11 @@ read_among N (g ∷ ps) f more pairs h = read_among N ps f more h.2 h.6
 
 -- barriers
 
--- a barrier that is a fault of which something holds
+-- a barrier that is a fault with a property
 pub some_fault : (P : KeyedFault → Type 0) (x : Barrier) → IsFaultWith P x → (fault : KeyedFault) × P fault × (x ≡ fault_of fault)
 some_fault P x h = grind arith
 
--- where a fault with one property is the only one with another, so is a barrier
+-- if a fault with one property is the only one with another, so is a barrier
 one_fault_with : (P Q : KeyedFault → Type 0) → ((a c : KeyedFault) → P a → Q c → a ≡ c) → (x y : Barrier) → IsFaultWith P x → IsFaultWith Q y → x ≡ y
 one_fault_with P Q same x y h k =
     let (a, p, is) = some_fault P x h in
@@ -87,15 +87,15 @@ stop_nor s x f r stop at = let fault = some_fault _ x stop in no_frame_at_stop s
 stop_same : (s : List ℕ) (a c : KeyedFault) → IsStop s a.fault a.key → IsStop s c.fault c.key → a ≡ c
 stop_same s a c h k = let stops = one_stop s a.fault c.fault a.key c.key h k in (λ i. record { fault = stops.0 i; key = stops.1 i })
 
--- no bytes are read as a tree and have a barrier
+-- bytes are not both read as a tree and barred
 abbrev pub AreApart : (Sort → List ℕ → Tree → Type 0) → (List ℕ → Barrier → Type 0) → Type 0
 AreApart N Nested = (sort : Sort) (b : List ℕ) (t : Tree) (x : Barrier) → N sort b t → Nested b x → ⊥
 
--- what is left of a document or an array, s, has the barrier behind frames that stand for trees
+-- s, the rest of a document or an array, has the barrier after frames that stand for trees
 abbrev pub BarsRest : (Sort → List ℕ → Tree → Type 0) → (List ℕ → Barrier → Type 0) → List ℕ → Barrier → Type 0
 BarsRest N Nested s x = (passed : List Frame) × (pairs : List (List ℕ × Tree)) × (r : List ℕ) × LeadsTo s passed r × StandForEach N passed pairs × BarsFront Nested r x
 
--- where that holds of nested bytes
+-- if that holds of nested bytes
 module _ (N : Sort → List ℕ → Tree → Type 0) where
   -- a barrier blocks
   pub bars_block : (Nested : List ℕ → Barrier → Type 0) → AreApart N Nested → (fs : List Frame) (s : List ℕ) (x : Barrier) → BarsFront Nested s x → IsBlocked (AreRead N) fs s
@@ -115,7 +115,7 @@ module _ (N : Sort → List ℕ → Tree → Type 0) where
       let end = passed_whole (AreRead N) s frames bars.0 bars.2 w (pairs, h) bars.3 (bars.1, bars.4) (bars_block Nested apart bars.0 bars.2 x bars.5) in
       final_apart Nested bars.2 x end bars.5
 
-  -- where nested bytes have one barrier at most, so has what is left of a document or an array
+  -- if nested bytes have at most one barrier, so has the rest of a document or an array
   module _ (A C : List ℕ → Barrier → Type 0) (apart : AreApart N A) (other : AreApart N C) (same : (b : List ℕ) (x y : Barrier) → A b x → C b y → x ≡ y) where
     frame_same : (f : Frame) (x y : Barrier) → BarsFrame A f x → BarsFrame C f y → x ≡ y
     frame_same f x y h k = grind (arith, one_fault_of, one_fault_with, one_nested, one_value_of, some_fault, value_nor_fault)
@@ -142,7 +142,7 @@ one_barrier_within zero b x y h k = h ∙ sym k
 one_barrier_within (suc n) b x y h k =
     rest_same (ReadsUpTo n) (FirstFaultWithin n) (FirstFaultWithin n) (apart_within n) (apart_within n) (one_barrier_within n) (drop 4 b) x y h k
 
--- bytes with a level deeper than allowed are at least so many as the levels that are
+-- bytes with a level that is too deep are at least as many as the allowed levels
 pub deep_long : (n : ℕ) (b : List ℕ) → FirstFaultWithin n b too_deep → n ≤ length b
 deep_long zero b h = omega arith
 deep_long (suc n) b h = grind (arith, LeadsTo-bound, length-drop, nested_shorter, deep_long n)
@@ -152,7 +152,7 @@ pub never_too_many : (n : ℕ) (b : List ℕ) → FirstFaultWithin n b too_many_
 never_too_many zero b h = let bad : too_many_bytes ≡ too_deep = h in cc
 never_too_many (suc n) b h = grind (arith, never_too_many n)
 
--- to any depth
+-- to every depth
 
 -- the barrier is a first fault
 abbrev Fails : ℕ → List ℕ → Barrier → Type 0
@@ -177,32 +177,32 @@ one_fails (suc n) (suc m) b x y h k =
 abbrev pub FaultIn : List ℕ → Barrier → Type 0
 FaultIn b x = IsFaultWith (FirstFault b) x
 
--- no bytes are read as a tree and have one
+-- bytes are not both read as a tree and at fault
 pub fault_apart : AreApart ReadsAs FaultIn
 fault_apart sort b t x h bad = let f = some_fault (FirstFault b) x bad in fails_apart f.1.0 sort b t (fault_of f.0) h f.1.1
 
 pub tree_or_fault : (sort : Sort) (b : List ℕ) (t : Tree) (x : KeyedFault) → ReadsAs sort b t → FirstFault b x → ⊥
 tree_or_fault sort b t x h bad = fault_apart sort b t (fault_of x) h bad
 
--- nor does a value stand for a tree and have one
+-- and no value both stands for a tree and has a first fault
 pub tree_or_fault_of_value : (v : RawValue) (t : Tree) (x : KeyedFault) → StandsFor ReadsAs v t → FirstFaultOfValue v x → ⊥
 tree_or_fault_of_value v t x h bad = let read = held_read ReadsAs v t bad.0 h bad.1 in tree_or_fault read.0 bad.0 read.1 x read.2 bad.2
 
--- bytes have one first fault at most
+-- bytes have at most one first fault
 pub one_first_fault : (b : List ℕ) (x y : KeyedFault) → FirstFault b x → FirstFault b y → x ≡ y
 one_first_fault b x y h k = let same : fault_of x ≡ fault_of y = one_fails h.0 k.0 b (fault_of x) (fault_of y) h.1 k.1 in cc
 
--- a value has one first fault at most
+-- a value has at most one first fault
 pub one_first_fault_of_value : (v : RawValue) (x y : KeyedFault) → FirstFaultOfValue v x → FirstFaultOfValue v y → x ≡ y
 one_first_fault_of_value v x y h k = one_first_fault h.0 x y h.2 (rw (one_nested v k.0 h.0 k.1 h.1) at k.2)
 
--- a fault behind frames that stand for trees is the first
+-- a fault after frames that stand for trees is the first
 pub fault_behind : (b : List ℕ) (fault : KeyedFault) → BarsRest ReadsAs FaultIn (drop 4 b) (fault_of fault) → FirstFault b fault
 fault_behind b fault (fs, ps, r, l, e, inl stops) = (1, (fs, ps, r, l, e, inl stops))
 fault_behind b fault (fs, ps, r, l, e, inr (f, q, at, inl m)) = (1, (fs, ps, r, l, e, inr (f, q, at, inl m)))
 fault_behind b fault (fs, ps, r, l, e, inr (f, q, at, inr (v, d, m, holds, bad))) = (suc bad.0, (fs, ps, r, l, e, inr (f, q, at, inr (v, m, (d, holds, bad.1)))))
 
--- one that is first within a depth is the first
+-- a fault that is first within a depth is the first
 fault_in_front : (n : ℕ) (r : List ℕ) (fault : KeyedFault) → ((d : List ℕ) → FirstFaultWithin n d (fault_of fault) → FirstFault d fault) → BarsFront (FirstFaultWithin n) r (fault_of fault)
     → BarsFront FaultIn r (fault_of fault)
 fault_in_front n r fault nested h = grind arith

@@ -1,4 +1,4 @@
--- Bytes, values and frames are read in one way alone.
+-- Bytes, values and frames are read in exactly one way.
 use Rattle.std.proofs.Common.{List, ℕ, Result, Ok, Err, subst, arith}
 use Rattle.raw_tree.proofs.Common.{Tree, TellsMeaning, IsEnvelope, Frame, RawValue, KeyedFault, Means, Meaning, value, faulty, value_of, RawBsonRef, Error, AllAreCountedOneWay, Sort}
 use Rattle.raw_tree.proofs.Common.{ReadsAs, StandsFor, Holds, FirstFaultOfValue, FirstFaultOfFrame, FrameStandsFor, AreReadOneWay, IsValueReadOneWay, IsFrameReadOneWay}
@@ -15,7 +15,7 @@ bytes_one_way sort b env = record {
   one_fault = λ fault other r s. one_first_fault b other fault s r;
 }
 
--- and have one number of frames until the first fault
+-- and have one number of frames up to the first fault
 pub counted_one_way : AllAreCountedOneWay
 counted_one_way b env =
     let n = counted b env in

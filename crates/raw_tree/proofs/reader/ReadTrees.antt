@@ -12,7 +12,7 @@ use Rattle.raw_tree.proofs.reader.Loops.{nested_envelope}
 
 -- bytes
 
--- the payload of a frame is bytes where those that the frame is in are
+-- the payload of a frame is bytes if those with the frame are
 pub payload_bytes : (s : List ℕ) (f : Frame) (r : List ℕ) → IsFrame s f r → AreBytes s → AreBytes f.payload
 payload_bytes s f r b bytes =
     let head = tag_of f.kind ∷ (f.key ++ 0 ∷ []) in
@@ -21,7 +21,7 @@ payload_bytes s f r b bytes =
 
 -- leaves
 
--- a leaf in range, without a 0 where none may be, whose options ascend and whose subtype is proper
+-- a leaf in range, without a 0 in a C string, whose options ascend and whose subtype is proper
 abbrev IsLeafProper : Leaf → Type 0
 IsLeafProper l = IsLeafInRange l × IsLeafNulFree l × DoLeafOptionsAscend l × IsLeafSubtypeProper l
 
@@ -59,7 +59,7 @@ code_text k p code scope m = grind arith
 
 -- trees
 
--- what holds of the parts, where each follows from what is framed
+-- what holds of the parts, if each follows from what is framed
 module _ (holds : OfParts)
     (leaves : (l : Leaf) → IsLeafProper l → holds.of_leaf l) (codes : (code : List ℕ) → IsUtf8 code → holds.of_code code)
     (keys : (key : List ℕ) → IsUtf8 key → NulFree key → holds.of_key key) (kept : (ks : List (List ℕ)) → IsDistinct bytes_eq ks → holds.of_keys ks) where
@@ -71,17 +71,17 @@ module _ (holds : OfParts)
   abbrev InPairs : List (List ℕ × Tree) → Type 0
   InPairs ps = InEntries holds (entries ps)
 
-  -- with one pair more
+  -- with one more pair
   InPairs-with_pair : (k : List ℕ) (t : Tree) (ps : List (List ℕ × Tree)) → holds.of_key k → IsMet t → InPairs ps → InPairs (with_pair k t ps)
   InPairs-with_pair k t [] a h b = (a, h, tt)
   InPairs-with_pair k t (p ∷ ps) a h b = grind (arith, InPairs-with_pair k t ps a h)
 
-  -- with more, put in one after the other
+  -- with more pairs, inserted one after the other
   InPairs-fold : (qs ps : List (List ℕ × Tree)) → InPairs qs → InPairs ps → InPairs (fold (λ rs p. with_pair p.0 p.1 rs) qs ps)
   InPairs-fold qs [] a h = a
   InPairs-fold qs (p ∷ ps) a h = InPairs-fold (with_pair p.0 p.1 qs) ps (InPairs-with_pair p.0 p.1 qs h.0 h.1 a) h.2
 
-  -- so it holds in the pairs that are kept
+  -- so it holds in the kept pairs
   InPairs-keep : (ps : List (List ℕ × Tree)) → InPairs ps → InPairs (keep ps)
   InPairs-keep ps h = rw (fold-keep ps) at (InPairs-fold [] ps tt h)
 

@@ -1,5 +1,5 @@
--- What a loop over levels knows of the bytes: each level has passed frames that stand for the pairs that it has
--- drafted, and each but the innermost waits for the value of the frame behind them.
+-- What a loop over levels knows of the bytes. Each level has passed frames that stand for the pairs that it has drafted. Each but the
+-- innermost waits for the value of the frame after those.
 use Rattle.std.proofs.Common.{◌≡◌, Option, None, Some, ◌+◌, ◌∷◌, [], ℕ, suc, List, length, arith, ap, refl, map, Bor, zip}
 use Rattle.raw_tree.proofs.Common.{length-map, nil_from_length, Tree, code_with_scope, entries, tree_of, with_trees, pairs_of, Bson, Document, bytes_of, Frame, RawValue}
 use Rattle.raw_tree.proofs.Common.{HoldsAs, sort_of, held_value, holding, AreDrafted, ClosesAs, Barrier, Holds, Contents, Draft, Holder, Level, Nested, Waiting}
@@ -33,8 +33,8 @@ held_as h d = grind arith
 
 -- a level
 
--- Nested bytes are with how many frames of the outermost are counted before their own. The level has passed frames of them, which stand
--- for the pairs that it has drafted; so many are counted up to there.
+-- A level that reads the nested bytes; the pair has the number of frames of the outermost bytes that are counted before them. The level has
+-- passed frames that stand for the pairs that it has drafted; n frames are counted up to there.
 pub record IsReading (inside : ℕ) (i : Nested × ℕ) (level : Level) (n : ℕ) : Type 0 where
   pub pairs : List (List ℕ × Tree)
   pub rest : List ℕ
@@ -49,11 +49,11 @@ pub record IsReading (inside : ℕ) (i : Nested × ℕ) (level : Level) (n : ℕ
 abbrev pub with_left : Level → Option (List ℕ) → Level
 with_left level new = record { elements = new; holder = level.holder; draft = level.draft }
 
--- the frame is in front of s and means the value, and these elements are left behind it
+-- the frame is at the front of s and means the value, and these elements are left after it
 abbrev pub Front : List ℕ → Frame → RawValue → Option (List ℕ) → Type 0
 Front s f v new = (r : List ℕ) × IsAhead s f v r × (new ≡ Some r)
 
--- the level waits behind a frame, which isn't drafted yet: its value holds the nested bytes of the next level
+-- the level waits after a frame that isn't drafted yet: its value holds the nested bytes of the next level
 pub record IsWaiting (inside : ℕ) (o : Nested × ℕ) (w : Waiting) (i : Nested × ℕ) : Type 0 where
   pub left : Option (List ℕ)
   pub n : ℕ
@@ -63,12 +63,13 @@ pub record IsWaiting (inside : ℕ) (o : Nested × ℕ) (w : Waiting) (i : Neste
   pub key_is : w.key.now ≡ frame.key
   pub total : i.1 ≡ n + 1
 
--- nested bytes have this first barrier; or they come to something, behind at least so many frames; these are counted from the outermost bytes
+-- Nested bytes have this first barrier; or they have an outcome after at least this many frames. The frames are counted from the outermost
+-- bytes.
 abbrev pub IsTold : Option Barrier → ℕ → ℕ → Nested × ℕ → Type 0
 IsTold None n depth i = (m : ℕ) × (n ≡ i.1 + m) × HasOutcome depth (sort_of i.0.holder) (bytes_of i.0.document) m
 IsTold (Some x) n depth i = (m : ℕ) × (n ≡ i.1 + m) × IsOutcome depth (sort_of i.0.holder) (bytes_of i.0.document) (Some x) m
 
--- what is told of nested bytes in front of a level is told of its bytes
+-- what holds of nested bytes at the front of a level holds of its bytes
 pub told_inside : {inside n : ℕ} {o : Nested × ℕ} {level : Level} (is : IsReading inside o level n) (i : Nested × ℕ) {f : Frame} {new : Option (List ℕ)} → Front is.rest f (held_value i.0) new
     → i.1 ≡ n + 1 → (x : Option Barrier) (all : ℕ) → IsTold x all inside i → IsTold x all (suc inside) o
 told_inside {o = o} is (v, before) front more None all (m, same, h) =
@@ -79,12 +80,13 @@ told_inside {o = o} is (v, before) front more (Some x) all (m, same, h) =
     let d = bytes_of v.document in
     (is.here + 1 + m, omega (arith, same, more, is.total), barred_inside is.passed front.1 (sort_of o.0.holder) (sort_of v.holder) d x m (held_holds v.holder d) h)
 
--- the levels that wait, the innermost first: each waits for the one before it, and the first for i, inside of which may be so many; o is the outermost
+-- The waiting levels, the innermost first: each waits for the one before it, and the first waits for i, inside of which `inside` levels may
+-- be. The outermost is o.
 abbrev pub AreWaiting : (inside : ℕ) → Nested × ℕ → List Waiting → Nested × ℕ → Type 0
 AreWaiting inside o [] i = o ≡ i
 AreWaiting inside o (w ∷ ws) i = (m : Nested × ℕ) × IsWaiting (suc inside) m w i × AreWaiting (suc inside) o ws m
 
--- so what is told of the innermost bytes is told of the outermost
+-- so what holds of the innermost bytes holds of the outermost
 pub told_outward : (x : Option Barrier) (all inside depth : ℕ) (o : Nested × ℕ) (ws : List Waiting) (i : Nested × ℕ) → suc (length ws + inside) ≡ depth → AreWaiting inside o ws i
     → IsTold x all (suc inside) i → IsTold x all depth o
 told_outward x all inside depth o [] i levels same h = let one : depth ≡ suc inside = omega (arith, levels) in rw (same, one) h

@@ -1,4 +1,4 @@
--- Bytes with an envelope are canonical, or have a first breach.
+-- Bytes with an envelope are canonical or have a first breach.
 use Rattle.std.proofs.Common.{◌≡◌, ◌⊎◌, inl, inr, ◌≤◌, ◌+◌, ◌++◌, ◌∷◌, [], ℕ, zero, suc, List, length, decimal, drop, arith, refl, length-drop, bytes_eq}
 use Rattle.std.proofs.lemmas.Bool.{cases_Bool}
 use Rattle.std.proofs.lemmas.Cmp.{nat_list_eq_equiv}
@@ -19,7 +19,7 @@ use Rattle.raw_tree.proofs.reader.Loops.{holds_bytes, nested_envelope, nested_sh
 abbrev IsEither : Sort → List ℕ → Type 0
 IsEither sort b = IsCanonicalAs sort b ⊎ ((path : List ℕ) × (why : Cause) × HasBreachAs sort b path why)
 
--- a key behind canonical keys keeps them canonical, or breaches
+-- a key after canonical keys keeps them canonical, or is a breach
 key_decided : (sort : Sort) (keys : List (List ℕ)) (key : List ℕ) → AreKeysCanonical sort keys → AreKeysCanonical sort (keys ++ key ∷ []) ⊎ ((why : Cause) × BreachesKeys sort keys key why)
 key_decided as_document keys key h = grind (arith, place_where keys key, IsDistinct-push nat_list_eq_equiv keys key h)
 key_decided as_array keys key h = grind (arith, array_key keys key h, cases_Bool (bytes_eq key (decimal (length keys))), bytes_decides key (decimal (length keys)))
@@ -28,7 +28,7 @@ leaf_decided : (l : Leaf) → DoLeafOptionsAscend l ⊎ ¬ DoLeafOptionsAscend l
 leaf_decided (regular_expression pattern options) = options_decided options
 leaf_decided _ = inl tt
 
--- what a frame means is a canonical value, or has a first breach
+-- the meaning of a frame is a canonical value or has a first breach
 abbrev IsMeaningEither : Meaning → Type 0
 IsMeaningEither m = ((v : RawValue) × (m ≡ value v) × IsValueCanonical IsCanonicalAs v) ⊎ ((path : List ℕ) × (why : Cause) × (n : ℕ) × BreachesMeaning (HasBreachUpTo n) m path why)
 
@@ -49,7 +49,7 @@ meaning_decided (value (raw.scoped code d)) nested = held_decided (raw.scoped co
 abbrev AreEitherWithin : ℕ → Type 0
 AreEitherWithin n = (sort : Sort) (d : List ℕ) → length d ≤ n → IsEnvelope d → IsEither sort d
 
--- behind canonical frames
+-- after canonical frames
 module _ {sort : Sort} {b : List ℕ} where
   breach_at : {passed : List Frame} {s : List ℕ} → HasPassed sort b passed s → (n : ℕ) (inside : List ℕ) (why : Cause)
       → BreachesFront (HasBreachUpTo n) sort (keys_of_frames passed) s inside why → IsEither sort b

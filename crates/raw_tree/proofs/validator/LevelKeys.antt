@@ -1,4 +1,4 @@
--- The keys of a level, and canonical frames, with one more behind them.
+-- The keys of a level, and canonical frames, with one more after them.
 use Rattle.std.proofs.Common.{◌≡◌, ◌≢◌, ◌∙◌, ◌+◌, ◌++◌, ◌∷◌, [], ℕ, List, None, Some, length, decimal, arith, ap, refl, sym}
 use Rattle.std.proofs.lemmas.Cmp.{nat_list_eq_equiv}
 use Rattle.std.proofs.lemmas.Map.Keys.{IsDistinct-push}
@@ -14,23 +14,23 @@ use Rattle.key_set.proofs.Face.{distinct_apart, distinct_front, place_where}
 use Rattle.raw_tree.specs.declared.validator.breach.Cause.TheVariants as cause
 use Rattle.raw_tree.specs.declared.validator.keys_so_far.KeysSoFar.TheVariants as keys
 
--- decimals in front of others, and behind others
+-- decimals before others, and after others
 decimals_cut : (n : ℕ) (xs ys : List (List ℕ)) → (AreDecimalsFrom n (xs ++ ys) → AreDecimalsFrom n xs × AreDecimalsFrom (n + length xs) ys)
     × (AreDecimalsFrom n xs × AreDecimalsFrom (n + length xs) ys → AreDecimalsFrom n (xs ++ ys))
 decimals_cut n [] ys = grind arith
 decimals_cut n (x ∷ xs) ys = grind (arith, decimals_cut (n + 1) xs ys)
 
--- canonical keys have canonical keys in front
+-- the first of canonical keys are canonical
 pub keys_front : (sort : Sort) (xs ys : List (List ℕ)) → AreKeysCanonical sort (xs ++ ys) → AreKeysCanonical sort xs
 keys_front as_document xs ys h = distinct_front xs ys h
 keys_front as_array xs ys h = ((decimals_cut 0 xs ys).0 h).0
 
--- a key that stays canonical behind these has no breach
+-- a key that is canonical after these is no breach
 pub key_nor_breach : (sort : Sort) (keys : List (List ℕ)) (key : List ℕ) (why : Cause) → AreKeysCanonical sort (keys ++ key ∷ []) → BreachesKeys sort keys key why → ⊥
 key_nor_breach as_document keys key why h b = grind (arith, place_where keys key, distinct_apart keys key h)
 key_nor_breach as_array keys key why h b = b.0 (((decimals_cut 0 keys (key ∷ [])).0 h).1.0 ∙ ap decimal (omega arith))
 
--- one key more
+-- one more key
 pub array_key : (keys : List (List ℕ)) (key : List ℕ) → AreDecimalsFrom 0 keys → key ≡ decimal (length keys) → AreDecimalsFrom 0 (keys ++ key ∷ [])
 array_key keys key h e = (decimals_cut 0 keys (key ∷ [])).1 (h, (e ∙ ap decimal (omega arith), tt))
 

@@ -9,7 +9,7 @@ use Rattle.raw_tree.proofs.validator.OneViolation.{AreCanonical, among, one_of_k
 use Rattle.raw_tree.proofs.walk.OneEnd.{IsBlocked, passed_once, passed_whole}
 use Rattle.raw_tree.proofs.Returns.{frames_canonical_on}
 
--- no bytes that have a first breach within so many levels are canonical
+-- no bytes that have a first breach within n levels are canonical
 abbrev AreApart : ℕ → Type 0
 AreApart n = (sort : Sort) (b path : List ℕ) (why : Cause) → HasBreachUpTo n sort b path why → IsCanonicalAs sort b → ⊥
 
@@ -35,7 +35,7 @@ apart (suc n) sort b path why (ps, s, inside, leads, keys, values, front, path_i
     let end = passed_whole (AreCanonical IsCanonicalAs sort) (drop 4 b) frames ps s walk (frame_keys, all_canonical) leads (keys, values) (blocks n (apart n) sort ps s inside why front) in
     final n (apart n) sort (keys_of_frames ps) s inside why end front
 
--- two first breaches are the same
+-- two first breaches are equal
 abbrev AreOne : ℕ → ℕ → Type 0
 AreOne n m = (sort : Sort) (b path other : List ℕ) (why cause : Cause) → HasBreachUpTo n sort b path why → HasBreachUpTo m sort b other cause → (other ≡ path) × (cause ≡ why)
 

@@ -1,4 +1,4 @@
--- A document has one violation at most within a depth, at one place, and none where it is canonical.
+-- A document has at most one violation within a depth, at one place, and none if it is canonical.
 use Rattle.std.proofs.Common.{◌≡◌, inl, inr, ◌++◌, ◌∷◌, [], ℕ, zero, suc, List, length, drop, sym, ◌∙◌, append_assoc, arith}
 use Rattle.raw_tree.proofs.Common.{AreFramesCanonical, AreKeysCanonical, BreachesKeys, Cause, Frame, IsCanonicalUpTo, IsValueCanonical, Limits, Meaning, Means, RawValue, Sort}
 use Rattle.raw_tree.proofs.Common.{as_document, keys_of_frames, map-append, value}
@@ -11,7 +11,7 @@ use Rattle.raw_tree.proofs.walk.OneEnd.{IsBlocked, passed_once, passed_whole}
 abbrev pub AreCanonical : (Sort → List ℕ → Type 0) → Sort → List Frame → Type 0
 AreCanonical P sort fs = AreKeysCanonical sort (keys_of_frames fs) × AreFramesCanonical P fs
 
--- one among them is canonical, and its key behind those before it
+-- one of them is canonical, and so is its key after those before it
 frame_among : (P : Sort → List ℕ → Type 0) (ps : List Frame) (f : Frame) (more : List Frame) → AreFramesCanonical P (ps ++ f ∷ more)
     → (v : RawValue) × Means f (value v) × IsValueCanonical P v
 frame_among P [] f more h = (h.0, h.1, h.2)
@@ -27,12 +27,12 @@ among P sort ps f more h =
 pub one_of_keys : (sort : Sort) (keys : List (List ℕ)) (key : List ℕ) (why other : Cause) → BreachesKeys sort keys key why → BreachesKeys sort keys key other → other ≡ why
 one_of_keys sort keys key why other h g = grind arith
 
--- no bytes that have a violation within so many levels are canonical
+-- no bytes that have a violation within n levels are canonical
 abbrev AreApart : ℕ → Type 0
 AreApart n = (sort : Sort) (b : List ℕ) (x : Violation) (path : List Step) (offset : ℕ) → FirstViolationTo n sort b x path offset → IsCanonicalUpTo n sort b → ⊥
 
 module _ (n : ℕ) (b : List ℕ) where
-  -- behind these frames
+  -- after these frames
   abbrev Front : Sort → List Frame → List ℕ → Violation → List Step → ℕ → Type 0
   Front sort ps s x path offset = ValidatesFrontAt (IsCanonicalUpTo n) (FirstViolationTo n) sort (keys_of_frames ps) b s (length ps) x path offset
 
@@ -58,7 +58,7 @@ apart (suc n) sort b x path offset (ps, s, leads, keys, values, front) (frames, 
     let end = passed_whole (AreCanonical (IsCanonicalUpTo n) sort) (drop 4 b) frames ps s walk (frame_keys, all) leads (keys, values) blocked in
     final n b sort ps s x path offset end front
 
--- two violations are one, at one place
+-- two violations are equal, and at one place
 abbrev AreOne : ℕ → Type 0
 AreOne n = (sort : Sort) (b : List ℕ) (x y : Violation) (path other : List Step) (offset at : ℕ) → FirstViolationTo n sort b x path offset → FirstViolationTo n sort b y other at
     → (y ≡ x) × (other ≡ path) × (at ≡ offset)

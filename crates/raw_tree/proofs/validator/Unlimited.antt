@@ -1,4 +1,4 @@
--- What is told within a depth that no document reaches is told without limits.
+-- What holds within a depth that no document reaches holds without limits.
 use Rattle.std.proofs.Common.{◌≡◌, ◌≤◌, ◌<◌, ◌∷◌, ℕ, zero, suc, List, None, Some, map, length, drop, arith, length-drop}
 use Rattle.raw_tree.proofs.Common.{BreachesFront, BreachesMeaning, Cause, HasBreachAs, HasBreachUpTo, IsCanonicalAs, IsCanonicalUpTo, IsEnvelope, Meaning, Sort}
 use Rattle.raw_tree.proofs.Common.{as_document, keys_of_frames, max_length}
@@ -13,7 +13,7 @@ numbers steps = map (λ (step : Step). step.number) steps
 
 -- a first breach at a place is the first breach
 
--- nested bytes that have one within so many levels
+-- nested bytes that have one within n levels
 abbrev AreBreached : ℕ → Type 0
 AreBreached n = (sort : Sort) (d : List ℕ) (why : Cause) (steps : List Step) (offset : ℕ) → FirstViolationTo n sort d (breach_of why) steps offset → HasBreachUpTo n sort d (numbers steps) why
 
@@ -32,12 +32,12 @@ breached (suc n) sort b why steps offset (passed, s, l, keys, canonical, front) 
     let told = front_breached n (breached n) b s why steps offset sort (keys_of_frames passed) (length passed) front in
     (passed, s, drop 1 (numbers steps), l, keys, frames_canonical_on (IsCanonicalUpTo n) IsCanonicalAs (λ t d i. (n, i)) passed canonical, told.0, told.1)
 
--- bytes with a level deeper than allowed are at least so many as the levels that are
+-- bytes with a level that is too deep are at least as many as the allowed levels
 deep_long : (n : ℕ) (sort : Sort) (b : List ℕ) (path : List Step) (offset : ℕ) → FirstViolationTo n sort b too_deep path offset → n ≤ length b
 deep_long zero sort b path offset h = omega arith
 deep_long (suc n) sort b path offset h = grind (arith, LeadsTo-bound, length-drop, nested_shorter, deep_long n)
 
--- what is found to such a depth
+-- what is found within such a depth
 
 -- the greatest depth that there is
 abbrev pub most : ℕ

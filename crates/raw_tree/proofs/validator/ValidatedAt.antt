@@ -1,4 +1,4 @@
--- What the loop of a validation keeps, and what it tells where it ends.
+-- What the loop of a validation preserves, and what follows where it ends.
 use Rattle.std.proofs.Common.{◌≡◌, ◌∙◌, ◌≤◌, ◌<◌, ◌+◌, ◌-◌, ◌++◌, ◌∷◌, [], inr, ℕ, suc, List, Bool, Bor, Option, Some, length, arith, ap, refl, sym, subst}
 use Rattle.raw_tree.proofs.Common.{AreKeysCanonical, Cause, Frame, Holds, HoldsAs, IsCanonicalUpTo, RawElement, RawValue, as_document, bytes_of, frame_of, keys_of_frames, length-map, texts, value}
 use Rattle.raw_tree.proofs.walk.Common.{AreOpenKeys, BeginsAt, Enters, FirstViolationTo, GoesOn, HasKeysSoFar, IsAt, IsWithin, KeysSoFar, Leaves, LeavesOpenKeys, Level, RawDocument, Step, TellsValidated, Validated, Validates, ValidatesFrontAt}
@@ -12,7 +12,7 @@ use Rattle.raw_tree.proofs.walk.Levels.{IsNext, at_goes_on, at_inside, at_outsid
 as_held : (v : RawValue) (is_array : Bool) (inner : RawDocument) → HoldsAs v (array_sort is_array) (bytes_of inner) → Holds v (bytes_of inner)
 as_held v is_array inner h = grind arith
 
--- a walk over this document within this depth is in a level; its keys so far, and those of the levels that wait
+-- a walk over this document within this depth is in a level; its keys so far, and those of the waiting levels
 pub record IsValidatedAt (document : RawDocument) (depth : ℕ) (walk : Walk) (level : Level) (outer : List KeysSoFar) (listed : List (Bor (List ℕ))) (k : KeysSoFar) : Type 0 where
   pub most : ℕ
   pub at : IsAt IsKept (IsValidated outer listed k) whole_keyed document most walk level
@@ -23,7 +23,7 @@ module _ {document : RawDocument} {depth : ℕ} {walk : Walk} {level : Level} {o
   pub open_keys : AreOpenKeys k listed
   open_keys = (is.at.levels.here.known.sort, is.at.levels.here.known.below, keys_of_frames is.at.frames, is.at.knows.keys, is.at.knows.keys_canonical)
 
-  -- what is told of what is next in the level, which goes on with these keys
+  -- what a step says of what is next in the level, which continues with these keys
   pub record IsTold (new : Option (List ℕ)) (ks : KeysSoFar) (after : List (Bor (List ℕ))) (x : Validated) : Type 0 where
     pub tells : TellsValidated is.at.levels.here.known.sort is.at.levels.here.known.below (keys_of_frames is.at.frames) is.at.rest new ks after x
 
@@ -33,7 +33,7 @@ module _ {document : RawDocument} {depth : ℕ} {walk : Walk} {level : Level} {o
         (keys_of_frames is.at.frames) is.at.knows.keys is.at.knows.keys_canonical (is.at.number_is ∙ sym (length-map is.at.frames (λ (f : Frame). f.key)));
   }
 
-  -- a violation in front of what is left of the level is the document's first
+  -- a violation at the front of the rest of a level is the first of the document
   front_violates : (x : Violation) (step : Step)
       → ((here : ℕ) → BeginsAt is.at.levels.here.bytes is.at.rest here → ValidatesFrontAt (IsCanonicalUpTo is.at.levels.inside) (FirstViolationTo is.at.levels.inside)
       is.at.levels.here.known.sort (keys_of_frames is.at.frames) is.at.levels.here.bytes is.at.rest level.number x (step ∷ []) here)
@@ -43,7 +43,7 @@ module _ {document : RawDocument} {depth : ℕ} {walk : Walk} {level : Level} {o
       rw (← is.depth_is) (front_outward at (violations_outward (bytes_of document) x) step (λ here begins.
       (at.frames, at.rest, at.reaches, at.knows.keys_canonical, at.knows.canonical, rw (at.number_is) at (front here begins))))
 
-  -- it goes on so, further on
+  -- it continues like this, further on
   abbrev pub GoesFurther : Walk → Level → List KeysSoFar → List (Bor (List ℕ)) → KeysSoFar → Type 0
   GoesFurther new to outer listed k = IsValidatedAt document depth new to outer listed k × (length (bytes_of document) - to.offset < length (bytes_of document) - level.offset)
 
@@ -74,7 +74,7 @@ module _ {document : RawDocument} {depth : ℕ} {walk : Walk} {level : Level} {o
       pub inside_within : IsWithin walk (with_left new level) e × (length (bytes_of inner) ≤ size_of (frame_of e))
       inside_within = let (v, next, holds, has, more) = inside_next in (next_within is.at next, inside_fits is.at next inner (as_held v is_array inner holds))
 
-      -- the level that it holds is entered
+      -- the level in it is entered
       pub validated_inside : {then : Walk} {to : Level} {j : KeysSoFar} → Enters walk (with_left new level) then to e inner → HasKeysSoFar j after (array_sort is_array) (texts after) []
           → IsValidatedAt document depth then to (outer ++ ks ∷ []) after j
       validated_inside enters begins =
@@ -121,7 +121,7 @@ module _ {document : RawDocument} {depth : ℕ} {walk : Walk} {level : Level} {o
             ),
           ))
 
-    -- it breaches
+    -- it is a breach
     pub validated_breach : (key : Option (Bor (List ℕ))) (why : Cause) → x ≡ validated.Breach key why
         → FirstViolationTo depth as_document (bytes_of document) (breach_of why) (at_path is.at ++ record { number = level.number; key = option_copied key } ∷ []) level.offset
     validated_breach key why x_is =
@@ -148,7 +148,7 @@ module _ {document : RawDocument} {depth : ℕ} {walk : Walk} {level : Level} {o
           let l = is.at.levels in
           validated_end (l.stored ∙ none_kept (whole_span whole_keyed document) l.inside l.waits l.here l.held (sym is.at.knows.outer_is ∙ none))
 
-      -- the level that waits goes on
+      -- the waiting level continues
       pub validated_outside : {then : Walk} {to : Level} {left_list : List (Bor (List ℕ))} (less : List KeysSoFar) (j : KeysSoFar) → Leaves walk level.offset then to → outer ≡ less ++ j ∷ []
           → LeavesOpenKeys ks after left_list → GoesFurther then to less left_list j
       validated_outside {left_list = left_list} less j leaves outer_is leaves_keys =

@@ -1,4 +1,4 @@
--- Levels that are validated: what is known of each, and that a violation on the innermost is one on the document.
+-- Levels that are being validated: what is known of each, and that a violation of the innermost is one of the document.
 use Rattle.std.proofs.Common.{◌≡◌, ◌∙◌, ◌++◌, ◌∷◌, [], inl, inr, ℕ, suc, List, Option, None, Some, length, drop, arith, ap, refl, sym, Bor, length-append}
 use Rattle.std.proofs.lemmas.List.{same_from_push}
 use Rattle.raw_tree.proofs.Common.{AreFramesCanonical, AreKeysCanonical, Cause, Done, Frame, HoldsAs, IsCanonicalUpTo, IsValueCanonical, LeadsTo, Meaning, Means, RawValue, Sort, as_document}
@@ -19,7 +19,7 @@ held_canonical N v s d h c = grind arith
 
 -- levels
 
--- the sort of a level; the keys of the levels outside, which are below its own in the list, and what they are known by
+-- the sort of a level; the keys of the outer levels, which are before its own in the list; and how its keys are kept
 pub record Keyed : Type 0 where
   pub sort : Sort
   pub below : List (List ℕ)
@@ -28,14 +28,14 @@ pub record Keyed : Type 0 where
 abbrev pub whole_keyed : Keyed
 whole_keyed = record { sort = as_document; below = []; outer = [] }
 
--- the keys and values of some frames of a level are canonical, with at most so many levels inside; what their keys are known by
+-- the keys and values of some frames of a level are canonical, with at most `inside` levels inside; and how their keys are kept
 pub record IsValidated (outer : List KeysSoFar) (listed : List (Bor (List ℕ))) (k : KeysSoFar) (inside : ℕ) (i : Span Keyed) (frames : List Frame) : Type 0 where
   pub outer_is : outer ≡ i.known.outer
   pub keys : HasKeysSoFar k listed i.known.sort i.known.below (keys_of_frames frames)
   pub keys_canonical : AreKeysCanonical i.known.sort (keys_of_frames frames)
   pub canonical : AreFramesCanonical (IsCanonicalUpTo inside) frames
 
--- so it is of a level that waits, and of the key of its element; in the list are these keys once the level in it is left
+-- the same of a waiting level and of the key of its element; these keys are in the list once the level in it is left
 pub record IsKept (inside : ℕ) (w : Wait Keyed) (i : Span Keyed) : Type 0 where
   pub k : KeysSoFar
   pub outer_is : i.known.outer ≡ w.level.known.outer ++ k ∷ []
@@ -50,7 +50,7 @@ pub none_validated : {outer : List KeysSoFar} {listed : List (Bor (List ℕ))} {
 none_validated inside i outer_is has = record { outer_is = outer_is; keys = has; keys_canonical = no_keys i.known.sort; canonical = tt }
 
 module _ {outer : List KeysSoFar} {listed : List (Bor (List ℕ))} {k : KeysSoFar} {inside : ℕ} {i : Span Keyed} {frames : List Frame} (is : IsValidated outer listed k inside i frames) where
-  -- one more is
+  -- one more is passed
   pub validated_more : {after : List (Bor (List ℕ))} {ks : KeysSoFar} (f : Frame) (v : RawValue) → Means f (value v) → IsSingleWith (λ A. A) v
       → HasKeysSoFar ks after i.known.sort i.known.below (keys_of_frames frames ++ f.key ∷ []) → AreKeysCanonical i.known.sort (keys_of_frames frames ++ f.key ∷ [])
       → IsValidated outer after ks inside i (frames ++ f ∷ [])
@@ -61,11 +61,11 @@ module _ {outer : List KeysSoFar} {listed : List (Bor (List ℕ))} {k : KeysSoFa
     canonical = frames_more (IsCanonicalUpTo inside) frames f v is.canonical means (single_canonical (IsCanonicalUpTo inside) v single);
   }
 
-  -- all of the level are
+  -- all of the level are passed
   pub all_validated : {s : List ℕ} → LeadsTo (drop 4 i.bytes) frames s → s ≡ 0 ∷ [] → IsCanonicalUpTo (suc inside) i.known.sort i.bytes
   all_validated {s} l final = (frames, LeadsTo-walk (drop 4 i.bytes) frames s Done l final, is.keys_canonical, is.canonical)
 
-  -- the level that waits goes on behind its element
+  -- the waiting level continues after its element
   pub left_validated : {b s : List ℕ} {w : Wait Keyed} {less : List KeysSoFar} {j : KeysSoFar} (refs : List (Bor (List ℕ))) → IsHeld IsKept b (suc inside) w i
       → LeadsTo (drop 4 i.bytes) frames s → s ≡ 0 ∷ [] → outer ≡ less ++ j ∷ [] → texts refs ≡ i.known.below → IsValidated less refs j (suc inside) w.level (w.frames ++ w.f ∷ [])
   left_validated {w = w} {less} {j} refs held l final same below =
@@ -78,12 +78,12 @@ module _ {outer : List KeysSoFar} {listed : List (Bor (List ℕ))} {k : KeysSoFa
             (held_canonical (IsCanonicalUpTo (suc inside)) w.v i.known.sort i.bytes held.knows.holds (all_validated l final));
       }
 
--- where no keys are kept no level waits
+-- if no keys are kept, no level waits
 pub none_kept : (document : Span Keyed) (inside : ℕ) (ws : List (Wait Keyed)) (i : Span Keyed) → AreHeld IsKept document inside ws i → i.known.outer ≡ [] → all_stored ws ≡ []
 none_kept document inside [] i held none = refl
 none_kept document inside (w ∷ ws) i (held, more) none = absurd (omega (arith, ap length none, ap length held.knows.outer_is, length-append w.level.known.outer (held.knows.k ∷ [])))
 
--- what a frame means by itself has this breach; or its nested bytes have this violation
+-- what a frame means is this breach by itself, or its nested bytes have this violation
 
 module _ (P : Sort → List ℕ → Type 0) (N : Sort → List ℕ → Violation → List Step → ℕ → Type 0) (b s q : List ℕ) (step : Step) (offset : ℕ) where
   itself_at : (m : Meaning) (why : Cause) → BreachesItself m why → BeginsAt b s offset → ValidatesMeaningAt P N b s step q m (breach_of why) (step ∷ []) offset
@@ -93,7 +93,7 @@ module _ (P : Sort → List ℕ → Type 0) (N : Sort → List ℕ → Violation
       → ValidatesMeaningAt P N b s step q (value v) x path offset
   inside_at v {sort} {d} {x} {path} h is = grind arith
 
--- what breaches by itself is in front
+-- a breach by itself is at the front
 pub breach_front : (P : Sort → List ℕ → Type 0) (N : Sort → List ℕ → Violation → List Step → ℕ → Type 0) (sort : Sort) (keys : List (List ℕ)) (b s : List ℕ) (number offset : ℕ)
     (key : Option (List ℕ)) (why : Cause) → BreachesHere sort keys s key why → BeginsAt b s offset
     → ValidatesFrontAt P N sort keys b s number (breach_of why) (record { number = number; key = key } ∷ []) offset

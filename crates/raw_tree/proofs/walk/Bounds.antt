@@ -1,4 +1,4 @@
--- What is told of a document is within it.
+-- The places in a document are within it.
 use Rattle.std.proofs.Common.{◌≤◌, ℕ, zero, suc, List, length, arith, length-append}
 use Rattle.raw_tree.proofs.Common.{Barrier, Limits, Sort, as_document}
 use Rattle.raw_tree.proofs.walk.Common.{FirstBarrierAt, FirstFaultAt, FirstViolation, FirstViolationTo, IsOffsetOf, Step, Violation}
@@ -14,7 +14,7 @@ fault_bound (suc n) b x path offset h = grind (arith, offset_bound, fault_bound 
 pub barrier_bound : (limits : Limits) (b : List ℕ) (x : Barrier) (path : List Step) (offset : ℕ) → FirstBarrierAt limits b x path offset → offset ≤ length b
 barrier_bound limits b x path offset h = grind (arith, fault_bound limits.depth)
 
--- where the first violation does
+-- where the first violation begins
 violation_bound_to : (n : ℕ) (sort : Sort) (b : List ℕ) (x : Violation) (path : List Step) (offset : ℕ) → FirstViolationTo n sort b x path offset → offset ≤ length b
 violation_bound_to zero sort b x path offset h = omega (arith, h.2)
 violation_bound_to (suc n) sort b x path offset h = grind (arith, offset_bound, violation_bound_to n)

@@ -1,4 +1,4 @@
--- A walk that has come to some visits comes to one more, or to its end or a barrier.
+-- A walk that has come to some visits comes to one more, or to its end, or to a barrier.
 use Rattle.std.proofs.Common.{◌≡◌, ◌≤◌, ◌<◌, ◌+◌, ◌-◌, ◌++◌, ◌∷◌, [], inl, inr, ℕ, suc, List, Bor, Option, None, Some, length, drop, arith, ap, refl, sym, append-nil, length-append}
 use Rattle.raw_tree.proofs.Common.{BorrowedError, Frame, Holds, IsSingle, KeyedFault, LeadsTo, Nested, RawBsonRef, RawElement, ReadsUpTo, Tree, as_document, bytes_of, fault_of, frame_of, held_value, too_deep, value_of}
 use Rattle.raw_tree.proofs.walk.Common.{BarsFrontAt, BeginsAt, ComesTo, Enters, FailsAt, FirstFaultAt, GoesOn, HasCome, HasLooked, HasSeen, HasVisits, BarrierKind, IsBarrier, IsAt, IsBarrierAt, IsEntered, IsTooDeep, IsWithin, Leaves, Level, RawDocument, Span, Step}
@@ -37,7 +37,7 @@ fault_front : (n : ℕ) (b s : List ℕ) (number offset : ℕ) (key : Option (Li
 fault_front n b s number offset None fault fails begins = inl (fails, (refl, begins))
 fault_front n b s number offset (Some key) fault (f, r, at, m, key_is) begins = inr (f, r, at, inl (m, (rw key_is refl, begins)))
 
--- a barrier that is told at its place is the document's first
+-- a barrier with its place is the first of the document
 told_at : (most : ℕ) (b : List ℕ) (path : List Step) (step : Step) (offset : ℕ) (k : BarrierKind) (x : within.Barrier) → IsBarrier k x → FirstFaultAt (suc most) b x (path ++ step ∷ []) offset
     → (e : WalkError) → IsBarrierAt path step offset k e → TellsError most b e × IsThere offset e
 told_at most b path step offset k x is bars (error.Barrier answer) (kind_is, steps_is, offset_is) = ((x, rw kind_is is, rw (steps_is, offset_is) bars), offset_is)
@@ -49,13 +49,13 @@ deep_told : (most : ℕ) (b : List ℕ) (walk : Walk) (from : Level) (path : Lis
 deep_told most b walk from path e bars (error.Barrier answer) (full, at) = told_at most b path _ from.offset kind.TooDeep too_deep refl (bars full) (error.Barrier answer) at
 deep_told most b walk from path e bars error.OutOfMemory at = (tt, tt)
 
--- it is within the document, and no more levels wait than may
+-- it is within the document, and no more levels wait than are allowed
 pub come_within : {document : RawDocument} {most : ℕ} {walk : Walk} {level : Level} {seen : List Visit} → HasCome document most walk level seen
     → (level.offset ≤ length (bytes_of document)) × (length walk.waiting.items ≤ most)
 come_within is = (omega (arith, (at_within is.at).0), (at_within is.at).1)
 
 module _ {document : RawDocument} {most : ℕ} {walk : Walk} {level : Level} {seen : List Visit} (is : HasCome document most walk level seen) where
-  -- what it has come to is the first that there is to come to
+  -- its visits are the first of all visits
   pub come_front : (vs : List Visit) → HasVisits (suc most) 0 (bytes_of document) vs → (rest : List Visit) × (vs ≡ seen ++ rest)
   come_front vs has =
       let l = is.at.levels in
@@ -66,19 +66,19 @@ module _ {document : RawDocument} {most : ℕ} {walk : Walk} {level : Level} {se
   pub comes_nearer : {new : Walk} {to : Level} (x : Visit) → ComesTo document most level seen new to x → length (bytes_of document) - to.offset < length (bytes_of document) - level.offset
   comes_nearer x come = omega (arith, come.further, come.within)
 
-  -- a visit more
+  -- one more visit
   comes_to : {new : Walk} {to : Level} (x : Visit) → HasCome document most new to (seen ++ x ∷ []) → level.offset < to.offset → EndsWithin (bytes_of document) x
       → ComesTo document most level seen new to x
   comes_to x come further ends = record { come = come; further = further; within = (come_within come).0; ends = ends }
 
-  -- a barrier in front of what is left of the level is the document's first
+  -- a barrier at the front of the rest of the level is the first of the document
   front_told : (x : within.Barrier) (step : Step)
       → ((here : ℕ) → BeginsAt is.at.levels.here.bytes is.at.rest here → BarsFrontAt (ReadsUpTo is.at.levels.inside) (FirstFaultAt is.at.levels.inside)
       is.at.levels.here.bytes is.at.rest level.number x (step ∷ []) here)
       → FirstFaultAt (suc most) (bytes_of document) x (at_path is.at ++ step ∷ []) level.offset
   front_told x step front = front_outward is.at (bars_outward (bytes_of document) x) step (λ here begins. front_bars x _ here is.at.knows is.at.reaches is.at.number_is (front here begins))
 
-  -- what was looked at in the level
+  -- what a look at the level found
   module _ {new : Option (List ℕ)} {x : Next} (looked : HasLooked level.elements new x) where
     module _ (e : RawElement) (v : RawBsonRef) (x_is : x ≡ look.Whole e v) where
       whole_next : IsNext is.at.rest e (value_of v) new × IsSingle (value_of v)
@@ -134,7 +134,7 @@ module _ {document : RawDocument} {most : ℕ} {walk : Walk} {level : Level} {se
           front_told too_deep _ (λ here begins. inr (frame_of e, next.r, next.frame, inr (held_value inner, bytes_of inner.document, [], 0, next.means, inside_holds, deep, refl, begins))))
           answer (ends (at_path is.at) (at_steps is.at))
 
-    -- a fault is in front
+    -- a fault is at the front
     pub told_fault : (key : Option (Bor (List ℕ))) (e : BorrowedError) → x ≡ look.Fault key e → (answer : WalkError) → ((path : List Step)
         → StoreSteps (bytes_of walk.document) walk.waiting.items path → IsBarrierAt path (record { number = level.number; key = option_copied key }) level.offset (kind.Fault e) answer)
         → TellsError most (bytes_of document) answer × IsThere level.offset answer

@@ -1,4 +1,4 @@
--- Frames in front of what is left, and what a step over them takes.
+-- Frames at the front of the rest, and what a step over them takes.
 use Rattle.std.proofs.Common.{◌≡◌, ◌∙◌, ◌<◌, ◌+◌, ◌++◌, ◌∷◌, [], ℕ, true, List, Option, None, Some, Err, drop, length, ltb, slice_get, slice_index_or, arith, ap, refl, sym, subst, length-append}
 use Rattle.std.proofs.lemmas.Bool.Decides.{nat_tests}
 use Rattle.raw_tree.proofs.Common.{BorrowedError, Done, Frame, IsFrame, IsWalk, StepsFront, drop-append-add, element_of, slice_get-get_or}
@@ -6,9 +6,9 @@ use Rattle.raw_tree.proofs.walk.Common.{HasNoFrame, TakesFrame, end_of, option_c
 use Rattle.raw_tree.proofs.walk.Fronts.{stop_of}
 use Rattle.raw_view.proofs.Face.{front_and_rest, no_frame_at_final, no_frame_at_stop, one_frame}
 
--- what is in front of a walk
+-- what is at the front of a walk
 
--- the element in front is the first frame
+-- the element at the front is the first frame
 pub walk_step : (s : List ℕ) (frames : List Frame) (f : Frame) (r : List ℕ) → IsWalk s frames Done → IsFrame s f r → (fs : List Frame) × (frames ≡ f ∷ fs) × IsWalk r fs Done
 walk_step s [] f r w at = absurd (no_frame_at_final s w f r at)
 walk_step s (g ∷ fs) f r w at =
@@ -21,7 +21,7 @@ pub taken_stop : (old new : Option (List ℕ)) (e : BorrowedError) → StepsFron
 taken_stop None new e st = refl
 taken_stop (Some s) new e st = let stop = stop_of e.kind (option_copied e.key) s st.0 in no_frame_at_stop s stop.0.fault stop.0.key stop.1
 
--- where none is in front, a walk has no frame
+-- where no frame is at the front, the walk has none
 pub walk_over : (s : List ℕ) (frames : List Frame) → IsWalk s frames Done → HasNoFrame s → frames ≡ []
 walk_over s [] w none = refl
 walk_over s (f ∷ fs) w none = absurd (none f w.0 w.1)
@@ -35,7 +35,7 @@ drop_frame s f r m at =
 pub frame_size : (s : List ℕ) (f : Frame) (r : List ℕ) → IsFrame s f r → size_of f + length r ≡ length s
 frame_size s f r b = omega (arith, ap length b.spelled, length-append f.key (0 ∷ (f.payload ++ r)), length-append f.payload r)
 
--- behind one more the rest begins where that ends
+-- after one more frame the rest begins where that frame ends
 pub end_behind : (at : ℕ) (fs : List Frame) (f : Frame) → end_of at (fs ++ f ∷ []) ≡ end_of at fs + size_of f
 end_behind at [] f = refl
 end_behind at (x ∷ fs) f = end_behind (at + size_of x) fs f

@@ -1,4 +1,4 @@
--- What a look at the front of a level tells.
+-- What a look at the front of a level says.
 use Rattle.std.proofs.Common.{◌≡◌, List, ℕ, Option, None, Some, Ok, Err, arith, refl}
 use Rattle.raw_view.specs.Frame.{Malformed, Utf8}
 use Rattle.raw_view.specs.Errors.{SaysFault}

@@ -1,4 +1,5 @@
--- The levels of a walk, whatever is known of them: how they go on, and that what is in front of the innermost is in front of the document.
+-- The levels of a walk, whatever is known of them: how they continue, and that what is at the front of the innermost is at the front of the
+-- document.
 use Rattle.std.proofs.Common.{◌≡◌, ◌∙◌, ◌≤◌, ◌<◌, ◌+◌, ◌-◌, ◌++◌, ◌∷◌, [], ℕ, suc, List, Option, Some, length, drop, append_assoc, arith, ap, refl, sym, subst, length-append, length-drop}
 use Rattle.std.proofs.lemmas.List.{same_from_push}
 use Rattle.raw_tree.proofs.Common.{Frame, Holds, IsFrame, LeadsTo, Means, RawElement, RawValue, bytes_of, frame_of, value}
@@ -9,13 +10,13 @@ use Rattle.raw_tree.proofs.reader.Loops.{nested_beside}
 use Rattle.raw_tree.proofs.walk.Frames.{end_behind, frame_size}
 use Rattle.raw_tree.proofs.walk.Offsets.{IsPlaced, end_size, frame_more, left_there, nested_last, nested_lies, placed, stored_more}
 
--- levels that wait
+-- waiting levels
 
 module _ {K : Type 0} {Behind : ℕ → Wait K → Span K → Type 0} {b : List ℕ} {n : ℕ} {w : Wait K} {i : Span K} (is : IsHeld Behind b n w i) where
   held_placed : IsPlaced b w.level w.frames is.s
   held_placed = placed b w.level w.frames is.s is.lies is.reaches
 
-  -- what is at this offset of the inner bytes, and at that of the document, is at this one of the outer bytes
+  -- what is at this offset of the inner bytes and at that offset of the document is at this offset of the outer bytes
   held_place : (first : Step) (steps : List Step) (at offset : ℕ) → i.start + at ≡ offset
       → (place : ℕ) × IsOffsetOf w.level.bytes is.s i.bytes is.r (first ∷ steps) at place × (w.level.start + place ≡ offset)
   held_place first steps at offset far =
@@ -25,7 +26,7 @@ module _ {K : Type 0} {Behind : ℕ → Wait K → Span K → Type 0} {b : List 
       let inside = nested_beside is.s w.f is.r w.v i.bytes is.frame is.means is.holds in
       (start + at, (start, omega (arith, p.ends, p.counted, size, inside, is.ends, length-append i.bytes is.r), refl), omega (arith, p.counted, size, inside, is.ends, far))
 
--- what is told of a level, with these steps and at an offset in it, is told of the one around it
+-- what holds of a level, with these steps and at an offset in it, holds of the outer level
 pub record IsOutward {K : Type 0} (Behind : ℕ → Wait K → Span K → Type 0) (b : List ℕ) (Tells : ℕ → Span K → List Step → ℕ → Type 0) : Type 0 where
   pub out : (n : ℕ) (w : Wait K) (i : Span K) (is : IsHeld Behind b n w i) (first : Step) (steps : List Step) (at place : ℕ) → Tells n i (first ∷ steps) at
       → IsOffsetOf w.level.bytes is.s i.bytes is.r (first ∷ steps) at place → Tells (suc n) w.level (step_at w ∷ first ∷ steps) place
@@ -38,9 +39,9 @@ outermost_outer : (ws : List Waiting) (w : Waiting) (offset : ℕ) → outermost
 outermost_outer [] w offset = refl
 outermost_outer (x ∷ ws) w offset = refl
 
--- so it is told of the outermost
+-- so it holds of the outermost
 
--- it is told of a level with these steps, at an offset in it that is this one of the document
+-- it holds of a level with these steps, at an offset in the level that is this offset of the document
 abbrev IsToldAt : {K : Type 0} → (ℕ → Span K → List Step → ℕ → Type 0) → ℕ → ℕ → Span K → List Step → Type 0
 IsToldAt Tells offset n i steps = (at : ℕ) × Tells n i steps at × (i.start + at ≡ offset)
 
@@ -56,7 +57,7 @@ outward is inside depth (w ∷ ws) i first steps offset many (held, more) (at, t
     (outward is (suc inside) depth ws w.level (step_at w) (first ∷ steps) offset (omega (arith, many)) more (place, is.out (suc inside) w i held first steps at place tells offset_is, there))
 
 module _ {K : Type 0} (Behind : ℕ → Wait K → Span K → Type 0) (known : K) (document : RawDocument) where
-  -- the steps at which they wait are stored
+  -- the steps at which levels wait are stored
   steps_stored : (inside : ℕ) (ws : List (Wait K)) (i : Span K) → AreHeld Behind (whole_span known document) inside ws i → StoreSteps (bytes_of document) (all_stored ws) (path_of ws)
   steps_stored inside [] i same = refl
   steps_stored inside (w ∷ ws) i (held, more) =
@@ -80,7 +81,7 @@ module _ {K : Type 0} (Behind : ℕ → Wait K → Span K → Type 0) (known : K
   none_held inside [] i none held = held
   none_held inside (w ∷ ws) i none held = absurd (omega (arith, none))
 
--- the innermost of them
+-- the innermost of the waiting levels
 last_held : {K : Type 0} {Behind : ℕ → Wait K → Span K → Type 0} {document : Span K} {inside : ℕ} {i : Span K} (ws : List (Wait K)) (outer : List Waiting) (x : Waiting)
     → all_stored ws ≡ outer ++ x ∷ [] → AreHeld Behind document inside ws i
     → (w : Wait K) × (others : List (Wait K)) × (ws ≡ w ∷ others) × (outer ≡ all_stored others) × (x ≡ stored_at w) × IsHeld Behind document.bytes (suc inside) w i
@@ -94,7 +95,7 @@ as_many : {K : Type 0} (ws : List (Wait K)) → length (all_stored ws) ≡ lengt
 as_many [] = refl
 as_many (w ∷ ws) = omega (arith, as_many ws, length-append (all_stored ws) (stored_at w ∷ []))
 
--- the element e is in front of s and means this value; this is left behind it
+-- the element e is at the front of s and means this value, and this is left after it
 pub record IsNext (s : List ℕ) (e : RawElement) (v : RawValue) (new : Option (List ℕ)) : Type 0 where
   pub r : List ℕ
   pub frame : IsFrame s (frame_of e) r
@@ -107,7 +108,7 @@ module _ {K : Type 0} {Behind : ℕ → Wait K → Span K → Type 0} {Fact : �
   at_placed : IsPlaced (bytes_of document) at.levels.here at.frames at.rest
   at_placed = placed (bytes_of document) at.levels.here at.frames at.rest at.levels.lies at.reaches
 
-  -- what is left of it is within the document, and no more levels wait than may
+  -- the rest of it is within the document, and no more levels wait than are allowed
   pub at_within : (level.offset + length at.rest ≤ length (bytes_of document)) × (length walk.waiting.items ≤ most)
   at_within = let p = at_placed in (omega (arith, p.ends, p.within, at.offset_is), omega (arith, ap length at.levels.stored, as_many at.levels.waits, at.levels.many))
 
@@ -121,14 +122,14 @@ module _ {K : Type 0} {Behind : ℕ → Wait K → Span K → Type 0} {Fact : �
   pub path_stored : (path : List Step) × StoreSteps (bytes_of walk.document) walk.waiting.items path
   path_stored = (at_path, at_steps)
 
-  -- the element of the outermost level that holds the innermost, or is next in it
+  -- the element of the outermost level that holds the innermost one, or is next in it
   pub at_outermost : (key : Option (List ℕ)) → IsBehind (bytes_of document) (first_number (at_path ++ record { number = level.number; key = key } ∷ []))
       (outermost_of walk.waiting.items level.offset)
   at_outermost key =
       rw (at.levels.stored, at.offset_is) (outermost_behind Behind known document at.levels.inside at.levels.waits at.levels.here at.frames at.rest (record { number = level.number; key = key })
       at.levels.held at.reaches at.number_is)
 
-  -- what is in front of what is left of the innermost is in front of the document, at the offset of what is left
+  -- what is at the front of the rest of the innermost level is at the front of the document, at the offset of that rest
   pub front_outward : {Tells : ℕ → Span K → List Step → ℕ → Type 0} → IsOutward Behind (bytes_of document) Tells → (step : Step)
       → ((here : ℕ) → BeginsAt at.levels.here.bytes at.rest here → Tells (suc at.levels.inside) at.levels.here (step ∷ []) here)
       → Tells (suc most) (whole_span known document) (at_path ++ step ∷ []) level.offset
@@ -154,7 +155,7 @@ module _ {K : Type 0} {Behind : ℕ → Wait K → Span K → Type 0} {Fact : �
           start_within = omega (arith, p.counted, at.start_is, at.offset_is);
         }
 
-    -- the level goes on behind the element
+    -- the level continues after the element
     pub at_whole : {Then : ℕ → Span K → List Frame → Type 0} {to : Level} → to ≡ level_behind (with_left new level) e → Then at.levels.inside at.levels.here (at.frames ++ frame_of e ∷ [])
         → IsAt Behind Then known document most walk to
     at_whole to_is knows = rw to_is (record {
@@ -169,7 +170,7 @@ module _ {K : Type 0} {Behind : ℕ → Wait K → Span K → Type 0} {Fact : �
       knows = knows;
     })
 
-    -- it waits for the level that its value holds
+    -- it waits for the level in its value
     module _ (inner : RawDocument) (holds : Holds v (bytes_of inner)) where
       pub inside_fits : length (bytes_of inner) ≤ size_of (frame_of e)
       inside_fits = omega (arith, nested_beside at.rest (frame_of e) is.r v (bytes_of inner) is.frame is.means holds, frame_size at.rest (frame_of e) is.r is.frame)
@@ -216,7 +217,7 @@ module _ {K : Type 0} {Behind : ℕ → Wait K → Span K → Type 0} {Fact : �
             knows = both.1;
           })
 
-  -- the final 0 is in front of what is left
+  -- the final 0 is at the front of the rest
   module _ (final : at.rest ≡ 0 ∷ []) where
     pub at_goes_on : (outer : List Waiting) (x : Waiting) → walk.waiting.items ≡ outer ++ x ∷ [] → GoesOn (bytes_of walk.document) x (level.offset + 1)
     at_goes_on outer x items_are =
@@ -231,7 +232,7 @@ module _ {K : Type 0} {Behind : ℕ → Wait K → Span K → Type 0} {Fact : �
           ends = omega (arith, p.ends, at.offset_is, ap length final, held.ends, q.ends, size);
         })
 
-    -- the level that waits goes on
+    -- the waiting level continues
     pub at_resumed : {Then : ℕ → Span K → List Frame → Type 0} {new : Walk} {to : Level} → Leaves walk level.offset new to
         → ((w : Wait K) → IsHeld Behind (bytes_of document) (suc at.levels.inside) w at.levels.here → Then (suc at.levels.inside) w.level (w.frames ++ w.f ∷ []))
         → IsAt Behind Then known document most new to
@@ -271,12 +272,12 @@ module _ {K : Type 0} {Behind : ℕ → Wait K → Span K → Type 0} {Fact : �
         let there = leaves.level_is goes.bytes goes.lies in
         (ap (λ (l : Level). l.offset) there, omega (arith, ap (λ (l : Level). l.number) there))
 
-  -- where none waits, it is the document
+  -- if no level waits, it is the document
   pub at_outside : walk.waiting.items ≡ [] → (at.levels.here ≡ whole_span known document) × (at.levels.inside ≡ most)
   at_outside none =
       let few : length at.levels.waits ≡ 0 = omega (arith, as_many at.levels.waits, ap length at.levels.stored, ap length none) in
       (none_held Behind known document at.levels.inside at.levels.waits at.levels.here few at.levels.held, omega (arith, at.levels.many, few))
 
-  -- where no more may wait, none may be inside
+  -- if no more may wait, none may be inside
   pub none_inside : walk.most_waiting ≤ length walk.waiting.items → at.levels.inside ≡ 0
   none_inside full = omega (arith, full, at.levels.most_is, at.levels.many, as_many at.levels.waits, ap length at.levels.stored)

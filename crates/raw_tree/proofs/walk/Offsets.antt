@@ -9,7 +9,7 @@ use Rattle.raw_tree.proofs.walk.Frames.{drop_frame, frame_size}
 use Rattle.raw_view.specs.declared.element_type.ElementType.TheVariants as kind
 use Rattle.raw_view.specs.Meaning as raw
 
--- a frame is one with more bytes behind it
+-- a frame is a frame with more bytes after it
 
 shape_more : (k : ElementType) (p r q : List ℕ) → HasShape k p r → HasShape k p (r ++ q)
 shape_more kind.JavaScriptCodeWithScope p r q h =
@@ -87,7 +87,7 @@ left_there i frames s enough l =
     let far : end_of 4 frames ≡ offset_in i frames - i.start = omega (arith, end_size 4 (drop 4 i.bytes) frames s l, end_size (i.start + 4) (drop 4 i.bytes) frames s l) in
     sym (append-nil s) ∙ sym (leads_there 4 i.bytes (drop 4 i.bytes) frames s [] l (sym (append-nil (drop 4 i.bytes)))) ∙ ap (λ (n : ℕ). drop n i.bytes) far
 
--- the nested bytes of a frame lie in front of what is behind it
+-- the nested bytes of a frame are before the bytes that follow it
 pub nested_lies : {b s : List ℕ} {f : Frame} {r : List ℕ} (inner q : List ℕ) (offset first : ℕ) → drop offset b ≡ s ++ q → IsFrame s f r → EndsWith f.payload inner
     → IsEnvelope inner → first + length inner ≡ offset + size_of f → LiesAt b first inner
 nested_lies {b} {s} {f} {r} inner q offset first there at ends envelope far =
@@ -105,13 +105,13 @@ nested_lies {b} {s} {f} {r} inner q offset first there at ends envelope far =
 pub whole_lies : (b : List ℕ) → IsEnvelope b → LiesAt b 0 b
 whole_lies b envelope = record { behind = []; lies = sym (append-nil b); envelope = envelope }
 
--- a document has few enough bytes for its offsets
+-- the offsets of a document fit
 pub envelope_fits : (b : List ℕ) → IsEnvelope b → length b ≤ max_length
 envelope_fits b is = omega (arith, is.header.fits.sfits)
 
 -- stored levels
 
--- the level of some number
+-- the stored level with this number
 pub stored_there : (b : List ℕ) (ws : List Waiting) (path : List Step) (n : ℕ) (other : Waiting) → StoreSteps b ws path → n < length ws
     → (step : Step) × StoresStep b (slice_index_or ws n other) step × (take (suc n) path ≡ take n path ++ step ∷ [])
 stored_there b [] path n other h few = absurd (omega (arith, few))

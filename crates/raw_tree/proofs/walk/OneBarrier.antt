@@ -1,4 +1,4 @@
--- A document has one first barrier at most within limits, at one place; what is told within a depth is told within limits.
+-- A document has at most one first barrier within limits, at one place. What holds within a depth holds within limits.
 use Rattle.std.proofs.Common.{◌≡◌, inl, inr, ◌≤◌, ℕ, zero, suc, List, Option, Result, IfOk, length, drop, arith, sym, ◌∙◌}
 use Rattle.raw_tree.proofs.Common.{Barrier, Error, FirstFaultWithin, Frame, Holds, Limits, RawValue, ReadsUpTo, StandsFor, Tree}
 use Rattle.raw_tree.proofs.walk.Common.{AllAreBarredAtOnePlace, BarsFrameAt, BarsFrontAt, FirstFaultAt, Step, TellsBarrier, TellsBarrierWithin}
@@ -8,12 +8,12 @@ use Rattle.raw_tree.proofs.walk.OneEnd.{IsBlocked, passed_once}
 use Rattle.raw_tree.proofs.reader.Limited.{read_within}
 use Rattle.raw_tree.proofs.walk.Common as walk
 
--- a first barrier that is somewhere is the first
+-- a first barrier at some place is the first
 first_somewhere : (n : ℕ) (b : List ℕ) (x : Barrier) (path : List Step) (offset : ℕ) → FirstFaultAt n b x path offset → FirstFaultWithin n b x
 first_somewhere zero b x path offset h = h.0
 first_somewhere (suc n) b x path offset h = grind (arith, first_somewhere n)
 
--- the value in which there is a barrier stands for no tree
+-- a value with a barrier inside stands for no tree
 value_nor : (n : ℕ) (v : RawValue) (t : Tree) (d : List ℕ) (x : Barrier) (path : List Step) (offset : ℕ) → StandsFor (ReadsUpTo n) v t → Holds v d → FirstFaultAt n d x path offset → ⊥
 value_nor n v t d x path offset h holds bars = grind (arith, apart_within n, first_somewhere n d x path offset bars)
 
@@ -24,7 +24,7 @@ module _ (n : ℕ) (b s : List ℕ) where
       let same = one_frame s bars.0 f bars.1 r bars.2 at in
       grind (arith, read_among (ReadsUpTo n) ps f more pairs each, same, some_fault, one_value_of, value_nor_fault, value_nor n)
 
--- two first barriers are one, at one place
+-- two first barriers are equal, and at one place
 abbrev AreOne : ℕ → Type 0
 AreOne n = (b : List ℕ) (x y : Barrier) (path other : List Step) (offset at : ℕ) → FirstFaultAt n b x path offset → FirstFaultAt n b y other at → (y ≡ x) × (other ≡ path) × (at ≡ offset)
 
@@ -52,7 +52,7 @@ one_barrier (suc n) b x y path other offset at h g =
 pub barred_at_one_place : (limits : Limits) → AllAreBarredAtOnePlace limits
 barred_at_one_place limits b x other path other_path offset other_offset h g = grind (arith, one_barrier limits.depth)
 
--- what a walk to a depth tells, it tells within limits
+-- what a walk to a depth returns is right within limits
 pub barrier_told : (limits : Limits) (b : List ℕ) (result : Result (Option walk.Barrier) Error) → length b ≤ limits.bytes
     → IfOk result (TellsBarrierWithin limits.depth b) → IfOk result (TellsBarrier limits b)
 barrier_told limits b result few told = grind (arith, read_within, first_somewhere)

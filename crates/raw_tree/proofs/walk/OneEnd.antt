@@ -1,13 +1,13 @@
--- Frames are passed up to one place alone, where the final 0, a stop or a frame blocks.
+-- Frames are passed up to one place only, where the final 0, a stop or a frame blocks.
 use Rattle.std.proofs.Common.{◌≡◌, ◌++◌, ◌∷◌, [], ℕ, List, refl, sym, ◌∙◌}
 use Rattle.raw_tree.proofs.Common.{Done, Frame, IsFrame, IsWalk, LeadsTo}
 use Rattle.raw_view.proofs.Face.{no_frame_at_final, one_frame}
 
--- s blocks: the frame in front of it isn't passed behind these, whatever follows it
+-- s blocks: the frame at its front isn't passed after these, whatever follows
 abbrev pub IsBlocked : (List Frame → Type 0) → List Frame → List ℕ → Type 0
 IsBlocked Passed ps s = (f : Frame) (r : List ℕ) (more : List Frame) → IsFrame s f r → ¬ Passed (ps ++ f ∷ more)
 
--- frames are passed up to what blocks in one way alone
+-- frames are passed up to what blocks in one way only
 pub passed_once : (Passed : List Frame → Type 0) (s : List ℕ) (ps qs : List Frame) (r t : List ℕ) → LeadsTo s ps r → Passed ps → IsBlocked Passed ps r
     → LeadsTo s qs t → Passed qs → IsBlocked Passed qs t → (qs ≡ ps) × (t ≡ r)
 passed_once Passed s [] [] r t l p none m q other = (refl, sym m ∙ l)
@@ -23,7 +23,7 @@ pub walk_leads : (s : List ℕ) (fs : List Frame) → IsWalk s fs Done → Leads
 walk_leads s [] w = w
 walk_leads s (f ∷ fs) w = (w.0, w.1, walk_leads w.0 fs w.2)
 
--- so where the frames of a whole walk are passed, what blocks is the final 0
+-- so if the frames of a whole walk are passed, what blocks is the final 0
 pub passed_whole : (Passed : List Frame → Type 0) (s : List ℕ) (frames ps : List Frame) (t : List ℕ) → IsWalk s frames Done → Passed frames → LeadsTo s ps t → Passed ps → IsBlocked Passed ps t
     → t ≡ 0 ∷ []
 passed_whole Passed s frames ps t w p l q none =

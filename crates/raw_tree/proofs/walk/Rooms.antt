@@ -19,7 +19,7 @@ filled_past n [] item h = refl
 filled_past zero (x ∷ room) item h = absurd (omega (arith, h))
 filled_past (suc n) (x ∷ room) item h = ap (λ (r : List _). x ∷ r) (filled_past n room item (omega (arith, h)))
 
--- items behind others
+-- items after others
 pub filled_more : {X : Type 0} (n m : ℕ) (room ts us : List X) → m ≡ n + length ts → filled_from m (filled_from n room ts) us ≡ filled_from n room (ts ++ us)
 filled_more n m [] ts us is = refl
 filled_more zero m (x ∷ room) [] us is = rw is refl

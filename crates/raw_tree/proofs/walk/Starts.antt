@@ -4,11 +4,11 @@ use Rattle.raw_tree.proofs.Common.{Frame, LeadsTo, bytes_of}
 use Rattle.raw_tree.proofs.walk.Common.{BeginsAt, HasNoneBefore, IsAt, IsBegun, IsBehind, Level, RawDocument, Span, Wait, Walk, whole_span, end_of}
 use Rattle.raw_tree.proofs.walk.Offsets.{left_there, placed, whole_lies}
 
--- the first element is behind no other
+-- no element is before the first one
 pub first_behind : (b : List ℕ) → 5 ≤ length b → IsBehind b 0 4
 first_behind b enough = record { frames = []; s = drop 4 b; reaches = refl; number_is = refl; begins = omega (arith, length-drop 4 b, enough) }
 
--- nor before the first element
+-- and nothing is before it
 pub first_begins : (depth : ℕ) (b : List ℕ) → 5 ≤ length b → HasNoneBefore depth b 0 4
 first_begins depth b enough inside e = record {
   frames = [];
@@ -20,7 +20,7 @@ first_begins depth b enough inside e = record {
   begins = omega (arith, length-drop 4 b, enough);
 }
 
--- a walk that has begun behind some frames is there
+-- a walk that begins after some frames is there
 pub at_start : {K : Type 0} {Behind : ℕ → Wait K → Span K → Type 0} {Fact : ℕ → Span K → List Frame → Type 0} {document : RawDocument} {offset : ℕ} {walk : Walk} {level : Level}
     → IsBegun document offset walk level → (known : K) (frames : List Frame) (s : List ℕ) → LeadsTo (drop 4 (bytes_of document)) frames s → BeginsAt (bytes_of document) s offset
     → level.number ≡ length frames → Fact walk.most_waiting (whole_span known document) frames → IsAt Behind Fact known document walk.most_waiting walk level

@@ -1,4 +1,4 @@
--- Lists of visits: one more is put behind those that there are, a document has one list at most, and one that is read has it.
+-- Lists of visits: one more is appended to the list so far; a document has at most one list; and a document that is read has one.
 use Rattle.std.proofs.Common.{◌≡◌, ◌∙◌, ◌+◌, ◌-◌, ◌++◌, ◌∷◌, [], ℕ, zero, suc, List, drop, length, arith, ap, refl, sym, subst, append_assoc, append-nil}
 use Rattle.raw_tree.proofs.Common.{Done, Frame, Holds, IsFrame, IsSingle, IsWalk, LeadsTo, Means, RawValue, ReadsUpTo, Sort, StandForEach, StandsFor, Tree, as_array, as_document, code_with_scope, leaf, leaf_in_order, tree_of_pairs, value}
 use Rattle.raw_tree.proofs.walk.Common.{AreHeld, HasSeen, HasVisits, IsEntered, IsHeld, Span, Visit, VisitsEach, VisitsLevel, VisitsValue, Wait, end_of, enter, leave, offset_in, size_of, whole}
@@ -21,14 +21,14 @@ module _ (Nested : ℕ → List ℕ → List Visit → Type 0) where
   visits_held : (at : ℕ) (f : Frame) (v : RawValue) (d : List ℕ) (vs : List Visit) → Holds v d → VisitsValue Nested at f v vs → VisitsLevel Nested at f v d vs
   visits_held at f v d vs holds h = grind arith
 
-  -- a frame more
+  -- one more frame
   each_more : (at : ℕ) (fs : List Frame) (vs : List Visit) (f : Frame) (v : RawValue) (us : List Visit) → VisitsEach Nested at fs vs → Means f (value v)
       → VisitsValue Nested (end_of at fs) f v us → VisitsEach Nested at (fs ++ f ∷ []) (vs ++ us)
   each_more at [] vs f v us none m one = (v, us, [], m, one, refl, ap (λ (x : List Visit). x ++ us) none ∙ sym (append-nil us))
   each_more at (g ∷ fs) vs f v us (w, first, rest, means, its, are, is) m one =
       (w, first, rest ++ us, means, its, each_more (at + size_of g) fs rest f v us are m one, ap (λ (x : List Visit). x ++ us) is ∙ append_assoc first rest us)
 
--- one more of a level
+-- one more frame of a level
 pub seen_more : {seen : List Visit} {inside : ℕ} {i : Span (List Visit)} {frames : List Frame} → HasSeen seen inside i frames → (f : Frame) (v : RawValue) (us : List Visit) → Means f (value v)
     → VisitsValue (HasVisits inside) (offset_in i frames) f v us → HasSeen (seen ++ us) inside i (frames ++ f ∷ [])
 seen_more {inside = inside} {i = i} {frames = frames} is f v us means one = record {
@@ -48,7 +48,7 @@ pub seen_whole : {seen : List Visit} {inside : ℕ} {i : Span (List Visit)} {fra
     → HasVisits (suc inside) i.start i.bytes is.visits
 seen_whole {i = i} {frames = frames} {s = s} is l final = (frames, LeadsTo-walk (drop 4 i.bytes) frames s Done l final, is.each)
 
--- behind them the level that waits goes on
+-- after them the waiting level continues
 pub seen_outside : {b s : List ℕ} {n : ℕ} {seen : List Visit} {i : Span (List Visit)} {frames : List Frame} {w : Wait (List Visit)} → IsHeld IsEntered b (suc n) w i → HasSeen seen n i frames
     → LeadsTo (drop 4 i.bytes) frames s → s ≡ 0 ∷ [] → HasSeen (seen ++ leave ∷ []) (suc n) w.level (w.frames ++ w.f ∷ [])
 seen_outside {n = n} {seen} {i} {frames} {w} held is l final =
@@ -60,11 +60,11 @@ seen_outside {n = n} {seen} {i} {frames} {w} held is l final =
 
 -- one list at most
 
--- the visits of a level of which b is left, where it begins at this offset
+-- the visits of a level of which b is left, if it begins at this offset
 abbrev pub VisitsRest : (ℕ → List ℕ → List Visit → Type 0) → ℕ → List ℕ → List Visit → Type 0
 VisitsRest N at b vs = (frames : List Frame) × IsWalk b frames Done × VisitsEach N at frames vs
 
--- those of the frame in front, and of what is behind it
+-- those of the frame at the front, and those after it
 rest_step : (N : ℕ → List ℕ → List Visit → Type 0) (at : ℕ) (b : List ℕ) (f : Frame) (r : List ℕ) (v : RawValue) (vs : List Visit) → IsFrame b f r → Means f (value v) → VisitsRest N at b vs
     → (first rest : List Visit) × VisitsValue N at f v first × VisitsRest N (at + size_of f) r rest × (vs ≡ first ++ rest)
 rest_step N at b f r v vs frame m (gs, w, each) =
@@ -85,7 +85,7 @@ module _ (N : ℕ → List ℕ → List Visit → Type 0) (one : (start : ℕ) (
   value_same : (at : ℕ) (f : Frame) (v : RawValue) (us vs : List Visit) → VisitsValue N at f v us → VisitsValue N at f v vs → vs ≡ us
   value_same at f v us vs h k = grind (arith, level_same)
 
-  -- frames that were passed are the first of a walk, and their visits the first of its visits
+  -- passed frames are the first of a walk, and their visits the first of its visits
   each_front : (at : ℕ) (b : List ℕ) (fs : List Frame) (s : List ℕ) (us vs : List Visit) → LeadsTo b fs s → VisitsEach N at fs us → VisitsRest N at b vs
       → (rest : List Visit) × VisitsRest N (end_of at fs) s rest × (vs ≡ us ++ rest)
   each_front at b [] s us vs l none h = (vs, rw l at h, sym (ap (λ (x : List Visit). x ++ vs) none))
@@ -95,7 +95,7 @@ module _ (N : ℕ → List ℕ → List Visit → Type 0) (one : (start : ℕ) (
       let (left, ahead, rest_is) = each_front (at + size_of f) r fs s rest others more are behind in
       (left, ahead, in_front first rest left same first_is rest_is ∙ sym (ap (λ (x : List Visit). x ++ left) is))
 
--- behind the whole walk there are none
+-- after the whole walk there are none
 none_behind : (N : ℕ → List ℕ → List Visit → Type 0) (at : ℕ) (rest : List Visit) → VisitsRest N at (0 ∷ []) rest → rest ≡ []
 none_behind N at rest (hs, w, each) = rw (walk_over (0 ∷ []) hs w (no_frame_at_final (0 ∷ []) refl)) at each
 
@@ -113,14 +113,14 @@ seen_there {inside = inside} {i = i} {frames = frames} s vs is l has =
     let (rest, behind, same) = each_front (HasVisits inside) (one_visits inside) (i.start + 4) (drop 4 i.bytes) frames s is.visits vs l is.each has in
     (rest, behind, ap (λ (x : List Visit). i.known ++ x) same ∙ sym (append_assoc i.known is.visits rest) ∙ ap (λ (x : List Visit). x ++ rest) (sym is.seen_is))
 
--- what was seen up to the entry into a level, what is in it, and what is behind it
+-- the visits up to the entry into a level, those in it, and those after it
 in_parts : {rest first : List Visit} (x : Visit) (before known all left others seen : List Visit) → rest ≡ first ++ others → first ≡ x ∷ (all ++ leave ∷ [])
     → known ≡ before ++ x ∷ [] → known ++ all ≡ seen ++ left → before ++ rest ≡ seen ++ (left ++ leave ∷ others)
 in_parts {rest} {first} x before known all left others seen rest_is first_is known_is same =
     let parts : before ++ rest ≡ (known ++ all) ++ leave ∷ others = rw (rest_is, first_is, known_is) (simp append_assoc) in
     rw (parts, same) (append_assoc seen left (leave ∷ others))
 
--- with these more they are those of the level, which has some before
+-- with these more they are those of the level, which has some already
 abbrev IsFront : List Visit → (known : List Visit) → List Visit → Type 0
 IsFront seen known vs = (rest : List Visit) × (known ++ vs ≡ seen ++ rest)
 

@@ -1,4 +1,4 @@
--- Decimals: how long they are at most, and that they hold no 0.
+-- Decimals: their greatest length, and that they contain no 0.
 use Rattle.std.proofs.Common.{◌≤◌, ◌<◌, ◌^◌, [], ℕ, List, zero, suc, false, length, decimal, arith}
 use Rattle.std.specs.Fmt.{digits, digits_onto}
 use Rattle.std.proofs.lemmas.Bool.Decides.{nat_tests}

@@ -4,7 +4,7 @@ use Rattle.raw_tree.proofs.Common.{Tree, Trees, Entries, leaf, array, document, 
 use Rattle.raw_tree.proofs.Common.{RawValue, ElementType, kind_of_tree, tree_payload, items_bytes, entries_bytes, encoded_len, items_len, entries_len, IsLeafOf, element_bytes}
 use Rattle.raw_view.proofs.Face.{length-framed, length-scoped_payload}
 
--- the length of an element and of what is behind it
+-- the length of an element and of the bytes after it
 pub length-element : (kind : ElementType) (key payload rest : List ℕ) → length (element_of kind key payload ++ rest) ≡ (2 + length key + length payload) + length rest
 length-element kind key payload rest = omega (arith, length-append (key ++ 0 ∷ payload) rest, length-append key (0 ∷ payload))
 

@@ -1,11 +1,11 @@
--- How a container is measured member by member: what is counted so far and what the members that are left take are the
--- whole, and no 0 is in it where it may not be exactly where none is in those.
+-- A container is measured member by member. What is counted so far and what the remaining members take make the whole. The whole has no 0
+-- in a C string if and only if the remaining members have none.
 use Rattle.std.proofs.Common.{◌≡◌, ◌↔◌, ◌<◌, ◌-◌, ◌^◌, ℕ, ◌+◌, List, [], ◌∷◌, length, min, Option, Some, arith}
 use Rattle.raw_tree.proofs.Common.{NulFree, Leaf, IsNulFree, nul_free_parts, InEntries, Tree, Entries, no_entry, entry_then, leaf, RawValue, single, encoded_len, entries_len, Measures, members, opening_len, IsLeafOf}
 use Rattle.raw_tree.proofs.Common.{HoldsTrees}
 use Rattle.raw_tree.proofs.writer.MemberSteps.{members_len, members_free}
 
--- what is left at these levels
+-- what remains at these levels
 abbrev pub left_in : List Entries → ℕ
 left_in [] = 0
 left_in (es ∷ levels) = entries_len es + left_in levels
@@ -14,7 +14,7 @@ abbrev pub AreFree : List Entries → Type 0
 AreFree [] = Unit {0}
 AreFree (es ∷ levels) = InEntries nul_free_parts es × AreFree levels
 
--- the tree is measured but for the members that are left, the innermost first
+-- the tree is measured except the remaining members, the innermost first
 pub record IsMeasuring (t : Tree) (levels : List Entries) (total : ℕ) : Type 0 where
   pub counted : ℕ
   pub total_is : total ≡ min counted (2 ^ 64 - 1)
@@ -29,7 +29,7 @@ measuring_begins t total holds e fits = record {
   free = grind (arith, members_free t holds);
 }
 
--- as the code adds up what is counted, a key and a payload of this length
+-- the sum as the code computes it, with a key and a payload of this length
 abbrev pub added_up : ℕ → List ℕ → ℕ → ℕ
 added_up total key len = min (min (min (total + 2) (2 ^ 64 - 1) + length key) (2 ^ 64 - 1) + len) (2 ^ 64 - 1)
 

@@ -1,4 +1,4 @@
--- The members of trees: what is left of them behind the first, their bytes, how many these are, and whether a 0 is in them.
+-- The members of trees: those that remain after the first, their bytes, the number of these, and whether a C string in them contains a 0.
 use Rattle.std.proofs.Common.{◌≡◌, ◌↔◌, ℕ, ◌+◌, List, [], ◌∷◌, ◌++◌, decimal, map, reverse, None, Some, slice_get, refl, ap, arith}
 use Rattle.std.proofs.lemmas.List.{drop_all, drop_more, reverse-append}
 use Rattle.std.proofs.lemmas.Option.{get_or_from_slice_get, slice_get_cases, slice_get_within}
@@ -17,7 +17,7 @@ pair_step d i key v e =
 pub last_pair : (d : Document) (i : ℕ) → slice_get (pairs_of d) i ≡ None → pairs_from d i ≡ no_entry
 last_pair d i e = grind (arith, drop_all, slice_get_cases)
 
--- what f says of the levels that wait, the innermost first
+-- what f says of the waiting levels, the innermost first
 abbrev pub stack : {A B : Type 0} → (A → B) → List A → List B
 stack f ws = reverse (map f ws)
 

@@ -1,5 +1,5 @@
--- How a container is written member by member: what is written so far, with what the members that are left will add
--- and with the lengths that will be set, is its payload.
+-- A container is written member by member. What is written so far, with what the remaining members will add and with the lengths that will
+-- be set, is its payload.
 use Rattle.std.proofs.Common.{◌≡◌, ◌≤◌, ◌-◌, ℕ, ◌+◌, List, [], ◌∷◌, ◌++◌, length, take, drop, pos, refl, ap, ◌∙◌, append_assoc, length-append, length-take, length-drop, arith, Result, Err, IfErr, Vec, Global}
 use Rattle.raw_tree.proofs.Common.{take-append_seam, drop-append-add, Tree, Entries, no_entry, entry_then, IsNulFree, IsOutOfMemory, Error, string_payload, element_of, tagged, framed, scoped_payload}
 use Rattle.raw_tree.proofs.Common.{tag_of, max_length, le32, kind_of_tree, tree_payload, entries_bytes, encoded_len, entries_len, IsRefused, unset, members, tree_of_container, opening, opening_len}
@@ -28,7 +28,7 @@ scoped_at before code inside =
     let whole : head ++ framed inside ≡ before ++ 0 ∷ 0 ∷ 0 ∷ 0 ∷ (text ++ framed inside) = simp append_assoc in
     rw (start, same, framed_at head inside, whole) (set_head before (text ++ framed inside))
 
--- the opening of a tree that holds others, its elements and its end are its payload, once the lengths are set
+-- the opening of a tree that holds others, its elements and its end are its payload once the lengths are set
 payload_ended : (t : Tree) (before : List ℕ) → HoldsTrees t → ended t (length before) ((before ++ opening t) ++ (entries_bytes (members t) ++ 0 ∷ [])) ≡ before ++ tree_payload t
 payload_ended t before h = grind (arith, framed_at, items_bytes-numbered, scoped_at)
 
@@ -37,7 +37,7 @@ length-opening t = grind (arith, length-append)
 
 -- levels
 
--- the bytes once the members that are left are put behind them and the level is ended
+-- the bytes once the remaining members are written and the level is ended
 abbrev complete : Begun → List ℕ → List ℕ
 complete level out = ended level.tree level.start (out ++ (entries_bytes level.left ++ 0 ∷ []))
 
@@ -46,7 +46,7 @@ abbrev pub WillMake : Tree → List Begun → List ℕ → Type 0
 WillMake t [] out = out ≡ tree_payload t
 WillMake t (level ∷ levels) out = (members_start level ≤ length out) × WillMake t levels (complete level out)
 
--- so the bytes are what is written of the tree so far
+-- so the bytes are what was written of the tree so far
 pub record IsWriting (t : Tree) (levels : List Begun) (out : List ℕ) : Type 0 where
   pub makes : WillMake t levels out
 
@@ -63,7 +63,7 @@ length-with_len start b =
 length-complete : (level : Begun) (out : List ℕ) → length out + entries_len level.left + 1 ≤ length (complete level out)
 length-complete level out = grind (arith, length-append, length-with_len, length-entries_bytes)
 
--- there is room for what is left
+-- there is room for what remains
 pub room_left : (t : Tree) (levels : List Begun) (out : List ℕ) → IsWriting t levels out → length out + left_in levels ≤ encoded_len t
 room_left t [] out is = omega (arith, ap length is.makes, length-tree_payload t)
 room_left t (level ∷ levels) out is = omega (arith, room_left t levels (complete level out) (record { makes = is.makes.1 }), length-complete level out)
@@ -76,7 +76,7 @@ abbrev pub left_with : Begun → Entries → Begun
 left_with x left = record { tree = x.tree; start = x.start; left = left }
 
 module _ {t : Tree} {levels : List Begun} {level : Begun} {out : List ℕ} (is : IsWriting t (level ∷ levels) out) where
-  -- none is left: the level is ended
+  -- none remains: the level is ended
   pub writing_ends : level.left ≡ no_entry → IsWriting t levels (ended level.tree level.start (out ++ 0 ∷ []))
   writing_ends none = record { makes = rw none at is.makes.1 }
 
@@ -85,7 +85,7 @@ module _ {t : Tree} {levels : List Begun} {level : Begun} {out : List ℕ} (is :
     passed : complete level out ≡ complete (left_with level left) (out ++ element_of (kind_of_tree m) key (tree_payload m))
     passed = rw (step, append_assoc out (element_of (kind_of_tree m) key (tree_payload m)) (entries_bytes left ++ 0 ∷ [])) (simp append_assoc)
 
-    -- and put
+    -- and written
     pub writing_leaf : IsWriting t (left_with level left ∷ levels) (out ++ element_of (kind_of_tree m) key (tree_payload m))
     writing_leaf = record { makes = (omega (arith, is.makes.0, length-append out (element_of (kind_of_tree m) key (tree_payload m))), rw passed at is.makes.1) }
 
@@ -102,6 +102,6 @@ pub begins : (c : Container) (level : Payload) (start : ℕ) → level.members.c
     → level.start ≡ start → begun_of level ≡ begun_at (tree_of_container c) start
 begins c level start k l s = λ i. record { tree = tree_of_container (k i); start = s i; left = l i }
 
--- a tree that may be written fails where memory ran out
+-- if a tree that may be written fails, memory ran out
 pub refused_memory : (t : Tree) (result : Result (Vec ℕ Global) Error) (e : Error) → result ≡ Err e → IsOutOfMemory e → IsNulFree t → encoded_len t ≤ max_length → IfErr result (IsRefused t)
 refused_memory t result e is memory free fits = grind arith

@@ -1,5 +1,5 @@
--- The tree that bytes stand for, and the first fault of bytes that stand for none. The bytes b of a document,
--- or of an array, have an envelope.
+-- The tree of bytes, and the first fault of bytes that have none. The bytes b of a document or of an array have an
+-- envelope.
 use Rattle.std.specs.Prelude.{◌≡◌, ◌⊎◌, ℕ, suc, zero, List, [], ◌∷◌, drop, map}
 use Rattle.bson_model.specs.Leaf.{Leaf, regular_expression}
 use Rattle.bson_model.specs.Options.{sorted_options}
@@ -13,42 +13,43 @@ use Rattle.raw_view.specs.Meaning.{RawValue, KeyedFault, Means, value, faulty}
 use Rattle.raw_view.specs.Meaning as raw
 use Rattle.raw_view.specs.declared.error.Error.{Error}
 
--- bytes are read as a document, or as an array, whose keys are left out
+-- bytes are read as a document, or as an array, whose keys are ignored
 pub data Sort : Type 0 where
   as_document : Sort
   as_array : Sort
 
--- the tree of pairs of a key and a tree: of a document the keys in the order in which each comes first,
--- each with the tree that it has last; of an array the trees
+-- the tree of pairs of a key and a tree; in a document each key has its first place and its last tree, in an array
+-- there are the trees alone
 abbrev pub tree_of_pairs : Sort → List (List ℕ × Tree) → Tree
 tree_of_pairs as_document pairs = document (entries (keep pairs))
 tree_of_pairs as_array pairs = array (trees (map (λ p. p.1) pairs))
 
--- a leaf as it is read: the options of a regular expression in ascending order
+-- a leaf as it is read: the options of a regular expression are in ascending order
 abbrev pub leaf_in_order : Leaf → Leaf
 leaf_in_order (regular_expression pattern options) = regular_expression pattern (sorted_options options)
 leaf_in_order l = l
 
--- the value stands for the tree, where Nested says which trees nested bytes are read as
+-- the value stands for the tree; `Nested` says which trees nested bytes are read as
 module _ (Nested : Sort → List ℕ → Tree → Type 0) where
+  -- a value that holds no others stands for its leaf, and a value that holds others for the tree of its bytes
   abbrev pub StandsFor : RawValue → Tree → Type 0
   StandsFor (raw.single l) t = t ≡ leaf (leaf_in_order l)
   StandsFor (raw.document d) t = Nested as_document d t
   StandsFor (raw.array d) t = Nested as_array d t
   StandsFor (raw.scoped code d) t = (es : Entries) × Nested as_document d (document es) × (t ≡ code_with_scope code es)
 
-  -- each frame means a value, which stands for the tree under the frame's key
+  -- each frame means a value that stands for the tree under the frame's key
   abbrev pub StandForEach : List Frame → List (List ℕ × Tree) → Type 0
   StandForEach [] pairs = pairs ≡ []
   StandForEach (f ∷ fs) pairs = (v : RawValue) × (t : Tree) × (rest : List (List ℕ × Tree)) × Means f (value v) × StandsFor v t × (pairs ≡ (f.key, t) ∷ rest) × StandForEach fs rest
 
-  -- what is left of a document or an array, s, is read as these pairs: its walk ends at the final 0, and each
-  -- frame means a value that stands for a tree
+  -- s, the rest of a document or an array, is read as these pairs: its walk ends at the final 0, and each frame means
+  -- a value that stands for a tree
   abbrev pub ReadsRest : List ℕ → List (List ℕ × Tree) → Type 0
   ReadsRest s pairs = (frames : List Frame) × IsWalk s frames Done × StandForEach frames pairs
 
--- these bytes, with at most so many levels, are read as this tree: what is behind their length is read as
--- pairs, and the tree is that of these pairs
+-- The bytes, which have at most n levels, are read as this tree: what follows their length is read as pairs, and the
+-- tree is that of the pairs.
 abbrev pub ReadsUpTo : ℕ → Sort → List ℕ → Tree → Type 0
 ReadsUpTo zero sort b t = ⊥
 ReadsUpTo (suc n) sort b t = (pairs : List (List ℕ × Tree)) × ReadsRest (ReadsUpTo n) (drop 4 b) pairs × (t ≡ tree_of_pairs sort pairs)
@@ -72,9 +73,9 @@ Holds (raw.document e) d = d ≡ e
 Holds (raw.array e) d = d ≡ e
 Holds (raw.scoped code e) d = d ≡ e
 
--- first faults, where Nested says that of nested bytes
+-- first faults; `Nested` says which one nested bytes have
 module _ (Nested : List ℕ → KeyedFault → Type 0) where
-  -- the first fault of a value is that of the nested bytes that it holds
+  -- the first fault of a value is that of the nested bytes in it
   abbrev pub FailsInValue : RawValue → KeyedFault → Type 0
   FailsInValue v fault = (d : List ℕ) × Holds v d × Nested d fault
 
@@ -82,15 +83,15 @@ module _ (Nested : List ℕ → KeyedFault → Type 0) where
   abbrev pub FailsInFrame : Frame → KeyedFault → Type 0
   FailsInFrame f fault = Means f (faulty fault) ⊎ ((v : RawValue) × Means f (value v) × FailsInValue v fault)
 
-  -- the first fault of what is left of a document or an array, s: frames that stand for trees are passed; then
-  -- the walk stops with this fault, or the next frame has it
+  -- The first fault of s, the rest of a document or an array. After frames that stand for trees, the walk stops with
+  -- this fault or the next frame has it.
   abbrev pub FailsInRest : List ℕ → KeyedFault → Type 0
   FailsInRest s fault =
       (passed : List Frame) × (pairs : List (List ℕ × Tree)) × (r : List ℕ) × LeadsTo s passed r × StandForEach ReadsAs passed pairs
       × (IsStop r fault.fault fault.key ⊎ ((f : Frame) × (q : List ℕ) × IsFrame r f q × FailsInFrame f fault))
 
--- the first fault of these bytes, depth first in byte order, where it is at most so many levels deep, these
--- bytes being the first level
+-- The first fault of these bytes, depth first in byte order, if it is at most n levels deep. These bytes are the first
+-- level.
 abbrev pub FirstFaultUpTo : ℕ → List ℕ → KeyedFault → Type 0
 FirstFaultUpTo zero b fault = ⊥
 FirstFaultUpTo (suc n) b fault = FailsInRest (FirstFaultUpTo n) (drop 4 b) fault
@@ -107,31 +108,31 @@ FirstFaultOfValue v fault = FailsInValue FirstFault v fault
 abbrev pub FirstFaultOfFrame : Frame → KeyedFault → Type 0
 FirstFaultOfFrame f fault = FailsInFrame FirstFault f fault
 
--- There is exactly one of a tree, of which the first holds, and a first fault, of which the second does,
--- and only one such tree or fault.
+-- Either there is exactly one tree of which `IsTree` holds, and no first fault; or exactly one first fault of which
+-- `IsFirst` holds, and no tree.
 pub record HasOneReading (IsTree : Tree → Type 0) (IsFirst : KeyedFault → Type 0) : Type 0 where
   pub either : ((t : Tree) × IsTree t) ⊎ ((fault : KeyedFault) × IsFirst fault)
   pub not_both : (t : Tree) (fault : KeyedFault) → IsTree t → ¬ IsFirst fault
   pub one_tree : (t other : Tree) → IsTree t → IsTree other → other ≡ t
   pub one_fault : (fault other : KeyedFault) → IsFirst fault → IsFirst other → other ≡ fault
 
--- bytes are read as one tree, or have one first fault
+-- bytes are read as one tree or have one first fault
 abbrev pub AreReadOneWay : Sort → List ℕ → Type 0
 AreReadOneWay sort b = HasOneReading (ReadsAs sort b) (FirstFault b)
 
--- so are all bytes with an envelope
+-- this holds of all bytes with an envelope
 abbrev pub AllAreReadOneWay : Sort → Type 0
 AllAreReadOneWay sort = (b : List ℕ) → IsEnvelope b → AreReadOneWay sort b
 
--- a value stands for one tree, or has one first fault
+-- a value stands for one tree or has one first fault
 abbrev pub IsValueReadOneWay : RawValue → Type 0
 IsValueReadOneWay v = HasOneReading (StandsFor ReadsAs v) (FirstFaultOfValue v)
 
--- a frame stands for one tree, or has one first fault
+-- a frame stands for one tree or has one first fault
 abbrev pub IsFrameReadOneWay : Frame → Type 0
 IsFrameReadOneWay f = HasOneReading (FrameStandsFor f) (FirstFaultOfFrame f)
 
--- an error of reading these bytes: their first fault with its own key, or out of memory
+-- an error of reading these bytes: their first fault with the key of the fault, or out of memory
 abbrev pub TellsFirstFault : List ℕ → Error → Type 0
 TellsFirstFault b e = IsOutOfMemory e ⊎ ((fault : KeyedFault) × FirstFault b fault × Says e fault)
 

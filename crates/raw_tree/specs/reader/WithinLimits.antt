@@ -1,5 +1,5 @@
--- Reading within limits: the depth of a document, the trees of documents that keep to limits, and the first barrier
--- of the others. The bytes b of a document, or of an array, have an envelope.
+-- Reading within limits: the depth of a document, the trees of documents within the limits, and the first barrier of
+-- all others. The bytes b of a document or of an array have an envelope.
 use Rattle.std.specs.Prelude.{◌≡◌, ◌⊎◌, ◌≤◌, ◌<◌, ◌+◌, max, ℕ, suc, zero, List, [], ◌∷◌, None, drop, length}
 use Rattle.bson_model.specs.Tree.{Tree}
 use Rattle.raw_view.specs.Errors.Answers.{Says}
@@ -14,10 +14,10 @@ use Rattle.raw_view.specs.declared.error.Reason.TheVariants as reason
 use Rattle.raw_tree.specs.reader.Reading.{StandForEach, ReadsUpTo, Reads, Holds}
 use Rattle.raw_tree.specs.declared.reader.limits.Limits.{Limits}
 
--- depths, where Nested says that of nested bytes
+-- depths; `Nested` says how deep nested bytes are
 module _ (Nested : List ℕ → ℕ → Type 0) where
-  -- what a frame means is so deep: a value as the nested bytes that it holds; a value that holds no others is 0
-  -- deep, and so is a fault
+  -- the depth of the meaning of a frame: that of the nested bytes in a value; 0 for a value that holds no others, and
+  -- for a fault
   abbrev pub IsSoDeep : Meaning → ℕ → Type 0
   IsSoDeep (value (raw.single l)) n = n ≡ 0
   IsSoDeep (value (raw.document d)) n = Nested d n
@@ -25,76 +25,77 @@ module _ (Nested : List ℕ → ℕ → Type 0) where
   IsSoDeep (value (raw.scoped code d)) n = Nested d n
   IsSoDeep (faulty fault) n = n ≡ 0
 
-  -- the greatest depth of what these frames mean; 0 where there is no frame
+  -- the greatest depth of the meanings of these frames; 0 if there is no frame
   abbrev pub IsGreatestDepth : List Frame → ℕ → Type 0
   IsGreatestDepth [] n = n ≡ 0
   IsGreatestDepth (f ∷ fs) n = (m : Meaning) × (inside : ℕ) × (others : ℕ) × Means f m × IsSoDeep m inside × IsGreatestDepth fs others × (n ≡ max inside others)
 
--- the depth of these bytes, which have at most so many levels: one more than the greatest depth of nested bytes
+-- the depth of these bytes, which have at most this many levels: one more than the greatest depth of nested bytes
 abbrev pub HasDepthUpTo : ℕ → List ℕ → ℕ → Type 0
 HasDepthUpTo zero b n = ⊥
 HasDepthUpTo (suc levels) b n = (frames : List Frame) × (end : End) × (inside : ℕ) × IsWalk (drop 4 b) frames end × IsGreatestDepth (HasDepthUpTo levels) frames inside × (n ≡ 1 + inside)
 
--- the depth of these bytes: 1, or one more than the greatest depth of bytes that are nested in them
+-- the depth of these bytes: 1, or one more than the greatest depth of the bytes nested in them
 abbrev pub HasDepth : List ℕ → ℕ → Type 0
 HasDepth b n = (levels : ℕ) × HasDepthUpTo levels b n
 
--- of all bytes with an envelope there is just one depth
+-- all bytes with an envelope have exactly one depth
 abbrev pub AllHaveOneDepth : Type 0
 AllHaveOneDepth = (b : List ℕ) → IsEnvelope b → (n : ℕ) × HasDepth b n × ((other : ℕ) → HasDepth b other → other ≡ n)
 
--- what ends a reading within limits: more bytes than allowed, a level that is deeper than allowed, or a fault
+-- what ends a reading within limits: too many bytes, a level that is too deep, or a fault
 pub data Barrier : Type 0 where
   too_many_bytes : Barrier
   too_deep : Barrier
   fault_of : KeyedFault → Barrier
 
--- the barrier is a fault of which this holds
+-- the barrier is a fault, and this holds of it
 abbrev pub IsFaultWith : (KeyedFault → Type 0) → Barrier → Type 0
 IsFaultWith P (fault_of fault) = P fault
 IsFaultWith P too_many_bytes = ⊥
 IsFaultWith P too_deep = ⊥
 
--- first barriers, where Nested says which one nested bytes have
+-- first barriers; `Nested` says which one nested bytes have
 module _ (Nested : List ℕ → Barrier → Type 0) where
   -- the first barrier of a frame is the fault that it means, or that of the nested bytes in the value that it means
   abbrev pub BarsFrame : Frame → Barrier → Type 0
   BarsFrame f x = IsFaultWith (λ fault. Means f (faulty fault)) x ⊎ ((v : RawValue) × (d : List ℕ) × Means f (value v) × Holds v d × Nested d x)
 
-  -- the walk stops at r, with this fault; or the next frame has the barrier
+  -- the walk stops at r with this fault, or the next frame has the barrier
   abbrev pub BarsFront : List ℕ → Barrier → Type 0
   BarsFront r x = IsFaultWith (λ fault. IsStop r fault.fault fault.key) x ⊎ ((f : Frame) × (q : List ℕ) × IsFrame r f q × BarsFrame f x)
 
--- the first of a fault and the entry into a level deeper than so many, these bytes being the first level; depth
--- first in byte order: frames that stand for trees are passed, and what is behind them has it
+-- The first of a fault and of the entry into a level deeper than n, depth first in byte order. These bytes are the
+-- first level. Frames that stand for trees come first, then what has the barrier.
 abbrev pub FirstFaultWithin : ℕ → List ℕ → Barrier → Type 0
 FirstFaultWithin zero b x = x ≡ too_deep
 FirstFaultWithin (suc n) b x =
     (passed : List Frame) × (pairs : List (List ℕ × Tree)) × (r : List ℕ) × LeadsTo (drop 4 b) passed r × StandForEach (ReadsUpTo n) passed pairs
     × BarsFront (FirstFaultWithin n) r x
 
--- the document b has at most so many bytes, is at most so deep, and is read as this tree
+-- the document b has few enough bytes and levels, and is read as this tree
 pub record ReadsWithin (limits : Limits) (b : List ℕ) (t : Tree) : Type 0 where
   pub few_bytes : length b ≤ limits.bytes
   pub read : Reads b t
   pub shallow : (n : ℕ) × HasDepth b n × (n ≤ limits.depth)
 
--- the first barrier of the document b: that it has too many bytes; else the first within the depth
+-- the first barrier of the document b: too many bytes, otherwise the first one within the depth
 abbrev pub FirstBarrier : Limits → List ℕ → Barrier → Type 0
 FirstBarrier limits b x = ((limits.bytes < length b) × (x ≡ too_many_bytes)) ⊎ ((length b ≤ limits.bytes) × FirstFaultWithin limits.depth b x)
 
--- a document within the limits is read as one tree, or has one first barrier, and never both
+-- a document within the limits is read as one tree or has one first barrier, and never both
 pub record IsAnsweredOneWay (limits : Limits) (b : List ℕ) : Type 0 where
   pub either : ((t : Tree) × ReadsWithin limits b t) ⊎ ((x : Barrier) × FirstBarrier limits b x)
   pub not_both : (t : Tree) (x : Barrier) → ReadsWithin limits b t → ¬ FirstBarrier limits b x
   pub one_tree : (t other : Tree) → ReadsWithin limits b t → ReadsWithin limits b other → other ≡ t
   pub one_barrier : (x other : Barrier) → FirstBarrier limits b x → FirstBarrier limits b other → other ≡ x
 
--- so are all documents
+-- this holds of all documents
 abbrev pub AllAreAnsweredOneWay : Limits → Type 0
 AllAreAnsweredOneWay limits = (b : List ℕ) → IsEnvelope b → IsAnsweredOneWay limits b
 
--- the error says the barrier: too many bytes and a level that is too deep without a key, a fault with its own key
+-- the error says the barrier: without a key for too many bytes and for a level that is too deep; with the key of the
+-- fault for a fault
 abbrev pub SaysBarrier : Error → Barrier → Type 0
 SaysBarrier e too_many_bytes = (e.kind ≡ kind.MalformedValue reason.TooManyBytes) × (key_of e ≡ None)
 SaysBarrier e too_deep = (e.kind ≡ kind.MalformedValue reason.TooDeep) × (key_of e ≡ None)
@@ -104,6 +105,6 @@ SaysBarrier e (fault_of fault) = Says e fault
 abbrev pub TellsFirstFaultWithin : ℕ → List ℕ → Error → Type 0
 TellsFirstFaultWithin depth b e = IsOutOfMemory e ⊎ ((x : Barrier) × FirstFaultWithin depth b x × SaysBarrier e x)
 
--- an error of reading these bytes within limits: their first barrier; or out of memory, where they aren't too many
+-- an error of reading these bytes within limits: their first barrier, or out of memory if there are few enough bytes
 abbrev pub TellsFirstBarrier : Limits → List ℕ → Error → Type 0
 TellsFirstBarrier limits b e = ((length b ≤ limits.bytes) × IsOutOfMemory e) ⊎ ((x : Barrier) × FirstBarrier limits b x × SaysBarrier e x)

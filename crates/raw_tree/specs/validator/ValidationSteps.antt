@@ -1,4 +1,4 @@
--- What a step of a validation tells. No public contract cites this file.
+-- What a step of a validation returns. No public contract cites this file.
 use Rattle.std.specs.Prelude.{◌≡◌, ◌⊎◌, ◌++◌, ◌∷◌, [], ℕ, List, Bool, true, false, length, Option, None, Some}
 use Rattle.std.specs.Option.{option_copied}
 use denote.Ref.{Bor}
@@ -29,23 +29,25 @@ use Rattle.raw_tree.specs.declared.validator.within.Found.{Found}
 use Rattle.raw_tree.specs.declared.walk.WalkError.{WalkError}
 use Rattle.raw_tree.specs.declared.walk.WalkError.TheVariants as error
 
+-- the sort of a level, by whether it is an array
 abbrev pub array_sort : Bool → Sort
 array_sort true = as_array
 array_sort false = as_document
 
--- the value holds no nested bytes; options of it ascend, or descend
+-- the value holds no nested bytes; its options, if it has any, ascend or descend
 abbrev pub IsSingleWith : (Type 0 → Type 0) → RawValue → Type 0
 IsSingleWith P (raw.single l) = P (DoLeafOptionsAscend l)
 IsSingleWith P (raw.document d) = ⊥
 IsSingleWith P (raw.array d) = ⊥
 IsSingleWith P (raw.scoped code d) = ⊥
 
+-- the value holds what `held_by` says
 abbrev pub HoldsAsTold : RawValue → Held → Type 0
 HoldsAsTold v held.Nothing = IsSingleWith (λ A. A) v
 HoldsAsTold v held.Descending = IsSingleWith (λ A. ¬ A) v
 HoldsAsTold v (held.Level inner is_array) = HoldsAs v (array_sort is_array) (bytes_of inner)
 
--- what a frame means breaches by itself: it is a fault, or its options descend
+-- the meaning of a frame is a breach by itself: it is a fault, or its options descend
 abbrev pub BreachesItself : Meaning → Cause → Type 0
 BreachesItself (faulty fault) why = why ≡ cause.Value
 BreachesItself (value (raw.single l)) why = (¬ DoLeafOptionsAscend l) × (why ≡ cause.Options)
@@ -53,22 +55,22 @@ BreachesItself (value (raw.document d)) why = ⊥
 BreachesItself (value (raw.array d)) why = ⊥
 BreachesItself (value (raw.scoped code d)) why = ⊥
 
--- how a level goes on behind the key of an element, which is canonical, is told by what the element means
+-- how a level continues after an element with a canonical key, by the meaning of the element
 abbrev pub TellsValue : RawElement → Validated → Type 0
 TellsValue e validated.End = ⊥
 TellsValue e (validated.Whole same) = (same ≡ e) × (v : RawValue) × Means (frame_of e) (value v) × IsSingleWith (λ A. A) v
 TellsValue e (validated.Inside same inner is_array) = (same ≡ e) × (v : RawValue) × Means (frame_of e) (value v) × HoldsAs v (array_sort is_array) (bytes_of inner)
 TellsValue e (validated.Breach key why) = (option_copied key ≡ Some (frame_of e).key) × (m : Meaning) × Means (frame_of e) m × BreachesItself m why
 
--- behind elements with these keys s stops; or the frame in front of it has this key, and breaches by it or by what it
--- means, and not by what is inside
+-- After elements with these keys, s stops; or the frame at its front has this key, and is a breach by its key or its
+-- meaning, not by what is inside.
 abbrev pub BreachesHere : Sort → List (List ℕ) → List ℕ → Option (List ℕ) → Cause → Type 0
 BreachesHere sort own s None why = (fault : Fault) × (key : Option (List ℕ)) × IsStop s fault key × (why ≡ cause.Stop)
 BreachesHere sort own s (Some key) why =
     (f : Frame) × (r : List ℕ) × IsFrame s f r × (key ≡ f.key)
     × (BreachesKeys sort own f.key why ⊎ (AreKeysCanonical sort (own ++ f.key ∷ []) × (m : Meaning) × Means f m × BreachesItself m why))
 
--- how k and the list go on is told where they are those of a level with its own keys so far
+-- how k and the list continue, if they are those of a level with its own keys so far
 abbrev pub TellsValidated : Sort → List (List ℕ) → List (List ℕ) → List ℕ → Option (List ℕ) → KeysSoFar → List (Bor (List ℕ)) → Validated → Type 0
 TellsValidated sort below own s new k listed validated.End = (s ≡ 0 ∷ []) × HasKeysSoFar k listed sort below own
 TellsValidated sort below own s new k listed (validated.Whole e) =
@@ -79,7 +81,7 @@ TellsValidated sort below own s new k listed (validated.Inside e inner is_array)
     × HasKeysSoFar k listed sort below (own ++ (frame_of e).key ∷ []) × AreKeysCanonical sort (own ++ (frame_of e).key ∷ []) × HoldsAs v (array_sort is_array) (bytes_of inner)
 TellsValidated sort below own s new k listed (validated.Breach key why) = BreachesHere sort own s (option_copied key) why
 
--- so it is for the level, whichever it is
+-- this holds whatever the level is
 abbrev pub Validates : Option (List ℕ) → KeysSoFar → List (Bor (List ℕ)) → ℕ → Option (List ℕ) → KeysSoFar → List (Bor (List ℕ)) → Validated → Type 0
 Validates None keys before number new k after answer = Unit {0}
 Validates (Some s) keys before number new k after answer =
@@ -91,16 +93,18 @@ abbrev pub violation_of : Option Cause → Violation
 violation_of None = too_deep
 violation_of (Some why) = breach_of why
 
+-- what a validation of the document b to a depth returns: nothing if b is canonical, otherwise its first violation and
+-- where it is
 abbrev pub TellsFound : ℕ → List ℕ → Option Found → Type 0
 TellsFound depth b None = IsCanonicalUpTo depth as_document b
 TellsFound depth b (Some found) = FirstViolationTo depth as_document b (violation_of found.cause) (steps_of found.place) found.place.offset
 
--- what is found is the level that was too deep, at its place, inside the element that begins here
+-- what is found is a level that is too deep, at its place, in the element that begins here
 abbrev pub EndsTooDeep : (outermost : ℕ) → WalkError → Option Found → Type 0
 EndsTooDeep outermost (error.Barrier b) (Some found) = (found.cause ≡ None) × (found.place ≡ b.place) × (found.outermost ≡ outermost)
 EndsTooDeep outermost other found = ⊥
 
--- the number of the first step; of no step that of the first element
+-- the number of the first step; without a step, that of the first element
 abbrev pub first_number : List Step → ℕ
 first_number [] = 0
 first_number (step ∷ steps) = step.number

@@ -17,26 +17,26 @@ use Rattle.raw_tree.specs.declared.walk.barrier.BarrierKind.TheVariants as kind
 use Rattle.raw_tree.specs.declared.walk.place.PathStep.{PathStep}
 use Rattle.raw_tree.specs.declared.walk.place.Place.{Place}
 
--- the result is this barrier; a fault with its own key
+-- the result is this barrier; a fault has its own key
 abbrev pub IsBarrier : BarrierKind → within.Barrier → Type 0
 IsBarrier kind.TooManyBytes x = x ≡ too_many_bytes
 IsBarrier kind.TooDeep x = x ≡ too_deep
 IsBarrier (kind.Fault e) x = (fault : KeyedFault) × (x ≡ fault_of fault) × TellsBorrowed e fault
 
--- the number and the key that a step shows
+-- the number and the key of a step
 abbrev pub step_of : PathStep → Step
 step_of step = record { number = step.number; key = option_copied step.key }
 
--- the steps that a place shows
+-- the steps of a place
 abbrev pub steps_of : Place → List Step
 steps_of place = map step_of place.path.items
 
--- out of memory; it is asked for only where the document b has few enough bytes and a level may be entered
+-- out of memory, which is possible only if the document b has few enough bytes and a level may be entered
 abbrev pub IsOutOfMemoryWithin : Limits → List ℕ → Error → Type 0
 IsOutOfMemoryWithin limits b e = IsOutOfMemory e × (length b ≤ limits.bytes) × (0 < limits.depth)
 
--- where no barrier is returned, the document b is read as a tree within the limits; one that is returned is its first, and
--- is where it says
+-- if no barrier is returned, the document b is read as a tree within the limits; a returned barrier is its first, with
+-- its place
 abbrev pub TellsBarrier : Limits → List ℕ → Option Barrier → Type 0
 TellsBarrier limits b None = (t : Tree) × ReadsWithin limits b t
 TellsBarrier limits b (Some answer) =

@@ -1,4 +1,5 @@
--- What a walk over all levels of a document has passed, and what it comes to next. No contract of a call for users cites this file.
+-- What a walk over all levels of a document has passed, and what comes next. No contract of a call for users cites
+-- this file.
 use Rattle.std.specs.Prelude.{◌≡◌, ◌+◌, ◌++◌, ◌∷◌, ◌<◌, ◌≤◌, ℕ, suc, Bool, true, false, List, Option, Some, Result, Ok, Err, drop, length, []}
 use Rattle.bson_model.specs.Tree.{Tree}
 use Rattle.raw_view.specs.Document.{bytes_of}
@@ -33,7 +34,7 @@ pub record Span (K : Type 0) : Type 0 where
   pub bytes : List ℕ
   pub known : K
 
--- a level that waits: these frames of it were passed, and the value of the frame behind them holds the next level
+-- a waiting level: these frames of it were passed, and the value of the frame after them holds the next level
 pub record Wait (K : Type 0) : Type 0 where
   pub level : Span K
   pub frames : List Frame
@@ -44,27 +45,30 @@ pub record Wait (K : Type 0) : Type 0 where
 abbrev pub whole_span : {K : Type 0} → K → RawDocument → Span K
 whole_span known document = record { start = 0; bytes = bytes_of document; known = known }
 
--- where what is behind some frames of a level begins
+-- where the bytes after some frames of a level begin
 abbrev pub offset_in : {K : Type 0} → Span K → List Frame → ℕ
 offset_in i frames = end_of (i.start + 4) frames
 
--- the step at which a level waits, and what is stored of it
+-- the step at which a level waits
 abbrev pub step_at : {K : Type 0} → Wait K → Step
 step_at w = record { number = length w.frames; key = Some w.f.key }
 
+-- what is stored of a waiting level
 abbrev pub stored_at : {K : Type 0} → Wait K → Waiting
 stored_at w = record { start = w.level.start; element = offset_in w.level w.frames; number = length w.frames }
 
--- the same of all that wait: the list has the innermost first, and the result the outermost
+-- the steps of all waiting levels: the list has the innermost first, the result the outermost
 abbrev pub path_of : {K : Type 0} → List (Wait K) → List Step
 path_of [] = []
 path_of (w ∷ ws) = path_of ws ++ step_at w ∷ []
 
+-- what is stored of all waiting levels, the outermost first
 abbrev pub all_stored : {K : Type 0} → List (Wait K) → List Waiting
 all_stored [] = []
 all_stored (w ∷ ws) = all_stored ws ++ stored_at w ∷ []
 
--- A level of b waits for the level i in it. So many levels may be inside the one that waits, and Behind is known of both.
+-- A level of b waits for the level i in it. At most `inside` levels may be inside the waiting one, and `Behind` holds
+-- of both.
 pub record IsHeld {K : Type 0} (Behind : ℕ → Wait K → Span K → Type 0) (b : List ℕ) (inside : ℕ) (w : Wait K) (i : Span K) : Type 0 where
   pub s : List ℕ
   pub r : List ℕ
@@ -76,13 +80,14 @@ pub record IsHeld {K : Type 0} (Behind : ℕ → Wait K → Span K → Type 0) (
   pub ends : i.start + length i.bytes ≡ offset_in w.level w.frames + size_of w.f
   pub knows : Behind inside w i
 
--- each waits for the one before it in the list, and the first for i, inside of which may be so many; the outermost is the document
+-- Each level waits for the one before it in the list, and the first waits for i, inside of which this many levels may
+-- be. The outermost is the document.
 abbrev pub AreHeld : {K : Type 0} → (ℕ → Wait K → Span K → Type 0) → (document : Span K) → (inside : ℕ) → List (Wait K) → Span K → Type 0
 AreHeld Behind document inside [] i = i ≡ document
 AreHeld Behind document inside (w ∷ ws) i = IsHeld Behind document.bytes (suc inside) w i × AreHeld Behind document (suc inside) ws w.level
 
--- The levels of a walk over this document, for whose innermost level so many may wait: those that wait, and the innermost. Of the
--- document `known` is known.
+-- The levels of a walk over this document: those that wait, and the innermost. At most `most` may wait for the
+-- innermost. `known` is known of the document.
 pub record AreLevels {K : Type 0} (Behind : ℕ → Wait K → Span K → Type 0) (known : K) (document : RawDocument) (most : ℕ) (walk : Walk) : Type 0 where
   pub inside : ℕ
   pub waits : List (Wait K)
@@ -94,7 +99,8 @@ pub record AreLevels {K : Type 0} (Behind : ℕ → Wait K → Span K → Type 0
   pub held : AreHeld Behind (whole_span known document) inside waits here
   pub lies : LiesAt (bytes_of document) here.start here.bytes
 
--- So they are, and the innermost has passed some frames. Fact is known of how many levels may be inside it, of it and of them.
+-- The same, and the innermost level has passed some frames. `Fact` holds of the number of levels that may be inside
+-- it, of it, and of the frames.
 pub record IsAt {K : Type 0} (Behind : ℕ → Wait K → Span K → Type 0) (Fact : ℕ → Span K → List Frame → Type 0) (known : K) (document : RawDocument) (most : ℕ) (walk : Walk)
     (level : Level) : Type 0 where
   pub levels : AreLevels Behind known document most walk
@@ -107,7 +113,7 @@ pub record IsAt {K : Type 0} (Behind : ℕ → Wait K → Span K → Type 0) (Fa
   pub start_is : level.start ≡ levels.here.start
   pub knows : Fact levels.inside levels.here frames
 
--- so many elements of the document b are in front of what begins at this offset
+-- this many elements of the document b are before this offset
 pub record IsBehind (b : List ℕ) (number offset : ℕ) : Type 0 where
   pub frames : List Frame
   pub s : List ℕ
@@ -117,17 +123,18 @@ pub record IsBehind (b : List ℕ) (number offset : ℕ) : Type 0 where
 
 -- steps of the walk
 
--- the level where this is left of it
+-- the level with this left of it
 abbrev pub with_left : Option (List ℕ) → Level → Level
 with_left left level = record { elements = left; number = level.number; offset = level.offset; start = level.start }
 
--- the element in front of the level ends within the document, and the level's number and start are at most its offset
+-- the element at the front of the level ends within the document, and the level's number and start are at most its
+-- offset
 pub record IsWithin (walk : Walk) (level : Level) (e : RawElement) : Type 0 where
   pub ends : level.offset + size_of (frame_of e) ≤ length (bytes_of walk.document)
   pub number_within : level.number ≤ level.offset
   pub start_within : level.start ≤ level.offset
 
--- no level waits, and what is left of the outermost level begins at this offset
+-- no level waits, and the rest of the outermost level begins at this offset
 pub record IsBegun (document : RawDocument) (offset : ℕ) (walk : Walk) (level : Level) : Type 0 where
   pub document_is : walk.document ≡ document
   pub none_waits : walk.waiting.items ≡ []
@@ -137,25 +144,26 @@ pub record IsBegun (document : RawDocument) (offset : ℕ) (walk : Walk) (level 
 
 -- visits so far
 
--- What is known of a level are the visits before it. With those of the frames that it has passed they are all so far.
+-- What is known of a level is the visits before it. With those of the frames that it has passed, they are all visits
+-- so far.
 pub record HasSeen (seen : List Visit) (inside : ℕ) (i : Span (List Visit)) (frames : List Frame) : Type 0 where
   pub visits : List Visit
   pub each : VisitsEach (HasVisits inside) (i.start + 4) frames visits
   pub seen_is : seen ≡ i.known ++ visits
 
--- what is known of a level that is entered: all visits before its element, then the entry
+-- what is known of an entered level: all visits before its element, then the entry
 pub record IsEntered (inside : ℕ) (w : Wait (List Visit)) (i : Span (List Visit)) : Type 0 where
   pub before : List Visit
   pub seen : HasSeen before inside w.level w.frames
   pub known_is : i.known ≡ before ++ enter (offset_in w.level w.frames) w.f w.v ∷ []
 
--- A walk over this document, for whose innermost level so many may wait, has come to these visits so far: of each level that waits
--- to those of the frames that were passed, and to the entry into the next one; of the innermost level to those of the frames that
--- were passed. The outermost level comes first.
+-- A walk over this document has come to these visits so far. They are, from the outermost level on: for each waiting
+-- level those of its passed frames and the entry into the next level; for the innermost level those of its passed
+-- frames. At most `most` levels may wait for the innermost.
 pub record HasCome (document : RawDocument) (most : ℕ) (walk : Walk) (level : Level) (seen : List Visit) : Type 0 where
   pub at : IsAt IsEntered (HasSeen seen) [] document most walk level
 
--- The document has few enough bytes, and the walk has come to nothing. Its depth isn't known yet.
+-- The document has few enough bytes, and the walk has come to nothing yet. Its depth isn't known.
 pub record BeginsWithin (limits : Limits) (document : RawDocument) (walk : Walk) (level : Level) : Type 0 where
   pub few : length (bytes_of document) ≤ limits.bytes
   pub most : ℕ
@@ -164,29 +172,29 @@ pub record BeginsWithin (limits : Limits) (document : RawDocument) (walk : Walk)
   pub none_before : level.number ≡ 0
   pub none_waits : walk.waiting.items ≡ []
 
--- the error is the first barrier of the document within the limits; or memory ran out, where it has few enough bytes
+-- the error is the first barrier of the document within the limits; or memory ran out, and there are few enough bytes
 abbrev pub TellsErrorWithin : Limits → List ℕ → WalkError → Type 0
 TellsErrorWithin limits b (error.Barrier answer) = TellsBarrier limits b (Some answer)
 TellsErrorWithin limits b error.OutOfMemory = length b ≤ limits.bytes
 
--- the error is a barrier of this kind, at this step and offset in the level to which this path leads; or memory ran out
+-- the error is a barrier of this kind, at this step and offset in the level at this path; or memory ran out
 abbrev pub IsBarrierAt : List Step → Step → (offset : ℕ) → BarrierKind → WalkError → Type 0
 IsBarrierAt path step offset k (error.Barrier b) = (b.kind ≡ k) × (steps_of b.place ≡ path ++ step ∷ []) × (b.place.offset ≡ offset)
 IsBarrierAt path step offset k error.OutOfMemory = Unit {0}
 
--- the error is the first barrier of the document b, inside of which may be so many levels; or memory ran out
+-- the error is the first barrier of the document b, inside of which this many levels may be; or memory ran out
 abbrev pub TellsError : ℕ → List ℕ → WalkError → Type 0
 TellsError most b (error.Barrier answer) = TellsBarrierWithin (suc most) b (Some answer)
 TellsError most b error.OutOfMemory = Unit {0}
 
--- the level that an element holds is too deep, which is told with its place; or memory ran out
+-- the level in an element is too deep, and the error has its place; or memory ran out
 abbrev pub IsTooDeep : Walk → (from : Level) → List Step → RawElement → WalkError → Type 0
 IsTooDeep walk from path e (error.Barrier answer) =
     (walk.most_waiting ≤ length walk.waiting.items)
     × IsBarrierAt path (record { number = from.number; key = Some (frame_of e).key }) from.offset kind.TooDeep (error.Barrier answer)
 IsTooDeep walk from path e error.OutOfMemory = Unit {0}
 
--- the level that an element in front of this one holds is entered
+-- the level in the element at the front is entered
 pub record Enters (old : Walk) (from : Level) (new : Walk) (to : Level) (e : RawElement) (inner : RawDocument) : Type 0 where
   pub document_is : new.document ≡ old.document
   pub most_is : new.most_waiting ≡ old.most_waiting
@@ -194,7 +202,7 @@ pub record Enters (old : Walk) (from : Level) (new : Walk) (to : Level) (e : Raw
   pub stored : new.waiting.items ≡ old.waiting.items ++ stored_level from ∷ []
   pub level_is : to ≡ entered_level (bytes_of inner) (from.offset + size_of (frame_of e))
 
--- at the final 0 of a level, which is at this offset, the walk goes back to the level around it
+-- at the final 0 of a level, which is at this offset, the walk returns to the outer level
 pub record Leaves (old : Walk) (offset : ℕ) (new : Walk) (to : Level) : Type 0 where
   pub document_is : new.document ≡ old.document
   pub most_is : new.most_waiting ≡ old.most_waiting
@@ -202,32 +210,32 @@ pub record Leaves (old : Walk) (offset : ℕ) (new : Walk) (to : Level) : Type 0
   pub stored : old.waiting.items ≡ new.waiting.items ++ w ∷ []
   pub level_is : (d : List ℕ) → LiesAt (bytes_of old.document) w.start d → to ≡ resumed_level w d (offset + 1)
 
--- so it does; or no level waits
+-- the same; or no level waits
 abbrev pub LeavesOrEnds : Walk → (offset : ℕ) → Walk → (to : Level) → Bool → Type 0
 LeavesOrEnds old offset new to true = Leaves old offset new to
 LeavesOrEnds old offset new to false = old.waiting.items ≡ []
 
--- a barrier is at this offset
+-- the barrier is at this offset
 abbrev pub IsThere : (offset : ℕ) → WalkError → Type 0
 IsThere offset (error.Barrier answer) = answer.place.offset ≡ offset
 IsThere offset error.OutOfMemory = Unit {0}
 
--- the frame of an element that is visited ends within the bytes b
+-- the frame of a visited element ends within the bytes b
 abbrev pub EndsWithin : List ℕ → Visit → Type 0
 EndsWithin b (whole offset f v) = offset + size_of f ≤ length b
 EndsWithin b (enter offset f v) = offset + size_of f ≤ length b
 EndsWithin b leave = Unit {0}
 
--- behind an event: the walk has come to this visit, too, and some bytes have been passed
+-- after an event: the walk has come to one more visit, and some bytes were passed
 pub record ComesTo (document : RawDocument) (most : ℕ) (from : Level) (seen : List Visit) (walk : Walk) (to : Level) (x : Visit) : Type 0 where
   pub come : HasCome document most walk to (seen ++ x ∷ [])
   pub further : from.offset < to.offset
   pub within : to.offset ≤ length (bytes_of document)
   pub ends : EndsWithin (bytes_of document) x
 
--- What a walk over this document comes to, for whose innermost level so many may wait. So far it has come to these visits, and is in
--- the level `from`; then it is in the level `to`. At the end these are all visits of the document. An error is the document's first
--- barrier, which is where `from` is, or memory ran out.
+-- What a walk over this document comes to next, where at most `most` levels may wait for the innermost. So far it has
+-- come to these visits and is in the level `from`; then it is in the level `to`. At the end these are all visits of
+-- the document. An error is the first barrier of the document, at the position of `from`, or memory ran out.
 abbrev pub Comes : RawDocument → (most : ℕ) → List Visit → Walk → (from : Level) → Walk → (to : Level) → Result Event WalkError → Type 0
 Comes document most seen old from new to (Ok (event.Whole e v)) =
     ComesTo document most from seen new to (whole from.offset (frame_of e) (value_of v)) × IsSingle (value_of v) × (to.number ≡ from.number + 1)

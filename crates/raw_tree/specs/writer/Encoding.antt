@@ -1,4 +1,4 @@
--- The bytes that trees are written as. BSON 1.1, `document`.
+-- The bytes of trees. BSON 1.1, `document`.
 use Rattle.std.specs.Prelude.{◌≡◌, ◌<◌, ◌≤◌, None, ℕ, ◌+◌, List, [], ◌++◌, length, decimal}
 use Rattle.bson_model.specs.Proper.{IsNulFree}
 use Rattle.bson_model.specs.Tree.{Tree, Trees, Entries, leaf, array, document, code_with_scope, no_tree, tree_then, no_entry, entry_then}
@@ -20,16 +20,17 @@ kind_of_tree (array ts) = kind.Array
 kind_of_tree (document es) = kind.EmbeddedDocument
 kind_of_tree (code_with_scope code es) = kind.JavaScriptCodeWithScope
 
+-- These give the payload of a tree, and the elements in it.
 abbrev mutual
-  -- the payload of a tree: of a leaf that of its value; of a list, a document and a scope their elements in
-  -- a frame, the keys of a list being the decimals from 0
+  -- the payload of a tree: of a leaf that of its value; of a list, a document and a scope their framed elements, where
+  -- the keys of a list are the decimals from 0
   pub tree_payload : Tree → List ℕ
   tree_payload (leaf l) = leaf_payload l
   tree_payload (array ts) = framed (items_bytes 0 ts)
   tree_payload (document es) = framed (entries_bytes es)
   tree_payload (code_with_scope code es) = scoped_payload code (framed (entries_bytes es))
 
-  -- the elements of a list, under the decimals from this number
+  -- the elements of a list, whose keys are the decimals from n
   pub items_bytes : ℕ → Trees → List ℕ
   items_bytes n no_tree = []
   items_bytes n (tree_then t ts) = element_of (kind_of_tree t) (decimal n) (tree_payload t) ++ items_bytes (n + 1) ts
@@ -39,38 +40,40 @@ abbrev mutual
   entries_bytes no_entry = []
   entries_bytes (entry_then key t es) = element_of (kind_of_tree t) key (tree_payload t) ++ entries_bytes es
 
--- the bytes of a document or a list, which are its payload; asked of no other tree
+-- the bytes of a document or a list, which are its payload; it isn't used for other trees
 abbrev pub encoding : Tree → List ℕ
 encoding t = tree_payload t
 
+-- These give the lengths of the above as plain sums.
 abbrev mutual
-  -- how many bytes the payload of a tree takes, as a plain sum
+  -- the length of the payload of a tree
   pub encoded_len : Tree → ℕ
   encoded_len (leaf l) = length (leaf_payload l)
   encoded_len (array ts) = 5 + items_len 0 ts
   encoded_len (document es) = 5 + entries_len es
   encoded_len (code_with_scope code es) = 4 + (5 + length code) + (5 + entries_len es)
 
+  -- the length of the elements of a list, whose keys are the decimals from n
   pub items_len : ℕ → Trees → ℕ
   items_len n no_tree = 0
   items_len n (tree_then t ts) = (2 + length (decimal n) + encoded_len t) + items_len (n + 1) ts
 
+  -- the length of the elements of a document
   pub entries_len : Entries → ℕ
   entries_len no_entry = 0
   entries_len (entry_then key t es) = (2 + length key + encoded_len t) + entries_len es
 
--- why a tree isn't written: first a 0, then the length, then out of memory
+-- why a tree isn't written: a 0, then its length, then out of memory
 abbrev pub RefusesTree : Tree → ErrorKind → Type 0
 RefusesTree t (what.MalformedValue reason.InteriorNul) = ¬ IsNulFree t
 RefusesTree t (what.MalformedValue reason.TooLong) = IsNulFree t × (max_length < encoded_len t)
 RefusesTree t what.OutOfMemory = IsNulFree t × (encoded_len t ≤ max_length)
 RefusesTree t _ = ⊥
 
--- what a call returns that writes a tree: its encoding, of a tree without a 0 where it may not be and of at
--- most the greatest length
+-- what a call returns that writes a tree: its encoding, if its C strings contain no 0 and it is not too long
 abbrev pub IsEncoded : Tree → List ℕ → Type 0
 IsEncoded t bytes = IsNulFree t × (encoded_len t ≤ max_length) × (bytes ≡ encoding t)
 
--- or why there is none, without a key
+-- otherwise why there is none, without a key
 abbrev pub IsRefused : Tree → Error → Type 0
 IsRefused t e = RefusesTree t e.kind × (key_of e ≡ None)

@@ -6,12 +6,12 @@ use Rattle.bson_model.specs.Tree.{Tree}
 use Rattle.raw_view.specs.Frame.Number.{max_length}
 use Rattle.raw_tree.specs.writer.Encoding.{encoded_len}
 
--- what is returned of a tree before it is written: its length, the greatest number of 64 bits where that is
--- more; nothing exactly where a key, a pattern or options hold a 0
+-- what is returned for a tree before it is written: its length, or the greatest number of 64 bits if it is more;
+-- nothing if and only if a key, a pattern or options contain a 0
 abbrev pub Measures : Tree → Option ℕ → Type 0
 Measures t None = ¬ IsNulFree t
 Measures t (Some len) = IsNulFree t × (len ≡ min (encoded_len t) (2 ^ 64 - 1))
 
--- no bytes yet, and room for those of the tree, which may be written
+-- no bytes yet, with room for those of the tree, which may be written
 abbrev pub HasRoomFor : Tree → Vec ℕ Global → Type 0
 HasRoomFor t out = IsNulFree t × (encoded_len t ≤ max_length) × (out.items ≡ []) × (vec_len out ≡ 0) × (encoded_len t ≤ vec_capacity out)

@@ -1,4 +1,5 @@
-//! Of a value that is to be written: whether it holds a 0 where none may be, and how many bytes it takes.
+//! What has to be known of a value before it is written: whether a C string in it contains a 0, and how many
+//! bytes it takes.
 
 ghost use Rattle.std.specs.Prelude.{◌≡◌, ◌-◌, ◌^◌, min, ◌↔◌, length, IsTrue};
 ghost use Rattle.bson_model.specs.Bytes.{NulFree};
@@ -9,7 +10,7 @@ ghost use Rattle.raw_view.specs.Meaning.Value.{value_of};
 use bson_model::BinarySubtype;
 use raw_view::{RawBinaryRef, RawBsonRef};
 
-/// Whether a text holds no 0, so that it can be a C string. BSON 1.1, `cstring`.
+/// Whether a text contains no 0, so that it can be a C string. BSON 1.1, `cstring`.
 #[inline(always)]
 pub fn is_nul_free(text: &str) -> bool
     ensures { IsTrue result ↔ NulFree text.now }
@@ -17,7 +18,7 @@ pub fn is_nul_free(text: &str) -> bool
     !text.as_bytes().contains(&0)
 }
 
-/// Whether the pattern and the options of the value hold no 0.
+/// Whether the pattern and the options of the value contain no 0.
 #[inline(always)]
 pub fn is_value_nul_free(value: RawBsonRef<'_>) -> bool
     ensures { IsTrue result ↔ IsValueNulFree (value_of value.entry) }
@@ -47,7 +48,7 @@ fn binary_len(binary: RawBinaryRef<'_>) -> usize
     }
 }
 
-/// How many bytes the payload of the value takes; the greatest `usize` where that is more.
+/// The length of the payload of the value; the greatest `usize` if it is more.
 #[inline(always)]
 pub fn payload_len(value: RawBsonRef<'_>) -> usize
     ensures { result ≡ min (length (payload_of (value_of value.entry))) (2 ^ 64 - 1) }

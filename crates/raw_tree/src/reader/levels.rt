@@ -1,4 +1,4 @@
-//! The levels of bytes that are being read: what is read of each so far.
+//! The levels of bytes that are being read, and what was read of each so far.
 #![tactic(auto, using(std::proofs::lemmas::Grind::common_steps, bson_model::proofs::Face::tree_laws))]
 
 ghost use Rattle.std.specs.Prelude.{◌≡◌, [], ◌∷◌, ◌++◌, map, IfOk, IfErr, OnOk};
@@ -15,24 +15,25 @@ use raw_view::{Elements, Holder, RawBsonRef, RawDbPointerRef, RawLevel, Result};
 use std::alloc::Global;
 use std::mem;
 
-/// A level of more values gives them away with the room that they are in; of fewer they are moved to exact room.
+/// A level with more values than this hands over its vector as it is. The values of a smaller level are moved
+/// into a vector of the exact size.
 const MOST_MOVED: usize = 256;
 
-/// What bytes are read as: a document, or the scope of this code; or an array.
+/// The content of bytes: a document, the scope of this code, or an array.
 #[derive(Drop)]
 pub(crate) enum Contents<'a> {
     Document(Option<&'a str>, Document),
     Array(Vec<Bson>),
 }
 
-/// What is read so far of a level: its keys, unless it is an array, and its values.
+/// What was read of a level so far: its keys, unless it is an array, and its values.
 #[derive(Drop)]
 pub(crate) struct Draft<'a> {
     pub(crate) keys: Vec<&'a str>,
     pub(crate) values: Vec<Bson>,
 }
 
-/// Bytes that are being read: what is left of them, what holds them, and what is read of them so far.
+/// A level that is being read: its remaining elements, what holds it, and what was read of it so far.
 #[derive(Drop)]
 pub(crate) struct Level<'a> {
     pub(crate) elements: Elements<'a>,
@@ -40,14 +41,15 @@ pub(crate) struct Level<'a> {
     pub(crate) draft: Draft<'a>,
 }
 
-/// A level that waits for the value under this key, whose bytes are the next level.
+/// A level that waits for the value under this key. The bytes of that value are the next level.
 #[derive(Drop)]
 pub(crate) struct Waiting<'a> {
     pub(crate) level: Level<'a>,
     pub(crate) key: &'a str,
 }
 
-/// The pointer with a namespace of its own; the only error is out of memory. BSON 1.1, `element`, DBPointer.
+/// The pointer, with a namespace that it owns. The only error is out of memory. BSON 1.1, `element`,
+/// DBPointer.
 pub fn copied_pointer(alloc: Global, pointer: RawDbPointerRef<'_>) -> Result<DbPointer>
     ensures namespace { IfOk result
         (λ p. string_bytes p.namespace ≡ namespace_of pointer.entry) }
@@ -60,7 +62,7 @@ pub fn copied_pointer(alloc: Global, pointer: RawDbPointerRef<'_>) -> Result<DbP
     })
 }
 
-/// A value that holds no level, with parts of its own; the only error is out of memory.
+/// A value that holds no level, with parts of its own. The only error is out of memory.
 #[inline(always)]
 pub(crate) fn copied(alloc: Global, value: RawBsonRef<'_>) -> Result<Bson>
     requires { IsSingle (value_of value) }
@@ -98,7 +100,7 @@ pub(crate) fn copied(alloc: Global, value: RawBsonRef<'_>) -> Result<Bson>
 }
 
 impl<'a> Draft<'a> {
-    /// A draft of nothing. It takes no memory.
+    /// An empty draft. It takes no memory.
     pub(crate) fn new(alloc: Global) -> Draft<'a>
         ensures keys { result.keys.items ≡ [] }
         ensures values { result.values.items ≡ [] }
@@ -109,7 +111,7 @@ impl<'a> Draft<'a> {
         }
     }
 
-    /// Where nothing is read yet, takes the room that a spare draft has.
+    /// If nothing was read yet, takes the room of a spare draft.
     #[tactic(auto, using(std::proofs::lemmas::Grind::common_steps, bson_model::proofs::Face::tree_laws, std::proofs::lemmas::List::nil_from_length, crate::proofs::reader::Stacks::drafted_none, crate::proofs::reader::Stacks::no_trees))]
     #[inline(always)]
     fn take_room(&mut self, spare: &mut Draft<'a>)
@@ -123,7 +125,7 @@ impl<'a> Draft<'a> {
         mem::swap(self, spare);
     }
 
-    /// Puts a pair last; the only error is out of memory.
+    /// Appends a pair. The only error is out of memory.
     #[tactic(auto, using(std::proofs::lemmas::Grind::common_steps, bson_model::proofs::Face::tree_laws, std::proofs::lemmas::List::map_push))]
     #[inline(always)]
     fn put_pair(&mut self, key: &'a str, value: Bson) -> Result<()>
@@ -135,7 +137,7 @@ impl<'a> Draft<'a> {
         Ok(())
     }
 
-    /// Puts a value last; the only error is out of memory.
+    /// Appends a value. The only error is out of memory.
     #[tactic(auto, using(std::proofs::lemmas::Grind::common_steps, bson_model::proofs::Face::tree_laws, std::proofs::lemmas::List::map_push))]
     #[inline(always)]
     fn put_value(&mut self, value: Bson) -> Result<()>
@@ -146,7 +148,8 @@ impl<'a> Draft<'a> {
         Ok(())
     }
 
-    /// Moves the values to room of their exact size, unless they are many, and returns the room that they were in.
+    /// Moves the values into a vector of the exact size, unless they are many, and returns the vector that
+    /// they were in.
     fn fit(&mut self, alloc: Global) -> Result<Vec<Bson>>
         ensures keys { OnOk result (self.new.keys.items ≡ self.old.keys.items) }
         ensures values { OnOk result (self.new.values.items ≡ self.old.values.items) }
@@ -159,7 +162,7 @@ impl<'a> Draft<'a> {
         Ok(mem::replace(&mut self.values, exact))
     }
 
-    /// Leaves its room to a later level, if that is more than is spared already.
+    /// Leaves its room to a later level if it is larger than the spare room.
     fn leave_room(self, spare: &mut Draft<'a>) {
         if self.values.capacity() > spare.values.capacity() {
             *spare = self;
@@ -167,7 +170,7 @@ impl<'a> Draft<'a> {
     }
 }
 
-/// A level of which nothing is read.
+/// A level of which nothing was read.
 #[inline(always)]
 pub(crate) fn begin<'a>(alloc: Global, nested: RawLevel<'a>) -> Level<'a>
     ensures { IsUnread nested.entry result }
@@ -179,8 +182,8 @@ pub(crate) fn begin<'a>(alloc: Global, nested: RawLevel<'a>) -> Level<'a>
     }
 }
 
-/// Puts a value last, under this key unless the level is an array; the only error is out of memory. The
-/// first takes the room that another level left.
+/// Appends a value, under this key unless the level is an array. The first value takes the room that another
+/// level left. The only error is out of memory.
 #[tactic(auto, using(std::proofs::lemmas::Grind::common_steps, bson_model::proofs::Face::tree_laws, std::proofs::lemmas::List::map_push))]
 #[inline(always)]
 fn put<'a>(level: &mut Level<'a>, spare: &mut Draft<'a>, key: &'a str, value: Bson) -> Result<()>
@@ -194,8 +197,8 @@ fn put<'a>(level: &mut Level<'a>, spare: &mut Draft<'a>, key: &'a str, value: Bs
     }
 }
 
-/// Puts a copy of a value that holds no level last, under this key unless the level is an array; the only error is out of
-/// memory.
+/// Appends a copy of a value that holds no level, under this key unless the level is an array. The only error
+/// is out of memory.
 #[inline(always)]
 pub(crate) fn put_copied<'a>(
     alloc: Global,
@@ -212,8 +215,8 @@ pub(crate) fn put_copied<'a>(
     put(level, spare, key, copy)
 }
 
-/// What the bytes of a level are read as, once all are. It takes the values with the room that they are in; the
-/// only error is out of memory.
+/// The content of a level, once all of it was read. It takes over the vector of the values. The only error is
+/// out of memory.
 #[tactic(auto, using(std::proofs::lemmas::Grind::common_steps, bson_model::proofs::Face::tree_laws, crate::proofs::reader::Stacks::zip_pairs))]
 pub(crate) fn finish<'a>(
     alloc: Global,
@@ -237,8 +240,8 @@ pub(crate) fn finish<'a>(
     }
 }
 
-/// The value that holds the bytes of a level, once all are read; the only error is out of memory. Its
-/// room goes to a later level.
+/// The value that holds a level, once all of it was read. The room of the level goes to a later level. The
+/// only error is out of memory.
 #[inline(always)]
 fn end<'a>(alloc: Global, level: Level<'a>, spare: &mut Draft<'a>) -> Result<Bson>
     ensures ended { IfOk result (DraftsTree level.entry.holder level.entry.draft) }
@@ -252,8 +255,8 @@ fn end<'a>(alloc: Global, level: Level<'a>, spare: &mut Draft<'a>) -> Result<Bso
     close(alloc, contents)
 }
 
-/// Puts the value that holds the bytes of a level, once all are read, into the level that waits for it; the only error is out
-/// of memory.
+/// Puts the value that holds a level, once all of it was read, into the level that waits for it. The only
+/// error is out of memory.
 #[inline(always)]
 pub(crate) fn put_ended<'a>(
     alloc: Global,
@@ -268,7 +271,7 @@ pub(crate) fn put_ended<'a>(
     put(&mut outer.level, spare, outer.key, ended)
 }
 
-/// The value that holds these contents; the only error is out of memory, for the copy of a code.
+/// The value with this content. The only error is out of memory, for the copy of a code.
 #[inline(always)]
 pub(crate) fn close(alloc: Global, contents: Contents<'_>) -> Result<Bson>
     ensures closed { IfOk result (ClosesAs contents.entry) }

@@ -1,4 +1,4 @@
-//! Trees of documents from outside, which cost no more than the caller allows.
+//! Trees of documents from outside that cost no more than the caller allows.
 #![tactic(auto)]
 
 ghost use Rattle.std.specs.Prelude.{◌≡◌, IfOk, IfErr};
@@ -15,8 +15,8 @@ use bson_model::Document;
 use raw_view::{Error, Holder, RawDocument, RawLevel, Reason, Result};
 use std::alloc::Global;
 
-/// What a document from outside may cost: so many bytes at most, and so many levels. The document is the first
-/// level; a document, an array or a scope in a level is one deeper.
+/// What a document from outside may cost: at most `bytes` bytes and at most `depth` levels. The document is
+/// the first level; a document, an array or a scope in a level is one level deeper.
 /// ```
 /// let document = RawDocument::from_bytes(b"\x14\0\0\0\x03a\0\x0C\0\0\0\x10b\0\x07\0\0\0\0\0")?;
 /// let limits = Limits { bytes: 1000, depth: 1 };
@@ -30,13 +30,13 @@ pub struct Limits {
     pub depth: usize,
 }
 
-/// The tree of a document that keeps to these limits. It fails first if there are more bytes; else with the first,
-/// depth first in byte order, of a fault at any level, with the key that this fault itself carries, and of the entry
-/// into a level that is too deep, which has no key; or memory runs out. Every document is read as no more than one
-/// tree within the limits, and either that or has one reason to fail. Its tree is written back as its own bytes exactly
-/// where it is canonical. BSON 1.1, `document`.
+/// The tree of a document within these limits. More bytes than `limits.bytes` are the first error. Otherwise
+/// the error is the first of these, depth first in byte order: a fault at any level, with the key that this
+/// fault itself has, or the entry into a level that is too deep, which has no key. Memory may also run out.
+/// Every document has exactly one tree within the limits, or exactly one reason to fail. Its tree is written
+/// back as its own bytes if and only if the document is canonical. BSON 1.1, `document`.
 ///
-/// No clause says so: no level that is too deep is entered, and no memory is asked for one.
+/// Not in the contract: a level that is too deep isn't entered, and no memory is requested for it.
 /// ```
 /// let document = RawDocument::from_bytes(b"\x0C\0\0\0\x10a\0\x01\0\0\0\0")?;
 /// let limits = Limits { bytes: 1000, depth: 10 };

@@ -1,4 +1,4 @@
-//! How many elements a conversion frames.
+//! How many elements a conversion reads.
 
 ghost use Rattle.std.specs.Prelude.{◌≡◌, ◌<◌, ◌+◌};
 ghost use Rattle.raw_tree.specs.walk.Looking.{HasLooked, frames_in};
@@ -8,7 +8,7 @@ use crate::walk::level::{Next, look};
 use raw_view::Elements;
 use std::marker::Model;
 
-/// How many elements a conversion has framed, at all levels. A clause sees the number.
+/// How many elements a conversion has read, at all levels. A clause sees the number.
 #[derive(Drop)]
 pub struct Steps {
     count: usize,
@@ -36,7 +36,7 @@ impl Steps {
         self.count
     }
 
-    /// Looks at what is next in a level, and counts the element that is framed for it. No other call counts.
+    /// Looks at what is next in a level, and counts the element if there is one. No other call counts.
     #[inline(always)]
     pub(crate) fn look<'a>(&mut self, elements: &mut Elements<'a>) -> Next<'a>
         requires { self.old < max_length }
@@ -49,7 +49,7 @@ impl Steps {
     }
 }
 
-/// How many elements are framed for a look: one, also where it means a fault; none for the final 0 or a stop.
+/// How many elements a look reads: one, even if it means a fault; none for the final 0 or a stop.
 #[inline(always)]
 fn framed_for(next: &Next<'_>) -> usize
     ensures { result ≡ frames_in next.now }

@@ -8,7 +8,7 @@ use std::fmt;
 /// Why a document isn't canonical.
 #[derive(Clone, Copy, Debug, PartialEq, Eq)]
 pub enum Cause {
-    /// No element and no final 0 is where the elements end.
+    /// Where the elements end there is neither an element nor the final 0.
     Stop,
     /// An element's payload means no value.
     Value,
@@ -20,21 +20,21 @@ pub enum Cause {
     Options,
 }
 
-/// The first place, depth first in byte order, at which a document fails to be canonical.
+/// The first place, depth first in byte order, at which a document isn't canonical.
 /// ```
 /// let breach = validate(alloc, RawDocument::from_bytes(b"\x13\0\0\0\x10a\0\x01\0\0\0\x10a\0\x02\0\0\0\0")?)?;
 /// assert!(rt; matches!(breach, Some(Breach { cause: Cause::RepeatedKey, .. })));
 /// ```
 #[derive(Debug, PartialEq, Eq, Drop)]
 pub struct Breach {
-    /// for each level, from the outermost on, the number of the element, counted from 0; for a stop, how many elements
-    /// are before it
+    /// for each level, from the outermost on, the number of the element, counted from 0; for a stop, the
+    /// number of elements before it
     pub path: Vec<usize>,
-    /// why
+    /// why it is a breach
     pub cause: Cause,
 }
 
-/// The cause in a word, as the program prints it.
+/// The cause in a word, as the programs print it.
 impl fmt::Display for Cause {
     ghost output = { λ cause. Some (cause_text cause) };
 
@@ -49,7 +49,7 @@ impl fmt::Display for Cause {
     }
 }
 
-/// The cause, and the numbers of the path joined by dots.
+/// The cause, and the numbers of the path with dots between them.
 impl fmt::Display for Breach {
     fn fmt<W: fmt::Write>(&self, f: &mut fmt::Formatter<W>) -> fmt::Result {
         write!(f, "{} at ", self.cause)?;

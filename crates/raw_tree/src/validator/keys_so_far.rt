@@ -1,4 +1,4 @@
-//! The keys of a level that is validated.
+//! The keys of a level that is being validated.
 #![tactic(auto)]
 
 ghost use Rattle.std.specs.Prelude.{◌≡◌, ◌↔◌, [], decimal, IsTrue, IfOk, IfErr};
@@ -16,9 +16,9 @@ use std::alloc::Global;
 /// The keys of a level whose elements are validated one after the other.
 #[derive(Drop)]
 pub(crate) enum KeysSoFar<'a> {
-    /// those of an array, which are known by their number, and take no place in the list
+    /// the keys of an array: its elements are numbered, so the list has no entry for them
     Numbers,
-    /// those of a document
+    /// the keys of a document
     Distinct(KeySet<'a>),
 }
 
@@ -30,22 +30,22 @@ fn is_decimal(key: &str, number: usize) -> bool
 }
 
 impl<'a> KeysSoFar<'a> {
-    /// Those of a document of which no element is validated.
+    /// The keys of a document before its first element is validated.
     pub(crate) fn of_document(listed: &[&'a str]) -> KeysSoFar<'a>
         ensures { HasKeysSoFar result listed.now as_document (texts listed.now) [] }
     {
         KeysSoFar::Distinct(KeySet::behind(listed))
     }
 
-    /// Those of an array of which no element is validated.
+    /// The keys of an array before its first element is validated.
     pub(crate) fn of_array(listed: &[&'a str]) -> KeysSoFar<'a>
         ensures { HasKeysSoFar result listed.now as_array (texts listed.now) [] }
     {
         KeysSoFar::Numbers
     }
 
-    /// Adds the key of the next element, which has this number; or returns why the key breaches, and adds nothing. The
-    /// only error is out of memory.
+    /// Adds the key of the next element, which has this number. If the key breaches, adds nothing and returns
+    /// why. The only error is out of memory.
     #[inline(always)]
     pub(crate) fn add(
         &mut self,
@@ -75,7 +75,7 @@ impl<'a> KeysSoFar<'a> {
         }
     }
 
-    /// Takes the keys of this level from the list, of which it is the innermost.
+    /// Removes the keys of this level from the list. The level is the innermost one.
     pub(crate) fn leave(&self, listed: &mut Vec<&'a str>)
         ensures { LeavesOpenKeys self.now listed.old.items listed.new.items }
     {

@@ -1,4 +1,4 @@
-//! A step of a validation: what is next in a level, and whether it breaches.
+//! A step of a validation: what is next in a level, and whether it is a breach.
 #![tactic(auto)]
 
 ghost use Rattle.std.specs.Prelude.{[], IfOk, IfErr};
@@ -14,7 +14,7 @@ use bson_model::do_options_ascend;
 use raw_view::{Elements, Holder, RawBsonRef, RawDocument, RawElement, Result};
 use std::alloc::Global;
 
-/// What is next in a level that is validated.
+/// What is next in a level that is being validated.
 #[derive(Drop)]
 pub(crate) enum Validated<'a> {
     /// the final 0
@@ -23,14 +23,14 @@ pub(crate) enum Validated<'a> {
     Whole(RawElement<'a>),
     /// an element whose key is canonical, the level that its value holds, and whether that is an array
     Inside(RawElement<'a>, RawDocument<'a>, bool),
-    /// the key of an element that breaches, and why; or a stop
+    /// a breach: the key of the element, or none for a stop; and why
     Breach(Option<&'a str>, Cause),
 }
 
 /// What a value holds.
 #[derive(Drop)]
 pub(crate) enum Held<'a> {
-    /// no level, and no options that descend
+    /// neither a level nor options that descend
     Nothing,
     /// options that descend
     Descending,
@@ -53,7 +53,7 @@ pub(crate) fn held_by(value: RawBsonRef<'_>) -> Held<'_>
     }
 }
 
-/// The keys of a level of which no element is validated.
+/// The keys of a level before its first element is validated.
 pub(crate) fn keys_of<'a>(is_array: bool, listed: &[&'a str]) -> KeysSoFar<'a>
     ensures { HasKeysSoFar result listed.now (array_sort is_array) (texts listed.now) [] }
 {
@@ -64,8 +64,8 @@ pub(crate) fn keys_of<'a>(is_array: bool, listed: &[&'a str]) -> KeysSoFar<'a>
     }
 }
 
-/// Validates what is next in a level in front of which so many elements are: a key, then its value. The only error is out of
-/// memory.
+/// Validates what is next in a level: a key, then its value. `number` elements are before it. The only error
+/// is out of memory.
 #[inline(always)]
 pub(crate) fn validate_next<'a>(
     alloc: Global,

@@ -1,4 +1,4 @@
-//! Whether a document is canonical within limits, and where it first fails to be.
+//! Whether a document is canonical within limits, and where it first isn't.
 #![tactic(auto)]
 
 ghost use Rattle.std.specs.Prelude.{◌<◌, IfOk, IfErr};
@@ -19,7 +19,7 @@ use raw_view::{Error, RawDocument, Result};
 use std::alloc::Global;
 use std::mem;
 
-/// The first breach of a document, and where it is. The path borrows from the document.
+/// The first breach of a document, and its place. The path borrows from the document.
 /// ```
 /// let document = RawDocument::from_bytes(b"\x13\0\0\0\x10a\0\x01\0\0\0\x10a\0\x02\0\0\0\0")?;
 /// let breach = validate_within(alloc, document, Limits { bytes: 1000, depth: 10 })?;
@@ -27,13 +27,13 @@ use std::mem;
 /// ```
 #[derive(Debug, PartialEq, Eq, Drop)]
 pub struct PlacedBreach<'a> {
-    /// why it is one
+    /// why it is a breach
     pub cause: Cause,
-    /// where: at the element that breaches, or at the stop
+    /// at the element that breaches, or at the stop
     pub place: Place<'a>,
 }
 
-/// Why a document isn't validated within limits.
+/// Why a validation within limits fails.
 /// ```
 /// let document = RawDocument::from_bytes(b"\x0C\0\0\0\x10a\0\x01\0\0\0\0")?;
 /// let few = Limits { bytes: 5, depth: 10 };
@@ -43,21 +43,21 @@ pub struct PlacedBreach<'a> {
 pub enum ValidateError<'a> {
     /// The document has more bytes than allowed.
     TooManyBytes,
-    /// A level is deeper than allowed: the one that the element at this place holds, or the document as a whole.
+    /// A level is deeper than allowed: the one in the element at this place, or the document as a whole.
     TooDeep(Place<'a>),
     /// Memory ran out.
     OutOfMemory,
 }
 
-/// What ends a validation to a depth.
+/// What ends a validation to some depth.
 #[derive(Drop)]
 pub struct Found<'a> {
-    /// why it is a breach; `None` where a level is too deep
+    /// why it is a breach; `None` if a level is too deep
     pub cause: Option<Cause>,
     /// where it is
     pub place: Place<'a>,
-    /// where the element of the outermost level begins that it is at, or that holds it; the first, where it is the document
-    /// as a whole
+    /// where in the outermost level the element begins that holds it, or is it; the first element, if the
+    /// place is the document as a whole
     pub outermost: usize,
 }
 
@@ -98,7 +98,7 @@ pub fn validate_to_depth<'a>(
                 }
             }
             Validated::Breach(key, cause) => {
-                // the path may take the memory of the keys
+                // the path may use the memory of the keys
                 drop(listed);
                 drop(outer_keys);
                 let place = place_in(alloc, document, &walk.waiting, number, key, level.offset)?;
@@ -122,7 +122,8 @@ pub fn validate_to_depth<'a>(
     }
 }
 
-/// What ends a validation at a level that is too deep, which an element of the outermost level holds that begins there.
+/// What ends a validation at a level that is too deep. `outermost` is where the element of the outermost
+/// level begins that holds this level.
 fn too_deep(error: WalkError<'_>, outermost: usize) -> Result<Option<Found<'_>>>
     ensures found { IfOk result (EndsTooDeep outermost error.entry) }
     ensures err { IfErr result IsOutOfMemory }
@@ -137,13 +138,14 @@ fn too_deep(error: WalkError<'_>, outermost: usize) -> Result<Option<Found<'_>>>
     }
 }
 
-/// Whether a document is canonical within limits: `None` exactly where it is, has no more bytes than allowed and no deeper
-/// level. More bytes than allowed are an error before all others. Else it is the first, depth first in byte order, of a
-/// breach and of the entry into a level that is too deep, which is an error: at each element its key is validated first, then
-/// the value, then what is inside. Both are told with their place. BSON 1.1, `document`.
+/// Whether a document is canonical within limits. `None` if and only if it is canonical and has neither more
+/// bytes nor more levels than allowed. More bytes than allowed are the first error. Otherwise it is the first
+/// of these, depth first in byte order: a breach, which is returned, or the entry into a level that is too
+/// deep, which is an error. The key of an element is validated first, then its value, then what is inside the
+/// value. Both come with their place. BSON 1.1, `document`.
 ///
-/// No clause says so: no tree is built, no key is copied, and no depth fills the stack. Memory is taken for the keys of the
-/// levels that are open, for the levels that wait and for the path.
+/// Not in the contract: no tree is built, no key is copied, and no depth fills the stack. Memory is taken for
+/// the keys of the open levels, for the waiting levels and for the path.
 /// ```
 /// let document = RawDocument::from_bytes(b"\x13\0\0\0\x10a\0\x01\0\0\0\x10a\0\x02\0\0\0\0")?;
 /// let limits = Limits { bytes: 1000, depth: 10 };

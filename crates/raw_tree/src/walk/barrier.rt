@@ -11,11 +11,12 @@ pub enum BarrierKind<'a> {
     TooManyBytes,
     /// a level is deeper than allowed
     TooDeep,
-    /// a fault, with its key where it has one
+    /// a fault, with its key if it has one
     Fault(BorrowedError<'a>),
 }
 
-/// What ends a reading of a document within limits, and where it is. The key and the path borrow from the document.
+/// What ends a reading of a document within limits, and its place. The key and the path borrow from the
+/// document.
 /// ```
 /// let document = RawDocument::from_bytes(b"\x0C\0\0\0\x10a\0\x01\0\0\0\0")?;
 /// let barrier = first_fault_within(alloc, document, Limits { bytes: 5, depth: 10 })?;
@@ -23,9 +24,9 @@ pub enum BarrierKind<'a> {
 /// ```
 #[derive(Debug, Drop)]
 pub struct Barrier<'a> {
-    /// what it is
+    /// which barrier it is
     pub kind: BarrierKind<'a>,
-    /// where: a fault at the element that means it, or at the stop; a level that is too deep at the element that holds it,
-    /// and the outermost one, as too many bytes, at the document as a whole
+    /// a fault is at the element that means it, or at the stop; a level that is too deep is at the element
+    /// that holds it; too many bytes, and an outermost level that is too deep, are at the document as a whole
     pub place: Place<'a>,
 }

@@ -1,11 +1,12 @@
-//! How deep levels may be.
+//! How deep levels may be nested.
 #![tactic(auto)]
 
 ghost use Rattle.std.specs.Prelude.{◌≡◌, ◌≤◌, ◌<◌, suc, IfSome, IfNone, IsFalse, IsTrue};
 
 use std::marker::Model;
 
-/// How many levels may wait for the innermost: one that more would wait for is too deep. A clause sees the number.
+/// How many levels may wait for the innermost one. A level for which more would wait is too deep. A clause
+/// sees the number.
 #[derive(Drop)]
 pub struct MostWaiting {
     count: usize,
@@ -20,7 +21,7 @@ impl Model for MostWaiting {
 }
 
 impl MostWaiting {
-    /// Where there may be so many levels; none where the outermost itself is too deep.
+    /// For at most `depth` levels; `None` if the outermost level is already too deep.
     #[inline(always)]
     pub fn of(depth: usize) -> Option<MostWaiting>
         ensures some { IfSome result (λ most. suc most ≡ depth) }
@@ -30,7 +31,7 @@ impl MostWaiting {
         Some(MostWaiting { count })
     }
 
-    /// Whether a level is too deep that would wait beside so many for the next.
+    /// Whether the next level is too deep if `waiting` levels and this one wait for it.
     #[inline(always)]
     pub(crate) fn is_reached(&self, waiting: usize) -> bool
         ensures yes { IsTrue result → self.now ≤ waiting }

@@ -1,4 +1,4 @@
-//! Elements of a document one by one.
+//! Single elements of a document.
 #![tactic(auto)]
 
 ghost use Rattle.std.specs.Prelude.{◌≤◌, ◌≡◌, List, drop, length, ℕ};
@@ -21,7 +21,7 @@ pub fn next_element<'a>(elements: &mut Elements<'a>) -> Option<RawElement<'a>>
     }
 }
 
-/// The element that begins at this offset.
+/// The element that begins at `offset`.
 pub fn element_at(document: RawDocument<'_>, offset: usize) -> RawElement<'_>
     requires within { (4 ≤ offset) × (offset ≤ length (bytes_of document)) }
     requires frame { (f : Frame) × (r : List ℕ) × IsFrame (drop offset (bytes_of document)) f r }

@@ -1,4 +1,4 @@
-//! The first barrier of a document within limits, without a tree.
+//! The first barrier of a document within limits, without building a tree.
 #![tactic(auto)]
 
 ghost use Rattle.std.specs.Prelude.{◌<◌, ℕ, suc, List, IfOk, IfErr};
@@ -19,14 +19,14 @@ use crate::walk::{Walk, WalkError};
 use raw_view::{Error, RawDocument, Result};
 use std::alloc::Global;
 
-/// Where the first barrier is looked for: what is before it in the outermost level is canonical.
+/// Where the search for the first barrier begins. What is before it in the outermost level is canonical.
 #[derive(Clone, Copy)]
 pub struct Start {
-    /// how many elements of the outermost level are before it
+    /// the number of elements of the outermost level before it
     pub number: usize,
-    /// where it is, counted from the document's first byte
+    /// its offset from the first byte of the document
     pub offset: usize,
-    /// whether its key is known to be repeated
+    /// whether its key is known to be a repeated one
     pub repeats: bool,
 }
 
@@ -37,8 +37,8 @@ pub const FIRST: Start = Start {
     repeats: false,
 };
 
-/// The first barrier within a depth, depth first in byte order, where none is before this start. A level that is too deep
-/// isn't entered, and no memory is asked for it. The only error is out of memory.
+/// The first barrier within a depth, depth first in byte order, where none is before `start`. A level that is
+/// too deep isn't entered, and no memory is requested for it. The only error is out of memory.
 pub fn first_behind<'a>(
     alloc: Global,
     document: RawDocument<'a>,
@@ -78,7 +78,7 @@ pub fn first_behind<'a>(
     }
 }
 
-/// The barrier that a walk came to.
+/// The barrier that ended a walk.
 fn told(error: WalkError<'_>) -> Result<Option<Barrier<'_>>>
     ensures told { (most : ℕ)
         → (b : List ℕ)
@@ -92,14 +92,14 @@ fn told(error: WalkError<'_>) -> Result<Option<Barrier<'_>>>
     }
 }
 
-/// The first barrier of a document within limits, and where it is; none exactly where it has a tree within them, memory
-/// aside. More bytes than allowed are the barrier before all others; else it is the first, depth first in byte
-/// order, of a fault at any level, with the key that this fault itself carries, and of the entry into a level that is too
-/// deep. The only error is out of memory, which comes only where the bytes aren't too many and a level may be entered. BSON
-/// 1.1, `document`.
+/// The first barrier of a document within limits, and its place. There is none if and only if the document
+/// has a tree within the limits, out of memory aside. More bytes than allowed are the first barrier.
+/// Otherwise it is the first of these, depth first in byte order: a fault at any level, with the key that
+/// this fault itself has, or the entry into a level that is too deep. The only error is out of memory, and
+/// only if there are few enough bytes and a level may be entered. BSON 1.1, `document`.
 ///
-/// No clause says so: no tree is built, no key is copied, and no depth fills the stack. Memory is taken for the levels that
-/// wait and for the path.
+/// Not in the contract: no tree is built, no key is copied, and no depth fills the stack. Memory is taken for
+/// the waiting levels and for the path.
 /// ```
 /// let document = RawDocument::from_bytes(b"\x09\0\0\0\x08a\0\x02\0")?;
 /// let limits = Limits { bytes: 1000, depth: 10 };

@@ -1,4 +1,4 @@
-//! A level that is looked through: what is next in it.
+//! A level of a walk, and what is next in it.
 #![tactic(auto)]
 
 ghost use Rattle.std.specs.Prelude.{◌≡◌, ◌≤◌, ◌<◌, ◌+◌, ◌^◌, ℕ, List, length};
@@ -9,21 +9,21 @@ ghost use Rattle.raw_view.specs.Frame.ElementSteps.{frame_of};
 
 use raw_view::{BorrowedError, Elements, RawBsonRef, RawDocument, RawElement, RawLevel};
 
-/// A level that is looked through.
+/// A level of a walk.
 #[derive(Drop)]
 pub struct Level<'a> {
-    /// what is left of it
+    /// its remaining elements
     pub elements: Elements<'a>,
-    /// how many elements are before that
+    /// the number of elements before those
     pub number: usize,
-    /// where that begins, counted from the document's first byte
+    /// where those begin, as an offset from the first byte of the document
     pub offset: usize,
     /// where the level begins
     pub start: usize,
 }
 
 impl<'a> Level<'a> {
-    /// The level of these bytes, which end there.
+    /// The level with these bytes, which end at `end`.
     pub(crate) fn new(document: RawDocument<'a>, end: usize) -> Level<'a>
         requires { length (bytes_of document) ≤ end }
         ensures { result ≡ entered_level (bytes_of document.entry) end }
@@ -37,7 +37,7 @@ impl<'a> Level<'a> {
         }
     }
 
-    /// The level that waits, behind its element, which ends at this offset of the document.
+    /// The level that waits, after its element, which ends at `offset`.
     pub(crate) fn behind(document: RawDocument<'a>, waiting: Waiting, offset: usize) -> Level<'a>
         requires { GoesOn (bytes_of document) waiting offset }
         ensures { (d : List ℕ)
@@ -58,7 +58,7 @@ impl<'a> Level<'a> {
     }
 }
 
-/// The document or the array that begins at this offset.
+/// The document or the array that begins at `start`.
 fn document_at(document: RawDocument<'_>, start: usize) -> RawDocument<'_>
     requires { (d : List ℕ) × LiesAt (bytes_of document) start d }
     ensures { (d : List ℕ) → LiesAt (bytes_of document.entry) start d → bytes_of result ≡ d }
@@ -69,14 +69,15 @@ fn document_at(document: RawDocument<'_>, start: usize) -> RawDocument<'_>
     level
 }
 
-/// A level that waits for the one that an element of it holds, by offsets, counted from the document's first byte.
+/// A level that waits for the level in one of its elements. It is stored by offsets from the first byte of
+/// the document.
 #[derive(Clone, Copy)]
 pub struct Waiting {
     /// where the level begins
     pub start: u32,
-    /// where that element begins
+    /// where the element begins
     pub element: u32,
-    /// how many elements are before it
+    /// the number of elements before it
     pub number: u32,
 }
 
@@ -89,7 +90,7 @@ pub(crate) enum Next<'a> {
     Whole(RawElement<'a>, RawBsonRef<'a>),
     /// an element, and the level that its value holds
     Inside(RawElement<'a>, RawLevel<'a>),
-    /// the key of an element and the fault that it means; or a stop
+    /// the key of an element, and the fault that it means; or a stop
     Fault(Option<&'a str>, BorrowedError<'a>),
 }
 
@@ -113,7 +114,7 @@ pub(crate) fn look<'a>(elements: &mut Elements<'a>) -> Next<'a>
     }
 }
 
-/// Where what is behind an element begins that begins there.
+/// Where the bytes after an element begin, if the element begins at `offset`.
 #[inline(always)]
 pub fn behind(offset: usize, element: RawElement<'_>) -> usize
     requires { offset + size_of (frame_of element) < 2 ^ 64 }

@@ -16,10 +16,10 @@ use crate::walk::room::put_at;
 use raw_view::{Error, RawDocument, Result};
 use std::alloc::Global;
 
-/// A step of a path: which element of its level it is.
+/// A step of a path: an element of a level.
 #[derive(Clone, Copy, Debug, PartialEq, Eq)]
 pub struct PathStep<'a> {
-    /// the number of the element in its level, counted from 0; of a stop, how many elements are before it
+    /// the number of the element in its level, counted from 0; for a stop, the number of elements before it
     pub number: usize,
     /// the key of the element; a stop has none
     pub key: Option<&'a str>,
@@ -35,15 +35,15 @@ pub struct PathStep<'a> {
 /// ```
 #[derive(Debug, PartialEq, Eq, Drop)]
 pub struct Place<'a> {
-    /// for each level, from the outermost on, the element that holds the next one, and at last the element or the stop
-    /// itself; empty where it is the document as a whole
+    /// for each level, from the outermost on, the element that holds the next level, and last the element or
+    /// the stop itself; empty for the document as a whole
     pub path: Vec<PathStep<'a>>,
-    /// where the element or the stop begins, counted from the document's first byte
+    /// where the element or the stop begins, as an offset from the first byte of the document
     pub offset: usize,
 }
 
 impl<'a> Place<'a> {
-    /// The document as a whole; no memory is taken.
+    /// The document as a whole. It takes no memory.
     #[doc(hidden)]
     pub fn whole(alloc: Global) -> Place<'a>
         ensures path { steps_of result ≡ [] }
@@ -55,14 +55,14 @@ impl<'a> Place<'a> {
         }
     }
 
-    /// The key of the element; none of a stop, and of the document as a whole.
+    /// The key of the element; `None` for a stop and for the document as a whole.
     pub fn key(&self) -> Option<&'a str>
         ensures { option_copied result ≡ last_key (steps_of self.now) }
     {
         self.path.last()?.key
     }
 
-    /// Puts the numbers of the path to the front of a room, as many as there is room for.
+    /// Writes the numbers of the path to the front of `room`, as many as fit.
     pub fn put_path(&self, room: &mut [usize])
         ensures { room.new ≡ filled_from 0 room.old (map (λ step. step.number) (steps_of self.now)) }
     {
@@ -82,8 +82,8 @@ fn put_step<'a>(path: &mut Vec<PathStep<'a>>, step: PathStep<'a>) -> Result<()>
     }
 }
 
-/// The steps at which these levels of a document wait, from the outermost on, and this one behind them. The only error is
-/// out of memory.
+/// The steps at which these levels of a document wait, from the outermost on, followed by this one. The only
+/// error is out of memory.
 fn path_to<'a>(
     alloc: Global,
     document: RawDocument<'a>,
@@ -108,8 +108,8 @@ fn path_to<'a>(
     Ok(path)
 }
 
-/// The place of this number and this key, if it has one, in the level for which these wait, at this offset. The only error
-/// is out of memory.
+/// The place of the element with this number and key (a stop has none) at this offset, in the level for which
+/// these levels wait. The only error is out of memory.
 pub(crate) fn place_in<'a>(
     alloc: Global,
     document: RawDocument<'a>,

@@ -1,4 +1,4 @@
-//! A tree is measured before it is written: whether it holds a 0 where none may be, and how many bytes it takes.
+//! Measures a tree before it is written: whether a C string in it contains a 0, and how many bytes it takes.
 #![tactic(auto, using(std::proofs::lemmas::Grind::common_steps, bson_model::proofs::Face::tree_laws))]
 
 ghost use Rattle.std.specs.Prelude.{◌≡◌, ◌+◌};
@@ -14,7 +14,7 @@ use crate::writer::members::{Container, Members, Shown, key_len, show};
 use raw_view::RawBsonRef;
 use std::alloc::Global;
 
-/// How many bytes the payload of the view takes, or `None` where it holds a 0 that it may not.
+/// The length of the payload of the value, or `None` if its pattern or options contain a 0.
 #[inline(always)]
 fn measure_leaf(value: RawBsonRef<'_>) -> Option<usize>
     ensures { (l : Leaf) → value_of value.entry ≡ single l → Measures (leaf l) result }
@@ -25,7 +25,7 @@ fn measure_leaf(value: RawBsonRef<'_>) -> Option<usize>
     Some(payload_len(value))
 }
 
-/// How many bytes the payload of the container takes beside its members.
+/// The length of the payload of the container without its members.
 #[inline(always)]
 fn frame_len(container: Container<'_>) -> usize
     ensures { result ≡ opening_len (tree_of_container container.entry) + 1 }
@@ -36,10 +36,10 @@ fn frame_len(container: Container<'_>) -> usize
     }
 }
 
-/// How many bytes the payload of the container takes, the greatest `usize` where that is more; `None` exactly
-/// where a key, a pattern or options in it hold a 0. The containers round the one whose members are measured
-/// wait in memory. Where there is no memory for one more, what is inside it is measured by a call of its own,
-/// which has all the memory that is left to it; so running out of memory changes no result.
+/// The length of the payload of the container, or the greatest `usize` if it is more. `None` if and only if a
+/// key, a pattern or options in it contain a 0. The containers around the one that is being measured wait in
+/// memory. If there is no memory for one more, it is measured by a call of its own, with all the memory that
+/// is left. So running out of memory changes no result.
 pub(crate) fn measure(alloc: Global, container: Container<'_>) -> Option<usize>
     ensures { Measures (tree_of_container container.entry) result }
 {

@@ -1,4 +1,4 @@
-//! What a tree holds, member by member: the pairs of a document or of a scope, the values of a list.
+//! The members of a tree: the pairs of a document or of a scope, the values of a list.
 #![tactic(auto, using(std::proofs::lemmas::Grind::common_steps, bson_model::proofs::Face::tree_laws))]
 
 ghost use Rattle.std.specs.Prelude.{◌≡◌, ◌≤◌, ◌<◌, ◌+◌, ◌^◌, length, decimal, IfSome, IfNone};
@@ -25,14 +25,14 @@ pub(crate) enum Key<'a> {
     Number(usize),
 }
 
-/// What a value is: one that holds no others, or what holds them.
+/// A value that holds no others, or the container of the values that it holds.
 #[derive(Clone, Copy)]
 pub(crate) enum Shown<'a> {
     Leaf(RawBsonRef<'a>),
     Container(Container<'a>),
 }
 
-/// The members of a container but for so many.
+/// The members of a container after the first `passed`.
 #[derive(Clone, Copy)]
 pub(crate) struct Members<'a> {
     pub(crate) container: Container<'a>,
@@ -90,7 +90,7 @@ impl<'a> Members<'a> {
         }
     }
 
-    /// The first member that is left, which is then passed.
+    /// The next member, if one is left.
     #[inline(always)]
     pub(crate) fn next(&mut self) -> Option<(Key<'a>, &'a Bson)>
         ensures container { self.new.container ≡ self.old.container }
@@ -102,7 +102,7 @@ impl<'a> Members<'a> {
     }
 }
 
-/// How many bytes the key takes without its final 0; `None` where it holds a 0.
+/// The length of the key without its final 0; `None` if it contains a 0.
 #[tactic(auto, using(std::proofs::lemmas::Grind::common_steps, crate::proofs::writer::Decimals::decimal_nul_free))]
 #[inline(always)]
 pub(crate) fn key_len(key: Key<'_>) -> Option<usize>
@@ -122,7 +122,7 @@ pub(crate) fn key_len(key: Key<'_>) -> Option<usize>
     }
 }
 
-/// How many bytes the decimal of a number takes.
+/// The length of the decimal of a number.
 #[tactic(auto, using(std::proofs::lemmas::Grind::common_steps, std::proofs::lemmas::Fmt::decimal_digit, std::proofs::lemmas::Fmt::decimal_step, crate::proofs::writer::Decimals::at_most_twenty))]
 #[inline(always)]
 fn decimal_len(number: usize) -> usize
@@ -138,7 +138,7 @@ fn decimal_len(number: usize) -> usize
     len
 }
 
-/// What a value is; its own values, if it holds any, aren't looked at.
+/// What a value is. The values that it may hold aren't looked at.
 #[tactic(auto, using(bson_model::proofs::Face::tree_laws))]
 #[inline(always)]
 pub(crate) fn show(value: &Bson) -> Shown<'_>

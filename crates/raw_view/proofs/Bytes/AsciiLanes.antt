@@ -1,4 +1,4 @@
--- What the mask of sixteen bytes that are compared with 128 tells of the bytes.
+-- What follows for sixteen bytes from the mask of comparing them with 128.
 use Rattle.std.proofs.Common.{◌≡◌, ℕ, ◌%◌, ◌^◌, ◌<◌, ◌≤◌, Bool, false, cond, leb, List, map, length, get_or, take, replicate, IsAscii, ap, sym, subst, ◌∙◌, arith, inl, inr, w8, leb-false}
 use Rattle.std.proofs.lemmas.Bool.{cases_lt}
 use Rattle.std.proofs.lemmas.List.{get_or-take, length-map, length-take}

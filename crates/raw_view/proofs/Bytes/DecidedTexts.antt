@@ -1,4 +1,4 @@
--- Decisions on texts: which is at the front of bytes, or that none is.
+-- Decisions on texts: which one is at the front of bytes, or that none is.
 use Rattle.std.proofs.Common.{◌≡◌, ◌⊎◌, inl, inr, ◌++◌, ◌∷◌, [], List, ℕ, ap, sym, ◌∙◌, subst}
 use Rattle.std.specs.Str.{IsUtf8, is_utf8}
 use Rattle.std.proofs.lemmas.Bool.{cases_Bool, cases_eq, both_ways}
@@ -17,7 +17,7 @@ utf8_or_not x =
       | inr e ↦ inr (λ u. both_ways (is_utf8 x) e (is_utf8-from_IsUtf8 x u))
     ]
 
--- what is before the first 0 and behind it, or there is no 0
+-- the bytes before the first 0 and after it, or there is no 0
 nul_or_none : (z : List ℕ) → ((x w : List ℕ) × (z ≡ x ++ 0 ∷ w) × NulFree x) ⊎ NulFree z
 nul_or_none [] = inr NulFree-nil
 nul_or_none (b ∷ z) =
@@ -33,11 +33,11 @@ nul_or_none (b ∷ z) =
 abbrev pub HasFrontText : List ℕ → Type 0
 HasFrontText z = (x w : List ℕ) × (z ≡ x ++ 0 ∷ w) × NulFree x × IsUtf8 x
 
--- z has no 0, or what is before the first isn't UTF-8
+-- z has no 0, or the bytes before the first 0 aren't UTF-8
 abbrev pub HasNoFrontText : List ℕ → Type 0
 HasNoFrontText z = NulFree z ⊎ BeginsWithBadText z
 
--- a text stands up to the first 0, or none does
+-- a text ends at the first 0, or none does
 pub front_text_or_not : (z : List ℕ) → HasFrontText z ⊎ HasNoFrontText z
 front_text_or_not z =
     elim (nul_or_none z) [
@@ -65,7 +65,7 @@ bad_text_or_not z =
 
 -- the texts of a regular expression
 
--- behind a good pattern, a bad text is one of the options
+-- after a good pattern, a bad text is that of the options
 bad_behind : (z : List ℕ) (t : HasFrontText z) → HasBadRegexText z → BeginsWithBadText t.1
 bad_behind z t bad =
     elim bad [

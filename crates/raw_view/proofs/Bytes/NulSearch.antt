@@ -1,4 +1,4 @@
--- What a search for the first 0 tells of the bytes before it, and of a search in the nearest bytes alone.
+-- What a search for the first 0 says of the bytes before it, and of a search in the nearest bytes alone.
 use Rattle.std.proofs.Common.{◌≡◌, ◌≢◌, ℕ, ◌+◌, ◌<◌, ◌≤◌, ◌%◌, ◌^◌, ◌++◌, ◌∷◌, ◌∙◌, List, true, cond, eqb, eqb-true, length, get_or, map, replicate, take, drop, zero, suc, sym, ap, subst, arith, w8, w16}
 use Rattle.std.proofs.lemmas.Bool.{true≢false}
 use Rattle.std.proofs.lemmas.Grind.{common_steps}
@@ -23,7 +23,7 @@ NulFree-below bs (suc i) l h =
 pub before_no_nul : (bs : List ℕ) (at : ℕ) → NoneBefore (Passes (is_byte 0) bs) 0 (length bs) at → NulFree (take at bs)
 before_no_nul bs at h = NulFree-below bs at (omega (arith, h.high)) (λ k l z. h.before k (omega arith) l (ap (λ x. eqb x 0) z))
 
--- the bytes before it, the 0, and the bytes behind it
+-- the bytes before it, the 0, and the bytes after it
 pub split_there : (bs : List ℕ) (at : ℕ) → at < length bs → Passes (is_byte 0) bs at → bs ≡ take at bs ++ 0 ∷ drop (at + 1) bs
 split_there bs at l h =
     let nul : get_or bs at 0 ≡ 0 = eqb-true _ _ h in

@@ -48,11 +48,11 @@ read_front (a ∷ b ∷ []) z bytes l e = absurd (omega arith)
 read_front (a ∷ b ∷ c ∷ []) z bytes l e = absurd (omega arith)
 read_front (a ∷ b ∷ c ∷ d ∷ t) z bytes l e = rw e (signed32 (a ∷ b ∷ c ∷ d ∷ []) _ (unsigned32 (a ∷ b ∷ c ∷ d ∷ []) refl (four_bytes a b c d t bytes)))
 
--- a length that isn't over the greatest has its four bytes
+-- a length that is not too great has its four bytes
 pub le32_of : (n : ℕ) → n ≤ max_length → IsLe32 (le32 (pos n)) (pos n)
 le32_of n l = record { fits = fits_signed_from_abs w32 (pos n) (omega arith); bytes_are = refl }
 
--- and one that has them isn't over it
+-- and four bytes of a length say no greater one
 pub length_fits : (bs : List ℕ) (n : ℕ) → IsLe32 bs (pos n) → n ≤ max_length
 length_fits bs n h = omega (arith, h.fits.sfits)
 

@@ -1,4 +1,4 @@
--- What the mask of bytes that are compared with 0 and with 128 tells of the bytes.
+-- What follows for bytes from the mask of comparing them with 0 and with 128.
 use Rattle.std.proofs.Common.{◌≡◌, ◌≢◌, ℕ, ◌+◌, ◌%◌, ◌^◌, ◌<◌, ◌≤◌, ◌||◌, ◌++◌, Bool, true, false, cond, eqb, leb, List, [], ◌∷◌, map, length, get_or, take, drop, replicate, IsAscii, refl, sym, ap, ap₂, subst, ◌∙◌, arith}
 use Rattle.std.proofs.lemmas.Bool.{true≢false}
 use Rattle.std.proofs.lemmas.List.{length-map, take-take}
@@ -71,7 +71,7 @@ module _ (n : ℕ) (bs : List ℕ) (few : n ≤ 64) (l : n ≤ length bs) where
       let within = run_in_chunk_le ends bs 0 n _ 0 (omega (arith, l)) counted in
       (within, plain_before _ within (λ k below. run_in_chunk_fails ends bs 0 n _ 0 (omega (arith, l)) counted k (omega arith) (omega arith)))
 
--- The first n bytes are plain, and r more behind a place among them: so all of these are.
+-- The first n bytes are plain, and so are r bytes from a place among them on. So all of these are.
 pub plain_over : (n b r : ℕ) (bs : List ℕ) → b ≤ n → IsPlain n bs → IsPlain r (drop b bs) → IsPlain (b + r) bs
 plain_over n b r bs among front behind =
     let first : take b (take n bs) ≡ take b bs = take-take b n bs among in

@@ -1,4 +1,4 @@
--- Decisions on kinds and their payloads: which is at the front of bytes, or that none is.
+-- Decisions on kinds and their payloads: which one is at the front of bytes, or that none is.
 use Rattle.std.proofs.Common.{◌≡◌, ◌≢◌, ◌⊎◌, inl, inr, ◌++◌, ◌-◌, ◌+◌, ◌<◌, ◌≤◌, ℕ, ℤ, pos, negsuc, List, length, take, drop, get_or, arith, ap, sym, refl, ◌∙◌, subst, length-append, Bool, true, eqb, Option, Some, None}
 use Rattle.std.proofs.lemmas.Bool.{cases_eq, cases_lt, eqb-true, agree_below_at}
 use Rattle.std.proofs.lemmas.Option.{none-some}
@@ -46,7 +46,7 @@ kind_or_not tag l = kind_or_none tag (kind_of tag) refl (named tag l)
 
 -- payloads
 
--- a payload of the kind is at the front of z, so many bytes long
+-- a payload of the kind is at the front of z, of some length
 abbrev pub Stands : ElementType → List ℕ → Type 0
 Stands kind z = (n : ℕ) × (n ≤ length z) × HasShape kind (take n z) (drop n z)
 
@@ -79,8 +79,7 @@ length_or_not z bytes =
       | inr l ↦ is_length (take 4 z) _ (read_front z _ bytes l refl)
     ]
 
--- A kind whose payload begins with a length: payloads of it are at the front just where the length there
--- fits, and whether one does is decided.
+-- A kind whose payload begins with a length: a payload of it is at the front if and only if that length fits, and this is decided.
 by_length :
     (kind : ElementType) (z : List ℕ) (Fits : ℕ → Type 0) → AreBytes z →
     ((n : ℕ) → Fits n ⊎ ¬ Fits n) →
@@ -96,7 +95,7 @@ by_length kind z Fits bytes fits stands front =
       | inr none ↦ inr (λ p r e x. let t = front p r e x in none t.0 t.1)
     ]
 
--- a string: its text has the length less 1, and a 0 behind it
+-- a string: its text has the length less 1, then comes a 0
 pub string_or_not : (z : List ℕ) → AreBytes z → Stands kind.String z ⊎ Misses kind.String z
 string_or_not z bytes =
     by_length kind.String z (λ n. (1 ≤ n) × ((n + 4 ≤ length z) × (get_or z (n + 4 - 1) 0 ≡ 0))) bytes
@@ -107,7 +106,7 @@ string_or_not z bytes =
     let at : length x.0 + 1 + 4 - 1 ≡ length x.0 + 4 = omega arith in
     (length x.0 + 1, s.0, (omega arith, (omega arith, rw at s.2))))
 
--- a nested document: just so many bytes, at least five, the last a 0
+-- a nested document: as many bytes as its length says, at least five, the last a 0
 pub document_or_not : (z : List ℕ) → AreBytes z → Stands kind.EmbeddedDocument z ⊎ Misses kind.EmbeddedDocument z
 document_or_not z bytes =
     by_length kind.EmbeddedDocument z (λ n. (5 ≤ n) × ((n ≤ length z) × (get_or z (n - 1) 0 ≡ 0))) bytes
@@ -123,7 +122,7 @@ binary_or_not z bytes =
     (λ n h f. (n + 5, f, binary_found z n h f))
     (binary_front z)
 
--- a code with scope: just so many bytes
+-- a code with scope: as many bytes as its length says
 scoped_or_not : (z : List ℕ) → AreBytes z → Stands kind.JavaScriptCodeWithScope z ⊎ Misses kind.JavaScriptCodeWithScope z
 scoped_or_not z bytes =
     by_length kind.JavaScriptCodeWithScope z (λ n. (4 ≤ length z) × (n ≤ length z)) bytes

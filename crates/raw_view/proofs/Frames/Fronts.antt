@@ -1,4 +1,4 @@
--- A frame is determined by the bytes that it begins; where none begins, the walk stops.
+-- A frame is determined by the bytes that begin with it; where none begins, the walk stops.
 use Rattle.std.proofs.Common.{◌≡◌, ◌≢◌, ℕ, List, [], ◌∷◌, ◌++◌, ◌-◌, length, ap, sym, ◌∙◌, subst, refl, arith, inl, inr, Option, Some, None, ◌==◌, if◌then◌else◌, slice_get}
 use Rattle.std.specs.Str.{IsUtf8}
 use Rattle.raw_view.specs.declared.element_type.ElementType.{ElementType}
@@ -66,7 +66,7 @@ tag_of-same a b e =
     let s : Some a ≡ Some b = sym (kind_of-tag_of a) ∙ ap kind_of e ∙ kind_of-tag_of b in
     cc
 
--- where no payload of the kind is behind the key's 0, no frame is at the front
+-- if no payload of the kind follows the key's 0, no frame is at the front
 pub no_frame : (s : List ℕ) (tag : ℕ) (k z : List ℕ) (kind : ElementType) → s ≡ tag ∷ (k ++ 0 ∷ z) → NulFree k → tag ≡ tag_of kind
     → ((p r : List ℕ) → z ≡ p ++ r → HasShape kind p r → ⊥) → HasNoFrame s
 no_frame s tag k z kind e h t none f r b =
@@ -77,20 +77,20 @@ no_frame s tag k z kind e h t none f r b =
     let same : f.kind ≡ kind = tag_of-same f.kind kind (sym tags ∙ t) in
     none f.payload r parts.1 (subst (λ (x : ElementType). HasShape x f.payload r) same b.payload_is)
 
--- where the tag is no kind's, no frame is at the front
+-- if the tag is that of no kind, no frame is at the front
 no_kind : (s : List ℕ) (tag : ℕ) (z : List ℕ) → s ≡ tag ∷ z → ((kind : ElementType) → tag ≢ tag_of kind) → HasNoFrame s
 no_kind s tag z e none f r b =
     let both : tag ∷ z ≡ tag_of f.kind ∷ (f.key ++ 0 ∷ (f.payload ++ r)) = sym e ∙ b.spelled in
     let tags : tag ≡ tag_of f.kind = cc in
     none f.kind tags
 
--- the bytes behind the tag hold a 0 where the whole ends with one
+-- the bytes after the tag contain a 0 if the whole ends with one
 pub no_nul_ends : (tag : ℕ) (z : List ℕ) → NulFree z → slice_get (tag ∷ z) (length z) ≡ Some 0 → z ≡ []
 no_nul_ends tag [] h e = refl
 no_nul_ends tag (x ∷ []) h e = absurd (NulFree-head x [] h cc)
 no_nul_ends tag (x ∷ y ∷ z) h e = let none : y ∷ z ≡ [] = no_nul_ends x (y ∷ z) (NulFree-tail x (y ∷ z) h) e in cc
 
--- where no text up to a 0 is behind the tag, it is a text that isn't UTF-8
+-- if no text up to a 0 follows the tag, there is a text that isn't UTF-8
 pub key_stop : (s : List ℕ) (tag : ℕ) (behind : List ℕ) (fault : ErrorKind) → s ≡ tag ∷ behind → behind ≢ [] → slice_get s (length s - 1) ≡ Some 0 → IsTextFault behind fault → StopsWith fault None s
 key_stop s tag behind (what.MalformedValue why) e some last h =
     let at : length (tag ∷ behind) - 1 ≡ length behind = omega arith in

@@ -18,7 +18,7 @@ use Rattle.raw_view.specs.Frame.Kind.{tag_of}
 pub front_and_rest : (s : List ℕ) (f : Frame) (r : List ℕ) → IsFrame s f r → s ≡ (tag_of f.kind ∷ (f.key ++ 0 ∷ f.payload)) ++ r
 front_and_rest s f r b = b.spelled ∙ ap (λ x. tag_of f.kind ∷ x) (sym (append_assoc f.key (0 ∷ f.payload) r))
 
--- what carries the key with a kind of which P holds does so with Q
+-- what carries the key with a kind that satisfies P does so with Q
 pub carries : (P Q : ErrorKind → Type 0) (key : Option (List ℕ)) (e : Error) → (P e.kind → Q e.kind) → CarriesKey P key e → CarriesKey Q key e
 carries P Q None e f h = (f h.0, h.1)
 carries P Q (Some key) e f h = elim h as (λ _. CarriesKey Q (Some key) e) [
@@ -62,7 +62,7 @@ none_after : (xs : List (Result RawElement Error)) (t : Option (List ℕ)) → Y
 none_after [] t y = refl
 none_after (x ∷ xs) t y = let bad : Some x ≡ None = y.1.0 in cc
 
--- what a run of calls gives is a walk
+-- what a run of calls returns is a walk
 pub walk_of : (s : List ℕ) (xs : List (Result RawElement Error)) → Drains StepsElement (Some s) xs → (fs : List Frame) × (end : End) × IsWalk s fs end × ListsWalk xs fs end
 walk_of s [] d =
     let last : StepsElement (Some s) None d.0 = subst (λ (x : Option (List ℕ)). StepsElement x None d.0) (sym d.1.1) d.1.2 in

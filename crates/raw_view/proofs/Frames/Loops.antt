@@ -1,4 +1,4 @@
--- What a caller's loop over the elements keeps.
+-- What a caller's loop over the elements preserves.
 use Rattle.std.proofs.Common.{ℕ, List, [], ◌∷◌, ◌++◌, ◌+◌, ◌*◌, ◌≤◌, length, ap, sym, subst, refl, Option, Some, None, Ok, Err, arith, length-append}
 use Rattle.raw_view.specs.declared.element.RawElement.{RawElement}
 use Rattle.raw_view.specs.declared.error.Error.{Error}

@@ -48,7 +48,7 @@ string_found bs n h l z =
       },
     )
 
--- the same at the length that is declared, the 0 counted
+-- the same for the declared length, which counts the 0
 pub string_at : (bs : List ℕ) (n : ℕ) → IsLe32 (take 4 bs) (pos n) → n ≢ 0 → n + 4 ≤ length bs → get_or bs (n + 4 - 1) 0 ≡ 0 → HasText (take (n + 4) bs)
 string_at bs zero h some l z = absurd (some refl)
 string_at bs (suc n) h some l z =
@@ -174,7 +174,7 @@ pointer_string bs p r namespace id e d = e ∙ ap (λ x. x ++ r) d.spelled ∙ a
 pub no_pointer : (bs : List ℕ) → ((p r : List ℕ) → bs ≡ p ++ r → ¬ HasText p) → (p r : List ℕ) → bs ≡ p ++ r → ¬ ((namespace id : List ℕ) × IsDbPointer p namespace id)
 no_pointer bs none p r e d = none (string_payload d.0) (d.1 ++ r) (pointer_string bs p r d.0 d.1 e d.2) (d.0, string_is d.0 d.2.fits)
 
--- twelve bytes are behind the string
+-- twelve bytes follow the string
 pub pointer_within : (bs p r : List ℕ) (n : ℕ) → HasText (take n bs) → n ≤ length bs → bs ≡ p ++ r → (namespace id : List ℕ) × IsDbPointer p namespace id → n + 12 ≤ length bs
 pointer_within bs p r n t l e d =
     let string : List ℕ = string_payload d.0 in

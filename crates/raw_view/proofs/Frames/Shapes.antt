@@ -82,7 +82,7 @@ pointer_text p namespace id d =
 pub pointer_len : (p namespace id : List ℕ) → IsDbPointer p namespace id → 12 ≤ length p
 pointer_len p namespace id d = omega (arith, ap length d.spelled, length-append (string_payload namespace) id, d.id_len)
 
--- the subtype and the bytes of a binary are what is behind its length
+-- the subtype and the bytes of a binary follow its length
 pub binary_cut : (p : List ℕ) (subtype : ℕ) (bytes : List ℕ) → IsBinary p subtype bytes → IsBinary p (get_or p 4 0) (take (length p - 5) (drop 5 p))
 binary_cut p subtype bytes b =
     let n : length p - 5 ≡ length bytes = omega (arith, ap length b.spelled) in
@@ -130,7 +130,7 @@ no_pattern_fault p fault h f = ∥∥₁_elim h (hlevel props) (λ t. pattern_fa
 pub no_options_fault : (p text behind : List ℕ) (fault : ErrorKind) → ∥ HasPayload kind.RegularExpression p ∥₁ → p ≡ text ++ 0 ∷ behind → NulFree text → IsTextFault behind fault → ⊥
 no_options_fault p text behind fault h e nul_free f = ∥∥₁_elim h (hlevel props) (λ t. options_fault_no_regex text behind fault e nul_free f p [] (whole p) t.1)
 
--- and nothing behind them
+-- and nothing follows them
 pub regex_ends : (p text behind options z : List ℕ) → ∥ HasPayload kind.RegularExpression p ∥₁ → p ≡ text ++ 0 ∷ behind → NulFree text → behind ≡ options ++ 0 ∷ z → NulFree options → z ≡ []
 regex_ends p text behind options z h e nul_free d k =
     ∥∥₁_elim h (hlevel props) (λ t. (cut options t.1.1 z [] k t.1.2.options_nul_free (sym d ∙ options_of p text behind p [] e nul_free (whole p) t.1)).1)

@@ -1,4 +1,4 @@
--- An element's payload has its kind's shape before any bytes, unless it is a short code with scope.
+-- The payload of an element has the shape of its kind before any following bytes, unless it is a short code with scope.
 use Rattle.std.proofs.Common.{◌≡◌, ◌≤◌, ◌<◌, ◌++◌, ◌∷◌, [], ◌∙◌, ℕ, List, length, ap, refl, inl, inr, arith, length-append}
 use Rattle.std.proofs.Math.Logic.{∥∥₁_elim}
 use Rattle.std.proofs.Props.{props}
@@ -72,7 +72,7 @@ shape_had kind.MinKey p r long h = none_had p h
 at_least_four : (n : ℕ) → ¬ (n < 4) → 4 ≤ n
 at_least_four n other = omega (arith, other)
 
--- an element stands before any bytes
+-- an element is one before any following bytes
 pub stands_anywhere : (f : Frame) → NulFree f.key → IsUtf8 f.key → ∥ HasPayload f.kind f.payload ∥₁ → ¬ IsShortScope f → StandsAnywhere f
 stands_anywhere f nul_free text h long r = record {
   spelled = refl;

@@ -28,7 +28,7 @@ EndsWithNul-back front back last some =
     let end : get_or (front ++ back) (length (front ++ back) - 1) 0 ≡ 0 = get_or_from_slice_get (front ++ back) _ 0 0 (last (omega arith)) in
     slice_get-get_or back (length back - 1) 0 (omega arith) ∙ ap Some (sym (get_or-append-add front back (length back - 1) 0) ∙ rw place at end)
 
--- what is behind a frame is bytes
+-- what follows a frame is bytes
 pub AreBytes-rest : (s : List ℕ) (f : Frame) (r : List ℕ) → IsFrame s f r → AreBytes s → AreBytes r
 AreBytes-rest s f r b bytes = AreBytes-back (tag_of f.kind ∷ (f.key ++ 0 ∷ f.payload)) r (subst AreBytes (front_and_rest s f r b) bytes)
 
@@ -43,7 +43,7 @@ HasFront s =
     ⊎ ((f : Frame) × (r : List ℕ) × IsFrame s f r)
     ⊎ ((fault : Fault) × (key : Option (List ℕ)) × IsStop s fault key)
 
--- where no 0 is behind the tag and the last byte is 0, the tag is the final 0
+-- if no 0 follows the tag and the last byte is 0, the tag is the final 0
 last_is_final : (tag : ℕ) (behind : List ℕ) → NulFree behind → EndsWithNul (tag ∷ behind) → tag ∷ behind ≡ 0 ∷ []
 last_is_final tag behind h last =
     let at : length (tag ∷ behind) - 1 ≡ length behind = omega arith in
@@ -84,7 +84,7 @@ behind_key s tag key behind bytes l e h u =
       | inr none ↦ inr (inr (Malformed (reason.InvalidTag tag), Some key, tag_stop s tag key behind e h u none))
     ]
 
--- something of the three is at the front
+-- one of the three is at the front
 pub has_front : (s : List ℕ) → AreBytes s → EndsWithNul s → HasFront s
 has_front [] bytes last = inr (inr (Malformed reason.Overflowed, None, (refl, refl)))
 has_front (tag ∷ behind) bytes last =
@@ -99,7 +99,7 @@ has_front (tag ∷ behind) bytes last =
       ]
     ]
 
--- a walk through at most so many bytes
+-- a walk through at most n bytes
 walk_within : (n : ℕ) (s : List ℕ) → length s ≤ n → AreBytes s → EndsWithNul s → (frames : List Frame) × (end : End) × IsWalk s frames end
 walk_within zero s l bytes last = ([], Stopped (Malformed reason.Overflowed) None, (nil_from_length s (omega arith), refl))
 walk_within (suc n) s l bytes last =

@@ -24,11 +24,11 @@ use Rattle.raw_view.proofs.Frames.Payloads.{string_is}
 
 -- bytes
 
--- a text with a 0 behind it
+-- a text and a 0
 AreBytes-ended : (text : List ℕ) → IsUtf8 text → AreBytes (text ++ 0 ∷ [])
 AreBytes-ended text u = AreBytes-append text (0 ∷ []) (AreBytes-text text u) AreBytes-nul
 
--- a length and what is behind it
+-- a length and the bytes after it
 AreBytes-behind_length : (n : ℕ) (bytes : List ℕ) → AreBytes bytes → AreBytes (le32 (pos n) ++ bytes)
 AreBytes-behind_length n bytes h = AreBytes-append (le32 (pos n)) bytes (AreBytes-number 4 0 _) h
 
@@ -146,7 +146,7 @@ leaf_shape (decimal128 bytes) r h n b = h.0
 leaf_shape max_key r h n b = refl
 leaf_shape min_key r h n b = refl
 
--- bytes behind a length that counts itself have it declared, whatever is behind them
+-- bytes after a length that counts itself have that declared length, whatever follows them
 pub declared_shape : (rest r : List ℕ) → 4 + length rest ≤ max_length → HasDeclaredLength (counted rest) r
 declared_shape rest r l =
     let size : length (counted rest) ≡ 4 + length rest = omega arith in

@@ -21,7 +21,7 @@ no_such_frame s key (f ∷ fs) (h ∷ gs) end r q g w none l b k =
 
 -- by key, one element is found
 
--- behind these frames, of which none has the key, is this one, which has it
+-- the first frame with the key is this one, after frames of which none has it
 abbrev IsFirstWith : List ℕ → List ℕ → List Frame → Frame → Type 0
 IsFirstWith s key fs f = (r t : List ℕ) × LeadsTo s fs r × HasNoKey key fs × IsFrame r f t × (f.key ≡ key)
 

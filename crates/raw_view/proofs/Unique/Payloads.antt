@@ -18,13 +18,13 @@ use Rattle.raw_view.proofs.Bytes.Texts.{regex_front}
 
 -- where a payload ends
 
--- payloads at the front of the same bytes, whose sizes follow from the length that is first, are one
+-- payloads at the front of the same bytes are equal if their sizes follow from the length at the front
 cut_by_length : (p q r t : List ℕ) (m n : ℕ) → IsLe32 (take 4 (p ++ r)) (pos m) → IsLe32 (take 4 (q ++ t)) (pos n) → (m ≡ n → length q ≡ length p) → p ++ r ≡ q ++ t → (p ≡ q) × (r ≡ t)
 cut_by_length p q r t m n a b size e =
     let same : m ≡ n = one_length (take 4 (q ++ t)) n m b (subst (λ (x : List ℕ). IsLe32 (take 4 x) (pos m)) e a) in
     same_cut p q r t (length p) refl (size same) e
 
--- the length that is first stays first with more bytes behind
+-- the length at the front stays there with more bytes after it
 header_in_front : (p r : List ℕ) (n : ℕ) → 4 ≤ length p → IsLe32 (take 4 p) (pos n) → IsLe32 (take 4 (p ++ r)) (pos n)
 header_in_front p r n l h = rw (take-append-le 4 p r l) h
 
@@ -90,7 +90,7 @@ payload_same kind.MinKey p q r t a b e = same_cut p q r t 0 a b e
 
 -- the parts of a payload
 
--- two lists behind the bytes of a number
+-- two lists after the bytes of a number
 behind_numbers : (z w : ℤ) (x y : List ℕ) → le32 z ++ x ≡ le32 w ++ y → x ≡ y
 behind_numbers z w x y e = (same_cut (le32 z) (le32 w) x y 4 refl refl e).1
 
@@ -98,7 +98,7 @@ behind_numbers z w x y e = (same_cut (le32 z) (le32 w) x y 4 refl refl e).1
 pub one_text : (p x y : List ℕ) → IsString p x → IsString p y → x ≡ y
 one_text p x y a b = append_cancel_right x y (0 ∷ []) (behind_numbers (pos (length x + 1)) (pos (length y + 1)) (x ++ 0 ∷ []) (y ++ 0 ∷ []) (sym a.spelled ∙ b.spelled))
 
--- a text and what is behind its string
+-- a text, and what follows its string
 text_and_rest : (p q r t x y : List ℕ) → IsString p x → IsString q y → p ++ r ≡ q ++ t → (x ≡ y) × (r ≡ t)
 text_and_rest p q r t x y a b e =
     let same = string_same p q r t x y a b e in

@@ -1,4 +1,4 @@
--- Reading is determined: one frame at most is at the front, a stop is one, and there is one walk.
+-- Reading is determined: at most one frame is at the front, at most one stop is there, and there is at most one walk.
 use Rattle.std.proofs.Common.{◌≡◌, ℕ, List, [], ◌∷◌, ◌++◌, ◌≤◌, length, ap, sym, ◌∙◌, subst, refl, Option, Some, None, arith, length-append}
 use Rattle.std.specs.Str.{IsUtf8}
 use Rattle.raw_view.specs.declared.element_type.ElementType.{ElementType}
@@ -26,7 +26,7 @@ one_frame s f g r q a b =
     let payloads = same.0 in
     (λ i. record { kind = kinds i; key = keys i; payload = payloads i }, same.1)
 
--- the tag, the key and what is behind the key's 0 are determined
+-- the tag, the key and what follows the key's 0 are determined
 one_key : (s k l : List ℕ) (a : HasKey s k) (b : HasKey s l) → (k ≡ l) × (a.tag ≡ b.tag) × (a.behind ≡ b.behind)
 one_key s k l a b =
     let both : a.tag ∷ (k ++ 0 ∷ a.behind) ≡ b.tag ∷ (l ++ 0 ∷ b.behind) = sym a.spelled ∙ b.spelled in
@@ -39,7 +39,7 @@ one_key s k l a b =
 frame_key : (s : List ℕ) (f : Frame) (r : List ℕ) → IsFrame s f r → HasKey s f.key
 frame_key s f r b = record { tag = tag_of f.kind; behind = f.payload ++ r; spelled = b.spelled; nul_free = b.key_nul_free }
 
--- bytes with a key are two and more
+-- bytes with a key are at least two
 key_takes_two : (s key : List ℕ) → HasKey s key → 2 ≤ length s
 key_takes_two s key k = omega (arith, ap length k.spelled, length-append key (0 ∷ k.behind))
 
@@ -87,7 +87,7 @@ one_stop s fault fault2 None (Some key2) a b = let k = stop_key s fault2 key2 b 
 one_stop s fault fault2 (Some key) None a b = let k = stop_key s fault key a in absurd (no_text_key s fault2 key b k.0 k.1)
 one_stop s fault fault2 (Some key) (Some key2) a b = let same = one_stop_with_key s fault fault2 key key2 a b in (same.0, ap Some same.1)
 
--- where a stop is, no frame stands
+-- where there is a stop, there is no frame
 pub no_frame_at_stop : (s : List ℕ) (fault : Fault) (key : Option (List ℕ)) → IsStop s fault key → HasNoFrame s
 no_frame_at_stop s fault None a f r b = no_text_key s fault f.key a (frame_key s f r b) b.key_utf8
 no_frame_at_stop s fault (Some key) a f r b = (stop_key s fault key a).2 f r b
@@ -103,7 +103,7 @@ no_stop_at_final s fault (Some key) e a = final_has_no_key s key e (stop_key s f
 
 -- walks
 
--- where a walk ends, no frame stands
+-- where a walk ends, there is no frame
 pub no_frame_at_end : (s : List ℕ) (end : End) → EndsIn s end → HasNoFrame s
 no_frame_at_end s Done e = no_frame_at_final s e
 no_frame_at_end s (Stopped fault key) e = no_frame_at_stop s fault key e

@@ -1,4 +1,4 @@
--- What a caller's loop over keys and values, or over the values of an array, keeps.
+-- What a caller's loop over keys and values, or over the values of an array, preserves.
 use Rattle.std.proofs.Common.{◌≡◌, ◌≤◌, ◌*◌, ◌++◌, ◌∷◌, [], ◌∙◌, ℕ, suc, List, length, drop, ap, sym, subst, refl, inl, inr, arith, Option, Some, None, Result, Ok, Err}
 use denote.Ref.{Bor}
 use Rattle.raw_view.specs.Errors.Answers.{Says, TellsMeaning, TellsItem, TellsValue, StepsItems}
@@ -41,7 +41,7 @@ length-items (f ∷ frames) items h = ap length h.3 ∙ ap (λ n. suc n) (length
 pub HasReadItems-none : (s : List ℕ) (left : Option (List ℕ)) → left ≡ Some s → HasReadItems s [] left
 HasReadItems-none s left begins = subst (HasReadItems s []) (sym begins) (record { frames = []; read = refl; items_are = refl; values = tt })
 
--- two bytes and more an item
+-- an item takes at least two bytes
 pub HasReadItems-bound : (s : List ℕ) (items : List Item) (left : Option (List ℕ)) → HasReadItems s items left → 2 * length items ≤ length s
 HasReadItems-bound s items left h = omega (arith, length-items h.frames items h.items_are, HasRead-bound s h.frames left h.read)
 
@@ -55,7 +55,7 @@ one_more s items r f t v new h at means left = record {
   values = values_more items f.key v h.values;
 }
 
--- a value that is told is the one that the frame means
+-- a returned value is the one that the frame means
 told_value : (f : Frame) (v : RawBsonRef) (m : Meaning) → Means f m → TellsMeaning (Ok v) m → Means f (value (value_of v))
 told_value f v (value w) means tells = subst (λ x. Means f (value x)) (sym tells) means
 told_value f v (faulty fault) means tells = absurd tells
@@ -65,12 +65,12 @@ told_pair : (f : Frame) (p : Bor (List ℕ) × RawBsonRef) (m : Meaning) → Mea
 told_pair f p (value w) means tells = (sym tells.0, subst (λ x. Means f (value x)) (sym tells.1) means)
 told_pair f p (faulty fault) means tells = absurd tells
 
--- a fault that is told is the one that the frame means
+-- a returned fault is the one that the frame means
 told_fault : (f : Frame) (e : Error) (m : Meaning) → Means f m → TellsMeaning (Err e) m → (fault : KeyedFault) × Means f (faulty fault) × Says e fault
 told_fault f e (value v) means tells = absurd tells
 told_fault f e (faulty fault) means tells = (fault, means, tells)
 
--- an error in place of a key and a value says what the frame means
+-- an error instead of a key and a value says what the frame means
 meaning_told : (f : Frame) (e : Error) (m : Meaning) → TellsItem (Err e) (entry f.key m) → TellsMeaning (Err e) m
 meaning_told f e (value v) tells = tells
 meaning_told f e (faulty fault) tells = tells
@@ -114,7 +114,7 @@ first_stop : (b : List ℕ) (items : List Item) (r : List ℕ) (e : Error) (faul
     → IsStop r fault.fault fault.key → Says e fault → (fault : KeyedFault) × HasFirstFault b fault × Says e fault
 first_stop b items r e fault h stop says = (fault, (h.frames, r, h.read, have_values h.frames items h.items_are h.values, inl stop), says)
 
--- by an error in place of a key and a value
+-- by an error instead of a key and a value
 pub HasReadItems-pair_fault : (b : List ℕ) (items : List Item) (old new : Option (List ℕ)) (e : Error) → HasReadItems (drop 4 b) items old
     → StepsItems TellsItem old (Some (Err e)) new → (fault : KeyedFault) × HasFirstFault b fault × Says e fault
 HasReadItems-pair_fault b items None new e h st = absurd h.read
@@ -124,7 +124,7 @@ HasReadItems-pair_fault b items (Some r) new e h st =
       | inr g ↦ first_stop b items r e g.fault h g.stops g.told
     ]
 
--- by an error in place of a value
+-- by an error instead of a value
 pub HasReadItems-value_fault : (b : List ℕ) (items : List Item) (old new : Option (List ℕ)) (e : Error) → HasReadItems (drop 4 b) items old
     → StepsItems TellsValue old (Some (Err e)) new → (fault : KeyedFault) × HasFirstFault b fault × Says e fault
 HasReadItems-value_fault b items None new e h st = absurd h.read

@@ -12,7 +12,7 @@ use Rattle.raw_view.specs.Meaning.Item.{Item, entry, stopped, ItemsOf, AreItems}
 use Rattle.raw_view.specs.Frame.ElementSteps.{StepsElement, frame_of}
 use Rattle.raw_view.specs.Errors.Answers.{Says, StepsItems, TellsEach}
 
--- for what one result says of an item
+-- `Tells` relates one result to one item
 module _ {X : Type 0} (Tells : Result X Error → Item → Type 0) where
   pub item_ok : (old new : Option (List ℕ)) (e : RawElement) (out : Result X Error) → StepsElement old (Some (Ok e)) new
       → (m : Meaning) × Means (frame_of e) m × Tells out (entry (frame_of e).key m) → StepsItems Tells old (Some out) new
@@ -34,7 +34,7 @@ module _ {X : Type 0} (Tells : Result X Error → Item → Type 0) where
   abbrev Told : List ℕ → List (Result X Error) → Type 0
   Told s xs = (frames : List Frame) × (end : End) × (items : List Item) × IsWalk s frames end × ItemsOf frames end items × TellsEach Tells xs items
 
-  -- what a run of calls gives are the items
+  -- what a run of calls returns are the items
   pub items_of : (s : List ℕ) (xs : List (Result X Error)) → Drains (StepsItems Tells) (Some s) xs → Told s xs
   items_of s [] d =
       let last : StepsItems Tells (Some s) None d.0 = subst (λ (x : Option (List ℕ)). StepsItems Tells x None d.0) (sym d.1.1) d.1.2 in
@@ -52,7 +52,7 @@ module _ {X : Type 0} (Tells : Result X Error → Item → Type 0) where
             ([], Stopped b.fault.fault b.fault.key, stopped b.fault ∷ [], b.stops, refl, one)
       ]
 
--- there is no item exactly where the final 0 is behind the header
+-- there is no item if and only if the final 0 follows the header
 pub no_items : (b : List ℕ) → drop 4 b ≡ 0 ∷ [] → AreItems b []
 no_items b e = ([], Done, e, refl)
 
@@ -64,7 +64,7 @@ ends b (f ∷ fs) end w i = let bad : ◌≡◌ {A = List Item} [] (entry f.key 
 pub no_items_end : (b : List ℕ) → AreItems b [] → drop 4 b ≡ 0 ∷ []
 no_items_end b a = ends b a.0 a.1 a.2 a.3
 
--- so there is none exactly at five bytes
+-- so there is no item if and only if there are five bytes
 pub five_is_empty : (b : List ℕ) → IsEnvelope b → length b ≡ 5 → AreItems b []
 five_is_empty b env five =
     let at : length b - 1 ≡ 4 = omega arith in

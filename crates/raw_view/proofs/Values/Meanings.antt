@@ -40,7 +40,7 @@ header_or_not b bytes =
       | inr none ↦ inr (none (length b))
     ]
 
--- just these bytes are an envelope, or there is a first reason that they aren't
+-- these bytes are an envelope, or there is a first reason why they aren't
 envelope_or_reason : (b : List ℕ) → AreBytes b → IsEnvelope b ⊎ ((why : Reason) × Refuses b why)
 envelope_or_reason b bytes =
     elim (cases_lt (length b) 5) [

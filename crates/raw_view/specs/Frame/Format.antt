@@ -1,6 +1,6 @@
--- The format: productions of BSON 1.1 as functions from their parts to their bytes. Writing is said by these,
--- and so is reading, but for the envelope of a document (Envelope) and the framing of a code with scope (Frame).
--- That a length fits, and that a text is UTF-8, is said where they are used.
+-- The format: the productions of BSON 1.1 as functions from parts to bytes. Both writing and reading are defined by
+-- these, except the envelope of a document (Envelope) and the framing of a code with scope (Frame). That a length fits
+-- and that a text is UTF-8 is said where they are used.
 use Rattle.std.specs.Prelude.{ℕ, pos, ◌+◌, ◌-◌, Bool, true, false, List, [], ◌∷◌, ◌++◌, length, take, drop}
 use Rattle.bson_model.specs.Leaf.{Leaf, double, string, binary, undefined, object_id, boolean, date_time, null, regular_expression, db_pointer, javascript_code, symbol, int32, timestamp, int64, decimal128, max_key, min_key}
 use Rattle.bson_model.specs.Subtype.{subtype_byte}
@@ -10,11 +10,11 @@ use Rattle.raw_view.specs.Frame.Kind.{tag_of}
 use Rattle.raw_view.specs.Frame.Number.{le32, le_u32, le64, le_u64}
 use Rattle.raw_view.specs.declared.element_type.ElementType.{ElementType}
 
--- a text with a 0 behind it, and what is behind that. BSON 1.1, `cstring`.
+-- a text, a 0, and what follows. BSON 1.1, `cstring`.
 abbrev pub c_string : List ℕ → List ℕ → List ℕ
 c_string text behind = text ++ 0 ∷ behind
 
--- a text with a 0 behind it, and before both their length. BSON 1.1, `string`.
+-- the length of the text and its 0, the text, and a 0. BSON 1.1, `string`.
 abbrev pub string_payload : List ℕ → List ℕ
 string_payload text = le32 (pos (length text + 1)) ++ c_string text []
 
@@ -22,11 +22,11 @@ string_payload text = le32 (pos (length text + 1)) ++ c_string text []
 abbrev pub plain_binary_payload : ℕ → List ℕ → List ℕ
 plain_binary_payload subtype bytes = le32 (pos (length bytes)) ++ subtype ∷ bytes
 
--- what an old binary has in place of its bytes: their own length, and the bytes. BSON 1.1, `binary`, subtype 2.
+-- what an old binary has instead of its bytes: their own length, then the bytes. BSON 1.1, `binary`, subtype 2.
 abbrev pub inner_payload : List ℕ → List ℕ
 inner_payload bytes = le32 (pos (length bytes)) ++ bytes
 
--- a binary: an old one with that inner length, one of every other subtype without
+-- a binary: an old one with the inner length, any other without
 abbrev pub binary_payload : BinarySubtype → List ℕ → List ℕ
 binary_payload BinaryOld bytes = plain_binary_payload 2 (inner_payload bytes)
 binary_payload subtype bytes = plain_binary_payload (subtype_byte subtype) bytes
@@ -36,7 +36,7 @@ abbrev pub boolean_payload : Bool → List ℕ
 boolean_payload false = 0 ∷ []
 boolean_payload true = 1 ∷ []
 
--- a pattern and options, each with a 0 behind it. BSON 1.1, `cstring cstring`.
+-- a pattern and options, each followed by a 0. BSON 1.1, `cstring cstring`.
 abbrev pub regex_payload : List ℕ → List ℕ → List ℕ
 regex_payload pattern options = c_string pattern (c_string options [])
 
@@ -69,7 +69,7 @@ leaf_payload (decimal128 bytes) = bytes
 leaf_payload max_key = []
 leaf_payload min_key = []
 
--- the length of the whole, its own four bytes counted, and these bytes
+-- the length of the whole, its own four bytes included, then these bytes
 abbrev pub counted : List ℕ → List ℕ
 counted rest = le32 (pos (4 + length rest)) ++ rest
 
@@ -85,10 +85,10 @@ framed inside = counted (inside ++ 0 ∷ [])
 abbrev pub inside_of : List ℕ → List ℕ
 inside_of b = take (length b - 5) (drop 4 b)
 
--- a tag, a key with a 0 behind it, and what is behind that
+-- a tag, a key, a 0, and what follows
 abbrev pub tagged : ℕ → List ℕ → List ℕ → List ℕ
 tagged tag key behind = tag ∷ c_string key behind
 
--- an element: the tag of its kind, its key, and its payload, with what may be behind it. BSON 1.1, `element`.
+-- an element: the tag of its kind, its key, its payload, and what may follow. BSON 1.1, `element`.
 abbrev pub element_of : ElementType → List ℕ → List ℕ → List ℕ
 element_of kind key payload = tagged (tag_of kind) key payload

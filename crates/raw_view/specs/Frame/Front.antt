@@ -1,4 +1,4 @@
--- What is at the front of the bytes that are left, as the core step returns it.
+-- What is at the front of the remaining bytes, as the inner step returns it.
 use Rattle.std.specs.Prelude.{◌≡◌, ◌<◌, ◌-◌, ℕ, length, slice_get, List, [], ◌∷◌, Option, None, Some, Result, Ok, Err}
 use Rattle.raw_view.specs.declared.element.RawElement.{RawElement}
 use Rattle.raw_view.specs.declared.error.BorrowedError.{BorrowedError}
@@ -14,7 +14,7 @@ use Rattle.raw_view.specs.Frame.ElementSteps.{frame_of}
 use Rattle.raw_view.specs.Meaning.{KeyedFault}
 use Rattle.raw_view.specs.Errors.{SaysFault}
 
--- where bytes are left, the last is 0
+-- if there are bytes, the last is 0
 abbrev pub EndsWithNul : List ℕ → Type 0
 EndsWithNul s = 0 < length s → slice_get s (length s - 1) ≡ Some 0
 
@@ -24,15 +24,15 @@ StopsWith (kind.MalformedValue why) key s = IsStop s (Malformed why) key
 StopsWith (kind.Utf8EncodingError _) key s = IsStop s Utf8 key
 StopsWith kind.OutOfMemory key s = ⊥
 
--- What a step over the elements gives. The state is what is left to read, and nothing from a stop on.
+-- What a step over the elements returns. The state is the remaining bytes, and nothing after a stop.
 abbrev pub StepsFront : Option (List ℕ) → Option (Result RawElement BorrowedError) → Option (List ℕ) → Type 0
 StepsFront None item t = (item ≡ None) × (t ≡ None)
 StepsFront (Some s) None t = (s ≡ 0 ∷ []) × (t ≡ Some s)
 StepsFront (Some s) (Some (Ok e)) t = (r : List ℕ) × IsFrame s (frame_of e) r × (t ≡ Some r)
 StepsFront (Some s) (Some (Err e)) t = StopsWith e.kind (option_copied e.key) s × (t ≡ None)
 
--- why no payload of this kind is at the front of z: a text of a regular expression that isn't UTF-8,
--- or the kind's reason
+-- why no payload of this kind is at the front of z: a text of a regular expression isn't UTF-8, or the reason of the
+-- kind
 abbrev pub IsPayloadFault : ElementType → List ℕ → ErrorKind → Type 0
 IsPayloadFault what z (kind.MalformedValue why) = (¬ HasBadText (tag_of what) z) × IsPayloadReason what z why
 IsPayloadFault what z (kind.Utf8EncodingError _) = HasBadText (tag_of what) z

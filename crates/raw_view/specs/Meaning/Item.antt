@@ -1,14 +1,14 @@
--- Items: what the frames of the walk mean, in order, and then the stop.
+-- Items: the meanings of the frames of a walk in order, then the stop.
 use Rattle.std.specs.Prelude.{◌≡◌, ◌⊎◌, ℕ, List, [], ◌∷◌, drop}
 use Rattle.raw_view.specs.Frame.{Frame, IsFrame, IsStop, End, Done, Stopped, IsWalk, LeadsTo}
 use Rattle.raw_view.specs.Meaning.{RawValue, KeyedFault, Meaning, value, faulty, Means}
 
--- a frame's key with what the frame means, or the stop
+-- a frame's key with the meaning of the frame, or the stop
 pub data Item : Type 0 where
   entry : List ℕ → Meaning → Item
   stopped : KeyedFault → Item
 
--- these are the items of the frames in order, and then the stop if there is one
+-- these are the items of the frames in order, then the stop if there is one
 abbrev pub ItemsOf : List Frame → End → List Item → Type 0
 ItemsOf [] Done items = items ≡ []
 ItemsOf [] (Stopped fault key) items = items ≡ stopped (record { fault = fault; key = key }) ∷ []
@@ -34,7 +34,6 @@ HaveValues (f ∷ fs) = ((v : RawValue) × Means f (value v)) × HaveValues fs
 abbrev pub BeginsWithFault : List ℕ → KeyedFault → Type 0
 BeginsWithFault s fault = IsStop s fault.fault fault.key ⊎ ((f : Frame) × (r : List ℕ) × IsFrame s f r × Means f (faulty fault))
 
--- The first fault of one level of the document b: behind frames that mean values. What nested documents hold isn't
--- looked into.
+-- The first fault of one level of the document b, after frames that mean values. Nested documents are not looked into.
 abbrev pub HasFirstFault : List ℕ → KeyedFault → Type 0
 HasFirstFault b fault = (passed : List Frame) × (s : List ℕ) × LeadsTo (drop 4 b) passed s × HaveValues passed × BeginsWithFault s fault

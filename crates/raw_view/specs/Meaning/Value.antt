@@ -1,4 +1,4 @@
--- What borrowed values show.
+-- The values that borrowed values show.
 use Rattle.std.specs.Prelude.{◌≡◌, ℕ, List, Option, None, Some}
 use Rattle.bson_model.specs.Leaf.{double, string, binary, undefined, object_id, boolean, date_time, null, regular_expression, db_pointer, javascript_code, symbol, int32, timestamp, int64, decimal128, max_key, min_key}
 use Rattle.bson_model.specs.Scalars.{bytes_of_object_id, millis_of_date_time, bytes_of_decimal128}
@@ -16,14 +16,15 @@ use Rattle.raw_view.specs.Meaning.{RawValue, single, document, array, scoped}
 abbrev pub array_bytes_of : RawArray → List ℕ
 array_bytes_of a = bytes_of a.document
 
--- the namespace and the identifier of a pointer
+-- the namespace of a pointer
 abbrev pub namespace_of : RawDbPointerRef → List ℕ
 namespace_of p = p.namespace.now
 
+-- the identifier of a pointer
 abbrev pub id_of : RawDbPointerRef → List ℕ
 id_of p = bytes_of_object_id p.id
 
--- the value that a borrowed value views
+-- the value that a borrowed value shows
 abbrev pub value_of : RawBsonRef → RawValue
 value_of (ref.Double x) = single (double x.0)
 value_of (ref.String text) = single (string text.now)
@@ -64,7 +65,7 @@ IsSingle (document d) = ⊥
 IsSingle (array d) = ⊥
 IsSingle (scoped code d) = ⊥
 
--- the value holds no level; or it holds this one
+-- the value holds this level, or holds none
 abbrev pub HoldsLevel : RawValue → Option RawLevel → Type 0
 HoldsLevel v None = IsSingle v
 HoldsLevel v (Some level) = v ≡ held_value level

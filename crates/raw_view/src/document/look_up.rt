@@ -1,5 +1,5 @@
-//! Elements of a document by key and by number, and their count. Nothing is copied, and no memory is taken: the fault at
-//! which the elements stop borrows its key.
+//! Elements of a document by key and by number, and their count. They copy nothing and take no memory: the
+//! fault at which the elements stop borrows its key.
 #![tactic(auto)]
 
 ghost use Rattle.std.specs.Prelude.{◌≤◌, ◌-◌, ◌/◌, length, IfOk};
@@ -13,9 +13,9 @@ use crate::elements::Elements;
 use crate::error::BorrowedError;
 
 impl<'a> RawDocument<'a> {
-    /// The first element with this key. Where none has it, the fault at which the elements stop, if there is one, else
-    /// `None`. Nothing behind the element that is found is looked at, and no value is looked into. The bytes and the key
-    /// alone determine what is found.
+    /// The first element with this key. If none has it: the fault at which the elements stop, if there is
+    /// one, otherwise `None`. Bytes after the found element are not read, and no value is decoded. The bytes
+    /// and the key alone determine the result.
     /// ```
     /// let document = RawDocument::from_bytes(b"\x0C\0\0\0\x10a\0\x01\0\0\0\0")?;
     /// let Ok(Some(element)) = document.get_element("a") else { unreachable!() };
@@ -37,9 +37,9 @@ impl<'a> RawDocument<'a> {
         Ok(None)
     }
 
-    /// The element of this number, counted from 0. Where there are no more elements than that, the fault at which they
-    /// stop, if there is one, else `None`. Nothing behind the element that is found is looked at, and no value is looked
-    /// into. The bytes and the number alone determine what is found.
+    /// The element with this number, counted from 0. If there are fewer elements: the fault at which they
+    /// stop, if there is one, otherwise `None`. Bytes after the found element are not read, and no value is
+    /// decoded. The bytes and the number alone determine the result.
     /// ```
     /// let document = RawDocument::from_bytes(b"\x13\0\0\0\x10a\0\x01\0\0\0\x10b\0\x02\0\0\0\0")?;
     /// let Ok(Some(element)) = document.element_at(1) else { unreachable!() };
@@ -63,8 +63,8 @@ impl<'a> RawDocument<'a> {
         Ok(None)
     }
 
-    /// How many elements the document has; or the fault at which they stop. Of n bytes never more than (n - 4) / 2. No
-    /// value is looked into.
+    /// The number of elements, or the fault at which they stop. It is at most (n - 4) / 2 for n bytes. No
+    /// value is decoded.
     /// ```
     /// let document = RawDocument::from_bytes(b"\x13\0\0\0\x10a\0\x01\0\0\0\x10b\0\x02\0\0\0\0")?;
     /// assert!(rt; matches!(document.count(), Ok(2)));

@@ -1,3 +1,4 @@
+//! C strings at the front of bytes.
 ghost use Rattle.std.specs.Prelude.{◌≡◌, ◌+◌, ◌++◌, ◌∷◌, ◌<◌, ◌≤◌, length, take, IfSome, IfOk, IfErr, Some};
 ghost use Rattle.std.specs.Str.{IsAscii, IsUtf8};
 ghost use Rattle.memchr.specs.Find.{IsFirstByte, is_byte};
@@ -9,13 +10,13 @@ use crate::error::{ErrorKind, Reason};
 use crate::front::utf8::{ascii_text, front_text, short_text};
 use std::simd::prelude::*;
 
-/// How many bytes are compared in one step.
+/// The number of bytes that one step compares.
 const LANES: usize = 16;
 
-/// How many bytes are searched first: most C strings are short.
+/// The number of bytes that are searched first: most C strings are short.
 const NEAR: usize = 32;
 
-/// The place of the first 0, where it is found in one step.
+/// The index of the first 0, if one step finds it.
 #[inline(always)]
 fn nearest_nul(bytes: &[u8]) -> Option<usize>
     ensures { IfSome result (λ at. IsFirstByte (is_byte 0) bytes.now (Some at)) }
@@ -32,7 +33,7 @@ fn nearest_nul(bytes: &[u8]) -> Option<usize>
     Some(nuls.trailing_zeros() as usize)
 }
 
-/// The place of the first 0.
+/// The index of the first 0.
 #[inline(always)]
 fn first_nul(bytes: &[u8]) -> Option<usize>
     ensures { IsFirstByte (is_byte 0) bytes.now result }
@@ -45,7 +46,7 @@ fn first_nul(bytes: &[u8]) -> Option<usize>
     memchr::memchr(0, bytes)
 }
 
-/// The text up to the first 0, and what is behind that 0, where one step tells them: it is short, and ASCII.
+/// The text up to the first 0 and what follows that 0, if one step finds them: the text is short and ASCII.
 #[inline(always)]
 fn split_short_text(bytes: &[u8]) -> Option<(&str, &[u8])>
     ensures { IfSome result
@@ -56,7 +57,7 @@ fn split_short_text(bytes: &[u8]) -> Option<(&str, &[u8])>
     Some((text, bytes.split_at(at + 1).1))
 }
 
-/// How many of the first N bytes are plain, before one that is 0 or isn't ASCII, by one comparison.
+/// The number of bytes at the front of the first N that are ASCII and not 0, by one comparison.
 #[inline(always)]
 fn plain_lanes<const N: usize>(bytes: &[u8]) -> usize
     requires few { N ≤ 64 }
@@ -75,7 +76,8 @@ fn plain_lanes<const N: usize>(bytes: &[u8]) -> usize
     ends.trailing_zeros() as usize
 }
 
-/// How many bytes at the front are plain, of N to twice as many, by two comparisons that overlap.
+/// The number of bytes at the front that are ASCII and not 0, for N to 2 N bytes, by two comparisons that
+/// overlap.
 #[inline(always)]
 fn plain_overlapping<const N: usize>(bytes: &[u8]) -> usize
     requires few { N ≤ 64 }
@@ -93,7 +95,7 @@ fn plain_overlapping<const N: usize>(bytes: &[u8]) -> usize
     before + plain_lanes::<N>(bytes.split_at(before).1)
 }
 
-/// How many bytes at the front are plain, of fewer than sixteen.
+/// The number of bytes at the front that are ASCII and not 0, for fewer than sixteen bytes.
 #[inline(always)]
 fn plain_len(bytes: &[u8]) -> usize
     requires short { length bytes.now < LANES }
@@ -110,7 +112,7 @@ fn plain_len(bytes: &[u8]) -> usize
     }
 }
 
-/// Such a text at the front of fewer than sixteen bytes, by comparisons that overlap.
+/// The same text at the front of fewer than sixteen bytes, by comparisons that overlap.
 #[inline(always)]
 fn split_last_text(bytes: &[u8]) -> Option<(&str, &[u8])>
     requires short { length bytes.now < LANES }
@@ -125,8 +127,8 @@ fn split_last_text(bytes: &[u8]) -> Option<(&str, &[u8])>
     Some((ascii_text(text), behind))
 }
 
-/// The text up to the first 0, and what is behind that 0, where the text is of less than 16 bytes and ASCII; `None` says
-/// nothing.
+/// The text up to the first 0 and what follows that 0, if the text is ASCII and shorter than 16 bytes. `None`
+/// means that `split_text` has to be asked.
 #[inline(always)]
 pub(crate) fn split_plain_text(bytes: &[u8]) -> Option<(&str, &[u8])>
     ensures { IfSome result
@@ -138,7 +140,7 @@ pub(crate) fn split_plain_text(bytes: &[u8]) -> Option<(&str, &[u8])>
     split_short_text(bytes)
 }
 
-/// The text up to the first 0, and what is behind that 0.
+/// The text up to the first 0, and what follows that 0.
 #[inline(always)]
 pub(crate) fn split_text(bytes: &[u8]) -> Result<(&str, &[u8]), ErrorKind>
     ensures found { IfOk result

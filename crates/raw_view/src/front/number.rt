@@ -1,7 +1,8 @@
+//! Numbers at the front of bytes.
 ghost use Rattle.std.specs.Prelude.{◌≡◌, ◌≤◌, length, take};
 ghost use Rattle.raw_view.specs.Frame.Number.{IsLe32, IsLe64, IsUnsigned32, IsUnsigned64};
 
-/// The bytes, of which there are exactly so many.
+/// The bytes as an array of N.
 pub(crate) fn array_of<const N: usize>(bytes: &[u8]) -> [u8; N]
     requires { length bytes.now ≡ N }
     ensures { result ≡ bytes.now }

@@ -1,3 +1,4 @@
+//! How many bytes a payload takes.
 ghost use Rattle.std.specs.Prelude.{◌≡◌, ◌≢◌, ◌≤◌, ◌<◌, ◌+◌, ◌++◌, ℕ, List, length, take, drop, pos, negsuc, IfOk, IfErr, IfSome, OnErr};
 ghost use Rattle.raw_view.specs.Frame.Envelope.{IsEnvelope};
 ghost use Rattle.raw_view.specs.Errors.{IsReadingKind, IsReadingReason};
@@ -26,7 +27,7 @@ fn fixed_len(size: usize, rest: &[u8]) -> Result<usize, Reason>
     }
 }
 
-/// The length that the four bytes at the front declare.
+/// The length that the first four bytes declare.
 #[inline(always)]
 pub(crate) fn declared_len(rest: &[u8]) -> Result<usize, Reason>
     requires { 4 ≤ length rest.now }
@@ -155,7 +156,7 @@ fn regex_len(rest: &[u8]) -> Result<usize, ErrorKind>
     Ok(rest.len() - behind.len())
 }
 
-/// How many bytes the payload of a kind without C strings takes; else why none is at the front.
+/// The length of the payload at the front, of a kind without C strings; or why none is there.
 #[inline(always)]
 fn sized_len(kind: ElementType, rest: &[u8]) -> Result<usize, Reason>
     requires { kind ≢ RegularExpression }
@@ -186,7 +187,7 @@ fn sized_len(kind: ElementType, rest: &[u8]) -> Result<usize, Reason>
     }
 }
 
-/// How many bytes the payload at the front takes; else why none of this kind is there.
+/// The length of the payload at the front; or why none of this kind is there.
 #[inline(always)]
 pub(crate) fn front_len(kind: ElementType, rest: &[u8]) -> Result<usize, ErrorKind>
     ensures within { IfOk result (λ n. n ≤ length rest.now) }
@@ -204,7 +205,7 @@ pub(crate) fn front_len(kind: ElementType, rest: &[u8]) -> Result<usize, ErrorKi
     }
 }
 
-/// How many bytes the payload at the front takes, of a kind whose length is fixed or declared; or nothing.
+/// The length of the payload at the front, of a kind whose length is fixed or declared; otherwise `None`.
 #[inline(always)]
 pub(crate) fn plain_len(kind: ElementType, rest: &[u8]) -> Option<usize>
     ensures within { IfSome result (λ n. n ≤ length rest.now) }

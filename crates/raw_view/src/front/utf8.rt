@@ -6,10 +6,10 @@ ghost use Rattle.std.specs.Str.{IsAscii, IsUtf8};
 use std::simd::prelude::*;
 use std::str::Utf8Error;
 
-/// How many bytes make a text long: from so many on, 64 are judged in a step.
+/// From this many bytes on, a text is tested 64 bytes a step.
 const LONG: usize = 64;
 
-/// How many bytes are tested in one step.
+/// The number of bytes that one step tests.
 const LANES: usize = 16;
 
 /// The text of bytes under 128.
@@ -19,11 +19,11 @@ pub(crate) fn ascii_text(bytes: &[u8]) -> &str
     ensures text { result.now ≡ bytes.now }
     ensures utf8 { IsUtf8 bytes.now }
 {
-    // bytes under 128 are UTF-8 as they are
+    // bytes under 128 are UTF-8
     unsafe { std::str::from_utf8_unchecked(bytes) }
 }
 
-/// Whether the first so many bytes are under 128, where one step says so; else false.
+/// Whether one step finds that the first `len` bytes are under 128.
 #[inline(always)]
 fn begins_ascii(bytes: &[u8], len: usize) -> bool
     ensures { IsTrue result → IsAscii (take len bytes.now) }
@@ -37,7 +37,7 @@ fn begins_ascii(bytes: &[u8], len: usize) -> bool
     wide == 0 || len <= wide.trailing_zeros() as usize
 }
 
-/// The text of the first so many bytes, where a step tells that they are ASCII.
+/// The text of the first `len` bytes, if one step finds that they are ASCII.
 #[inline(always)]
 pub(crate) fn short_text(bytes: &[u8], len: usize) -> Option<&str>
     requires { len ≤ length bytes.now }
@@ -49,7 +49,7 @@ pub(crate) fn short_text(bytes: &[u8], len: usize) -> Option<&str>
     Some(ascii_text(bytes.split_at(len).0))
 }
 
-/// The text of bytes that needn't be ASCII. A fault in a long one is told by `std`, which reads it once more.
+/// The text of bytes that may not be ASCII. If a long text is faulty, `std` reads it again to say where.
 #[inline(never)]
 fn wide_text(bytes: &[u8]) -> Result<&str, Utf8Error>
     ensures text { IfOk result (λ text. (text.now ≡ bytes.now) × IsUtf8 bytes.now) }
@@ -63,7 +63,7 @@ fn wide_text(bytes: &[u8]) -> Result<&str, Utf8Error>
     std::str::from_utf8(bytes)
 }
 
-/// The text of the bytes, or how they fail to be UTF-8.
+/// The text of the bytes, or why they are not UTF-8.
 #[inline(always)]
 pub(crate) fn text_from(bytes: &[u8]) -> Result<&str, Utf8Error>
     ensures text { IfOk result (λ text. (text.now ≡ bytes.now) × IsUtf8 bytes.now) }
@@ -75,7 +75,7 @@ pub(crate) fn text_from(bytes: &[u8]) -> Result<&str, Utf8Error>
     wide_text(bytes)
 }
 
-/// The text of the first so many bytes, or how they fail to be UTF-8.
+/// The text of the first `len` bytes, or why they are not UTF-8.
 #[inline(always)]
 pub(crate) fn front_text(bytes: &[u8], len: usize) -> Result<&str, Utf8Error>
     requires { len ≤ length bytes.now }

@@ -1,3 +1,4 @@
+//! Accessors of a borrowed value, one for each kind.
 use crate::array::RawArray;
 use crate::bson_ref::{
     RawBinaryRef, RawBsonRef, RawDbPointerRef, RawJavaScriptCodeWithScopeRef, RawRegexRef,
@@ -148,7 +149,7 @@ impl<'a> RawBsonRef<'a> {
         }
     }
 
-    /// `Some` exactly for null.
+    /// `Some` if and only if the value is null.
     pub fn as_null(self) -> Option<()>
         ensures meaning { Shows typed.null_value variants.Null (value_of self.entry) result }
     {

@@ -1,3 +1,4 @@
+//! Borrowed values from their parts.
 ghost use Rattle.std.specs.Prelude.{◌≡◌};
 ghost use Rattle.raw_view.specs.declared.bson_ref.RawBsonRef.TheVariants as ref;
 

@@ -1,4 +1,4 @@
-//! What all typed getters share: a kind, its accessor, and what they return for what a look-up returns.
+//! What all typed getters share: a kind, its accessor, and the result for what a look-up returns.
 
 ghost use Rattle.std.specs.Prelude.{◌≡◌, ◌≢◌, IfSome, IfNone};
 ghost use Rattle.std.specs.Fmt.{decimal};
@@ -21,7 +21,7 @@ pub(crate) trait Typed<'a>: Sized + Drop {
     ghost use Rattle.raw_view.specs.Meaning.{RawValue, kind_of_raw};
     ghost use Rattle.raw_view.specs.Meaning.Value.{value_of};
 
-    // the kind of its values, and the value that one of it views
+    // the kind of the values, and the value that such a view shows
     ghost kind: { ElementType };
 
     ghost value_as: { Self → RawValue };
@@ -30,13 +30,13 @@ pub(crate) trait Typed<'a>: Sized + Drop {
     fn kind() -> ElementType
         ensures { result ≡ kind };
 
-    /// What a value of its kind holds; `None` for every other kind.
+    /// The content of a value of this kind; `None` for every other kind.
     fn accessed(value: RawBsonRef<'a>) -> Option<Self>
         ensures some { IfSome result (λ x. value_of value.entry ≡ value_as x) }
         ensures none { IfNone result (kind_of_raw (value_of value.entry) ≢ kind) };
 }
 
-/// What a typed getter has for what a look-up returns.
+/// What a typed getter returns, without a key, for what a look-up returns.
 fn value_or_kind<'a, T: Typed<'a>>(
     answer: Result<Option<RawBsonRef<'a>>>,
 ) -> std::result::Result<T, ValueAccessErrorKind>

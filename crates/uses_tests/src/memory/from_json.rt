@@ -1,3 +1,4 @@
+//! Texts that are read as documents.
 use bson_from_json::{JsonReason, from_json};
 use raw_bson::Limits;
 use std::alloc::Global;
@@ -32,7 +33,8 @@ const TEXT: &str =
 const BYTES: &str =
     "D700000007610056E1FC72E0C917E9C4714161106200010000001263000100000000000000016400000000000000F03F13650001000000000000000000000000004030056600010000000001056700100000000473FFD26444B34C6990E8E7D1DFC035D409680000000000000000000B69006100697800116A0002000000010000000D6B000200000078000F6C000F00000002000000780005000000000F6D000F00000002000000790005000000000C6E0002000000620056E1FC72E0C917E9C47141610E6F00020000007300067000FF71007F720000";
 
-/// The other forms of wrappers, each in a text of its own, and the documents that libbson and MongoDB's package make of them.
+/// The other forms of wrappers, each in a text of its own, and the documents that libbson and MongoDB's package
+/// read from them.
 const FORMS: &[(&str, &str)] = &[
     (
         "{\"a\":{\"$date\":{\"$numberLong\":\"-1\"}}}",

@@ -1,3 +1,4 @@
+//! The shelf.
 use raw_bson::{RawBson, RawDocumentBuf, Result};
 use raw_shelf::{PutError, Shelf};
 use std::alloc::Global;
@@ -10,7 +11,7 @@ fn two_under_b(alloc: Global) -> Result<RawDocumentBuf> {
     Ok(document)
 }
 
-/// Whether the put into the empty shelf stores the document, or runs out of memory and leaves the shelf empty.
+/// Whether the put into the empty shelf stores the document; or memory runs out, and the shelf is still empty.
 fn is_stored(shelf: &mut Shelf, document: RawDocumentBuf) -> bool {
     match shelf.put(document) {
         Ok(is_new) => is_new && shelf.len() == 1,
@@ -18,7 +19,7 @@ fn is_stored(shelf: &mut Shelf, document: RawDocumentBuf) -> bool {
     }
 }
 
-// `bin/test` runs this with each request for memory refused in turn, alone.
+// `bin/test` runs this alone, with each request for memory failing in turn.
 #[test]
 fn put_or_out_of_memory(rt: HostRuntime) {
     if let Ok(document) = two_under_b(rt.alloc()) {

@@ -1,4 +1,4 @@
-//! What comes of a document that is printed where memory runs out.
+//! Documents that are printed where memory runs out.
 
 use bson_json::{
     Format, Layout, Measured, Style, ToJsonError, WriteJsonError, measured_json, to_json,
@@ -34,7 +34,7 @@ fn is_printed(alloc: Global, document: RawDocument<'_>) -> bool {
     }
 }
 
-/// Whether the document's text is measured, and is there if it has at most so many bytes, or memory ran out.
+/// Whether the document's text is measured, and is there if it has at most `most` bytes, or memory ran out.
 fn is_measured(alloc: Global, document: RawDocument<'_>, most: usize) -> bool {
     match measured_json(alloc, document, INDENTED, LIMITS, most) {
         Ok(Measured { len, text: None }) => most < len && len == NESTED_TEXT.len(),
@@ -48,7 +48,8 @@ fn is_measured(alloc: Global, document: RawDocument<'_>, most: usize) -> bool {
     }
 }
 
-/// Whether the document's text is written, or a front of it where memory ran out for the levels or for what is written.
+/// Whether the document's text is written, or a prefix of it if memory ran out for the levels or for what is
+/// written.
 fn is_written(alloc: Global, document: RawDocument<'_>) -> bool {
     let mut out = Vec::new(alloc);
     match write_json(alloc, document, INDENTED, LIMITS, &mut out) {
@@ -58,7 +59,7 @@ fn is_written(alloc: Global, document: RawDocument<'_>) -> bool {
     }
 }
 
-/// Whether each call does so of the document of these bytes.
+/// Whether each call does so for the document of these bytes.
 fn is_told(alloc: Global, bytes: &[u8]) -> bool {
     match RawDocument::from_bytes(bytes) {
         Ok(document) => {

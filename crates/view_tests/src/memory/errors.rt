@@ -1,3 +1,4 @@
+//! Copies of errors.
 use crate::fixtures::*;
 use crate::required::view;
 use bson_model::DoubleBits;
@@ -5,9 +6,10 @@ use raw_view::{Error, RawBsonRef, RawDocument, ValueAccessError, ValueAccessResu
 use std::alloc::AllocError;
 use std::process::Abort;
 
-// Each copy is equal, or there is none because memory ran out. An error without a key has no memory of its own, and is copied in any run.
+// Each copy is equal, or there is none because memory ran out. An error without a key has no memory of its own, so
+// its copy always succeeds.
 
-/// Whether this is a copy, or memory ran out, which it may for what has some of its own.
+/// Whether this is a copy, or memory ran out, which is possible only for what has memory of its own.
 fn is_copy<T: PartialEq>(copy: &Result<T, AllocError>, copied: &T, may_fail: bool) -> bool {
     match copy {
         Ok(copy) => copy == copied,
@@ -47,19 +49,19 @@ fn has_access_copies(checks: Checks, answer: &ValueAccessResult<DoubleBits>) -> 
     }
 }
 
-/// Whether the error of this key, under which there is no double, is copied.
+/// Whether the error of a getter for this key, which has no double, is copied.
 fn is_no_double_copied(checks: Checks, document: RawDocument<'_>, key: &str) -> bool {
     let_go!(made = document.get_f64(checks.alloc, key); has_access_copies(checks, &made))
 }
 
-/// Whether errors of a boolean of the byte 2 are copied, and that of a key that isn't there.
+/// Whether the errors for a boolean of the byte 2 and for a missing key are copied.
 pub(crate) fn are_copied(checks: Checks, two: RawDocument<'_>) -> bool {
     is_fault_copied(checks, two, "a")
         && is_no_double_copied(checks, two, "a")
         && is_no_double_copied(checks, two, "b")
 }
 
-/// Whether that of a text that isn't UTF-8 is, which has no key.
+/// The same of the error for a text that isn't UTF-8, which has no key.
 pub(crate) fn is_text_copied(checks: Checks, document: RawDocument<'_>) -> bool {
     is_fault_copied(checks, document, "a") && is_no_double_copied(checks, document, "a")
 }

@@ -1,3 +1,4 @@
+//! Look-ups and iteration.
 use crate::fixtures::*;
 use crate::required::view;
 use crate::tables::{rows_of_getters, rows_to_a_key};
@@ -9,8 +10,8 @@ use std::test::Fail;
 
 // What takes no memory is in `no_memory`.
 
-/// A typed look-up by position goes past faults, and says which it meets. A fault under a key is returned, though a good value is
-/// under it further on.
+/// A typed look-up by index passes over faults, and reports the one that it finds. A fault under a key is returned
+/// even if a good value is under the same key further on.
 #[test]
 fn rows_or_out_of_memory(rt: HostRuntime) {
     let checks = Checks::refusable(rt.alloc());
@@ -46,7 +47,7 @@ fn is_item_out_of_memory(alloc: Global, item: &Option<Result<(&str, RawBsonRef<'
     }
 }
 
-/// Whether the first item is, and nothing comes behind it.
+/// Whether the first item is, and nothing follows it.
 fn is_out_of_memory_alone(alloc: Global, document: RawDocument<'_>) -> bool {
     let mut iter = document.iter(alloc);
     let is_first = let_go!(made = iter.next(); is_item_out_of_memory(alloc, &made));
@@ -61,7 +62,7 @@ fn is_one_out_of_memory(alloc: Global, two: RawDocument<'_>) -> bool {
         || is_out_of_memory_alone(alloc, two)
 }
 
-/// `bin/test` wants the line in each run in which a request was refused, and in no other.
+/// `bin/test` expects the line in each run in which a request failed, and in no other.
 #[test]
 fn a_refused_look_up_is_out_of_memory(rt: HostRuntime) -> std::result::Result<(), Fail> {
     if is_one_out_of_memory(rt.alloc(), view(&rt, BOOLEAN_TWO)) {

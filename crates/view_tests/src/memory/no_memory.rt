@@ -1,3 +1,4 @@
+//! Calls that take no memory.
 use crate::fixtures::*;
 use crate::required::{view, view_of_array};
 use crate::tables::{rows_without_a_key, values_of_getters};
@@ -5,10 +6,10 @@ use raw_view::{ElementType, RawArray, RawDocument};
 use std::alloc::Global;
 use std::process::Abort;
 
-// None of these calls asks for memory: `bin/test` counts the requests of each test, and there are none. So they have no run in which
-// one is refused.
+// None of these calls requests memory: `bin/test` counts the requests of each test, and there are none. So no run
+// has one that fails.
 
-/// Whether a typed getter has a number behind another value, also where that has a fault.
+/// Whether a typed getter finds a number after another value, even after one with a fault.
 fn are_found(alloc: Global, mixed: RawDocument<'_>, faulty: RawArray<'_>) -> bool {
     mixed.get_i32(alloc, "i32").ok() == Some(1000000) && faulty.get_i32(alloc, 1).ok() == Some(7)
 }

@@ -1,11 +1,12 @@
-//! `bin/test` runs these with each request for memory refused in turn, alone.
+//! `bin/test` runs these alone, with each request for memory failing in turn.
 
 use crate::fixtures::{Checks, let_go};
 use bson_model::{Bson, Document, NoMemory, Regex};
 use std::alloc::Global;
 use std::process::Abort;
 
-/// So many pairs that the keys and the values ask for memory more than once, and that the keys are put into a set.
+/// Enough pairs for the keys and the values to request memory more than once, and for the keys to be put into a
+/// set.
 const PAIRS: &[(&str, i32)] = &[
     ("a", 1),
     ("b", 2),
@@ -43,7 +44,7 @@ fn is_under(document: &Document, pair: (&str, i32)) -> bool {
     matches!(document.get(pair.0), Some(Bson::Int32(found)) if *found == pair.1)
 }
 
-/// Whether each pair is inserted, at once or, where a request was refused, when it is inserted again; and all are there then.
+/// Whether each pair is inserted, at once or, if a request failed, the second time; and all are there then.
 fn are_inserted(alloc: Global, document: &mut Document) -> bool {
     let mut are_right = true;
     for pair in PAIRS {

@@ -13,7 +13,7 @@ returns-in-Err-Barrier-clause-err g c =
     let (told, before) = rw c.in-Err-Barrier.field-0-is at c.in-Err-Barrier.ensures.told in
     (told, ap g.W.Write.contents (before refl))
 
--- nothing or a front was written
+-- nothing or a prefix was written
 wrote : {S : Type 0} (contents : S → Option (List ℕ)) (style : Style) (limits : Limits) (b : List ℕ) (old new : S)
     → ((new ≡ old) ⊎ WroteWithin (λ (w : S) (most : ℕ) (text : List ℕ). contents w ≡ Some text) style limits b old new)
     → (contents new ≡ contents old) ⊎ WroteFront style b (contents old) (contents new)

@@ -34,7 +34,7 @@ returns-in_err-ended-clause-told g c =
     told_as _ e.result _ e.ensures.1 (rw c.in_err-ended.ensures.failed (print_fails c.args.style moved (going_is_front is) is.few c.args.careful c.in_ok-unseen.unseen
     (λ safe. c.in_ok-unseen.ensures.guard c.args.out.now (guard safe))))
 
--- behind an event
+-- after an event
 behind_event : (g : given.Over) (c : In_ok-ended g) (ended : Bool) → c.in_ok-ended.ended ≡ ended
     → (piece : List ℕ) × IsHeld g.S.Sink.has c.args.out.now c.pass_on.new.out c.put_event.new.block.items (123 ∷ (c.events.invariant.0 ++ piece))
     × Adds c.events.invariant.1 c.next.new.self c.next.new.level c.put_event.new.sorts.items c.put_event.new.sort ended piece

@@ -9,6 +9,6 @@ invariant-events g l =
     (told : List ℕ) × IsGoing l.fn.style l.fn.limits l.fn.document l.walk l.level l.sorts.items l.sort told
     × IsHeld g.S.Sink.has l.fn.out l.out l.block.items (123 ∷ told) × (l.fn.careful ≡ true → Guards l.fn.limits (bytes_of l.fn.document) l.unseen l.fn.out l.out)
 
--- the bytes behind the offset
+-- the bytes after the offset
 abbrev pub decreases-events : goal.decreases-events
 decreases-events g l = length (bytes_of l.fn.document) - l.level.offset

@@ -2,7 +2,7 @@ use Rattle.std.proofs.Common.{◌≡◌, ◌++◌, List, length}
 use Rattle.bson_model.specs.declared.bson.Bson.{Bson}
 use Rattle.bson_model.proofs.drops.next_of.Given as goal
 
--- what is left is in front of what there was
+-- the values that are left are the front of the values at the start
 abbrev pub invariant-loop-value : goal.invariant-loop-value
 invariant-loop-value l = (rest : List Bson) × l.initial.held.items ≡ l.held.items ++ rest
 

@@ -12,7 +12,7 @@ use Rattle.std.proofs.iter.TextItems.{spells}
 use Rattle.std.proofs.lemmas.Str.{Chars-gives, chars_from_encodes, encodes-chars}
 use Rattle.bson_model.proofs.regexes.do_options_ascend.Goals as goal
 
--- what calls give is the front of what all calls would
+-- what the calls so far returned is the front of what all calls return
 gave_front : {S A : Type 0} (steps : S → Option A → S → Type 0) (xs ys : List A) (s t : S) → Yields steps s xs t → AlwaysYields steps (λ x. x) s ys → (more : List A) × (ys ≡ xs ++ more)
 gave_front steps [] ys s t y a = (ys, refl)
 gave_front steps (x ∷ xs) [] s t y a = absurd (a x y.0 y.1)
@@ -21,7 +21,7 @@ gave_front steps (x ∷ xs) (z ∷ ys) s t y a =
     let rest = gave_front steps xs ys y.0 t y.2 on.1 in
     (rest.0, (λ i. sym on.0 i ∷ rest.1 i))
 
--- a front of numbers that never descend is told to be in order
+-- the call finds each front of ascending numbers in order
 told_ascending : (xs more : List ℕ) (r : Bool) → MatchBool r (IsNonDecreasing xs)
     ((k : ℕ) × (k + 1 < length xs) × ((d : ℕ) → get_or xs (k + 1) d < get_or xs k d)) → IsNonDecreasing (xs ++ more) → IsTrue r
 told_ascending xs more true m h = refl

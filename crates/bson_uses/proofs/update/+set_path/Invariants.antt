@@ -6,7 +6,7 @@ use Rattle.bson_uses.specs.Path.{keys_of}
 use Rattle.bson_uses.specs.Updates.{Sets}
 use Rattle.bson_uses.proofs.update.+set_path.Given as goal
 
--- the keys that are left
+-- the remaining keys
 abbrev pub decreases-set_path : goal.decreases-set_path
 decreases-set_path l = length l.path.now
 

@@ -1,5 +1,5 @@
--- A search for the first barrier may begin at the element of the outermost level that breaches or holds what breaches, and what
--- is before that is written as it is.
+-- A search for the first barrier may begin at the element of the outermost level that breaches or holds what breaches; what is before it is
+-- written as it is.
 use Rattle.std.proofs.Common.{◌≡◌, ◌≢◌, ◌∙◌, ◌+◌, ◌∷◌, [], ℕ, zero, suc, List, None, Some, map, slice_index_or, length, drop, arith, ap, refl, sym}
 use Rattle.raw_form.proofs.canonical.Common.{FirstViolationTo, Frame, IsCanonicalUpTo, ValidatesFrontAt, LeadsTo, PathStep, Sort, Start, Step, Violation, as_document, canonical_frames_read, length-map, one_frame, step_of, steps_of, bytes_of}
 use Rattle.raw_tree.specs.ValidationSteps.{TellsFound, TellsOutermost, first_number, violation_of}
@@ -9,7 +9,7 @@ use Rattle.raw_tree.specs.declared.validator.within.Found.{Found}
 use Rattle.raw_form.proofs.rewritten.Members.{known_to, known_to_first}
 use Rattle.raw_form.proofs.canonical.start_of.Goals as goal
 
--- the first step has the number of the frames in front
+-- the number of the first step is the number of frames before it
 front_begins : (P : Sort → List ℕ → Type 0) (N : Sort → List ℕ → Violation → List Step → ℕ → Type 0) (sort : Sort) (keys : List (List ℕ)) (b s : List ℕ) (number : ℕ) (x : Violation)
     (path : List Step) (offset : ℕ) → ValidatesFrontAt P N sort keys b s number x path offset → first_number path ≡ number
 front_begins P N sort keys b s number x path offset h = grind arith
@@ -21,7 +21,7 @@ led_same s (f ∷ fs) (g ∷ gs) r q (t, at, l) (u, there, k) e =
     led_same t fs gs r q l (rw (one_frame s g f u t there at).1 at k) (omega (arith, e))
 led_same s fs gs r q l k e = absurd (omega (arith, e))
 
--- of what was found the first step has this number, and the element begins here
+-- the first step to what was found has this number, and the element begins here
 found_begins : (depth : ℕ) (b : List ℕ) (found : Found) (start : Start) → TellsFound depth b (Some found) → TellsOutermost b (Some found)
     → length found.place.path.items ≢ 0 → start.number ≡ first_number (steps_of found.place) → start.offset ≡ found.outermost → TellsStart depth b (Some start)
 found_begins zero b found start told outermost some number offset = absurd (some (sym (length-map found.place.path.items step_of) ∙ ap length told.1))

@@ -10,6 +10,6 @@ invariant-events l =
     (seen : List Visit) × HasCome l.fn.document l.fn.most_waiting l.walk l.level seen
     × IsFlattening l.fn.tokens (flat_of seen) l.places.items l.count l.tokens (length l.walk.waiting.items) l.level.offset
 
--- the bytes behind the offset
+-- the bytes after the offset
 abbrev pub decreases-events : goal.decreases-events
 decreases-events l = length (bytes_of l.fn.document) - l.level.offset

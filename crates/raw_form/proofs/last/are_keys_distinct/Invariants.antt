@@ -5,7 +5,7 @@ use Rattle.raw_form.proofs.last.are_keys_distinct.Given as goal
 use Rattle.key_set.specs.KeySets.{HasKeys}
 use Rattle.raw_tree.specs.Reading.{ReadsRest}
 
--- the keys of the pairs passed are in the set
+-- the keys of the passed pairs are in the set
 abbrev pub invariant-elements : goal.invariant-elements
 invariant-elements l =
     (below own : List (List ℕ)) × HasKeys l.keys l.listed.items below own

@@ -74,7 +74,7 @@ levels-preserved-in-Inside c =
     (went_in c.levels.invariant c.in-Inside.inner (inside (goal.at.levels-preserved-in-Inside c).In-Inside) c.key-key.result c.key-key.ensures
     (omega (arith, c.in-Some.ensures.some, c.if-is_reached.ensures.no refl, c.len.ensures, c.levels.waiting.ok.0)) (search rules) c.begin-level-in-Inside.ensures)
 
--- one that holds none
+-- an element that holds none
 
 whole : (c : In-Whole) → Front c.levels.invariant.reading.rest (frame_of c.in-Whole.element) (value_of c.in-Whole.value) c.look.new.elements
 whole c =

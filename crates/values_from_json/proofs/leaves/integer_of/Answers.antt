@@ -3,11 +3,11 @@ use Rattle.std.proofs.lemmas.Int.{to_z-of_z}
 use Rattle.values_from_json.proofs.Integers.{none_written, one_read, other_written}
 use Rattle.values_from_json.proofs.leaves.integer_of.Goals as goal
 
--- src/leaves.rt:20:19
+-- the text can't be read as an integer
 pub returns-in-Err-clause-none : goal.returns-in-Err-clause-none
 returns-in-Err-clause-none c = λ _ z fits is. none_written z _ _ _ fits is c.parse_i64.ensures c.in-Err.is
 
--- src/leaves.rt:14:1
+-- the text isn't the one of the integer that was read
 pub returns-clause-none : goal.returns-clause-none
 returns-clause-none c = λ _ z fits is. other_written z c.in-Ok.value _ _ _ fits is c.parse_i64.ensures c.in-Ok.is (search rules) c.if-eq.ensures (search rules)
 

@@ -2,7 +2,7 @@ use Rattle.std.proofs.Common.{rules, ◌≡◌, ℕ, List, codes, inl, inr}
 use Rattle.values_from_json.specs.Numbers.{WritesFinite, WritesDouble}
 use Rattle.values_from_json.proofs.leaves.quoted_double_of.Goals as goal
 
--- a text that is no word and writes no finite number writes none
+-- a text that is none of the words and writes no finite number writes no double
 no_word : (s : List ℕ) → (s ≡ codes "Infinity" → ⊥) → (s ≡ codes "-Infinity" → ⊥) → (s ≡ codes "NaN" → ⊥)
     → ((bits : ℕ) → WritesFinite s bits → ⊥) → (bits : ℕ) → WritesDouble s bits → ⊥
 no_word s a b c f bits (inl is) = a is.0

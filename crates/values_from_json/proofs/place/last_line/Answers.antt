@@ -5,7 +5,7 @@ use Rattle.std.proofs.Math.Seq.{take-length}
 use Rattle.values_from_json.specs.Place.{EndsLine, IsLastLine, is_line_feed, line_feeds}
 use Rattle.values_from_json.proofs.place.last_line.Goals as goal
 
--- what is behind a place is all that is left
+-- the bytes after a place are all that is left
 rest_is : (b : List ℕ) (start : ℕ) → take (length b - start) (drop start b) ≡ drop start b
 rest_is b start =
     let P : ℕ → Type 0 = λ n. take n (drop start b) ≡ drop start b in
@@ -15,7 +15,7 @@ rest_is b start =
 all_taken : (b : List ℕ) (n : ℕ) → n ≡ length b → take n b ≡ b
 all_taken b n e = rw e (take-length b)
 
--- behind a place up to which all line feeds are is the last line
+-- the last line follows a place before which all line feeds are
 last_of : (b : List ℕ) (start n : ℕ) → n ≡ length b → EndsLine (take start b) → line_feeds (take n b) ≡ line_feeds (take start b) → IsLastLine b (take (length b - start) (drop start b))
 last_of b start n e ends same =
     let whole : line_feeds b ≡ line_feeds (take start b) = rw (all_taken b n e) at same in

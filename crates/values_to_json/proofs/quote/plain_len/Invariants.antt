@@ -2,7 +2,7 @@ use Rattle.std.proofs.Common.{◌≡◌, ◌≤◌, ◌-◌, length, take}
 use Rattle.json.specs.Print.{escape}
 use Rattle.values_to_json.proofs.quote.plain_len.Given as goal
 
--- so many bytes are as they are
+-- the bytes up to the length are as they are
 abbrev pub invariant-loop-len : goal.invariant-loop-len
 invariant-loop-len l = (l.len ≤ length l.bytes) × (escape (take l.len l.bytes) ≡ take l.len l.bytes)
 

@@ -2,7 +2,7 @@ use Rattle.values_to_json.proofs.Common.{Appends, escape}
 use Rattle.std.proofs.Common.{◌≤◌, ◌-◌, length, take}
 use Rattle.values_to_json.proofs.quote.put_escaped.Given as goal
 
--- so many bytes are written
+-- the bytes so far are written
 abbrev pub invariant-runs : goal.invariant-runs
 invariant-runs g l = (l.at ≤ length l.bytes) × Appends (g.W.Write.contents l.fn.out) (g.W.Write.contents l.out) (escape (take l.at l.bytes))
 

@@ -3,10 +3,10 @@ use Rattle.bytes_from_json.proofs.Keeps.{MayEnd}
 use Rattle.bytes_from_json.proofs.Moments.{Whole}
 use Rattle.bytes_from_json.proofs.reading.Reader.read.Given as goal
 
--- what is left is made to the bytes that the text says, and can be ended if it says any
+-- the rest gives the bytes of what the text writes, and can be ended if the text writes a document
 abbrev pub invariant-members : goal.invariant-members
 invariant-members l = Whole l.fn.self.source.tokens l.self × MayEnd l.fn.self.source.tokens l.self
 
--- how many tokens are left
+-- how many tokens remain
 abbrev pub decreases-members : goal.decreases-members
 decreases-members l = left_of l.self

@@ -7,7 +7,7 @@ use Rattle.raw_bson.specs.Copies.{IsCopy, CopiesMeaning}
 use Rattle.raw_bson.specs.declared.bson.RawBson.{RawBson}
 use Rattle.raw_bson.proofs.copies.RawBsonRefToRawBson.TheImpl.Goals as goal
 
--- what is said of a value's copy is said of what a value means
+-- what holds of the copy of a value holds of what a value means
 copies_value : (v : RawValue) (answer : Result RawBson Error) → IfOk answer (IsCopy v) → IfErr answer IsOutOfMemory → CopiesMeaning (value v) answer
 copies_value v (Ok copy) copied none = copied
 copies_value v (Err e) copied none = none

@@ -15,14 +15,14 @@ validates_stop (Some s) new e ks k before after number st =
     let stop = stop_of e.kind (option_copied e.key) s st.0 in
     λ sort below own h canonical n. (stop.0.fault, stop.0.key, stop.1, refl)
 
--- an element with this key is next, and it breaches
+-- an element with this key is next, and is a breach
 validates_key : (old new : Option (List ℕ)) (e : RawElement) (ks k : KeysSoFar) (before after : List (Bor (List ℕ))) (number : ℕ) (key : Bor (List ℕ)) (why : Cause)
     → StepsFront old (Some (Ok e)) new × (key.now ≡ (frame_of e).key) → AddsOpenKey ks before number (frame_of e).key k after (Some why)
     → Validates old ks before number new k after (validated.Breach (Some key) why)
 validates_key None new e ks k before after number key why next adds = tt
 validates_key (Some s) new e ks k before after number key why (st, is) adds = λ sort below own h canonical n. (frame_of e, st.0, st.1, is, inl (adds sort below own h canonical n))
 
--- or the key is canonical, and the value tells how the level goes on
+-- or the key is canonical, and the value says how the level continues
 validates_value : (old new : Option (List ℕ)) (e : RawElement) (ks k : KeysSoFar) (before after : List (Bor (List ℕ))) (number : ℕ) (answer : Validated) → StepsFront old (Some (Ok e)) new
     → AddsOpenKey ks before number (frame_of e).key k after None → TellsValue e answer → Validates old ks before number new k after answer
 validates_value None new e ks k before after number answer st adds tells = tt

@@ -9,7 +9,7 @@ use Rattle.raw_tree.proofs.validator.ValidatedLevels.{none_validated, whole_keye
 use Rattle.raw_tree.proofs.validator.within.validate_to_depth.Goals as goal
 use Rattle.raw_tree.proofs.validator.within.validate_to_depth.Goals.{In_ok-element, In_ok-place-in-Breach}
 
--- what is told of the level that was too deep is told of what is found
+-- what holds of the level that was too deep holds of what is found
 deep_found : (P : Option Found → Type 0) (walk : Walk) (from : Level) (outer : List Step) (e : RawElement) (outermost : ℕ)
     → ((found : Found) → walk.most_waiting ≤ length walk.waiting.items → found.cause ≡ None → steps_of found.place ≡ outer ++ record { number = from.number; key = Some (frame_of e).key } ∷ []
     → found.place.offset ≡ from.offset → found.outermost ≡ outermost → P (Some found))
@@ -20,7 +20,7 @@ deep_found P walk from outer e outermost tells (error.Barrier b) (Ok None) deep 
 deep_found P walk from outer e outermost tells (error.Barrier b) (Ok (Some found)) (full, (kind_is, steps_is, offset_is)) (cause_is, place_is, outermost_is) =
     tells found full cause_is (ap steps_of place_is ∙ steps_is) (ap (λ (p : Place). p.offset) place_is ∙ offset_is) outermost_is
 
--- what is told of the element that was validated
+-- what holds of the element that was validated
 told_as : (c : In_ok-element) → IsTold c.elements.invariant c.validate_next.new.elements c.validate_next.new.keys c.validate_next.new.listed.items c.in_ok-element.field-0
 told_as c = told c.elements.invariant c.in_ok-element.ensures.validates
 

@@ -6,7 +6,7 @@ use Rattle.raw_tree.proofs.walk.Starts.{at_start}
 use Rattle.raw_tree.proofs.walk.Visits.{frames_visited}
 use Rattle.raw_tree.proofs.walk.faults.first_behind.Goals as goal
 
--- of what is before the start there are visits
+-- there are visits of what is before the start
 pub elements-init : goal.elements-init
 elements-init c =
     let walk = c.new-walk.result.0 in

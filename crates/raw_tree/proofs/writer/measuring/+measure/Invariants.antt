@@ -7,10 +7,10 @@ use Rattle.raw_tree.proofs.writer.measuring.+measure.Given as goal
 abbrev pub decreases-measure : goal.decreases-measure
 decreases-measure l = encoded_len (tree_of_container l.container)
 
--- the container is measured but for the members that wait and those that are left
+-- the container is measured except the waiting members and the remaining ones
 abbrev pub invariant-members : goal.invariant-members
 invariant-members l = IsMeasuring (tree_of_container l.container) (members_left l.members ∷ stack members_left l.waiting.items) l.total
 
--- what is left, and the levels
+-- what remains, and the levels
 abbrev pub decreases-members : goal.decreases-members
 decreases-members l = left_in (members_left l.members ∷ stack members_left l.waiting.items) + length l.waiting.items
