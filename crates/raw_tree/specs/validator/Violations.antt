@@ -1,11 +1,11 @@
 -- The violation on a document within limits: that it is canonical; or its first breach, or the entry into a level that is too
 -- deep, and where that is. The bytes b of a document, or of an array, have an envelope.
-use Rattle.std.specs.Prelude.{◌≡◌, ◌⊎◌, ◌≤◌, ◌<◌, ◌++◌, ℕ, suc, zero, List, [], ◌∷◌, Option, None, Some, Result, Ok, Err, drop, length}
+use Rattle.std.specs.Prelude.{◌≡◌, ◌⊎◌, ◌≤◌, ◌<◌, ◌++◌, ℕ, suc, zero, List, [], ◌∷◌, Option, None, Some, Result, Ok, Err, drop, length, map}
 use Rattle.bson_model.specs.Proper.{DoLeafOptionsAscend}
 use Rattle.raw_view.specs.Frame.{Frame, IsFrame, Fault, IsStop, LeadsTo}
 use Rattle.raw_view.specs.Meaning.{Meaning, Means, value, faulty}
 use Rattle.raw_view.specs.Meaning as raw
-use Rattle.raw_tree.specs.validator.Breaches.{keys_of_frames, BreachesKeys}
+use Rattle.raw_tree.specs.validator.Breaches.{HasBreachAs, keys_of_frames, BreachesKeys}
 use Rattle.raw_tree.specs.Canonical.{AreKeysCanonical, AreFramesCanonical, IsCanonicalUpTo}
 use Rattle.raw_tree.specs.reader.Reading.{Sort, as_document, as_array}
 use Rattle.raw_tree.specs.declared.validator.breach.Cause.{Cause}
@@ -79,11 +79,13 @@ TellsViolation limits b (Err error.TooManyBytes) = limits.bytes < length b
 TellsViolation limits b (Err (error.TooDeep place)) = FirstViolation limits b too_deep (steps_of place) place.offset
 TellsViolation limits b (Err error.OutOfMemory) = (length b ≤ limits.bytes) × (0 < limits.depth)
 
--- the document b has one violation at most, at one place, and none where it is canonical
+-- The document b has one violation at most, at one place, and none where it is canonical. A breach is its first one without limits, too,
+-- with the numbers of the same path.
 pub record IsValidatedOneWayWithin (limits : Limits) (b : List ℕ) : Type 0 where
   pub not_both : (x : Violation) (path : List Step) (offset : ℕ) → FirstViolation limits b x path offset → ¬ IsCanonicalWithin limits b
   pub one_violation : (x other : Violation) (path other_path : List Step) (offset other_offset : ℕ) → FirstViolation limits b x path offset
       → FirstViolation limits b other other_path other_offset → (other ≡ x) × (other_path ≡ path) × (other_offset ≡ offset)
+  pub first_breach : (why : Cause) (path : List Step) (offset : ℕ) → FirstViolation limits b (breach_of why) path offset → HasBreachAs as_document b (map (λ step. step.number) path) why
 
 -- so is each document
 abbrev pub AllAreValidatedOneWayWithin : Limits → Type 0
