@@ -6,6 +6,7 @@ use Rattle.raw_tree.proofs.walk.Common.{AllAreValidatedOneWayWithin, FirstViolat
 use Rattle.raw_view.proofs.Face.{no_frame_at_final, no_frame_at_stop, no_stop_at_final, one_frame, one_meaning}
 use Rattle.raw_tree.proofs.validator.LevelKeys.{keys_front, key_nor_breach}
 use Rattle.raw_tree.proofs.walk.OneEnd.{IsBlocked, passed_once, passed_whole}
+use Rattle.raw_tree.proofs.validator.Unlimited.{breached}
 
 -- frames whose keys and values are canonical
 abbrev pub AreCanonical : (Sort → List ℕ → Type 0) → Sort → List Frame → Type 0
@@ -87,4 +88,5 @@ pub validated_one_way : (limits : Limits) → AllAreValidatedOneWayWithin limits
 validated_one_way limits b = record {
   not_both = λ x path offset h c. apart limits.depth as_document b x path offset h.1 c.1;
   one_violation = λ x other path other_path offset at h g. one_violation limits.depth as_document b x other path other_path offset at h.1 g.1;
+  first_breach = λ why path offset h. (limits.depth, breached limits.depth as_document b why path offset h.1);
 }

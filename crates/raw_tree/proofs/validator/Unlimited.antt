@@ -8,13 +8,13 @@ use Rattle.raw_tree.specs.validator.Violations.{too_deep}
 use Rattle.raw_tree.proofs.Returns.{frames_canonical_on}
 use Rattle.raw_tree.proofs.reader.Loops.{nested_shorter}
 
-abbrev numbers : List Step → List ℕ
+abbrev pub numbers : List Step → List ℕ
 numbers steps = map (λ (step : Step). step.number) steps
 
 -- a first breach at a place is the first breach
 
 -- nested bytes that have one within n levels
-abbrev AreBreached : ℕ → Type 0
+abbrev pub AreBreached : ℕ → Type 0
 AreBreached n = (sort : Sort) (d : List ℕ) (why : Cause) (steps : List Step) (offset : ℕ) → FirstViolationTo n sort d (breach_of why) steps offset → HasBreachUpTo n sort d (numbers steps) why
 
 module _ (n : ℕ) (nested : AreBreached n) (b s : List ℕ) (why : Cause) (path : List Step) (offset : ℕ) where
@@ -26,7 +26,7 @@ module _ (n : ℕ) (nested : AreBreached n) (b s : List ℕ) (why : Cause) (path
       → BreachesFront (HasBreachUpTo n) sort keys s (drop 1 (numbers path)) why × (numbers path ≡ number ∷ drop 1 (numbers path))
   front_breached sort keys number h = grind (arith, meaning_breached)
 
-breached : (n : ℕ) → AreBreached n
+pub breached : (n : ℕ) → AreBreached n
 breached zero sort b why steps offset h = grind arith
 breached (suc n) sort b why steps offset (passed, s, l, keys, canonical, front) =
     let told = front_breached n (breached n) b s why steps offset sort (keys_of_frames passed) (length passed) front in

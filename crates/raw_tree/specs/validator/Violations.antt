@@ -1,11 +1,11 @@
 -- Validation of a document within limits: it is canonical; or it has a first breach or a level that is too deep, at
 -- some place. The bytes b of a document or of an array have an envelope.
-use Rattle.std.specs.Prelude.{◌≡◌, ◌⊎◌, ◌≤◌, ◌<◌, ◌++◌, ℕ, suc, zero, List, [], ◌∷◌, Option, None, Some, Result, Ok, Err, drop, length}
+use Rattle.std.specs.Prelude.{◌≡◌, ◌⊎◌, ◌≤◌, ◌<◌, ◌++◌, ℕ, suc, zero, List, [], ◌∷◌, Option, None, Some, Result, Ok, Err, drop, length, map}
 use Rattle.bson_model.specs.Proper.{DoLeafOptionsAscend}
 use Rattle.raw_view.specs.Frame.{Frame, IsFrame, Fault, IsStop, LeadsTo}
 use Rattle.raw_view.specs.Meaning.{Meaning, Means, value, faulty}
 use Rattle.raw_view.specs.Meaning as raw
-use Rattle.raw_tree.specs.validator.Breaches.{keys_of_frames, BreachesKeys}
+use Rattle.raw_tree.specs.validator.Breaches.{HasBreachAs, keys_of_frames, BreachesKeys}
 use Rattle.raw_tree.specs.Canonical.{AreKeysCanonical, AreFramesCanonical, IsCanonicalUpTo}
 use Rattle.raw_tree.specs.reader.Reading.{Sort, as_document, as_array}
 use Rattle.raw_tree.specs.declared.validator.breach.Cause.{Cause}
@@ -82,11 +82,13 @@ TellsViolation limits b (Err error.TooManyBytes) = limits.bytes < length b
 TellsViolation limits b (Err (error.TooDeep place)) = FirstViolation limits b too_deep (steps_of place) place.offset
 TellsViolation limits b (Err error.OutOfMemory) = (length b ≤ limits.bytes) × (0 < limits.depth)
 
--- the document b has at most one violation, at one place, and none if it is canonical
+-- The document b has at most one violation, at one place, and none if it is canonical. A breach within limits is also its first breach
+-- without them, and the numbers of its steps are the path.
 pub record IsValidatedOneWayWithin (limits : Limits) (b : List ℕ) : Type 0 where
   pub not_both : (x : Violation) (path : List Step) (offset : ℕ) → FirstViolation limits b x path offset → ¬ IsCanonicalWithin limits b
   pub one_violation : (x other : Violation) (path other_path : List Step) (offset other_offset : ℕ) → FirstViolation limits b x path offset
       → FirstViolation limits b other other_path other_offset → (other ≡ x) × (other_path ≡ path) × (other_offset ≡ offset)
+  pub first_breach : (why : Cause) (path : List Step) (offset : ℕ) → FirstViolation limits b (breach_of why) path offset → HasBreachAs as_document b (map (λ step. step.number) path) why
 
 -- this holds of every document
 abbrev pub AllAreValidatedOneWayWithin : Limits → Type 0
