@@ -1465,7 +1465,7 @@ uint32_t bsonraw_oid_time(const uint8_t id[12]);
 /* The sixteen bytes of a Decimal128 as text, as 1.50, 1.5E+20, NaN or -Infinity, and a 0; and the bytes that such a text writes:
  * BSONRAW_FAULT where it is none, or where no Decimal128 is exactly that number. Milliseconds from 1970 on as ISO 8601 has them, as
  * 2012-12-24T12:15:30.501Z, without a fraction where it is 0, and a 0: BSONRAW_FAULT before the year 0 and from 10000 on; and from such a
- * text, in UTC or with a zone as +01:00. The texts are those of Extended JSON. Calls that make a text take memory for it:
+ * text, in UTC or with a zone as +01:00 or +0100, T and Z in either case. The texts are those of Extended JSON. Calls that make a text take memory for it:
  * BSONRAW_NO_MEMORY; with any status but BSONRAW_OK nothing is written.
  *
  *     char text[BSONRAW_DATE_TIME_TEXT];

@@ -30,6 +30,7 @@ WHOLE: List[Tuple[str, Tuple[str, ...]]] = [
     ('{"a":{"$date":"2012-12-24T12:15:30.501Z"}}', BOTH),
     ('{"a":{"$date":"1999-02-28T23:59:59+0130"}}', BOTH),
     ('{"a":{"$date":{"$numberLong":"1356351330501"}}}', PACKAGE),
+    ('{"a":{"$date":-1356351330501}}', BOTH),
     ('{"a":{"$regularExpression":{"pattern":"a*","options":"im"}}}', BOTH),
     ('{"a":{"$regularExpression":{"options":"","pattern":"b"}}}', BOTH),
     ('{"a":{"$timestamp":{"t":1565545664,"i":42}}}', NONE),

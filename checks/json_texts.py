@@ -30,6 +30,7 @@ RULES: Dict[str, Tuple[str, Optional[bool], Tuple[str, ...]]] = {
     "calendar": ("no such time of a day or day of a month, or another form: an error; libbson and the package read some", False, BOTH),
     "year": ("a time that Python's datetime doesn't have: a date; the package refuses it", True, PACKAGE),
     "zone": ("a time of another zone, or with no three digits of a fraction: a date; libbson refuses some", True, LIBBSON),
+    "small": ("T or Z of a time as a small letter, which RFC 3339 allows: a date; both refuse it", True, BOTH),
     "subtype": ("no one or two hex digits: an error; libbson reads some", False, BOTH),
     "base64": ("base64 that isn't canonical: an error; libbson or the package read some", False, BOTH),
     "uuid": ("a UUID without hyphens: an error; the package reads it", False, PACKAGE),
@@ -150,18 +151,24 @@ def fraction(rng: random.Random) -> Made:
 
 def no_date(rng: random.Random) -> Made:
     text = rng.choice(
-        ["2012-12-24T12:15:60Z", "1900-02-29T00:00:00Z", "2012-02-30T00:00:00Z", "2012-13-01T00:00:00Z", "2012-12-24T24:00:00Z", "2012-12-24t12:15:30z"]
+        ["2012-12-24T12:15:60Z", "1900-02-29T00:00:00Z", "2012-02-30T00:00:00Z", "2012-13-01T00:00:00Z", "2012-12-24T24:00:00Z"]
         + ["2012-12-24", "2012-12-24T12:15Z", "2012-12-24T12:15:30", "2012-12-24T12:15:30+24:00", "2012-12-24 12:15:30Z", "12-12-24T12:15:30Z", ""]
     )
     return "calendar", '{"$date":"%s"}' % text
 
 
+def small(rng: random.Random) -> Made:
+    year, month, day, hour, minute, second = moment(rng)
+    text = rng.choice(["%04d-%02d-%02dt%02d:%02d:%02d.123Z", "%04d-%02d-%02dT%02d:%02d:%02d.123z", "%04d-%02d-%02dt%02d:%02d:%02d.123z"])
+    return "small", '{"$date":"%s"}' % (text % (year, month, day, hour, minute, second))
+
+
 def millis(rng: random.Random) -> Made:
-    return "", '{"$date":{"$numberLong":"%d"}}' % rng.choice([0, 1, -1, -62135596800000, 253402300799999, rng.randrange(-(10**13), 10**14)])
+    return "", rng.choice(['{"$date":{"$numberLong":"%d"}}', '{"$date":%d}']) % rng.choice([0, 1, -1, -62135596800000, 253402300799999, rng.randrange(-(10**13), 10**14)])
 
 
 def far_millis(rng: random.Random) -> Made:
-    return "year", '{"$date":{"$numberLong":"%d"}}' % rng.choice([2**63 - 1, -(2**63), 253402300800000, -62135596800001])
+    return "year", rng.choice(['{"$date":{"$numberLong":"%d"}}', '{"$date":%d}']) % rng.choice([2**63 - 1, -(2**63), 253402300800000, -62135596800001])
 
 
 def base64_of(data: bytes) -> str:
@@ -244,7 +251,7 @@ def last_subtype(rng: random.Random) -> Made:
 
 
 def kept(rng: random.Random) -> Made:
-    name, value = rng.choice([("symbol", '{"$symbol":"s"}'), ("undefined", '{"$undefined":true}'), ("pointer", '{"$dbPointer":{"$ref":"b","$id":%s}}' % object_id(rng)[1])])
+    name, value = rng.choice([("symbol", '{"$symbol":"s"}'), ("undefined", '{"$undefined":%s}' % rng.choice(["true", "false"])), ("pointer", '{"$dbPointer":{"$ref":"b","$id":%s}}' % object_id(rng)[1])])
     return name, value
 
 
@@ -254,7 +261,7 @@ def ends(rng: random.Random) -> Made:
 
 def other_type(rng: random.Random) -> Made:
     name = rng.choice(["$numberInt", "$numberLong", "$numberDouble", "$numberDecimal", "$date", "$binary", "$uuid", "$regularExpression", "$code", "$symbol", "$dbPointer"])
-    name, value = rng.choice([(name, rng.choice(["null", "true", "[]", "{}"])), ("$minKey", "0"), ("$maxKey", '"1"'), ("$undefined", "false"), ("$minKey", "1.0")])
+    name, value = rng.choice([(name, rng.choice(["null", "true", "[]", "{}"])), ("$minKey", "0"), ("$maxKey", '"1"'), ("$undefined", "1"), ("$minKey", "1.0")])
     return "type", '{"%s":%s}' % (name, value)
 
 
@@ -303,7 +310,7 @@ def reference(rng: random.Random) -> Made:
 
 KINDS: List[Callable[[random.Random], Made]] = [integer, double, plain, int32, int64, wrapped_double, object_id, date, millis, binary, uuid, regex]
 KINDS += [timestamp, ends, decimal, border_decimal, reference]
-RULED = [far_integer, large, minus, wide, no_number, no_object_id, zoned, fraction, no_date, far_millis, no_binary, no_uuid, other_options, old_regex]
+RULED = [far_integer, large, minus, wide, no_number, no_object_id, zoned, small, fraction, no_date, far_millis, no_binary, no_uuid, other_options, old_regex]
 RULED += [inner_code, last_subtype, no_timestamp, kept, other_type, no_decimal, mixed, old_binary, nul, repeated]
 
 

@@ -41,6 +41,19 @@ if "$python" -B checks/json_texts.py compare "$work/made" "$work/changed" "$work
     exit 1
 fi
 
+"$python" -B checks/json_cases.py made >"$work/made" || exit 1
+"$work/texts" ours "$work/made" >"$work/ours" && "$work/texts" libbson "$work/made" >"$work/libbson" || exit 1
+[ -z "${package-}" ] || "$python" -B checks/json_texts.py package "$work/made" >"$package" || exit 1
+if ! "$python" -B checks/json_cases.py compare "$work/ours" "$work/libbson" ${package:+"$package"}; then
+    echo "texts.sh: a reader makes something else of a case" >&2
+    exit 1
+fi
+"$python" -B checks/json_cases.py page >"$work/page" || exit 1
+if ! sed '1,/reads these otherwise:$/d; /^\.SH EXAMPLE/,$d' man/bsonraw_from_json.3 | diff "$work/page" - >&2; then
+    echo "texts.sh: man/bsonraw_from_json.3 says something else than the headings of checks/json_cases.txt" >&2
+    exit 1
+fi
+
 "$python" -B checks/json_places.py made >"$work/made" || exit 1
 "$work/texts" places "$work/made" >"$work/ours" && "$work/texts" libbson "$work/made" >"$work/libbson" || exit 1
 [ -z "${package-}" ] || "$python" -B checks/json_texts.py package "$work/made" >"$package" || exit 1

@@ -1,5 +1,5 @@
 -- When no value of a wrapper is next, in terms of the tokens.
-use Rattle.std.proofs.Common.{◌≡◌, ◌++◌, ◌∙◌, ℕ, List, true, Ok, ap, codes}
+use Rattle.std.proofs.Common.{◌≡◌, ◌++◌, ◌∙◌, ℕ, List, Bool, Ok, ap, codes}
 use Rattle.hex.specs.Hex.{decode_sized}
 use Rattle.json.specs.Json.{Json}
 use Rattle.json.specs.Json as json
@@ -34,8 +34,8 @@ any_symbol ts none (json.object ms) l is rest e = is
 pub no_symbol : {ts : List Token} → ((s : List ℕ) → LacksToken ts (Token.string s)) → LacksLeaf (codes "$symbol") ts
 no_symbol {ts} none = none_wrapped wrapper.Symbol ts (any_symbol ts none)
 
-pub no_undefined : {ts : List Token} → LacksToken ts (Token.boolean true) → LacksLeaf (codes "$undefined") ts
-no_undefined {ts} none = none_wrapped wrapper.Undefined ts (λ j l is rest e. none rest (e ∙ ap (λ (x : Json). json_tokens x ++ rest) is.0))
+pub no_undefined : {ts : List Token} → ((b : Bool) → LacksToken ts (Token.boolean b)) → LacksLeaf (codes "$undefined") ts
+no_undefined {ts} none = none_wrapped wrapper.Undefined ts (λ j l is rest e. none is.0 rest (e ∙ ap (λ (x : Json). json_tokens x ++ rest) is.1))
 
 pub no_min_key : {ts : List Token} → LacksToken ts (Token.number (codes "1")) → LacksLeaf (codes "$minKey") ts
 no_min_key {ts} none = none_wrapped wrapper.MinKey ts (λ j l is rest e. none rest (e ∙ ap (λ (x : Json). json_tokens x ++ rest) is.0))

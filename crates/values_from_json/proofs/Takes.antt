@@ -78,6 +78,9 @@ one {old} {a} {b} {c} {new} {k} {s} p q r t =
 pub time_taken : {old new : List Token} {s : List ℕ} {z : ℤ} → TakesToken old new (Token.string s) → WritesTime s z → Takes IsDate old new (date_time z)
 time_taken {old} {new} {s} {z} p w = (string s, p, (z, w, refl))
 
+pub millis_taken : {old new : List Token} {s : List ℕ} {z : ℤ} → TakesToken old new (Token.number s) → WritesInteger s z → FitsSigned w64 z → Takes IsDate old new (date_time z)
+millis_taken {old} {new} {s} {z} p w fits = (number s, p, (z, w, fits, refl))
+
 pub long_taken : {old a b c new : List Token} {s : List ℕ} {z : ℤ} → TakesToken old a Token.begin_object → TakesToken a b (Token.key (codes "$numberLong"))
     → TakesToken b c (Token.string s) → TakesToken c new Token.end_object → WritesInteger s z → FitsSigned w64 z → Takes IsDate old new (date_time z)
 long_taken {old} {a} {b} {c} {new} {s} {z} p q r t w fits = (object (one_member (codes "$numberLong") (string s)), one p q r t, (z, (s, refl, w), fits, refl))

@@ -2,14 +2,14 @@
 use Rattle.std.proofs.Common.{◌≡◌, ◌<◌, ◌+◌, ◌*◌, [], ◌∷◌, ◌++◌, ◌∙◌, ℕ, ℤ, pos, ◌+ℤ◌, ◌-ℤ◌, ◌*ℤ◌, List, ap, refl, inl, inr, negsuc, ◌≤ℤ◌, w64, FitsSigned, arith, to_z, of_z}
 use Rattle.std.proofs.lemmas.Int.{ints, to_z-of_z}
 use Rattle.jiff_core.specs.Calendar.{IsBetween, IsCivilDate, days_from_civil}
-use Rattle.values_from_json.specs.Times.{digit_of, date_text, time_text, IsDistance, WritesFraction, WritesZone, WritesClock, WritesTime}
+use Rattle.values_from_json.specs.Times.{digit_of, BeginsWithLetter, date_text, time_text, IsDistance, WritesFraction, WritesZone, WritesClock, WritesTime}
 
 -- a text begins with the day of this number
 abbrev pub BeginsWithDay : List ℕ → List ℕ → ℤ → Type 0
 BeginsWithDay text behind days = (year month day : ℕ) × (year < 10000) × IsCivilDate (pos year) month day
     × (text ≡ date_text year month day ++ behind) × (days ≡ days_from_civil (pos year) month day)
 
-pub written : (text behind clocks : List ℕ) (z days ahead : ℤ) (millis : ℕ) → BeginsWithDay text behind days → behind ≡ 84 ∷ clocks
+pub written : (text behind clocks : List ℕ) (z days ahead : ℤ) (millis : ℕ) → BeginsWithDay text behind days → BeginsWithLetter 84 behind clocks
     → WritesClock clocks millis ahead → z ≡ ((days *ℤ pos 86400000) +ℤ pos millis) -ℤ (ahead *ℤ pos 60000) → WritesTime text z
 written text behind clocks z days ahead millis (year, month, day, few, civil, is, number) t clock e = (
   year,
@@ -17,11 +17,13 @@ written text behind clocks z days ahead millis (year, month, day, few, civil, is
   day,
   millis,
   clocks,
+  behind,
   ahead,
   few,
   civil,
   clock,
-  is ∙ ap (λ (r : List ℕ). date_text year month day ++ r) t,
+  is,
+  t,
   e ∙ ap (λ (d : ℤ). ((d *ℤ pos 86400000) +ℤ pos millis) -ℤ (ahead *ℤ pos 60000)) number,
 )
 

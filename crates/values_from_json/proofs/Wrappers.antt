@@ -1,5 +1,5 @@
 -- The keys of wrappers, and what those write that hold no others.
-use Rattle.std.proofs.Common.{◌≡◌, ℕ, true, List, codes, cond, refl, sym, ap, subst, ◌∙◌, inl, inr}
+use Rattle.std.proofs.Common.{◌≡◌, ℕ, Bool, true, List, codes, cond, refl, sym, ap, subst, ◌∙◌, inl, inr}
 use Rattle.std.specs.Str.{bytes_eq}
 use Rattle.json.specs.Json.{Json}
 use Rattle.json.specs.Json as json
@@ -29,7 +29,7 @@ wrapped_key k j l (inr (inr (inr (inr (inr (inr (inr (inr (inr (inl (e, is))))))
 wrapped_key k j l (inr (inr (inr (inr (inr (inr (inr (inr (inr (inr (inl (e, is)))))))))))) = ap is_wrapper_key e
 wrapped_key k j l (inr (inr (inr (inr (inr (inr (inr (inr (inr (inr (inr (inl (e, is))))))))))))) = ap is_wrapper_key e
 wrapped_key k j l (inr (inr (inr (inr (inr (inr (inr (inr (inr (inr (inr (inr (inl (e, is)))))))))))))) = ap is_wrapper_key e
-wrapped_key k j l (inr (inr (inr (inr (inr (inr (inr (inr (inr (inr (inr (inr (inr (inl (e, is))))))))))))))) = ap is_wrapper_key e.0
+wrapped_key k j l (inr (inr (inr (inr (inr (inr (inr (inr (inr (inr (inr (inr (inr (inl (b, e, is))))))))))))))) = ap is_wrapper_key e.0
 wrapped_key k j l (inr (inr (inr (inr (inr (inr (inr (inr (inr (inr (inr (inr (inr (inr (inl (e, is)))))))))))))))) = ap is_wrapper_key e.0
 wrapped_key k j l (inr (inr (inr (inr (inr (inr (inr (inr (inr (inr (inr (inr (inr (inr (inr (e, is)))))))))))))))) = ap is_wrapper_key e.0
 
@@ -100,7 +100,7 @@ Writes wrapper.Code j l = InString (λ s l. l ≡ javascript_code s) j l
 Writes wrapper.Scope j l = ⊥
 Writes wrapper.DbPointer j l = IsDbPointer j l
 Writes wrapper.Symbol j l = InString (λ s l. l ≡ symbol s) j l
-Writes wrapper.Undefined j l = (j ≡ json.boolean true) × (l ≡ undefined)
+Writes wrapper.Undefined j l = (b : Bool) × (j ≡ json.boolean b) × (l ≡ undefined)
 Writes wrapper.MinKey j l = (j ≡ json.number (codes "1")) × (l ≡ min_key)
 Writes wrapper.MaxKey j l = (j ≡ json.number (codes "1")) × (l ≡ max_key)
 
@@ -122,7 +122,7 @@ module _ (w : Wrapper) (j : Json) (l : Leaf) where
   writes (inr (inr (inr (inr (inr (inr (inr (inr (inr (inr (inl (e, is)))))))))))) = as_named wrapper.DbPointer e is
   writes (inr (inr (inr (inr (inr (inr (inr (inr (inr (inr (inr (inl (e, is))))))))))))) = as_named wrapper.Code e is
   writes (inr (inr (inr (inr (inr (inr (inr (inr (inr (inr (inr (inr (inl (e, is)))))))))))))) = as_named wrapper.Symbol e is
-  writes (inr (inr (inr (inr (inr (inr (inr (inr (inr (inr (inr (inr (inr (inl (e, is))))))))))))))) = as_named wrapper.Undefined e.0 (e.1, is)
+  writes (inr (inr (inr (inr (inr (inr (inr (inr (inr (inr (inr (inr (inr (inl (b, e, is))))))))))))))) = as_named wrapper.Undefined e.0 (b, e.1, is)
   writes (inr (inr (inr (inr (inr (inr (inr (inr (inr (inr (inr (inr (inr (inr (inl (e, is)))))))))))))))) = as_named wrapper.MinKey e.0 (e.1, is)
   writes (inr (inr (inr (inr (inr (inr (inr (inr (inr (inr (inr (inr (inr (inr (inr (e, is)))))))))))))))) = as_named wrapper.MaxKey e.0 (e.1, is)
 
@@ -142,7 +142,7 @@ wrapped wrapper.DbPointer j l h = inr (inr (inr (inr (inr (inr (inr (inr (inr (i
 wrapped wrapper.Code j l h = inr (inr (inr (inr (inr (inr (inr (inr (inr (inr (inr (inl (refl, h))))))))))))
 wrapped wrapper.Scope j l h = absurd h
 wrapped wrapper.Symbol j l h = inr (inr (inr (inr (inr (inr (inr (inr (inr (inr (inr (inr (inl (refl, h)))))))))))))
-wrapped wrapper.Undefined j l h = inr (inr (inr (inr (inr (inr (inr (inr (inr (inr (inr (inr (inr (inl ((refl, h.0), h.1))))))))))))))
+wrapped wrapper.Undefined j l h = inr (inr (inr (inr (inr (inr (inr (inr (inr (inr (inr (inr (inr (inl (h.0, (refl, h.1), h.2))))))))))))))
 wrapped wrapper.MinKey j l h = inr (inr (inr (inr (inr (inr (inr (inr (inr (inr (inr (inr (inr (inr (inl ((refl, h.0), h.1)))))))))))))))
 wrapped wrapper.MaxKey j l h = inr (inr (inr (inr (inr (inr (inr (inr (inr (inr (inr (inr (inr (inr (inr ((refl, h.0), h.1)))))))))))))))
 

@@ -6,6 +6,10 @@ use Rattle.jiff_core.specs.Calendar.{IsCivilDate, days_from_civil}
 abbrev pub digit_of : ℕ → ℕ
 digit_of n = 48 + n
 
+-- a capital letter, which may be a small one, is in front of rest: RFC 3339 has both for T and Z
+abbrev pub BeginsWithLetter : ℕ → List ℕ → List ℕ → Type 0
+BeginsWithLetter capital text rest = (text ≡ capital ∷ rest) ⊎ (text ≡ (capital + 32) ∷ rest)
+
 -- a number below 100 in two digits
 abbrev pub two_digits : ℕ → List ℕ
 two_digits n = digit_of (n / 10) ∷ digit_of (n % 10) ∷ []
@@ -39,10 +43,10 @@ abbrev pub IsDistance : List ℕ → ℕ → Type 0
 IsDistance text minutes =
     (hour minute : ℕ) × (hour < 24) × (minute < 60) × ((text ≡ clock hour minute) ⊎ (text ≡ two_digits hour ++ two_digits minute)) × (minutes ≡ hour * 60 + minute)
 
--- a zone: Z, or how many minutes its clocks are ahead of UTC or behind it
+-- a zone: Z in either case, or how many minutes its clocks are ahead of UTC or behind it
 abbrev pub WritesZone : List ℕ → ℤ → Type 0
 WritesZone text ahead =
-    ((text ≡ 90 ∷ []) × (ahead ≡ pos 0))
+    (BeginsWithLetter 90 text [] × (ahead ≡ pos 0))
     ⊎ ((distance : List ℕ) × (minutes : ℕ) × IsDistance distance minutes
     × (((text ≡ 43 ∷ distance) × (ahead ≡ pos minutes)) ⊎ ((text ≡ 45 ∷ distance) × (ahead ≡ neg_ℤ (pos minutes)))))
 
@@ -53,12 +57,12 @@ WritesClock text millis ahead =
     × WritesFraction fraction part × WritesZone zone ahead × (text ≡ time_text hour minute second ++ (fraction ++ zone))
     × (millis ≡ ((hour * 60 + minute) * 60 + second) * 1000 + part)
 
--- a time: what the clocks of the zone show, less the minutes that they are ahead of UTC
+-- a time: a date, T in either case, and what the clocks of the zone show, less the minutes that they are ahead of UTC
 abbrev pub WritesTime : List ℕ → ℤ → Type 0
 WritesTime s z =
-    (year month day millis : ℕ) × (clocks : List ℕ) × (ahead : ℤ)
+    (year month day millis : ℕ) × (clocks behind : List ℕ) × (ahead : ℤ)
     × (year < 10000) × IsCivilDate (pos year) month day × WritesClock clocks millis ahead
-    × (s ≡ date_text year month day ++ (84 ∷ clocks))
+    × (s ≡ date_text year month day ++ behind) × BeginsWithLetter 84 behind clocks
     × (z ≡ ((days_from_civil (pos year) month day *ℤ pos 86400000) +ℤ pos millis) -ℤ (ahead *ℤ pos 60000))
 
 -- less than a day ahead of UTC or behind it

@@ -1,6 +1,6 @@
 -- Objects that write one value for which JSON has no notation: the type wrappers of Extended JSON v2, each known by its key. These are the
 -- wrappers that hold no other values. The comment of each is its line of the specification's table, written from memory.
-use Rattle.std.specs.Prelude.{◌≡◌, ◌⊎◌, ℕ, ℤ, pos, ◌<◌, ◌^◌, true, List, [], ◌∷◌, Some, Ok, codes, FitsSigned}
+use Rattle.std.specs.Prelude.{◌≡◌, ◌⊎◌, ℕ, ℤ, pos, ◌<◌, ◌^◌, Bool, List, [], ◌∷◌, Some, Ok, codes, FitsSigned}
 use Rattle.std.specs.Int.{w64}
 use Rattle.base64.specs.Engines.{standard}
 use Rattle.base64.specs.GeneralPurpose.{decode_of}
@@ -58,10 +58,12 @@ abbrev pub IsLongObject : Members → ℤ → Type 0
 IsLongObject ms z = (s : List ℕ) × (ms ≡ one_member (codes "$numberLong") (string s)) × WritesInteger s z
 
 -- Datetime: {"$date": {"$numberLong": <milliseconds relative to the epoch, as a string>}}
--- or {"$date": <ISO-8601 Internet Date/Time Format as in RFC 3339, with maximum time precision of milliseconds, as a string>}
+-- or {"$date": <ISO-8601 Internet Date/Time Format as in RFC 3339, with maximum time precision of milliseconds, as a string>};
+-- dumps of older tools have {"$date": <milliseconds relative to the epoch, as a number>}
 abbrev pub IsDate : Json → Leaf → Type 0
 IsDate (string s) l = (z : ℤ) × WritesTime s z × (l ≡ date_time z)
 IsDate (object ms) l = (z : ℤ) × IsLongObject ms z × FitsSigned w64 z × (l ≡ date_time z)
+IsDate (number s) l = (z : ℤ) × WritesInteger s z × FitsSigned w64 z × (l ≡ date_time z)
 IsDate _ l = ⊥
 
 -- Regular Expression: {"$regularExpression": {"pattern": <string>, "options": <BSON regular expression options as a string or "">}};
@@ -111,6 +113,6 @@ IsWrapped key j l =
     ⊎ ((key ≡ codes "$dbPointer") × IsDbPointer j l)
     ⊎ ((key ≡ codes "$code") × InString (λ s l. l ≡ javascript_code s) j l)
     ⊎ ((key ≡ codes "$symbol") × InString (λ s l. l ≡ symbol s) j l)
-    ⊎ (Under (codes "$undefined") (boolean true) key j × (l ≡ undefined))
+    ⊎ ((b : Bool) × Under (codes "$undefined") (boolean b) key j × (l ≡ undefined))
     ⊎ (Under (codes "$minKey") (number (codes "1")) key j × (l ≡ min_key))
     ⊎ (Under (codes "$maxKey") (number (codes "1")) key j × (l ≡ max_key))

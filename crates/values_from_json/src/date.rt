@@ -1,7 +1,7 @@
 //! Times in ISO 8601, in the form of RFC 3339.
 ghost use Rattle.std.specs.Prelude.{◌≡◌, ◌<◌, ◌+◌, ◌*◌, ◌∷◌, ◌++◌, ℕ, ℤ, List, IfSome, None, MatchOption, pos, ◌+ℤ◌, ◌-ℤ◌, ◌*ℤ◌};
 ghost use Rattle.jiff_core.specs.Calendar.{IsCivilDate, days_from_civil, IsBetween, IsEpochDay};
-ghost use Rattle.values_from_json.specs.Times.{two_digits as digits_of_two, four_digits as digits_of_four, date_text, time_text, IsDistance, WritesClock, WritesFraction, WritesTime, WritesZone, IsAhead, digit_of};
+ghost use Rattle.values_from_json.specs.Times.{two_digits as digits_of_two, four_digits as digits_of_four, date_text, time_text, IsDistance, WritesClock, WritesFraction, WritesTime, WritesZone, BeginsWithLetter, IsAhead, digit_of};
 
 use jiff_core::civil::Date;
 
@@ -40,6 +40,18 @@ fn byte(text: &[u8], byte: u8) -> Option<&[u8]>
 {
     match text {
         [found, rest @ ..] if *found == byte => Some(rest),
+        _ => None,
+    }
+}
+
+/// Takes this capital letter, or the small one.
+fn letter(text: &[u8], capital: u8) -> Option<&[u8]>
+    requires { capital < 128 }
+    ensures some { IfSome result (λ rest. BeginsWithLetter capital text.now rest.now) }
+    ensures only { (rest : List ℕ) → BeginsWithLetter capital text.now rest → MatchOption result ⊥ (λ found. rest ≡ found.now) }
+{
+    match text {
+        [found, rest @ ..] if *found == capital || *found == capital + 32 => Some(rest),
         _ => None,
     }
 }
@@ -129,7 +141,7 @@ fn distance(text: &[u8]) -> Option<u32>
     }
 }
 
-/// How many minutes the clocks of a zone are ahead of UTC: `Z`, or a sign, hours and minutes.
+/// How many minutes the clocks of a zone are ahead of UTC: `Z` or `z`, or a sign, hours and minutes.
 fn zone(text: &[u8]) -> Option<i64>
     ensures zone { IfSome result (λ ahead. WritesZone text.now ahead) }
     ensures none { result ≡ None → (ahead : ℤ) → ¬ WritesZone text.now ahead }
@@ -143,10 +155,8 @@ fn zone(text: &[u8]) -> Option<i64>
         let minutes = distance(behind)?;
         return Some(-i64::from(minutes));
     }
-    match text {
-        [b'Z'] => Some(0),
-        _ => None,
-    }
+    let rest = letter(text, b'Z')?;
+    if rest.is_empty() { Some(0) } else { None }
 }
 
 /// The milliseconds of a time of day, and how many minutes its clocks are ahead of UTC.
@@ -177,6 +187,6 @@ pub fn millis_of(text: &[u8]) -> Option<i64>
     ensures none { result ≡ None → (z : ℤ) → ¬ WritesTime text.now z }
 {
     let (days, rest) = days(text)?;
-    let (millis, ahead) = clock(byte(rest, b'T')?)?;
+    let (millis, ahead) = clock(letter(rest, b'T')?)?;
     Some(instant(i64::from(days), i64::from(millis), ahead))
 }

@@ -1,5 +1,5 @@
 //! The tokens of a text, and the values of wrappers that hold no others.
-ghost use Rattle.std.specs.Prelude.{◌≡◌, ◌≢◌, ◌⊎◌, ◌∷◌, [], ℕ, ℤ, List, true, Ok, IfErr, IfOk, OnErr, OnOk, if◌then◌else◌, codes, ◌++◌, FitsSigned};
+ghost use Rattle.std.specs.Prelude.{◌≡◌, ◌≢◌, ◌⊎◌, ◌∷◌, [], ℕ, ℤ, List, Bool, Ok, IfErr, IfOk, OnErr, OnOk, if◌then◌else◌, codes, ◌++◌, FitsSigned};
 ghost use Rattle.base64.specs.Engines.{standard};
 ghost use Rattle.base64.specs.GeneralPurpose.{decode_of};
 ghost use Rattle.hex.specs.Hex.{decode_sized};
@@ -282,6 +282,10 @@ impl<'a> Source<'a> {
                 Some(millis) => Ok(millis),
                 None => Err(JsonReason::Malformed(wrapper)),
             },
+            Token::Number(text) => match integer_of(text.as_bytes()) {
+                Some(millis) => Ok(millis),
+                None => Err(JsonReason::Malformed(wrapper)),
+            },
             Token::BeginObject => {
                 self.named(wrapper, "$numberLong")?;
                 let millis = self.integer(Wrapper::NumberLong)?;
@@ -467,13 +471,13 @@ impl<'a> Source<'a> {
         }
     }
 
-    /// Takes `true`, the value of `$undefined`.
+    /// Takes `true`, the value of `$undefined`; other programs take `false`, too.
     pub fn undefined(&mut self) -> Result<(), JsonReason>
-        ensures some { OnOk result (TakesToken self.old.tokens self.new.tokens (boolean true)) }
-        ensures none { OnErr result (LacksToken self.old.tokens (boolean true)) }
+        ensures some { OnOk result ((b : Bool) × TakesToken self.old.tokens self.new.tokens (boolean b)) }
+        ensures none { OnErr result ((b : Bool) → LacksToken self.old.tokens (boolean b)) }
     {
         match self.token(Wanted::Part(Wrapper::Undefined))? {
-            Token::Bool(true) => Ok(()),
+            Token::Bool(_) => Ok(()),
             token => Err(self.other(Wrapper::Undefined, token, false)),
         }
     }

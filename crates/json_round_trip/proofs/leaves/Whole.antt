@@ -73,8 +73,8 @@ undefined_printed r text shown = (
   record {
     text_is = shown;
     numbers = (tt, tt);
-    says = inr (inl (undefined, inr (inr (inr (inr (inr (inr (inr (inr (inr (inr (inr (inr (inr (inl ((refl, refl), refl)))))))))))))), refl));
-    only = only_wrapped wrapper.Undefined (json.boolean true) undefined (λ other w. w.1);
+    says = inr (inl (undefined, inr (inr (inr (inr (inr (inr (inr (inr (inr (inr (inr (inr (inr (inl (true, (refl, refl), refl)))))))))))))), refl));
+    only = only_wrapped wrapper.Undefined (json.boolean true) undefined (λ other w. w.2);
   },
 )
 
