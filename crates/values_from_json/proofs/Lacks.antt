@@ -68,9 +68,6 @@ clash e f = cc
 clash_number : {old new rest : List Token} {s t : List ℕ} → TakesToken old new (Token.string s) → TakesToken old rest (Token.number t) → ⊥
 clash_number e f = cc
 
-clash_object : {old new rest : List Token} {s : List ℕ} → TakesToken old new (Token.number s) → TakesToken old rest Token.begin_object → ⊥
-clash_object e f = cc
-
 -- a string that writes no time
 pub no_time : {old new : List Token} {s bs : List ℕ} → TakesToken old new (Token.string s) → bs ≡ s → ((z : ℤ) → WritesTime bs z → ⊥) → TakesNone IsDate old
 no_time e same none json.null l w rest f = w
@@ -79,16 +76,6 @@ no_time e same none (json.number n) l w rest f = clash_number e f
 no_time e same none (json.string t) l (z, w, is) rest f = none z (subst (λ (x : List ℕ). WritesTime x z) (same_string e f ∙ sym same) w)
 no_time e same none (json.array js) l w rest f = w
 no_time e same none (json.object ms) l w rest f = clash e f
-
--- a number that is no integer of 64 bits
-pub no_millis : {old new : List Token} {s bs : List ℕ} → TakesToken old new (Token.number s) → bs ≡ s → ((z : ℤ) → FitsSigned w64 z → WritesInteger bs z → ⊥)
-    → TakesNone IsDate old
-no_millis e same none json.null l w rest f = w
-no_millis e same none (json.boolean b) l w rest f = w
-no_millis e same none (json.number t) l (z, w, fits, is) rest f = none z fits (subst (λ (x : List ℕ). WritesInteger x z) (same_number e f ∙ sym same) w)
-no_millis e same none (json.string t) l w rest f = clash_number f e
-no_millis e same none (json.array js) l w rest f = w
-no_millis e same none (json.object ms) l w rest f = clash_object e f
 
 behind : {old a b rest : List Token} {k : List ℕ} → TakesToken old a Token.begin_object → TakesToken a b (Token.key k) → old ≡ Token.begin_object ∷ Token.key k ∷ rest → b ≡ rest
 behind e f g = cc

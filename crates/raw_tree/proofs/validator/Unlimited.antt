@@ -11,8 +11,6 @@ use Rattle.raw_tree.proofs.reader.Loops.{nested_shorter}
 abbrev pub numbers : List Step → List ℕ
 numbers steps = map (λ (step : Step). step.number) steps
 
--- a first breach at a place is the first breach
-
 -- nested bytes that have one within n levels
 abbrev pub AreBreached : ℕ → Type 0
 AreBreached n = (sort : Sort) (d : List ℕ) (why : Cause) (steps : List Step) (offset : ℕ) → FirstViolationTo n sort d (breach_of why) steps offset → HasBreachUpTo n sort d (numbers steps) why
