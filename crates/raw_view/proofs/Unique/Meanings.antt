@@ -170,7 +170,7 @@ no_boolean_byte : (b : Bool) (byte : ℕ) → boolean_payload b ≡ byte ∷ [] 
 no_boolean_byte false byte e l = let same : 0 ≡ byte = cc in omega (arith, same, l)
 no_boolean_byte true byte e l = let same : 1 ≡ byte = cc in omega (arith, same, l)
 
--- a payload of a kind means no value and fault at once
+-- no payload of a kind means both a value and a fault
 value_or_fault : (k : ElementType) (key p : List ℕ) (v : RawValue) (fault : KeyedFault) → MeansValue k p v → MeansFault k key p fault → ⊥
 value_or_fault kind.String key p v fault a b = text_or_none p a.0 a.1 b.0
 value_or_fault kind.JavaScriptCode key p v fault a b = text_or_none p a.0 a.1 b.0
