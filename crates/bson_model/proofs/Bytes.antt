@@ -75,11 +75,11 @@ AreBytes-either : (b : Bool) (xs ys : List ℕ) → (b ≡ true → AreBytes xs)
 AreBytes-either true xs ys f h = f refl
 AreBytes-either false xs ys f h = h
 
--- a byte that goes on with a character
+-- a byte that continues a character
 abbrev later : ℕ → ℕ
 later bits = 128 + bits % 64
 
--- one of them in front of bytes
+-- one of them before bytes
 AreBytes-later : (bits : ℕ) (xs : List ℕ) → AreBytes xs → AreBytes (later bits ∷ xs)
 AreBytes-later bits xs h = AreBytes-cons (later bits) xs (omega arith) h
 

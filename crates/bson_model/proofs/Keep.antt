@@ -1,4 +1,4 @@
--- What is kept of pairs that are put in one after the other.
+-- What is kept of pairs that are inserted one after the other.
 use Rattle.std.proofs.Common.{◌≡◌, ℕ, Bool, true, false, not, cond, ◌||◌, List, [], ◌∷◌, ◌++◌, map, filter, reverse, fold, Option, Some, option_map, refl, ap, sym, ◌∙◌, append_assoc}
 use Rattle.std.specs.List.{AllByRecursion, IsDistinct, filter_map, list_any}
 use Rattle.std.specs.Str.{bytes_eq}
@@ -148,7 +148,7 @@ unfolding IsDistinct
 look_up-same [] h = refl
 look_up-same (p ∷ ps) h = rw (itself p.0) (ap (λ qs. p ∷ qs) (look_up-others p ps (keys_of ps) h.0 ∙ look_up-same ps h.1))
 
--- the pairs put in, the last one first
+-- the inserted pairs, the last one first
 abbrev built : {T : Type 0} → List (Key × T) → List (Key × T) → List (Key × T)
 built qs [] = qs
 built qs (p ∷ ps) = with_pair p.0 p.1 (built qs ps)
@@ -191,7 +191,7 @@ keep-built ps =
     ∙ ap (λ ks. look_up (λ k. value_at k (built [] (reverse ps))) ks) (sym (keys_of-built (reverse ps)))
     ∙ look_up-same (built [] (reverse ps)) (distinct_built (reverse ps))
 
--- pairs that are put in one after the other are kept so
+-- pairs that are inserted one after the other are kept like that
 pub fold-keep : {T : Type 0} (ps : List (Key × T)) → fold (λ qs p. with_pair p.0 p.1 qs) [] ps ≡ keep ps
 fold-keep ps = fold-built [] ps ∙ sym (keep-built ps)
 

@@ -109,6 +109,6 @@ is_less-outside outer (v ∷ vs) first held some e t m =
     outside [] h = absurd (omega arith)
     outside (u ∷ us) h = less-outside u us (tree_of v) (map tree_of vs) t m
 
--- without its last, a front is a front
+-- a front without its last element is a front
 pub front-popped : (items new old : List Bson) (last : Bson) → items ≡ new ++ last ∷ [] → ((rest : List Bson) × old ≡ items ++ rest) → (rest : List Bson) × old ≡ new ++ rest
 front-popped items new old last e (rest, h) = (last ∷ rest, h ∙ ap (λ l. l ++ rest) e ∙ append_assoc new (last ∷ []) rest)

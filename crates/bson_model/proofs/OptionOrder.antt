@@ -1,4 +1,4 @@
--- What putting the options of a regular expression in order gives.
+-- The result of putting the options of a regular expression in order.
 use Rattle.std.proofs.Common.{◌≡◌, ◌≢◌, ◌⊎◌, inl, inr, ℕ, Bool, true, false, cond, ◌&&◌, List, [], ◌∷◌, ◌++◌, All, refl, ap, sym, subst, true≢false, ◌∙◌, lit<}
 use Rattle.std.proofs.Math.Dec.{leb}
 use Rattle.std.proofs.Math.Utf8.{scalars, scalar, encode, encodes}

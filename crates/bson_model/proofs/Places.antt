@@ -87,7 +87,7 @@ new_behind (first ∷ held) text rest h = rw (flipped (string_bytes first) (stri
 pub still_distinct : (text : String Global) (held : List (String Global)) → AreDistinct held → is_among (string_bytes text) held ≡ false → AreDistinct (held ++ text ∷ [])
 still_distinct text held h new = distinct_last string_bytes text held h new
 
--- what holds, whatever a call returned
+-- what holds whatever a call returned
 pub whatever : {T E P : Type 0} (r : Result T E) → P → OnErr r P
 whatever (Ok x) h = tt
 whatever (Err e) h = h

@@ -7,7 +7,7 @@
 //! `specs/Tree.antt` defines the tree of a value, which the contracts of all crates above speak of.
 //! `specs/Proper.antt` says which trees survive being written and read.
 //!
-//! Every other crate but `key_set` rests on this one, so a changed contract has all of them proved again. A
+//! All crates that read or write BSON rest on this one, so they are all proved again after a changed contract. A
 //! new kind of value also needs a line in `Kind.antt` of `raw_view`. `proofs/Face.antt` has the lemmas that
 //! crates above may cite; any other lemma may change.
 #![tactic(auto, using(crate::proofs::Trees::tree_laws))]

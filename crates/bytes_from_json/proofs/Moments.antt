@@ -231,7 +231,7 @@ opened_at {new} {ls} {ls'} {b} {b'} {ts} h e f level bytes tokens = record {
   tokens = tokens;
 }
 
--- .. one whose holder says a place
+-- .. one whose holder has a place
 pub scope_at : {new : Reader} {ls ls' : List Level} {b b' : List ℕ} {start start' : ℕ} {ts : List Token} (h : ℕ → Holder) → ls ≡ ls' → start ≡ start' → b ≡ b'
     → new.document.levels.items ≡ ls ++ level_at (h start) (length b) ∷ [] → bytes_of new ≡ b ++ unset → new.source.tokens ≡ ts
     → IsAt new (ls' ++ level_at (h start') (length b') ∷ []) (b' ++ unset) ts

@@ -115,7 +115,7 @@ module _ (On : Makes) where
         subst (λ (x : List ℕ). On (ended h start x) rest) (regrouped b piece bytes) on,
       )
 
-  -- the value of a key that was taken before
+  -- the value of a key that was taken already
   pub takes_first : (first : Bor (List ℕ)) (start : ℕ) (b : List ℕ) (ts : List Token) → ValueIn (RestIn holder.Document start On) first.now b ts → RestIn (holder.Begun first) start On b ts
   takes_first first start b ts (j, t, r, means, e, (inside, bytes, rest, going, f, on)) =
       let piece = element_of (kind_of_tree t) first.now (tree_payload t) in (

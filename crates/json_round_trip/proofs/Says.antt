@@ -89,7 +89,7 @@ array_printed ts text js h = record {
   only = λ other (rest, are, e). e ∙ ap array (h.only rest are);
 }
 
--- an object without a wrapper's key is a document alone
+-- an object without a wrapper's key is a document only
 
 only_document : (es : Entries) (text : List ℕ) (ms : Members) → IsObjectPrinted es text ms → has_wrapper_key ms ≡ false → (other : Tree) → Means (json.object ms) other → other ≡ document es
 only_document es text ms h none other (inl (rest, no_key, are, e)) = e ∙ ap document (h.only rest are)
@@ -104,7 +104,7 @@ document_printed es text ms h none = record {
   only = only_document es text ms h (h.keys ∙ none);
 }
 
--- an object of a code and a scope is a code with scope alone
+-- an object of a code and a scope is a code with scope only
 
 same_string : (a b : List ℕ) → json.string a ≡ json.string b → a ≡ b
 same_string a b e = cc

@@ -151,7 +151,8 @@ fn insert_wider<'a>(
 }
 
 /// Inserts a key that its fingerprint didn't tell from the others. If the fingerprint is found, all keys are
-/// searched. Otherwise there was no room: the keys get more room for fingerprints, or a map.
+/// searched, unless too many collided. If there was no room, there is more room for fingerprints. Otherwise the
+/// keys get a map.
 #[inline(never)]
 fn insert_anew<'a>(
     alloc: Global,

@@ -300,16 +300,16 @@ module _ {T E : Type 0} {wrap : Error → E} {Answers : Option RawValue → Resu
 
 -- what an item says of all
 
--- where one is met of which it doesn't hold, it doesn't hold of each
+-- if it doesn't hold of one, it doesn't hold of each
 pub ComesTo-not_each : {P : List ℕ → RawValue → Type 0} {b : List ℕ} {key : List ℕ} {v : RawValue} → ComesTo P b (entry key (value v)) → ¬ P key v → ¬ HoldsOfEach P b
 ComesTo-not_each {P = P} {b = b} {key = key} {v = v} c bad =
     λ h. bad (EachItem-at P c.before key v c.after (subst (EachItem P)
     ((the_items b (c.before ++ entry key (value v) ∷ c.after) c.are_items).1 h.items h.are_items) h.each))
 
--- where one is met of which it holds, it holds of one
+-- if it holds of this one, it holds of one
 pub ComesTo-one : {P Q : List ℕ → RawValue → Type 0} {b : List ℕ} {key : List ℕ} {v : RawValue} → ComesTo Q b (entry key (value v)) → P key v → HoldsOfOne P b
 ComesTo-one {P = P} {key = key} {v = v} c good = record { items = c.before ++ entry key (value v) ∷ c.after; are_items = c.are_items; one = OneItem-at P c.before key v c.after good }
 
--- where it holds of none, it doesn't hold of one
+-- if it holds of none, it doesn't hold of one
 pub HoldsOfEach-not_one : {P : List ℕ → RawValue → Type 0} {b : List ℕ} → HoldsOfEach (λ key v. ¬ P key v) b → ¬ HoldsOfOne P b
 HoldsOfEach-not_one {P = P} {b = b} h = λ one. OneItem-none P h.items h.each (subst (OneItem P) ((the_items b h.items h.are_items).1 one.items one.are_items) one.one)

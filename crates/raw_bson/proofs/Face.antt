@@ -1,4 +1,4 @@
--- The lemmas that crates above may cite, also of the crates below; they cite no other.
+-- The lemmas that crates above may cite, those of the crates below included; they cite no other.
 
 -- loops over elements
 pub use Rattle.raw_view.proofs.Face.{LeadsTo-walk, LeadsTo-more, LeadsTo-bound, IsFrame-shorter, HasRead-end, HasRead-bound}

@@ -33,7 +33,7 @@ frame_again s f r v at means =
 
 -- lists of frames
 
--- the last of frames that aren't short isn't short
+-- if no frame is short, the last one isn't
 last_is_long : (before : List Frame) (last : Frame) → HaveNoShortScope (before ++ last ∷ []) → ¬ IsShortScope last
 last_is_long [] last h = h.0
 last_is_long (f ∷ before) last h = last_is_long before last h.1

@@ -18,7 +18,7 @@ use Rattle.raw_bson.specs.Append.{frame_bytes, appended_bytes, IsNulFreeElement,
 
 -- lengths
 
--- the tag and the key's 0 are two
+-- the tag and the key's 0 are two bytes
 pub length-frame_bytes : (f : Frame) → length (frame_bytes f) ≡ length f.key + (2 + length f.payload)
 length-frame_bytes f = omega (arith, length-append f.key (0 ∷ f.payload))
 
@@ -71,7 +71,7 @@ last_of_walk s (f ∷ frames) w =
 
 -- codes with scope, whose shape depends on what follows them
 
--- no kind has tag 0, as is seen kind by kind
+-- no kind has tag 0, kind by kind
 tag_of-above : (k : ElementType) → 0 < tag_of k
 tag_of-above kind.Double = omega arith
 tag_of-above _ = omega arith

@@ -16,7 +16,7 @@ other_kind : (kind : ElementType) (v : RawValue) (there : Option Meaning) → Is
 other_kind kind v there h is = subst (IsNoValueOf kind) is h
 
 module _ {T : Type 0} (value_as : T → RawValue) (kind : ElementType) {b key : List ℕ} where
-  -- the value that was got is what a look-up finds
+  -- the value that was returned is what a look-up finds
   pub GetsByKey-found : (x : T) → GetsByKey value_as kind b key (Ok x) → LooksUp b key (Some (value (value_as x)))
   GetsByKey-found x h = subst (LooksUp b key) h.2 h.1
 

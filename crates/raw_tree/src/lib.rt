@@ -1,9 +1,9 @@
 //! Reads trees of BSON values from bytes, writes the bytes of values and trees, and walks over all levels of
 //! a document to find its first fault or to say whether it is canonical.
 //!
-//! Begin at `read` in `reader.rt` for trees from bytes, at `write` in `writer.rt` for bytes from trees, and
-//! at `Walk::next` in `walk.rt` for walks. `validator/step.rt` and `walk/faults.rt` use the walk. `put.rt`
-//! appends elements and values.
+//! Begin at `read` in `reader.rt` for trees from bytes, at `write` in `writer.rt` for bytes from trees, and at
+//! `Walk::next` in `walk.rt` for walks. `walk/faults.rt` finds first faults by a walk, and `validator/within.rt`
+//! first breaches. `put.rt` appends elements and values.
 //!
 //! In `specs/`, `reader/Reading.antt` says which tree bytes are read as, `Canonical.antt` which documents are
 //! canonical, `CanonicalForm.antt` states the main theorem, and `walk/Visits.antt` lists the elements of all

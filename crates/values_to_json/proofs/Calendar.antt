@@ -1,4 +1,4 @@
--- Each day of the years 1970 to 9999 is one of the calendar.
+-- Each day of the years 1970 to 9999 is in the calendar.
 use Rattle.values_to_json.proofs.Common.{IsCivilDate, IsInstantText, cases_lt, day_count, day_count-day, day_count-end, day_count-epoch, day_count-last_of_year, day_count-next_month, day_count-next_year, days_from_civil, days_from_civil-day_count, days_in_month, days_in_month_bounds, days_in_year, ints}
 use Rattle.std.proofs.Common.{◌≡◌, ◌+◌, ◌<◌, ◌≤◌, ◌/◌, ◌%◌, ℕ, pos, ◌+ℤ◌, ◌*ℤ◌, zero, suc, List, arith, refl, subst, inl, inr}
 

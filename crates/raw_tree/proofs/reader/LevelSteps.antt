@@ -171,7 +171,7 @@ module _ {depth n : ℕ} {u : Nested} {ws : List Waiting} {level : Level} (are :
     ran_out_behind e memory =
         memory_told depth u e memory (told None (n + 1) (are.reading.here + 1, omega (arith, are.reading.total), outcome_behind sort are.reading.passed f front.0 front.1.frame))
 
-    -- it holds no nested bytes, and is put
+    -- it holds no nested bytes, and is appended
     pub put_whole : (on : Level) → IsSingle v → PutsValue v (with_left level new) f.key on → AreReading depth u ws on (n + 1)
     put_whole on single (t, stands, more) =
         let put = level_put {left = level.elements} (with_left level new) on are.reading v t 0 front (single_stands front.1 t single stands) more (omega arith) in

@@ -71,7 +71,7 @@ reads_of sort b frames pairs w h =
     let each = stand_each_level frames pairs h in
     (suc each.0, (pairs, (frames, w, each.1), refl))
 
--- a tree as which bytes are read as a document is that of entries
+-- the tree of bytes that are read as a document is that of entries
 pub document_read : (b : List ℕ) (t : Tree) → ReadsAs as_document b t → (es : Entries) × (t ≡ document es)
 document_read b t h = grind arith
 

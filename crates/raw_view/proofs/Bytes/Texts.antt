@@ -19,7 +19,7 @@ has_nul (b ∷ x) w h = has_nul x w (NulFree-tail b (x ++ 0 ∷ w) h)
 pub no_nul_in : (z x w : List ℕ) → z ≡ x ++ 0 ∷ w → NulFree z → ⊥
 no_nul_in z x w e h = has_nul x w (subst NulFree e h)
 
--- bytes that begin with a text don't begin with bytes that are none
+-- bytes that begin with a text don't begin with bytes that aren't one
 pub good_text : (z x w : List ℕ) → z ≡ x ++ 0 ∷ w → NulFree x → IsUtf8 x → BeginsWithBadText z → ⊥
 good_text z x w e h u bad =
     let same = cut x bad.0 w bad.1 h bad.3 (sym e ∙ bad.2) in

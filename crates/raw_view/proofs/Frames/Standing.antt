@@ -39,7 +39,7 @@ regex_had p h =
       | inr none ↦ absurd (∥∥₁_elim h (hlevel props) (λ t. no_front_text p t.1.0 (t.1.1 ++ 0 ∷ []) t.1.2.spelled t.1.2.pattern_nul_free t.1.2.pattern_text none))
     ]
 
--- a length that takes in its own bytes is the same before any bytes
+-- a length that includes its own bytes is the same before any bytes
 declared_had : (p r : List ℕ) → 4 ≤ length p → ∥ HasPayload kind.JavaScriptCodeWithScope p ∥₁ → HasDeclaredLength p r
 declared_had p r four h = record {
   enough = omega (arith, length-append p r);

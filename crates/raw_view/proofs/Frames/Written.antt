@@ -75,7 +75,7 @@ AreBytes-scoped code scope u h =
 pub AreBytes-framed : (inside : List ℕ) → AreBytes inside → AreBytes (framed inside)
 AreBytes-framed inside h = AreBytes-behind_length (4 + length (inside ++ 0 ∷ [])) (inside ++ 0 ∷ []) (AreBytes-append inside (0 ∷ []) h AreBytes-nul)
 
--- a tag is a byte, as is seen kind by kind
+-- a tag is a byte, kind by kind
 tag_of-below : (k : ElementType) → tag_of k < 256
 tag_of-below kind.Double = omega arith
 tag_of-below _ = omega arith
@@ -94,7 +94,7 @@ length-scoped_payload code scope = omega (arith, length-append (code ++ 0 ∷ []
 
 -- shapes
 
--- the text of a string that isn't too long isn't
+-- the text of a string that isn't too long isn't too long either
 short_text : (text : List ℕ) → length (string_payload text) ≤ max_length → length text < max_length
 short_text text l = omega (arith, length-append text (0 ∷ []))
 

@@ -124,7 +124,7 @@ the_answer_at b index answer a = (a, λ other o. one_at b index other answer o a
 
 -- whether a key is there
 
--- a document has a key or hasn't, and its walk has one end
+-- a document has a key or doesn't, and its walk has one end
 one_key_answer : (b key : List ℕ) (a c : KeyAnswer) → FindsKey b key a → FindsKey b key c → a ≡ c
 one_key_answer b key present present x y = refl
 one_key_answer b key present (absent end) x y = absurd (no_such_frame (drop 4 b) key y.0 x.0 end x.1 x.3 x.2 y.1 y.2 x.4 x.5 x.6)

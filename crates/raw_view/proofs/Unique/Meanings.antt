@@ -85,7 +85,7 @@ has_code p code scope c none = none (string_payload code) scope (ap (drop 4) c.s
 same_code : (p x y v w : List ℕ) → IsCodeWithScope p x v → IsCodeWithScope p y w → IsUtf8 x → IsUtf8 y
 same_code p x y v w a b u = subst IsUtf8 (one_code p x y v w a b).0 u
 
--- a scope is one, so its reason is
+-- there is one scope, so there is one reason
 same_refusal : (p x y v w : List ℕ) (why other : Reason) → IsCodeWithScope p x v → IsCodeWithScope p y w → Refuses v why → Refuses w other → why ≡ other
 same_refusal p x y v w why other a b r q = one_refusal v why other r (subst (λ (z : List ℕ). Refuses z other) (sym (one_code p x y v w a b).1) q)
 
@@ -126,7 +126,7 @@ one_fault k key p f g a b = absurd a
 
 -- a value and a fault exclude each other
 
--- a string of a text, and of none
+-- a string is that of a UTF-8 text, or isn't
 text_or_none : (p text : List ℕ) → SpellsText p text → ¬ SpellsNoText p
 text_or_none p text a b = b.2 (subst IsUtf8 (one_text p text b.0 a.0 b.1) a.1)
 
@@ -170,7 +170,7 @@ no_boolean_byte : (b : Bool) (byte : ℕ) → boolean_payload b ≡ byte ∷ [] 
 no_boolean_byte false byte e l = let same : 0 ≡ byte = cc in omega (arith, same, l)
 no_boolean_byte true byte e l = let same : 1 ≡ byte = cc in omega (arith, same, l)
 
--- a payload of a kind doesn't mean both
+-- no payload of a kind means both a value and a fault
 value_or_fault : (k : ElementType) (key p : List ℕ) (v : RawValue) (fault : KeyedFault) → MeansValue k p v → MeansFault k key p fault → ⊥
 value_or_fault kind.String key p v fault a b = text_or_none p a.0 a.1 b.0
 value_or_fault kind.JavaScriptCode key p v fault a b = text_or_none p a.0 a.1 b.0
@@ -188,6 +188,6 @@ one_meaning f (value v) (faulty fault) a b = absurd (value_or_fault f.kind f.key
 one_meaning f (faulty fault) (value w) a b = absurd (value_or_fault f.kind f.key f.payload w fault b a)
 one_meaning f (faulty fault) (faulty other) a b = ap faulty (one_fault f.kind f.key f.payload fault other a b)
 
--- so what it means is the only thing
+-- so its meaning is the only one
 pub the_meaning : (f : Frame) (m : Meaning) → Means f m → IsTheMeaning f m
 the_meaning f m a = (a, λ other o. one_meaning f other m o a)

@@ -78,7 +78,7 @@ one_refusal b reason.LengthIncorrect other r q = absurd q
 one_refusal b reason.NotTerminated other r q = absurd q
 one_refusal b why other r q = absurd r
 
--- where there is a reason, there is none
+-- bytes for which there is a reason have no envelope
 pub refuses_none : (b : List ℕ) (why : Reason) → Refuses b why → ¬ IsEnvelope b
 refuses_none b reason.TooShort r d = omega (arith, r, d.enough)
 refuses_none b reason.LengthIncorrect r d = r.1 d.header

@@ -43,7 +43,7 @@ frame_key s f r b = record { tag = tag_of f.kind; behind = f.payload ++ r; spell
 key_takes_two : (s key : List ℕ) → HasKey s key → 2 ≤ length s
 key_takes_two s key k = omega (arith, ap length k.spelled, length-append key (0 ∷ k.behind))
 
--- neither no byte nor one has a key
+-- fewer than two bytes have no key
 empty_has_no_key : (s key : List ℕ) → s ≡ [] → HasKey s key → ⊥
 empty_has_no_key s key e k = omega (arith, ap length e, key_takes_two s key k)
 
@@ -127,6 +127,6 @@ one_walk s (f ∷ fs) (g ∷ gs) e d a b =
     let rest = one_walk a.0 fs gs e d a.2 (subst (λ (x : List ℕ). IsWalk x gs d) (sym first.1) b.2) in
     (λ i. first.0 i ∷ rest.0 i, rest.1)
 
--- so a walk is the one of its bytes
+-- so a walk is the only one of its bytes
 pub the_walk : (s : List ℕ) (frames : List Frame) (end : End) → IsWalk s frames end → IsTheWalk s frames end
 the_walk s frames end w = (w, λ other last o. one_walk s other frames last end o w)

@@ -29,7 +29,7 @@ use Rattle.raw_view.proofs.Frames.Decided.{string_or_not, length_or_not, one_len
 use Rattle.raw_view.proofs.Frames.Reasons.{string_reason}
 use Rattle.raw_view.proofs.Frames.Walks.{AreBytes-rest, document_has_walk}
 
--- the length of bytes is at their front or not
+-- bytes begin with their length, or not
 header_or_not : (b : List ℕ) → AreBytes b → IsLe32 (take 4 b) (pos (length b)) ⊎ ¬ IsLe32 (take 4 b) (pos (length b))
 header_or_not b bytes =
     elim (length_or_not b bytes) [
@@ -58,7 +58,7 @@ envelope_or_reason b bytes =
 abbrev HasMeaning : ElementType → List ℕ → List ℕ → Type 0
 HasMeaning kind key p = (m : Meaning) × Means (record { kind = kind; key = key; payload = p }) m
 
--- a string is a text's or no text's
+-- a string is that of a UTF-8 text, or isn't
 text_means : (kind : ElementType) (key p : List ℕ) (leaf : List ℕ → Leaf) → HasText p
     → ((text : List ℕ) → SpellsText p text → MeansValue kind p (single (leaf text))) → (SpellsNoText p → MeansFault kind key p not_text) → HasMeaning kind key p
 text_means kind key p leaf t good bad =
@@ -112,7 +112,7 @@ binary_means key p bytes subtype all b =
       | inr n ↦ (value (single (binary (subtype_of subtype) bytes)), (subtype, bytes, b, inl (n, refl)))
     ]
 
--- a pointer, whose namespace is a text or none
+-- a pointer, whose namespace is UTF-8 or isn't
 pointer_means : (key p namespace id : List ℕ) → IsDbPointer p namespace id → HasMeaning kind.DbPointer key p
 pointer_means key p namespace id d =
     elim (utf8_or_not namespace) [

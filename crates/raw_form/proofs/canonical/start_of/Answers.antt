@@ -14,7 +14,7 @@ front_begins : (P : Sort → List ℕ → Type 0) (N : Sort → List ℕ → Vio
     (path : List Step) (offset : ℕ) → ValidatesFrontAt P N sort keys b s number x path offset → first_number path ≡ number
 front_begins P N sort keys b s number x path offset h = grind arith
 
--- as many frames lead to the same
+-- as many frames lead to the same bytes
 led_same : (s : List ℕ) (fs gs : List Frame) (r q : List ℕ) → LeadsTo s fs r → LeadsTo s gs q → length fs ≡ length gs → r ≡ q
 led_same s [] [] r q l k e = sym l ∙ k
 led_same s (f ∷ fs) (g ∷ gs) r q (t, at, l) (u, there, k) e =
