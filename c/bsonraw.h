@@ -215,6 +215,7 @@ struct bsonraw_error {
 
 /* ---- a cursor over elements ------------------------------------------------------------------------------------------
  *
+ * Proved, but bsonraw_iter_key, which is tested.
  * Each of these calls returns an int32_t of enum bsonraw_status, takes no memory, and may be given any bytes, and a cursor
  * with any fields: it reads nothing outside of the bytes. A call that goes on from a cursor whose fields name no document in
  * the bytes, or no place in it, returns BSONRAW_BAD_OFFSET. All offsets are from the first of the bytes, in nested documents
@@ -335,6 +336,7 @@ BSONRAW_USE int32_t bsonraw_iter_next_many(struct bsonraw_iter *iter, const uint
 
 /* ---- NULL ------------------------------------------------------------------------------------------------------------
  *
+ * Tested.
  * Each call that the library exports has another one here, which goes by its name: it puts some memory in the place of NULL with a
  * length of 0, and returns BSONRAW_NULL for NULL with a length, or in place of a struct or a number, which is then as it was. With
  * BSONRAW_UNCHECKED defined, before the header is included, a name is that of the exported call, but where a text is given without its
@@ -449,6 +451,7 @@ BSONRAW_USE BSONRAW_INLINE const char *bsonraw_iter_key(const struct bsonraw_ite
 
 /* ---- values ----------------------------------------------------------------------------------------------------------
  *
+ * bsonraw_iter_value is proved; the others, which call it, are tested.
  * What a kind doesn't have is 0; of a part that it doesn't have, the offset is that of a cursor at no element. Texts are
  * UTF-8, and may hold a 0; of a regular expression they hold none.
  */
@@ -719,6 +722,8 @@ BSONRAW_USE BSONRAW_INLINE int32_t bsonraw_iter_regex(const struct bsonraw_iter 
 
 /* ---- building --------------------------------------------------------------------------------------------------------
  *
+ * bsonraw_builder_begin, _end, bsonraw_append, _iter, _begin, _end and _cancel are proved; the others, which call bsonraw_append for a kind
+ * each, are tested.
  * A builder puts a document into memory of the caller, which is its room. It keeps no pointer: each call is given the room
  * anew, and whatever the builder holds, nothing outside of the room is written. Up to the end of the document only its builder and its
  * levels may write to the room: a level that an earlier document left open is of no other use. struct bsonraw_buffer has a room of its
@@ -1092,7 +1097,7 @@ BSONRAW_INLINE int32_t bsonraw_append_array_begin(struct bsonraw_builder *builde
     return bsonraw_append_begin(builder, room, room_len, BSONRAW_TAG_ARRAY, key, key_len, level);
 }
 
-/* ---- documents one behind the other ---------------------------------------------------------------------------------- */
+/* ---- documents one behind the other: proved -------------------------------------------------------------------------- */
 
 /* A reader of a buffer of documents, which may be longer than 32 bits say: other calls are given a document as
  * bytes + document_at and document_len. All 0 is one that begins. */
@@ -1175,6 +1180,7 @@ BSONRAW_USE BSONRAW_INLINE int32_t bsonraw_checked_reader_resync(struct bsonraw_
 
 /* ---- whole documents -------------------------------------------------------------------------------------------------
  *
+ * Proved, but bsonraw_json_text, which is tested.
  * These calls look at all levels: the document is one, and each document, array and scope in it is another. A call returns
  * the first of these: BSONRAW_NO_DOCUMENT, and error says why; BSONRAW_TOO_MANY_BYTES, and no element is read; then what comes
  * first, depth first in byte order, of BSONRAW_FAULT (bsonraw_check: BSONRAW_BREACH) and of BSONRAW_TOO_DEEP, where a level is
@@ -1354,7 +1360,7 @@ BSONRAW_USE BSONRAW_INLINE int32_t bsonraw_json_text(const uint8_t *bytes, size_
                         text_len, report, path, path_room);
 }
 
-/* ---- documents from text --------------------------------------------------------------------------------------------- */
+/* ---- documents from text: proved, but where and why a text is refused, which is tested ------------------------------- */
 
 /* Why a text isn't read. */
 enum bsonraw_json_reason {
@@ -1460,6 +1466,7 @@ char (&bsonraw_array(uint8_t (&array)[len]))[len];
 
 /* ---- values as text --------------------------------------------------------------------------------------------------
  *
+ * Proved.
  * The library's calls take a text with its length, as declared; by their names a program gives one that a 0 ends. Where a text isn't read,
  * what was to be written is as it was.
  */

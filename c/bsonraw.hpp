@@ -82,8 +82,8 @@ struct decimal128 {
 
 // The pattern and the options of a regular expression, which somebody else owns.
 struct regex {
-    std::string_view pattern;
-    std::string_view options;
+    std::string_view pattern = {};
+    std::string_view options = {};
     bool operator==(const regex &other) const noexcept { return pattern == other.pattern && options == other.options; }
     bool operator!=(const regex &other) const noexcept { return !(*this == other); }
 };
@@ -183,7 +183,7 @@ public:
     view(const uint8_t *data, size_t size, uint32_t tag = BSONRAW_TAG_DOCUMENT) noexcept : data_(data), size_(size), tag_(tag) {}
     view(const std::vector<uint8_t> &bytes) noexcept : view(bytes.data(), bytes.size()) {}
     view(const std::vector<uint8_t> &&) = delete; // the bytes are gone before the view is used
-    view(std::string &&) = delete;
+    explicit view(std::string &&) = delete;
     explicit view(std::string_view bytes) noexcept : view(reinterpret_cast<const uint8_t *>(bytes.data()), bytes.size()) {}
     const uint8_t *data() const noexcept { return data_; }
     size_t size() const noexcept { return size_; }
@@ -362,7 +362,7 @@ private:
 // Changes of elements by path, for buffer::edit; as bsonraw_buffer_edit. Paths, keys and texts are kept here.
 class edits {
 public:
-    edits() = default;
+    edits() : texts_(), changes_() {}
     edits &remove(std::string_view path) { return add(bsonraw_change_remove(keep(path))); }
     edits &rename(std::string_view path, std::string_view key) {
         const char *kept = keep(path);

@@ -184,7 +184,7 @@ size_t bsonraw_path_text(const uint8_t *bytes, size_t len, const uint64_t *path,
             if (go_into(&outer, bytes, len, &it) != BSONRAW_OK) break;
         }
         for (number = 0; number <= path[level] && status == BSONRAW_OK; number++) status = bsonraw_iter_next(&it, bytes, len);
-        if (path_len > 2 * SHOWN && level >= SHOWN && level < path_len - SHOWN) {
+        if (level >= SHOWN && level + SHOWN < path_len) {
             if (level == SHOWN) put_words(&out, "/..");
             continue;
         }

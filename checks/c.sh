@@ -43,7 +43,7 @@ exports() {
 look_at_libraries() {
     ln -s "$kit/bin/clang" "$work/llvm-nm" && ln -s "$kit/bin/clang" "$work/llvm-readelf" || return 1
     declared >"$work/declared"
-    [ "$(proved | wc -l)" = 31 ] || fails "the header doesn't declare thirty-one functions that are proved"
+    [ "$(proved | wc -l)" = 32 ] || fails "the header doesn't declare thirty-two functions that are proved"
     exports libbsonraw.a "" | diff "$work/declared" - >&2 || fails "the static library has other names than the header"
     exports libbsonraw.so -D | diff "$work/declared" - >&2 || fails "the shared library has other names than the header"
     needed=$("$work/llvm-readelf" -d "$prefix/lib/libbsonraw.so" | sed -n 's/.*(NEEDED).*\[\(.*\)\]/\1/p')
@@ -164,7 +164,7 @@ page() {
 
 look_at_examples() {
     examples c/bsonraw.h >"$work/examples.c"
-    [ "$(grep -c '^void example_.*{$' "$work/examples.c")" = 32 ] || fails "the header doesn't have an example of each group of calls"
+    [ "$(grep -c '^void example_.*{$' "$work/examples.c")" = 36 ] || fails "the header doesn't have an example of each group of calls"
     # shellcheck disable=SC2086
     compile -std=c99 $warnings -O1 -fPIE -c -o "$work/examples.o" "$work/examples.c" &&
         run_examples || fails "an example of the header doesn't do what it says"
@@ -416,10 +416,13 @@ use_machine() {
     # shellcheck disable=SC2086
     c++ -x c++ -o "$work/machine" c/tests/greeting.c -x none $flags || fails "the greeting doesn't compile as C++"
     [ "$("$work/machine" <"$work/greeting")" = "02 hi" ] || fails "the greeting's elements aren't printed from C++"
-    for standard in c++17 c++20; do
-        # shellcheck disable=SC2086
-        c++ -std=$standard -Wall -Wextra -Wconversion -Wold-style-cast -Weffc++ -Werror -O1 -o "$work/machine" c/tests/hpp.cpp $flags &&
-            "$work/machine" || fails "bsonraw.hpp: its test doesn't pass as $standard"
+    for compiler in g++ clang++; do
+        command -v $compiler >/dev/null || { skip "$compiler for bsonraw.hpp"; continue; }
+        for standard in c++17 c++20; do
+            # shellcheck disable=SC2086
+            $compiler -std=$standard -Wall -Wextra -Wconversion -Wold-style-cast -Weffc++ -Werror -O1 -o "$work/machine" c/tests/hpp.cpp $flags &&
+                "$work/machine" || fails "bsonraw.hpp: its test doesn't pass by $compiler as $standard"
+        done
     done
 }
 
@@ -510,10 +513,10 @@ run_sanitized() {
         skip "AddressSanitizer"
         return
     fi
-    for name in agree build daily pieces slips; do
+    for name in agree build daily edit pieces slips streams; do
         [ "$name" = agree ] && fewer=4000 || fewer=
         # shellcheck disable=SC2086 # a list of flags
-        cc -std=gnu99 -g -O1 $sanitized -Ic -o "$work/sanitized" "c/tests/$name.c" c/tests/documents.c c/daily.c "$prefix/lib/libbsonraw.a" &&
+        cc -std=gnu99 -g -O1 $sanitized -Ic -o "$work/sanitized" "c/tests/$name.c" c/tests/documents.c c/daily.c c/edit.c c/stream.c "$prefix/lib/libbsonraw.a" &&
             "$work/sanitized" ${fewer:+"$fewer"} <"$work/documents" >"$work/said" 2>&1 || fails "$name with sanitizers: $(head -5 "$work/said")"
     done
     if [ -n "$has_cxx" ]; then

@@ -349,6 +349,12 @@ static void look_at_texts_in_a_row(void) {
     is(bsonraw_from_json_next("{}\303\251[", 5, &at, 99, 9, &document, &r), BSONRAW_FAULT, "another text behind a document");
     expect(at == 2 && r.json_reason == BSONRAW_JSON_EXPECTED_DOCUMENT && r.line == 1 && r.column == 3 && r.offset == 2, "another text behind a document", "another place");
     is(bsonraw_from_json_next("{}}", 3, &at, 99, 9, &document, &r), BSONRAW_FAULT, "a brace");
+    is(bsonraw_from_json_next("{} {\n x", 7, &at, 99, 9, &document, &r), BSONRAW_FAULT, "no key in the next line");
+    expect(r.line == 2 && r.column == 2 && r.offset == 6, "no key in the next line", "another place");
+    at = 8;
+    is(bsonraw_from_json_next("{\"\303\251\":1}{x", 10, &at, 99, 9, &document, &r), BSONRAW_FAULT, "no key behind a letter of two bytes");
+    expect(r.line == 1 && r.column == 9 && r.offset == 9, "no key behind a letter of two bytes", "another place");
+    at = 2;
     is(bsonraw_from_json_next("{} {\"", 5, &at, 99, 9, &document, &r), BSONRAW_FAULT, "a text that is cut");
     expect(r.json_reason == BSONRAW_JSON_END_OF_TEXT && r.column == 6, "a text that is cut", "another place");
     is(bsonraw_from_json_next("{} {\"\\", 6, &at, 99, 9, &document, &r), BSONRAW_FAULT, "a text that is cut in an escape");
