@@ -39,6 +39,9 @@ static void look_at_changes(void) {
     c[0] = bsonraw_change_remove("customer.snn");
     makes(CUSTOMER, c, 1, BSONRAW_OK, CUSTOMER);
     is((int64_t)c[0].count, 0, "a path to nothing");
+    c[0].count = 9;
+    makes(CUSTOMER, c, 1, BSONRAW_OK, CUSTOMER);
+    is((int64_t)c[0].count, 0, "a path to nothing, once more");
     c[0] = bsonraw_change_rename("customer.ssn", "id");
     c[1] = bsonraw_change_int64("tags.1.y", 5000000000);
     c[2] = bsonraw_change_remove("n");

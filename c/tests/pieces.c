@@ -197,6 +197,7 @@ static void look_at_large_values(void) {
     expect(bsonraw_iter_json(&it, b.bytes, b.len, 0, 0, json, sizeof json, &r) == BSONRAW_TOO_DEEP, d.name, "no level");
     expect(bsonraw_iter_init_find(&it, b.bytes, b.len, BSONRAW_KEY("c")) == BSONRAW_OK, d.name, "no code");
     expect(bsonraw_iter_json(&it, b.bytes, b.len, 1, 0, json, sizeof json, &r) == BSONRAW_OK && r.count == 20024, d.name, "a code");
+    expect(memcmp(json, "{\"$code\":\"xx", 12) == 0 && strcmp(json + 20008, "xx\",\"$scope\":{}}") == 0, d.name, "a code");
     bsonraw_buffer_reset(&b);
     bsonraw_buffer_begin_document(&b, "d");
     bsonraw_buffer_append(&b, BSONRAW_TAG_JAVASCRIPT_WITH_SCOPE, "c", "f", 1, "\14\0\0\0\20x\0\1\0\0\0", 12);
@@ -204,7 +205,6 @@ static void look_at_large_values(void) {
     expect(bsonraw_buffer_finish(&b) == BSONRAW_OK && bsonraw_get(b.bytes, b.len, "d.c", &it) == BSONRAW_OK, d.name, "no code");
     expect(bsonraw_iter_json(&it, b.bytes, b.len, 1, BSONRAW_JSON_INDENTED, json, sizeof json, &r) == BSONRAW_OK &&
                strcmp(json, "{\"$code\":\"f\",\"$scope\":{\n  \"x\": 1\n}}") == 0, d.name, "an indented scope");
-    expect(memcmp(json, "{\"$code\":\"xx", 12) == 0 && strcmp(json + 20008, "xx\",\"$scope\":{}}") == 0, d.name, "a code");
     bsonraw_buffer_free(&b);
 }
 
