@@ -45,7 +45,7 @@ static void look_at_kinds() {
                                 "\"r\":{\"$regularExpression\":{\"pattern\":\"^a\",\"options\":\"i\"}},\"s\":\"text\"}", "values of other kinds");
     expect(doc->get<std::chrono::system_clock::time_point>("time").value_or({}) == time, "a time of the clock");
     expect(!doc->get<std::chrono::system_clock::time_point>("s") && !doc->get<bsonraw::timestamp>("s") && !doc->get<bsonraw::decimal128>("s") && !doc->get<bsonraw::regex>("s"), "a text as another kind");
-    expect(doc->get<bsonraw::timestamp>("ts").value_or({}) == bsonraw::timestamp{7, 8} && bsonraw::timestamp{7, 8} != bsonraw::timestamp{8, 7}, "a timestamp");
+    expect(doc->get<bsonraw::timestamp>("ts").value_or({}) == bsonraw::timestamp{7, 8} && bsonraw::timestamp{7, 8} != bsonraw::timestamp{8, 8} && bsonraw::timestamp{7, 8} != bsonraw::timestamp{7, 7}, "a timestamp");
     expect(doc->get<bsonraw::decimal128>("d").value_or({}) == *half && *half != bsonraw::decimal128(), "a decimal that is read");
     expect(doc->get<bsonraw::regex>("r").value_or({}) == bsonraw::regex{"^a", "i"} && bsonraw::regex{"^a", "i"} != bsonraw::regex{"^a", ""}, "a regular expression");
     expect(doc->get<std::string>("s").value_or("") == "text" && doc->get<std::string>("d").status() == BSONRAW_OTHER_KIND, "a text of its own");

@@ -144,6 +144,28 @@ static void look_at_damage(void) {
     expect(all > 12, "damaged files", "too few are looked at in full");
 }
 
+/* Where the first search ends, a length that may be is in front of two documents, and another one is behind it: it isn't believed, since the
+ * damage is before. */
+static void look_at_length(void) {
+    size_t at = 65536, count, i;
+    struct bsonraw_stream s;
+    FILE *file;
+    int is_all;
+    memset(data, 0, at + 4);
+    len = at + 4;
+    put_document(0), put_document(0);
+    data[len++] = 0;
+    put_length(at, (uint32_t)(len - at));
+    for (i = 0; i < 20; i++) put_document(i);
+    count = find_all(100, &is_all);
+    is((int64_t)count, 22, "a length where a search ends");
+    is((int64_t)found[0], (int64_t)at + 4, "a length where a search ends");
+    file = file_of();
+    bsonraw_stream_from_fd(&s, fileno(file));
+    finds_all(&s, count, 100, "a length where a search ends");
+    fclose(file);
+}
+
 /* Of 100,000 documents with 20 lengths damaged, these 20 are lost. */
 static void look_at_many(void) {
     enum { MANY = 100000, DAMAGED = 20 };
@@ -229,6 +251,7 @@ static void look_at_cuts(void) {
 int main(void) {
     data = needed(SIZE);
     look_at_damage();
+    look_at_length();
     look_at_waiting();
     look_at_cuts();
     look_at_many();
