@@ -1,7 +1,8 @@
 /* Changes by path of bsonraw.h: a document is copied with them in one walk, over the calls that the library exports. Tested, not proved.
  *
  * The changes are sorted by the steps of their paths, and made into a tree: a node has for each next step another one, in a row that is
- * sorted by the step, so that the elements of a level are looked up in it. Levels are kept in memory, not on the stack. */
+ * sorted by the step, so that the elements of a level are looked up in it: a hash could be crowded by chosen keys. Each element of a key that
+ * repeats is changed, since readers differ in which one they take. Levels are kept in memory, not on the stack. */
 #define BSONRAW_UNCHECKED
 #include "bsonraw.h"
 

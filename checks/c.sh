@@ -190,7 +190,7 @@ says() {
 }
 
 run_programs() {
-    for name in fields json json_text merge orders path unique validate; do
+    for name in edit fields json json_text merge orders path unique validate; do
         # shellcheck disable=SC2086
         compile -std=c99 $warnings -O1 -fPIE -c -o "$work/$name.o" "examples/c/$name.c" &&
             link libbsonraw.a "$work/$name" "$work/$name.o" || return 1
@@ -201,6 +201,9 @@ run_programs() {
     says sound "$work/validate"
     says "{\"hi\":\"y'all\"}" sh -c "cat - $work/greeting | $work/unique | $work/json_text"
     says "" "$work/path" ho
+    # {"ho": "changed"}
+    printf '\25\0\0\0\2ho\0\10\0\0\0changed\0\0' >"$work/changed"
+    "$work/edit" hi ho <"$work/greeting" | cmp -s - "$work/changed" || fails "edit doesn't change the greeting"
     # {"hi": "y'all"} with {"hi": 1, "ho": 2} laid over it
     printf '\25\0\0\0\20hi\0\1\0\0\0\20ho\0\2\0\0\0\0' >"$work/over"
     cat "$work/greeting" "$work/over" | "$work/merge" | cmp -s - "$work/over" || fails "merge doesn't lay a document over the greeting"
@@ -366,7 +369,7 @@ twin() {
 
 # Each program of examples/c does what one with libbson does, in at most its lines.
 run_twins() {
-    for name in fields json json_text merge orders path unique validate; do
+    for name in edit fields json json_text merge orders path unique validate; do
         [ "$(lines_of "examples/c/$name.c")" -le "$(lines_of "c/tests/twins/$name.c")" ] || fails "examples/c/$name.c has too many lines"
         # shellcheck disable=SC2046 # a list of flags
         cc -std=c99 -O1 -o "$work/twin_$name" "c/tests/twins/$name.c" $(pkg-config --cflags --libs libbson-1.0) || return 1
@@ -383,6 +386,10 @@ run_twins() {
     twin fields
     cat "$work/greeting" "$work/over" "$work/greeting" "$work/built" "$work/over" >"$work/input"
     twin unique
+    people | head -c 104 >"$work/input" # the first of them
+    twin edit address.street name
+    twin edit _id address
+    twin edit nothing.at.all new
     cp "$work/greeting" "$work/input"
     twin validate
     twin path hi
@@ -439,7 +446,7 @@ try_examples() {
             $compiler -std=$standard "-I$prefix/include" -Wall -Wextra -Wconversion -Werror -O2 -c -o "$work/example.o" "$work/examples.c" ||
                 fails "the examples of the header don't compile by $compiler as $standard"
         done
-        for name in fields json json_text merge orders path unique validate; do
+        for name in edit fields json json_text merge orders path unique validate; do
             $compiler -std=c99 "-I$prefix/include" -Wall -Wextra -Wconversion -Werror -O2 -c -o "$work/example.o" "examples/c/$name.c" ||
                 fails "examples/c/$name.c doesn't compile by $compiler"
         done
