@@ -320,7 +320,7 @@ PAIR(ours_buffer) {
         bsonraw_buffer_utf8(&b, "name", "Emmy Noether");
         bsonraw_buffer_double(&b, "score", i);
         bsonraw_buffer_bool(&b, "on", i & 1);
-        wants(bsonraw_buffer_end(&b) == BSONRAW_OK, "bsonraw_buffer_end");
+        wants(bsonraw_buffer_finish(&b) == BSONRAW_OK, "bsonraw_buffer_finish");
         sum += (int64_t)b.len;
     }
     bsonraw_buffer_free(&b);

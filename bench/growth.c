@@ -137,7 +137,7 @@ OP op_build(void) {
         if (tokens[i].tag == BSONRAW_TAG_DOCUMENT || tokens[i].tag == BSONRAW_TAG_ARRAY) depth++;
     }
     for (; depth > 0; depth--) bsonraw_buffer_end(&buffer);
-    wants(bsonraw_buffer_end(&buffer) == BSONRAW_OK && buffer.len == document.len, "bsonraw_buffer_end");
+    wants(bsonraw_buffer_finish(&buffer) == BSONRAW_OK && buffer.len == document.len, "bsonraw_buffer_finish");
     bsonraw_buffer_free(&buffer);
 }
 

@@ -134,7 +134,7 @@ compile_c() {
 # compile_rest FOLDER: compiles what of the library is written in C, which no proof covers: the functions for daily use, and the
 # header's inline functions as functions that are exported
 compile_rest() {
-    compile_c "$root/c/daily.c" "$1" && compile_c "$root/c/exported.c" "$1"
+    for file in daily edit stream exported; do compile_c "$root/c/$file.c" "$1" || return 1; done
 }
 
 # link_x86_64 FOLDER: links both builds into one object
@@ -152,7 +152,7 @@ link_aarch64() {
     compile_c "$heap" "$1" &&
         "$toolchain/bin/ld.lld" -r -o "$1/bsonraw.o" --whole-archive "$arm" --no-whole-archive "$1/heap.o" &&
         "$1/llvm-objcopy" --wildcard --keep-global-symbol='bsonraw_*' "$1/bsonraw.o" || return 1
-    "$1/llvm-nm" --undefined-only --just-symbol-name "$1/bsonraw.o" "$1/daily.o" "$1/exported.o" | grep -x '[a-z0-9_][a-z0-9_]*' | grep -v '^bsonraw_' |
+    "$1/llvm-nm" --undefined-only --just-symbol-name "$1/bsonraw.o" "$1/daily.o" "$1/edit.o" "$1/stream.o" "$1/exported.o" | grep -x '[a-z0-9_][a-z0-9_]*' | grep -v '^bsonraw_' |
         LC_ALL=C sort -u | sed 's/.*/void &(void) {}/' >"$1/names.c"
     echo 'GLIBC_2.17 { global: *; };' >"$1/versions"
     "$toolchain/bin/clang" --target=aarch64-unknown-linux-gnu -ffreestanding -fno-builtin -fPIC -c -o "$1/names.o" "$1/names.c" &&
@@ -165,10 +165,10 @@ link_libraries() {
     toolchain=$(dirname "$(rt doc)")/toolchain
     for tool in llvm-objcopy llvm-nm; do ln -s "$toolchain/bin/clang" "$1/$tool" || return 1; done
     compile_rest "$1" && "link_$machine" "$1" &&
-        "$toolchain/bin/llvm-ar" rcsD "$1/libbsonraw.a" "$1/bsonraw.o" "$1/daily.o" "$1/exported.o" &&
+        "$toolchain/bin/llvm-ar" rcsD "$1/libbsonraw.a" "$1/bsonraw.o" "$1/daily.o" "$1/edit.o" "$1/stream.o" "$1/exported.o" &&
         echo "BSONRAW_${version%%.*} { global: bsonraw_*; local: *; };" >"$1/exports" &&
         "$toolchain/bin/ld.lld" -shared -soname "$soname" --version-script "$1/exports" --build-id=sha1 --gc-sections -z defs -z relro \
-            -z now -z noexecstack -o "$1/linked.so" "$1/bsonraw.o" "$1/daily.o" "$1/exported.o" "$1/libc.so.6" &&
+            -z now -z noexecstack -o "$1/linked.so" "$1/bsonraw.o" "$1/daily.o" "$1/edit.o" "$1/stream.o" "$1/exported.o" "$1/libc.so.6" &&
         "$1/llvm-objcopy" --strip-all "$1/linked.so" "$1/libbsonraw.so.$version"
 }
 

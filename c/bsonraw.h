@@ -1,6 +1,6 @@
 /* bsonraw.h: raw BSON documents, read as they lie in memory. The functions that are declared without a body, up to the part on
  * daily use, are proved against the contracts of the crate bsonraw_c, which say what each input gives. The inline functions, and
- * those of that part, are tested.
+ * those of that part, are tested. The head of each part says which its calls are.
  *
  * What a caller has to keep:
  *   - A pointer with its length names memory that may be read, or where it isn't const written, for the whole call. NULL with a
@@ -12,8 +12,9 @@
  *     call is made from a signal handler, nor from the forked child of a process with threads.
  *   - Depth takes memory, and no stack.
  *
- * No call keeps memory, or a pointer, after it returns; none writes past what it was given. A call takes memory where its comment, or
- * that of its part, says so.
+ * None writes past what it was given. A call takes memory where its comment, or that of its part, says so. No call keeps memory, or a
+ * pointer, after it returns, but those of a buffer and a stream, up to bsonraw_buffer_free and bsonraw_stream_free; a stream keeps its
+ * file, and a buffer the function and the context of bsonraw_buffer_init_with. The calls named .._new give their memory to the caller.
  */
 #ifndef BSONRAW_H
 #define BSONRAW_H
@@ -45,7 +46,8 @@ enum bsonraw_status {
     BSONRAW_OTHER_KIND = 11,    /* the element is of another kind. Of a builder: the parts aren't those of the kind */
     BSONRAW_NULL = 12,          /* NULL with a length, or for what is needed */
     BSONRAW_MISUSE = 13,        /* a call out of turn. Of a builder: a level is open in it, or the level that is ended isn't the one that is
-                                   open in it. Of a buffer: the document has been ended */
+                                   open in it. Of a buffer: a level is open, or none is, the document is finished, or a key is given in an
+                                   array; of changes, one that goes through another */
     BSONRAW_CUT = 14,           /* a file ends within a document */
     BSONRAW_NOT_READ = 15       /* a file couldn't be read, and errno says why */
 };
@@ -213,6 +215,7 @@ struct bsonraw_error {
 
 /* ---- a cursor over elements ------------------------------------------------------------------------------------------
  *
+ * Proved, but bsonraw_iter_key, which is tested.
  * Each of these calls returns an int32_t of enum bsonraw_status, takes no memory, and may be given any bytes, and a cursor
  * with any fields: it reads nothing outside of the bytes. A call that goes on from a cursor whose fields name no document in
  * the bytes, or no place in it, returns BSONRAW_BAD_OFFSET. All offsets are from the first of the bytes, in nested documents
@@ -333,6 +336,7 @@ BSONRAW_USE int32_t bsonraw_iter_next_many(struct bsonraw_iter *iter, const uint
 
 /* ---- NULL ------------------------------------------------------------------------------------------------------------
  *
+ * Tested.
  * Each call that the library exports has another one here, which goes by its name: it puts some memory in the place of NULL with a
  * length of 0, and returns BSONRAW_NULL for NULL with a length, or in place of a struct or a number, which is then as it was. With
  * BSONRAW_UNCHECKED defined, before the header is included, a name is that of the exported call, but where a text is given without its
@@ -447,6 +451,7 @@ BSONRAW_USE BSONRAW_INLINE const char *bsonraw_iter_key(const struct bsonraw_ite
 
 /* ---- values ----------------------------------------------------------------------------------------------------------
  *
+ * bsonraw_iter_value is proved; the others, which call it, are tested.
  * What a kind doesn't have is 0; of a part that it doesn't have, the offset is that of a cursor at no element. Texts are
  * UTF-8, and may hold a 0; of a regular expression they hold none.
  */
@@ -717,14 +722,16 @@ BSONRAW_USE BSONRAW_INLINE int32_t bsonraw_iter_regex(const struct bsonraw_iter 
 
 /* ---- building --------------------------------------------------------------------------------------------------------
  *
+ * bsonraw_builder_begin, _end, bsonraw_append, _iter, _begin, _end and _cancel are proved; the others, which call bsonraw_append for a kind
+ * each, are tested.
  * A builder puts a document into memory of the caller, which is its room. It keeps no pointer: each call is given the room
  * anew, and whatever the builder holds, nothing outside of the room is written. Up to the end of the document only its builder and its
  * levels may write to the room: a level that an earlier document left open is of no other use. struct bsonraw_buffer has a room of its
  * own, which grows. A call returns builder->status, and bsonraw_append_begin level->status, which the builder takes over:
  *   - BSONRAW_OK: what was appended so far is in the room.
  *   - BSONRAW_SMALL_BUFFER: the room is too small. Later calls go on to count, so that in the end len says how many bytes
- *     are wanted. They do so with no room at all, too. What bsonraw_append_cancel takes back isn't wanted: it returns BSONRAW_OK,
- *     whether the rest fits or not, and the next call says that.
+ *     are wanted. They do so with no room at all, too, and where a later call is given a larger room, as bytes are lacking by then.
+ *     What bsonraw_append_cancel takes back isn't wanted: it returns what the builder had before the level.
  *   - Anything else: the first call that was refused, and why. Later calls change nothing, and count is the number of the element
  *     that was refused, from 0, in its level.
  * So one look at the end is enough. Refused are, in this order: NULL with a length (BSONRAW_NULL); an append to a builder in which a
@@ -742,7 +749,7 @@ struct bsonraw_builder {
     uint32_t len;    /* how many bytes are taken so far, or wanted; in the end, how many the document has */
     uint32_t begins; /* where the document or the array begins whose elements are appended */
     uint32_t count;  /* how many it has so far */
-    uint32_t tag;    /* BSONRAW_TAG_DOCUMENT or BSONRAW_TAG_ARRAY */
+    uint32_t tag;    /* BSONRAW_TAG_DOCUMENT or BSONRAW_TAG_ARRAY; and 256 more while a level is open in it that found the room too small */
     int32_t status;  /* enum bsonraw_status; under 0 while a level is open in it: where that begins, negated */
 };
 
@@ -763,7 +770,8 @@ BSONRAW_USE int32_t bsonraw_builder_end(struct bsonraw_builder *builder, uint8_t
 
 /* Begins a document or an array in another one, and ends it. Between the two its elements are appended to a builder of its
  * own, and none to the builder around it. bsonraw_append_cancel takes back a level that is open, with all that is in it: the builder
- * around it goes on as if it had never been begun, unless the level was refused something, which the builder takes over.
+ * around it goes on as if it had never been begun, with BSONRAW_SMALL_BUFFER if it had that before, unless the level was refused
+ * something else, which the builder takes over. With BSONRAW_UNCHECKED no level is open in a builder: one is forgotten, not taken back.
  * bsonraw_append_document_begin and bsonraw_append_array_begin give the tag. Each of these calls writes to both builders.
  *
  *     uint8_t room[64];
@@ -779,6 +787,7 @@ int32_t bsonraw_append_begin(struct bsonraw_builder *builder, uint8_t *BSONRAW_R
                              const uint8_t *key, size_t key_len, struct bsonraw_builder *BSONRAW_RESTRICT level);
 int32_t bsonraw_append_end(struct bsonraw_builder *builder, uint8_t *BSONRAW_RESTRICT room, size_t room_len,
                            struct bsonraw_builder *BSONRAW_RESTRICT level);
+int32_t bsonraw_append_cancel(struct bsonraw_builder *builder, struct bsonraw_builder *BSONRAW_RESTRICT level);
 
 /* Appends the element that a cursor is at, as it is: its value isn't looked at. So a code with scope that says it has under
  * 4 bytes is copied, too: it takes in bytes of what is appended behind it, and may be read as something else there.
@@ -821,16 +830,6 @@ BSONRAW_LOCAL int bsonraw_is_open(const struct bsonraw_builder *builder, const s
     return builder->status < 0 && BSONRAW_UINT32(builder->status) == 0u - level->begins && level->begins < level->len;
 }
 
-/* Takes back a level: see bsonraw_append_begin. */
-BSONRAW_INLINE int32_t bsonraw_append_cancel(struct bsonraw_builder *builder, struct bsonraw_builder *BSONRAW_RESTRICT level) {
-    if (!builder) return BSONRAW_NULL;
-    if (!level) return bsonraw_refuse(builder, BSONRAW_NULL);
-    if (level->status < 0 || !bsonraw_is_open(builder, level)) return bsonraw_refuse(builder, BSONRAW_MISUSE);
-    builder->status = level->status == BSONRAW_SMALL_BUFFER ? BSONRAW_OK : level->status;
-    level->begins = level->len;
-    return builder->status;
-}
-
 #ifndef BSONRAW_UNCHECKED
 BSONRAW_WRITES(2, 3)
 BSONRAW_INLINE int32_t bsonraw_checked_builder_begin(struct bsonraw_builder *builder, uint8_t *BSONRAW_RESTRICT room, size_t room_len) {
@@ -862,8 +861,12 @@ BSONRAW_INLINE int32_t bsonraw_checked_append_begin(struct bsonraw_builder *buil
     if (BSONRAW_LACKS(room, room_len) || BSONRAW_LACKS(key, key_len)) (void)bsonraw_refuse(builder, BSONRAW_NULL);
     else if (builder->status < 0) (void)bsonraw_refuse(builder, BSONRAW_MISUSE);
     status = bsonraw_append_begin(builder, bsonraw_some_room(room), room ? room_len : 0, tag, bsonraw_some_bytes(key), key ? key_len : 0, level);
-    if (status == BSONRAW_OK || status == BSONRAW_SMALL_BUFFER) builder->status = BSONRAW_INT32(0u - level->begins);
-    else builder->status = status;
+    if (status == BSONRAW_OK || status == BSONRAW_SMALL_BUFFER) {
+        if (builder->status == BSONRAW_SMALL_BUFFER) builder->tag |= 256;
+        builder->status = BSONRAW_INT32(0u - level->begins);
+    } else {
+        builder->status = status;
+    }
     return status;
 }
 #define bsonraw_append_begin bsonraw_checked_append_begin
@@ -877,11 +880,18 @@ BSONRAW_INLINE int32_t bsonraw_checked_append_end(struct bsonraw_builder *builde
     if (!level || BSONRAW_LACKS(room, room_len)) return bsonraw_refuse(builder, BSONRAW_NULL);
     if (level->status < 0 || !bsonraw_is_open(builder, level)) return bsonraw_refuse(builder, BSONRAW_MISUSE);
     builder->status = BSONRAW_OK;
+    builder->tag &= 255;
     status = bsonraw_append_end(builder, bsonraw_some_room(room), room_len, level);
     level->begins = level->len;
     return status;
 }
 #define bsonraw_append_end bsonraw_checked_append_end
+
+BSONRAW_INLINE int32_t bsonraw_checked_append_cancel(struct bsonraw_builder *builder, struct bsonraw_builder *BSONRAW_RESTRICT level) {
+    if (!builder) return BSONRAW_NULL;
+    return level ? bsonraw_append_cancel(builder, level) : bsonraw_refuse(builder, BSONRAW_NULL);
+}
+#define bsonraw_append_cancel bsonraw_checked_append_cancel
 
 BSONRAW_WRITES(2, 3) BSONRAW_READS(5, 6)
 BSONRAW_INLINE int32_t bsonraw_checked_append_iter(struct bsonraw_builder *builder, uint8_t *BSONRAW_RESTRICT room, size_t room_len,
@@ -1087,7 +1097,7 @@ BSONRAW_INLINE int32_t bsonraw_append_array_begin(struct bsonraw_builder *builde
     return bsonraw_append_begin(builder, room, room_len, BSONRAW_TAG_ARRAY, key, key_len, level);
 }
 
-/* ---- documents one behind the other ---------------------------------------------------------------------------------- */
+/* ---- documents one behind the other: proved -------------------------------------------------------------------------- */
 
 /* A reader of a buffer of documents, which may be longer than 32 bits say: other calls are given a document as
  * bytes + document_at and document_len. All 0 is one that begins. */
@@ -1170,6 +1180,7 @@ BSONRAW_USE BSONRAW_INLINE int32_t bsonraw_checked_reader_resync(struct bsonraw_
 
 /* ---- whole documents -------------------------------------------------------------------------------------------------
  *
+ * Proved, but bsonraw_json_text, which is tested.
  * These calls look at all levels: the document is one, and each document, array and scope in it is another. A call returns
  * the first of these: BSONRAW_NO_DOCUMENT, and error says why; BSONRAW_TOO_MANY_BYTES, and no element is read; then what comes
  * first, depth first in byte order, of BSONRAW_FAULT (bsonraw_check: BSONRAW_BREACH) and of BSONRAW_TOO_DEEP, where a level is
@@ -1336,15 +1347,20 @@ BSONRAW_USE BSONRAW_INLINE int32_t bsonraw_checked_json(const uint8_t *bytes, si
 #define bsonraw_json bsonraw_checked_json
 #endif
 
-/* bsonraw_json for a room of char: puts(text) takes it without a cast. bsonraw_json_new takes memory for it. */
-BSONRAW_READS(1, 2) BSONRAW_WRITES(7, 8) BSONRAW_WRITES(10, 11)
-BSONRAW_USE BSONRAW_INLINE int32_t bsonraw_json_text(const uint8_t *bytes, size_t len, size_t max_bytes, size_t max_depth, uint32_t canonical,
-                                                     uint32_t indented, char *BSONRAW_RESTRICT text, size_t text_len,
-                                                     struct bsonraw_report *report, uint64_t *path, size_t path_room) {
-    return bsonraw_json(bytes, len, max_bytes, max_depth, canonical, indented, BSONRAW_ROOM(text), text_len, report, path, path_room);
+/* What of Extended JSON is printed, in the calls that follow: 0 is relaxed, on one line. The bytes of an array that stands alone, as
+ * bsonraw_get_array gives them, are printed as one, and not as a document, with BSONRAW_JSON_ARRAY; bsonraw_json_text doesn't take it. */
+enum bsonraw_json_flags { BSONRAW_JSON_CANONICAL = 1, BSONRAW_JSON_INDENTED = 2, BSONRAW_JSON_ARRAY = 4 };
+
+/* bsonraw_json for a room of char, with flags: puts(text) takes it without a cast. bsonraw_json_new takes memory for it. */
+BSONRAW_READS(1, 2) BSONRAW_WRITES(6, 7) BSONRAW_WRITES(9, 10)
+BSONRAW_USE BSONRAW_INLINE int32_t bsonraw_json_text(const uint8_t *bytes, size_t len, size_t max_bytes, size_t max_depth, uint32_t flags,
+                                                     char *BSONRAW_RESTRICT text, size_t text_len, struct bsonraw_report *report,
+                                                     uint64_t *path, size_t path_room) {
+    return bsonraw_json(bytes, len, max_bytes, max_depth, flags & BSONRAW_JSON_CANONICAL, flags & BSONRAW_JSON_INDENTED, BSONRAW_ROOM(text),
+                        text_len, report, path, path_room);
 }
 
-/* ---- documents from text --------------------------------------------------------------------------------------------- */
+/* ---- documents from text: proved, but where and why a text is refused, which is tested ------------------------------- */
 
 /* Why a text isn't read. */
 enum bsonraw_json_reason {
@@ -1391,12 +1407,12 @@ enum bsonraw_json_wrapper {
 };
 
 struct bsonraw_json_report {
-    uint64_t count;   /* with BSONRAW_OK and BSONRAW_SMALL_BUFFER: how many bytes the document has */
-    uint64_t offset;  /* with any other: how many bytes of the text are before the place of the error, */
-    uint64_t line;    /* the number of its line, from 1, */
-    uint64_t column;  /* and that of its character in the line, from 1 */
-    uint32_t reason;  /* with BSONRAW_FAULT: enum bsonraw_json_reason */
-    uint32_t wrapper; /* with BSONRAW_JSON_MALFORMED: enum bsonraw_json_wrapper */
+    uint64_t count;       /* with BSONRAW_OK and BSONRAW_SMALL_BUFFER: how many bytes the document has */
+    uint64_t offset;      /* with any other: how many bytes of the text are before the place of the error, */
+    uint64_t line;        /* the number of its line, from 1, */
+    uint64_t column;      /* and that of its character in the line, from 1 */
+    uint32_t json_reason; /* with BSONRAW_FAULT: enum bsonraw_json_reason. bsonraw_json_fault_text has its words */
+    uint32_t wrapper;     /* with BSONRAW_JSON_MALFORMED: enum bsonraw_json_wrapper */
 };
 
 /* The document that a text of MongoDB's Extended JSON v2 writes, canonical or relaxed: BSONRAW_OK, and its count bytes are at the
@@ -1414,7 +1430,7 @@ struct bsonraw_json_report {
  *     if (status == BSONRAW_OK)
  *         fwrite(document, 1, r.count, stdout);
  *     else if (status == BSONRAW_FAULT)
- *         printf("line %lu, column %lu: reason %u\n", r.line, r.column, r.reason);
+ *         printf("line %lu, column %lu: reason %u\n", r.line, r.column, r.json_reason);
  */
 BSONRAW_USE int32_t bsonraw_from_json(const uint8_t *text, size_t len, size_t max_bytes, size_t max_depth, uint8_t *BSONRAW_RESTRICT document,
                                       size_t document_len, struct bsonraw_json_report *report);
@@ -1450,6 +1466,7 @@ char (&bsonraw_array(uint8_t (&array)[len]))[len];
 
 /* ---- values as text --------------------------------------------------------------------------------------------------
  *
+ * Proved.
  * The library's calls take a text with its length, as declared; by their names a program gives one that a 0 ends. Where a text isn't read,
  * what was to be written is as it was.
  */
@@ -1465,8 +1482,8 @@ uint32_t bsonraw_oid_time(const uint8_t id[12]);
 /* The sixteen bytes of a Decimal128 as text, as 1.50, 1.5E+20, NaN or -Infinity, and a 0; and the bytes that such a text writes:
  * BSONRAW_FAULT where it is none, or where no Decimal128 is exactly that number. Milliseconds from 1970 on as ISO 8601 has them, as
  * 2012-12-24T12:15:30.501Z, without a fraction where it is 0, and a 0: BSONRAW_FAULT before the year 0 and from 10000 on; and from such a
- * text, in UTC or with a zone as +01:00 or +0100, T and Z in either case. The texts are those of Extended JSON. Calls that make a text take memory for it:
- * BSONRAW_NO_MEMORY; with any status but BSONRAW_OK nothing is written.
+ * text, in UTC or with a zone as +01:00 or +0100, T and Z in either case. The texts are those of Extended JSON. Calls that make a text
+ * take memory for it: BSONRAW_NO_MEMORY; with any status but BSONRAW_OK nothing is written.
  *
  *     char text[BSONRAW_DATE_TIME_TEXT];
  *     if (bsonraw_date_time_to_text(-2769984000000, text) == BSONRAW_OK) puts(text);
@@ -1546,8 +1563,23 @@ const char *bsonraw_error_text(const struct bsonraw_error *error);
  * room for, and a 0 behind it, and returns how many bytes the text has without that 0; 150 are always enough. */
 size_t bsonraw_fault_text(const struct bsonraw_error *error, char *BSONRAW_RESTRICT text, size_t room) BSONRAW_WRITES(2, 3);
 
+/* What is wrong with a text of JSON, as "expected a value", and of a wrapper what it has to be, as "this is not {"$oid": 24 hex digits}": of
+ * a report of bsonraw_from_json with BSONRAW_FAULT. As snprintf it puts as much as there is room for, and a 0 behind it, and returns how
+ * many bytes the text has without that 0; 100 are always enough.
+ *
+ *     uint8_t document[64];
+ *     struct bsonraw_json_report r;
+ *     char why[100];
+ *     if (BSONRAW_FROM_JSON("{\"id\": {\"$oid\": \"12\"}}", document, &r) == BSONRAW_FAULT) {
+ *         bsonraw_json_fault_text(&r, why, sizeof why);
+ *         printf("line %lu, column %lu: %s\n", r.line, r.column, why);
+ *     }
+ */
+size_t bsonraw_json_fault_text(const struct bsonraw_json_report *report, char *BSONRAW_RESTRICT text, size_t room) BSONRAW_WRITES(2, 3);
+
 /* The path of a report as a text, as bsonraw-dump prints it: for each level a slash, the number, and where there is a key a colon and
- * the key in quotes, as in JSON: /1:"authors"/0:"0". As snprintf it puts as much as there is room for, and a 0 behind it, and returns
+ * the key in quotes, as in JSON, with all control characters escaped: /1:"authors"/0:"0". Of more than 20 levels the first ten and the last
+ * ten are there, with /.. between. As snprintf it puts as much as there is room for, and a 0 behind it, and returns
  * how many bytes the text has without that 0; of no document it returns 0.
  *
  *     struct bsonraw_report r;
@@ -1651,10 +1683,10 @@ BSONRAW_USE int32_t bsonraw_set_decimal128(uint8_t *bytes, size_t len, const cha
  * is only counted. The function returns BSONRAW_OK to go on; what else it returns ends the call, which returns it. With any other status
  * than these, BSONRAW_OK and BSONRAW_NO_MEMORY the function wasn't called. It takes memory for the levels, for two pieces, and for the
  * largest value that isn't a document or an array, with its text. */
-BSONRAW_USE int32_t bsonraw_json_write(const uint8_t *bytes, size_t len, size_t max_bytes, size_t max_depth, uint32_t canonical,
-                                       uint32_t indented, int32_t (*write)(void *context, const char *text, size_t text_len),
-                                       void *context, struct bsonraw_report *report, uint64_t *path, size_t path_room)
-                                       BSONRAW_READS(1, 2) BSONRAW_WRITES(10, 11);
+BSONRAW_USE int32_t bsonraw_json_write(const uint8_t *bytes, size_t len, size_t max_bytes, size_t max_depth, uint32_t flags,
+                                       int32_t (*write)(void *context, const char *text, size_t text_len), void *context,
+                                       struct bsonraw_report *report, uint64_t *path, size_t path_room)
+                                       BSONRAW_READS(1, 2) BSONRAW_WRITES(9, 10);
 
 /* The value of the element that a cursor is at as bsonraw_json prints it; its document or array is the first of max_depth levels.
  * BSONRAW_OK, and the text is at the front of text, with a 0 behind it; report->count is its bytes without that 0. BSONRAW_SMALL_BUFFER
@@ -1665,12 +1697,12 @@ BSONRAW_USE int32_t bsonraw_json_write(const uint8_t *bytes, size_t len, size_t 
  *     struct bsonraw_report r;
  *     char text[256];
  *     if (bsonraw_get(bytes, len, "authors", &it) == BSONRAW_OK &&
- *         bsonraw_iter_json(&it, bytes, len, 100, 0, 0, text, sizeof text, &r) == BSONRAW_OK)
+ *         bsonraw_iter_json(&it, bytes, len, 100, 0, text, sizeof text, &r) == BSONRAW_OK)
  *         puts(text);
  */
 BSONRAW_USE int32_t bsonraw_iter_json(const struct bsonraw_iter *iter, const uint8_t *bytes, size_t len, size_t max_depth,
-                                      uint32_t canonical, uint32_t indented, char *BSONRAW_RESTRICT text, size_t room, struct bsonraw_report *report)
-                                      BSONRAW_READS(2, 3) BSONRAW_WRITES(7, 8);
+                                      uint32_t flags, char *BSONRAW_RESTRICT text, size_t room, struct bsonraw_report *report)
+                                      BSONRAW_READS(2, 3) BSONRAW_WRITES(6, 7);
 
 /* ---- in new memory ---- */
 
@@ -1681,22 +1713,42 @@ BSONRAW_USE int32_t bsonraw_iter_json(const struct bsonraw_iter *iter, const uin
  * do, and up to four times len bytes before it knows how many there are.
  *
  *     char *text;
- *     if (bsonraw_json_new(bytes, len, 1 << 24, 100, 0, 0, &text, NULL) == BSONRAW_OK) puts(text);
+ *     if (bsonraw_json_new(bytes, len, 1 << 24, 100, BSONRAW_JSON_INDENTED, &text, NULL) == BSONRAW_OK) puts(text);
  *     free(text);
  */
-BSONRAW_USE int32_t bsonraw_json_new(const uint8_t *bytes, size_t len, size_t max_bytes, size_t max_depth, uint32_t canonical,
-                                     uint32_t indented, char **text, struct bsonraw_report *report) BSONRAW_READS(1, 2);
+BSONRAW_USE int32_t bsonraw_json_new(const uint8_t *bytes, size_t len, size_t max_bytes, size_t max_depth, uint32_t flags, char **text,
+                                     struct bsonraw_report *report) BSONRAW_READS(1, 2);
 BSONRAW_USE int32_t bsonraw_canonical_new(const uint8_t *bytes, size_t len, size_t max_bytes, size_t max_depth, uint8_t **form,
                                           struct bsonraw_report *report) BSONRAW_READS(1, 2);
 BSONRAW_USE int32_t bsonraw_from_json_new(const char *text, size_t len, size_t max_bytes, size_t max_depth, uint8_t **document,
                                           struct bsonraw_json_report *report) BSONRAW_READS(1, 2);
 
+/* The next document of a text that has some one behind the other, with blanks and new lines between them, or nothing: as
+ * bsonraw_from_json_new, from the byte *at on, which is 0 at first. With BSONRAW_OK *at is then behind the document, and else as it was;
+ * BSONRAW_NONE where only blanks are left, and *at is len; BSONRAW_BAD_OFFSET where it is over len. Places in the report are of the whole
+ * text.
+ *
+ *     static const char text[] = "{\"a\": 1}\n{\"a\": 2} {\"a\": tru}";
+ *     struct bsonraw_json_report r;
+ *     uint8_t *document;
+ *     size_t at = 0;
+ *     int32_t status;
+ *     while ((status = bsonraw_from_json_next(text, sizeof text - 1, &at, 1 << 24, 100, &document, &r)) == BSONRAW_OK) {
+ *         fwrite(document, 1, r.count, stdout);
+ *         free(document);
+ *     }
+ *     if (status != BSONRAW_NONE) printf("line %lu, column %lu\n", r.line, r.column);
+ */
+BSONRAW_USE int32_t bsonraw_from_json_next(const char *text, size_t len, size_t *at, size_t max_bytes, size_t max_depth, uint8_t **document,
+                                           struct bsonraw_json_report *report) BSONRAW_READS(1, 2);
+
 /* ---- a builder that grows ---- */
 
 /* Memory for a document that is built, which grows. Each call returns buffer->status, which sticks as that of a builder:
- * BSONRAW_NO_MEMORY, too, and BSONRAW_MISUSE where the document has been ended; level.count is then the number of the element that was
- * refused, from 0, in its level. A key is NULL in an array. Where bsonraw_buffer_end
- * ends the document and returns BSONRAW_OK, the document is buffer->len bytes at buffer->bytes, up to the next call.
+ * BSONRAW_NO_MEMORY, too; level.count is then the number of the element that was refused, from 0, in its level. A key is NULL in an array,
+ * else BSONRAW_MISUSE, and a text in a document, else BSONRAW_NULL. So a level whose end was forgotten is seen: by the next key, or by
+ * bsonraw_buffer_finish, which finishes the document, and returns BSONRAW_MISUSE while a level is open. With BSONRAW_OK the document is
+ * buffer->len bytes at buffer->bytes, up to the next call; len is 0 before. BSONRAW_MISUSE, too, where the document is finished.
  *
  *     struct bsonraw_buffer b;
  *     bsonraw_buffer_init(&b);
@@ -1705,12 +1757,12 @@ BSONRAW_USE int32_t bsonraw_from_json_new(const char *text, size_t len, size_t m
  *     bsonraw_buffer_int32(&b, NULL, 2);
  *     bsonraw_buffer_int32(&b, NULL, 3);
  *     bsonraw_buffer_end(&b);
- *     if (bsonraw_buffer_end(&b) == BSONRAW_OK) fwrite(b.bytes, 1, b.len, stdout);
+ *     if (bsonraw_buffer_finish(&b) == BSONRAW_OK) fwrite(b.bytes, 1, b.len, stdout);
  *     bsonraw_buffer_free(&b);
  */
 struct bsonraw_buffer {
     uint8_t *bytes;
-    size_t len;    /* of the document, once it is ended */
+    size_t len;    /* of the document, once it is finished */
     int32_t status; /* enum bsonraw_status */
     uint32_t is_ended;
     size_t room;   /* of the memory */
@@ -1720,19 +1772,23 @@ struct bsonraw_buffer {
     size_t levels_room;
     void *(*resize)(void *context, void *memory, size_t size); /* as realloc; with a size of 0 it frees, and returns NULL */
     void *context;
+    uint64_t begun;               /* what tells a buffer from memory that no call has begun */
 };
 
 /* Begins a document, in memory of malloc, or of the caller's function; or once more in the memory that the buffer has. Free gives the
- * memory back, and leaves a buffer that is all 0, as no call has begun it: other calls refuse that with BSONRAW_BAD_OFFSET. */
+ * memory back, and leaves a buffer that is all 0. Other calls refuse that with BSONRAW_BAD_OFFSET, and any memory that isn't a buffer that
+ * one of the first two has begun, as one that was never set; free does nothing with it. */
 int32_t bsonraw_buffer_init(struct bsonraw_buffer *buffer);
 int32_t bsonraw_buffer_init_with(struct bsonraw_buffer *buffer, void *(*resize)(void *context, void *memory, size_t size), void *context);
 int32_t bsonraw_buffer_reset(struct bsonraw_buffer *buffer);
 void bsonraw_buffer_free(struct bsonraw_buffer *buffer);
 
-/* Begins a document or an array in the level that is open; ends the innermost level, or the document. */
+/* Begins a document or an array in the level that is open; ends the innermost level, and where none is open returns BSONRAW_MISUSE; and
+ * finishes the document. */
 int32_t bsonraw_buffer_begin_document(struct bsonraw_buffer *buffer, const char *key);
 int32_t bsonraw_buffer_begin_array(struct bsonraw_buffer *buffer, const char *key);
 int32_t bsonraw_buffer_end(struct bsonraw_buffer *buffer);
+BSONRAW_USE int32_t bsonraw_buffer_finish(struct bsonraw_buffer *buffer);
 
 /* Append an element, as the calls of a builder do; bsonraw_buffer_append takes its parts, as bsonraw_append, and so appends the kinds that
  * have no call of their own. Options are NULL where there are none. */
@@ -1758,11 +1814,76 @@ int32_t bsonraw_buffer_array(struct bsonraw_buffer *buffer, const char *key, con
 int32_t bsonraw_buffer_iter(struct bsonraw_buffer *buffer, const struct bsonraw_iter *iter, const uint8_t *bytes, size_t len)
                             BSONRAW_READS(3, 4);
 
-/* Append the elements of a document, as they are: all; all but those with these keys, of which none is NULL; or all with another
- * document laid over them: a key that is there gets the other's value in its place, and the other's new keys follow. A stop, or bytes
- * that are no document, are BSONRAW_FAULT or BSONRAW_NO_DOCUMENT, and stick. The last one takes as many steps as there are pairs of
- * elements. */
+/* Append the elements of a document, as they are. A stop, or bytes that are no document, are BSONRAW_FAULT or BSONRAW_NO_DOCUMENT, and
+ * stick. */
 int32_t bsonraw_buffer_concat(struct bsonraw_buffer *buffer, const uint8_t *bytes, size_t len) BSONRAW_READS(2, 3);
+
+/* What becomes of the elements at a path, which is as that of bsonraw_get. */
+enum bsonraw_change_kind {
+    BSONRAW_CHANGE_SET = 1,    /* they get this value */
+    BSONRAW_CHANGE_REMOVE = 2, /* they are left out */
+    BSONRAW_CHANGE_RENAME = 3  /* they get this key, and keep their place */
+};
+
+struct bsonraw_change {
+    const char *path;
+    uint32_t kind;     /* enum bsonraw_change_kind */
+    uint32_t tag;      /* of a value, whose parts are those of bsonraw_append */
+    const void *one;   /* NULL for those in number */
+    size_t one_len;
+    const void *two;
+    size_t two_len;
+    const char *key;   /* of a rename */
+    uint64_t count;    /* what bsonraw_buffer_edit says: how many elements it changed or appended; 0 where the path leads to none */
+    int32_t status;    /* why there is no value to be set: BSONRAW_NULL, or that of bsonraw_iter_value */
+    uint8_t number[8];
+};
+
+/* Appends the elements of a document with changes, in one walk: O(n log m) steps for n elements of the levels that paths go through, and
+ * m changes. All else is copied as it is, but that the elements of such an array are numbered anew.
+ *   - Of a key that repeats in a level each element is changed, and each document with it is gone into.
+ *   - A path that leads to no element changes nothing, but that a value to be set is appended there: behind the others, in the order of the
+ *     changes, with documents for the steps that are lacking; in an array as the next element, else BSONRAW_BAD_OFFSET. A value
+ *     isn't set through an element that is neither a document nor an array: BSONRAW_OTHER_KIND.
+ *   - What is removed from an array leaves no gap. Its elements aren't renamed: BSONRAW_MISUSE.
+ *   - Whether the new key of a rename is there already isn't looked at. A value that has a fault isn't renamed: BSONRAW_FAULT.
+ *   - No change is at the path of another one, or goes on behind it: BSONRAW_MISUSE.
+ * These stick, as what a buffer refuses, a stop of a level that is gone into (BSONRAW_FAULT), bytes that are no document
+ * (BSONRAW_NO_DOCUMENT), a kind that is none (BSONRAW_OTHER_KIND), and a path or a new key of NULL (BSONRAW_NULL). It takes memory for the
+ * steps of all paths, under 300 bytes for each.
+ *
+ *     struct bsonraw_change changes[3];
+ *     struct bsonraw_buffer b;
+ *     changes[0] = bsonraw_change_remove("run");
+ *     changes[1] = bsonraw_change_rename("authors.0.name", "first");
+ *     changes[2] = bsonraw_change_utf8("authors.0.last", "Lovelace");
+ *     bsonraw_buffer_init(&b);
+ *     bsonraw_buffer_edit(&b, bytes, len, changes, 3);
+ *     if (bsonraw_buffer_finish(&b) == BSONRAW_OK) fwrite(b.bytes, 1, b.len, stdout);
+ *     bsonraw_buffer_free(&b);
+ */
+int32_t bsonraw_buffer_edit(struct bsonraw_buffer *buffer, const uint8_t *bytes, size_t len, struct bsonraw_change *changes, size_t count)
+                            BSONRAW_READS(2, 3) BSONRAW_CHANGES(4, 5);
+
+/* Changes. The path, the key and the value are pointed to, and are there up to the call that takes the change; numbers are kept in it.
+ * bsonraw_change_value takes the parts of a value of any kind, as bsonraw_append, and bsonraw_change_iter the value that a cursor is at. */
+struct bsonraw_change bsonraw_change_remove(const char *path);
+struct bsonraw_change bsonraw_change_rename(const char *path, const char *key);
+struct bsonraw_change bsonraw_change_value(const char *path, uint32_t tag, const void *one, size_t one_len, const void *two, size_t two_len)
+                                           BSONRAW_READS(3, 4) BSONRAW_READS(5, 6);
+struct bsonraw_change bsonraw_change_iter(const char *path, const struct bsonraw_iter *iter, const uint8_t *bytes, size_t len)
+                                          BSONRAW_READS(3, 4);
+struct bsonraw_change bsonraw_change_int32(const char *path, int32_t number);
+struct bsonraw_change bsonraw_change_int64(const char *path, int64_t number);
+struct bsonraw_change bsonraw_change_double(const char *path, double number);
+struct bsonraw_change bsonraw_change_bool(const char *path, int32_t is_true);
+struct bsonraw_change bsonraw_change_date_time(const char *path, int64_t millis);
+struct bsonraw_change bsonraw_change_null(const char *path);
+struct bsonraw_change bsonraw_change_utf8(const char *path, const char *text);
+
+/* Two names for changes by key, where a key may have dots: all elements but those with these keys, of which none is NULL; or all with
+ * another document laid over them: a key that is there gets the other's first value for it, and the other's new keys follow. They stay for
+ * this version; bsonraw_buffer_edit does what they do, by path. */
 int32_t bsonraw_buffer_copy_without(struct bsonraw_buffer *buffer, const uint8_t *bytes, size_t len, const char *const *keys,
                                     size_t count) BSONRAW_READS(2, 3) BSONRAW_READS(4, 5);
 int32_t bsonraw_buffer_copy_with(struct bsonraw_buffer *buffer, const uint8_t *bytes, size_t len, const uint8_t *over, size_t over_len)
@@ -1792,6 +1913,7 @@ struct bsonraw_stream {
     uint64_t offset;
     struct bsonraw_error error;
     size_t max_bytes;
+    struct bsonraw_resync resync; /* what bsonraw_stream_resync found last, and what it cost so far */
     uint8_t *memory; /* of its own, as the others */
     size_t room, begins, ends;
     FILE *file;
@@ -1803,6 +1925,26 @@ int32_t bsonraw_stream_from_fd(struct bsonraw_stream *stream, int fd);
 int32_t bsonraw_stream_from_file(struct bsonraw_stream *stream, FILE *file);
 BSONRAW_USE int32_t bsonraw_stream_read(struct bsonraw_stream *stream);
 void bsonraw_stream_free(struct bsonraw_stream *stream);
+
+/* Goes on behind damage, as bsonraw_reader_resync does in memory: BSONRAW_OK, and the next bsonraw_stream_read is where documents go on, or
+ * at the end. The damage is the document that the last one gave, as where bsonraw_first_fault finds one, or what it returned
+ * BSONRAW_NO_DOCUMENT, BSONRAW_TOO_MANY_BYTES or BSONRAW_CUT for. BSONRAW_BAD_OFFSET where there is none: no document was read, or this
+ * call went on behind it already. BSONRAW_NOT_READ and BSONRAW_NO_MEMORY, after which it may be called once more; any other status of the
+ * stream it returns as it is. It reads up to four times max_bytes ahead, of at most 2147483647, and has up to twice that in memory;
+ * so max_bytes of the stream and this one are best those of the largest document.
+ *
+ *     struct bsonraw_stream s;
+ *     struct bsonraw_report r;
+ *     int32_t status = bsonraw_stream_from_file(&s, stdin);
+ *     s.max_bytes = 1 << 24;
+ *     while (status == BSONRAW_OK && (status = bsonraw_stream_read(&s)) != BSONRAW_NONE)
+ *         if (status == BSONRAW_OK && bsonraw_first_fault(s.bytes, s.len, 1 << 24, 500, &r, NULL, 0) == BSONRAW_OK)
+ *             fwrite(s.bytes, 1, s.len, stdout);
+ *         else
+ *             status = bsonraw_stream_resync(&s, 1 << 24, 500);
+ *     bsonraw_stream_free(&s);
+ */
+BSONRAW_USE int32_t bsonraw_stream_resync(struct bsonraw_stream *stream, size_t max_bytes, size_t max_depth);
 
 /* Whether a reader that returned BSONRAW_NO_DOCUMENT found a document that is cut off, rather than a length that can't be: the bytes end
  * before the four of its length, or before the length that they say. */
@@ -1822,6 +1964,9 @@ BSONRAW_USE int32_t bsonraw_reader_is_cut(const struct bsonraw_reader *reader, c
 BSONRAW_TOUCHING(size_t, fault_text, (const struct bsonraw_error *error, char *BSONRAW_RESTRICT text, size_t room),
                  BSONRAW_LACKS(text, room), (error, text, room))
 #define bsonraw_fault_text bsonraw_touching_fault_text
+BSONRAW_TOUCHING(size_t, json_fault_text, (const struct bsonraw_json_report *report, char *BSONRAW_RESTRICT text, size_t room),
+                 BSONRAW_LACKS(text, room), (report, text, room))
+#define bsonraw_json_fault_text bsonraw_touching_json_fault_text
 BSONRAW_TOUCHING(size_t, path_text, (const uint8_t *bytes, size_t len, const uint64_t *path, size_t path_len, char *BSONRAW_RESTRICT text,
                   size_t room),
                  BSONRAW_LACKS(bytes, len) + BSONRAW_LACKS(path, path_len) + BSONRAW_LACKS(text, room),
@@ -1920,19 +2065,19 @@ BSONRAW_TOUCHING(BSONRAW_USE int32_t, set_decimal128, (uint8_t *bytes, size_t le
                  BSONRAW_LACKS(bytes, len) + BSONRAW_LACKS(decimal, 16), (bytes, len, path, decimal))
 #define bsonraw_set_decimal128 bsonraw_touching_set_decimal128
 BSONRAW_TOUCHING(BSONRAW_USE int32_t, json_write, (const uint8_t *bytes, size_t len, size_t max_bytes, size_t max_depth,
-                  uint32_t canonical, uint32_t indented, int32_t (*write)(void *context, const char *text, size_t text_len), void *context,
+                  uint32_t flags, int32_t (*write)(void *context, const char *text, size_t text_len), void *context,
                   struct bsonraw_report *report, uint64_t *path, size_t path_room),
                  BSONRAW_LACKS(bytes, len) + BSONRAW_LACKS(path, path_room),
-                 (bytes, len, max_bytes, max_depth, canonical, indented, write, context, report, path, path_room))
+                 (bytes, len, max_bytes, max_depth, flags, write, context, report, path, path_room))
 #define bsonraw_json_write bsonraw_touching_json_write
 BSONRAW_TOUCHING(BSONRAW_USE int32_t, iter_json, (const struct bsonraw_iter *iter, const uint8_t *bytes, size_t len, size_t max_depth,
-                  uint32_t canonical, uint32_t indented, char *BSONRAW_RESTRICT text, size_t room, struct bsonraw_report *report),
+                  uint32_t flags, char *BSONRAW_RESTRICT text, size_t room, struct bsonraw_report *report),
                  BSONRAW_LACKS(bytes, len) + BSONRAW_LACKS(text, room),
-                 (iter, bytes, len, max_depth, canonical, indented, text, room, report))
+                 (iter, bytes, len, max_depth, flags, text, room, report))
 #define bsonraw_iter_json bsonraw_touching_iter_json
-BSONRAW_TOUCHING(BSONRAW_USE int32_t, json_new, (const uint8_t *bytes, size_t len, size_t max_bytes, size_t max_depth, uint32_t canonical,
-                  uint32_t indented, char **text, struct bsonraw_report *report),
-                 BSONRAW_LACKS(bytes, len), (bytes, len, max_bytes, max_depth, canonical, indented, text, report))
+BSONRAW_TOUCHING(BSONRAW_USE int32_t, json_new, (const uint8_t *bytes, size_t len, size_t max_bytes, size_t max_depth, uint32_t flags,
+                  char **text, struct bsonraw_report *report),
+                 BSONRAW_LACKS(bytes, len), (bytes, len, max_bytes, max_depth, flags, text, report))
 #define bsonraw_json_new bsonraw_touching_json_new
 BSONRAW_TOUCHING(BSONRAW_USE int32_t, canonical_new, (const uint8_t *bytes, size_t len, size_t max_bytes, size_t max_depth, uint8_t **form,
                   struct bsonraw_report *report),
@@ -1942,6 +2087,10 @@ BSONRAW_TOUCHING(BSONRAW_USE int32_t, from_json_new, (const char *text, size_t l
                   struct bsonraw_json_report *report),
                  BSONRAW_LACKS(text, len), (text, len, max_bytes, max_depth, document, report))
 #define bsonraw_from_json_new bsonraw_touching_from_json_new
+BSONRAW_TOUCHING(BSONRAW_USE int32_t, from_json_next, (const char *text, size_t len, size_t *at, size_t max_bytes, size_t max_depth,
+                  uint8_t **document, struct bsonraw_json_report *report),
+                 BSONRAW_LACKS(text, len), (text, len, at, max_bytes, max_depth, document, report))
+#define bsonraw_from_json_next bsonraw_touching_from_json_next
 BSONRAW_TOUCHING(int32_t, buffer_append, (struct bsonraw_buffer *buffer, uint32_t tag, const char *key, const void *one, size_t one_len,
                   const void *two, size_t two_len),
                  BSONRAW_LACKS(BSONRAW_BYTES(one), one_len) + BSONRAW_LACKS(BSONRAW_BYTES(two), two_len),
@@ -1972,6 +2121,18 @@ BSONRAW_TOUCHING(int32_t, buffer_iter, (struct bsonraw_buffer *buffer, const str
 BSONRAW_TOUCHING(int32_t, buffer_concat, (struct bsonraw_buffer *buffer, const uint8_t *bytes, size_t len),
                  BSONRAW_LACKS(bytes, len), (buffer, bytes, len))
 #define bsonraw_buffer_concat bsonraw_touching_buffer_concat
+BSONRAW_TOUCHING(int32_t, buffer_edit, (struct bsonraw_buffer *buffer, const uint8_t *bytes, size_t len, struct bsonraw_change *changes,
+                  size_t count),
+                 BSONRAW_LACKS(bytes, len) + BSONRAW_LACKS(changes, count), (buffer, bytes, len, changes, count))
+#define bsonraw_buffer_edit bsonraw_touching_buffer_edit
+BSONRAW_TOUCHING(struct bsonraw_change, change_value, (const char *path, uint32_t tag, const void *one, size_t one_len, const void *two,
+                  size_t two_len),
+                 BSONRAW_LACKS(BSONRAW_BYTES(one), one_len) + BSONRAW_LACKS(BSONRAW_BYTES(two), two_len),
+                 (path, tag, one, one_len, two, two_len))
+#define bsonraw_change_value bsonraw_touching_change_value
+BSONRAW_TOUCHING(struct bsonraw_change, change_iter, (const char *path, const struct bsonraw_iter *iter, const uint8_t *bytes, size_t len),
+                 BSONRAW_LACKS(bytes, len), (path, iter, bytes, len))
+#define bsonraw_change_iter bsonraw_touching_change_iter
 BSONRAW_TOUCHING(int32_t, buffer_copy_without, (struct bsonraw_buffer *buffer, const uint8_t *bytes, size_t len, const char *const *keys,
                   size_t count),
                  BSONRAW_LACKS(bytes, len) + BSONRAW_LACKS(keys, count), (buffer, bytes, len, keys, count))

@@ -1,6 +1,6 @@
 // bsonraw.hpp: bsonraw.h for C++17. Views don't own the bytes that they name; a buffer owns the document that it builds. Nothing here
 // throws but what takes memory of std::string: a call that may find nothing returns a result, which is a value or the status why there is
-// none. Tested, not proved, over the functions of bsonraw.h.
+// none. Tested, not proved, over the functions of bsonraw.h. A view of what is gone at the end of the line doesn't compile.
 #ifndef BSONRAW_HPP
 #define BSONRAW_HPP
 
@@ -9,9 +9,11 @@
 #include <array>
 #include <chrono>
 #include <cstddef>
+#include <cstdio>
 #include <cstring>
 #include <iterator>
 #include <limits>
+#include <list>
 #include <string>
 #include <string_view>
 #include <type_traits>
@@ -51,7 +53,46 @@ struct binary {
     size_t size = 0;
 };
 
+// Seconds from 1970 on, and a number among those of one second.
+struct timestamp {
+    uint32_t time = 0;
+    uint32_t increment = 0;
+    bool operator==(const timestamp &other) const noexcept { return time == other.time && increment == other.increment; }
+    bool operator!=(const timestamp &other) const noexcept { return !(*this == other); }
+};
+
+// The sixteen bytes of a Decimal128.
+struct decimal128 {
+    std::array<uint8_t, 16> bytes = {};
+    // As 1.50 or NaN.
+    result<std::string> text() const {
+        char room[BSONRAW_DECIMAL128_TEXT] = "";
+        int32_t status = bsonraw_decimal128_to_text(bytes.data(), room);
+        return {status, room};
+    }
+    // What such a text writes; it has no 0.
+    static result<decimal128> of(const std::string &text) noexcept {
+        decimal128 own;
+        int32_t status = bsonraw_decimal128_from_text(text.c_str(), own.bytes.data());
+        return {status, own};
+    }
+    bool operator==(const decimal128 &other) const noexcept { return bytes == other.bytes; }
+    bool operator!=(const decimal128 &other) const noexcept { return !(*this == other); }
+};
+
+// The pattern and the options of a regular expression, which somebody else owns.
+struct regex {
+    std::string_view pattern = {};
+    std::string_view options = {};
+    bool operator==(const regex &other) const noexcept { return pattern == other.pattern && options == other.options; }
+    bool operator!=(const regex &other) const noexcept { return !(*this == other); }
+};
+
 class view;
+
+inline uint32_t json_flags(bool canonical, bool indented) noexcept {
+    return (canonical ? static_cast<uint32_t>(BSONRAW_JSON_CANONICAL) : 0u) | (indented ? static_cast<uint32_t>(BSONRAW_JSON_INDENTED) : 0u);
+}
 
 // An element of a document, where it is in the bytes; or a stop, whose status is BSONRAW_FAULT.
 class element {
@@ -79,13 +120,14 @@ public:
         int32_t status = BSONRAW_SMALL_BUFFER;
         for (int turn = 0; turn < 2 && status == BSONRAW_SMALL_BUFFER; turn++) {
             text.resize(text.size() + report.count);
-            status = bsonraw_iter_json(&it_, bytes_, len_, max_depth, canonical, indented, text.data(), text.size(), &report);
+            status = bsonraw_iter_json(&it_, bytes_, len_, max_depth, json_flags(canonical, indented), text.data(), text.size(), &report);
         }
         text.resize(status == BSONRAW_OK ? report.count : 0);
         return {status, std::move(text)};
     }
-    // The value where it is of the kind of T: int32_t, int64_t (an int32 too), double (an int32 or an int64 too), bool, std::string_view,
-    // oid, date_time, binary, or view of a document or an array.
+    // The value where it is of the kind of T: int32_t, int64_t and long long (an int32 too), double (an int32 or an int64 too), bool,
+    // std::string_view, std::string, oid, date_time and std::chrono::system_clock::time_point, timestamp, decimal128, binary, regex, or view
+    // of a document or an array.
     template <class T>
     result<T> as() const;
 
@@ -140,6 +182,8 @@ public:
     view() = default;
     view(const uint8_t *data, size_t size, uint32_t tag = BSONRAW_TAG_DOCUMENT) noexcept : data_(data), size_(size), tag_(tag) {}
     view(const std::vector<uint8_t> &bytes) noexcept : view(bytes.data(), bytes.size()) {}
+    view(const std::vector<uint8_t> &&) = delete; // the bytes are gone before the view is used
+    explicit view(std::string &&) = delete;
     explicit view(std::string_view bytes) noexcept : view(reinterpret_cast<const uint8_t *>(bytes.data()), bytes.size()) {}
     const uint8_t *data() const noexcept { return data_; }
     size_t size() const noexcept { return size_; }
@@ -157,12 +201,36 @@ public:
             status = bsonraw_iter_find_descendant(&it, data_, size_, reinterpret_cast<const uint8_t *>(path.data()), path.size(), '.');
         return {status, element(data_, size_, it, status)};
     }
+    // The value at a path, as element::as has it.
     template <class T>
     result<T> get(std::string_view path) const {
         result<element> found = find(path);
         return found ? found->template as<T>() : result<T>(found.status(), T());
     }
     bool has(std::string_view path) const noexcept { return bool(find(path)); }
+    // The values at several paths, in one walk: of each path its value, or the status why there is none.
+    std::vector<result<bsonraw_value>> find_many(const std::vector<std::string> &paths) const {
+        std::vector<bsonraw_field> fields(paths.size());
+        for (size_t i = 0; i < paths.size(); i++) fields[i].path = paths[i].c_str();
+        (void)!bsonraw_find_many(data_, size_, fields.data(), fields.size());
+        std::vector<result<bsonraw_value>> values;
+        for (const bsonraw_field &field : fields) values.emplace_back(field.status, field.value);
+        return values;
+    }
+    // The text of a value that find_many gave.
+    std::string_view text(const bsonraw_value &value) const noexcept {
+        return value.text_at < size_ ? std::string_view(reinterpret_cast<const char *>(data_) + value.text_at, value.text_len) : std::string_view();
+    }
+    // Whether both are the same bytes; is_same_tree also takes what differs in bytes alone.
+    bool operator==(const view &other) const noexcept {
+        return size_ == other.size_ && (size_ == 0 || std::memcmp(data_, other.data_, size_) == 0);
+    }
+    bool operator!=(const view &other) const noexcept { return !(*this == other); }
+    // Whether both have one canonical form; else the status why one of them has none.
+    result<bool> is_same_tree(view other) const noexcept {
+        int32_t is_equal = 0, status = bsonraw_equal(data_, size_, other.data_, other.size_, &is_equal);
+        return {status, is_equal != 0};
+    }
 
     // The first fault, at any level.
     result<bsonraw_report> first_fault(size_t max_depth = 500) const noexcept {
@@ -207,7 +275,8 @@ result<T> element::as() const {
         int32_t number;
         status = bsonraw_iter_int32(&it_, bytes_, len_, &number);
         return {status, number};
-    } else if constexpr (std::is_same_v<T, int64_t>) {
+    } else if constexpr (std::is_same_v<T, int64_t> || std::is_same_v<T, long long> || std::is_same_v<T, long>) {
+        static_assert(sizeof(T) == sizeof(int64_t), "no kind of BSON is this type");
         int64_t number;
         status = bsonraw_iter_as_int64(&it_, bytes_, len_, &number);
         return {status, number};
@@ -224,6 +293,23 @@ result<T> element::as() const {
         size_t size;
         status = bsonraw_iter_utf8(&it_, bytes_, len_, &text, &size);
         return {status, text == nullptr ? std::string_view() : std::string_view(text, size)};
+    } else if constexpr (std::is_same_v<T, std::string>) {
+        auto text = as<std::string_view>();
+        return {text.status(), std::string(*text)};
+    } else if constexpr (std::is_same_v<T, timestamp>) {
+        timestamp own;
+        status = bsonraw_iter_timestamp(&it_, bytes_, len_, &own.time, &own.increment);
+        return {status, own};
+    } else if constexpr (std::is_same_v<T, decimal128>) {
+        const uint8_t *bytes;
+        decimal128 own;
+        status = bsonraw_iter_decimal128(&it_, bytes_, len_, &bytes);
+        if (bytes != nullptr) std::memcpy(own.bytes.data(), bytes, own.bytes.size());
+        return {status, own};
+    } else if constexpr (std::is_same_v<T, regex>) {
+        const char *pattern, *options;
+        status = bsonraw_iter_regex(&it_, bytes_, len_, &pattern, &options);
+        return {status, pattern == nullptr ? regex() : regex{pattern, options}};
     } else if constexpr (std::is_same_v<T, oid>) {
         const uint8_t *id;
         oid own = {};
@@ -234,6 +320,13 @@ result<T> element::as() const {
         int64_t millis;
         status = bsonraw_iter_date_time(&it_, bytes_, len_, &millis);
         return {status, date_time(std::chrono::milliseconds(millis))};
+    } else if constexpr (std::is_same_v<T, std::chrono::system_clock::time_point>) {
+        auto time = as<date_time>();
+        // a clock may count in smaller parts of a second, and reach less far
+        constexpr auto most = std::chrono::duration_cast<std::chrono::milliseconds>(T::duration::max()).count();
+        const auto millis = (*time).time_since_epoch().count();
+        if (millis > most || millis < -most) return {BSONRAW_OTHER_KIND, T()};
+        return {time.status(), std::chrono::time_point_cast<typename T::duration>(*time)};
     } else if constexpr (std::is_same_v<T, binary>) {
         uint32_t subtype;
         binary own;
@@ -250,15 +343,62 @@ result<T> element::as() const {
     }
 }
 
-// A key, which a 0 ends: nullptr in an array. A text with a 0 in it is none, and is passed on as one that is refused with BSONRAW_FAULT.
+// A key or a path, which a 0 ends: nullptr for a key in an array. A text with a 0 in it is none, and is passed on as one that is refused
+// with BSONRAW_FAULT. What has no 0 behind it is copied.
 class key_text {
 public:
-    key_text(const char *text) noexcept : text_(text) {}
-    key_text(const std::string &text) noexcept : text_(text.find('\0') == std::string::npos ? text.c_str() : "\xff") {}
+    key_text(const char *text) noexcept : own_(), text_(text) {}
+    key_text(const std::string &text) noexcept : own_(), text_(text.find('\0') == std::string::npos ? text.c_str() : "\xff") {}
+    key_text(std::string_view text) : own_(text), text_(text.find('\0') == std::string_view::npos ? own_.c_str() : "\xff") {}
+    key_text(const key_text &) = delete;
+    key_text &operator=(const key_text &) = delete;
     const char *text() const noexcept { return text_; }
 
 private:
+    std::string own_;
     const char *text_;
+};
+
+// Changes of elements by path, for buffer::edit; as bsonraw_buffer_edit. Paths, keys and texts are kept here.
+class edits {
+public:
+    edits() : texts_(), changes_() {}
+    edits &remove(std::string_view path) { return add(bsonraw_change_remove(keep(path))); }
+    edits &rename(std::string_view path, std::string_view key) {
+        const char *kept = keep(path);
+        return add(bsonraw_change_rename(kept, keep(key)));
+    }
+    edits &set(std::string_view path, int32_t number) { return add(bsonraw_change_int32(keep(path), number)); }
+    edits &set(std::string_view path, int64_t number) { return add(bsonraw_change_int64(keep(path), number)); }
+    edits &set(std::string_view path, double number) { return add(bsonraw_change_double(keep(path), number)); }
+    template <class T, std::enable_if_t<std::is_same_v<T, bool>, int> = 0>
+    edits &set(std::string_view path, T is_true) { return add(bsonraw_change_bool(keep(path), is_true)); }
+    edits &set(std::string_view path, std::nullptr_t) { return add(bsonraw_change_null(keep(path))); }
+    edits &set(std::string_view path, date_time time) { return add(bsonraw_change_date_time(keep(path), time.time_since_epoch().count())); }
+    edits &set(std::string_view path, const char *text) { return set(path, std::string_view(text)); }
+    edits &set(std::string_view path, std::string_view text) {
+        const char *kept = keep(path), *value = keep(text);
+        return add(bsonraw_change_value(kept, BSONRAW_TAG_STRING, value, text.size(), nullptr, 0));
+    }
+    // A document or an array, and the value of an element, which are pointed to.
+    edits &set(std::string_view path, view part) {
+        return add(bsonraw_change_value(keep(path), part.tag(), part.data(), part.size(), nullptr, 0));
+    }
+    edits &set(std::string_view path, const element &e) { return add(bsonraw_change_iter(keep(path), &e.iter(), e.bytes(), e.len())); }
+
+    bsonraw_change *data() noexcept { return changes_.data(); }
+    size_t size() const noexcept { return changes_.size(); }
+    // How many elements the change of this number changed.
+    uint64_t count(size_t number) const { return changes_.at(number).count; }
+
+private:
+    const char *keep(std::string_view text) { return texts_.emplace_back(text).c_str(); }
+    edits &add(const bsonraw_change &change) {
+        changes_.push_back(change);
+        return *this;
+    }
+    std::list<std::string> texts_;
+    std::vector<bsonraw_change> changes_;
 };
 
 // A document that is built, and its memory. A status sticks: one look at the end is enough. A key is nullptr in an array. A buffer that was
@@ -277,10 +417,10 @@ public:
 
     // An integer is an int32 where its type has at most 32 bits with a sign, and else an int64; one that no int64 is, is refused with
     // BSONRAW_OTHER_KIND. Of pointers only a text is taken.
-    buffer &append(key_text key, int32_t number) noexcept { return said(bsonraw_buffer_int32(&buffer_, key.text(), number)); }
-    buffer &append(key_text key, int64_t number) noexcept { return said(bsonraw_buffer_int64(&buffer_, key.text(), number)); }
+    buffer &append(const key_text &key, int32_t number) noexcept { return said(bsonraw_buffer_int32(&buffer_, key.text(), number)); }
+    buffer &append(const key_text &key, int64_t number) noexcept { return said(bsonraw_buffer_int64(&buffer_, key.text(), number)); }
     template <class T, std::enable_if_t<std::is_integral_v<T> && !std::is_same_v<T, bool>, int> = 0>
-    buffer &append(key_text key, T number) noexcept {
+    buffer &append(const key_text &key, T number) noexcept {
         using kind = std::conditional_t<std::numeric_limits<T>::digits <= 31, int32_t, int64_t>;
         if constexpr (std::numeric_limits<T>::digits > 63)
             if (number > static_cast<T>(std::numeric_limits<int64_t>::max()))
@@ -288,39 +428,61 @@ public:
         return append(key, static_cast<kind>(number));
     }
     template <class T, std::enable_if_t<std::is_same_v<T, bool>, int> = 0>
-    buffer &append(key_text key, T is_true) noexcept { return said(bsonraw_buffer_bool(&buffer_, key.text(), is_true)); }
-    buffer &append(key_text key, double number) noexcept { return said(bsonraw_buffer_double(&buffer_, key.text(), number)); }
-    buffer &append(key_text key, std::nullptr_t) noexcept { return said(bsonraw_buffer_null(&buffer_, key.text())); }
-    buffer &append(key_text key, const char *text) noexcept { return said(bsonraw_buffer_utf8(&buffer_, key.text(), text)); }
-    buffer &append(key_text key, std::string_view text) noexcept {
+    buffer &append(const key_text &key, T is_true) noexcept { return said(bsonraw_buffer_bool(&buffer_, key.text(), is_true)); }
+    buffer &append(const key_text &key, double number) noexcept { return said(bsonraw_buffer_double(&buffer_, key.text(), number)); }
+    buffer &append(const key_text &key, std::nullptr_t) noexcept { return said(bsonraw_buffer_null(&buffer_, key.text())); }
+    buffer &append(const key_text &key, const char *text) noexcept { return said(bsonraw_buffer_utf8(&buffer_, key.text(), text)); }
+    buffer &append(const key_text &key, std::string_view text) noexcept {
         return said(bsonraw_buffer_text(&buffer_, key.text(), text.data(), text.size()));
     }
-    buffer &append(key_text key, const oid &id) noexcept { return said(bsonraw_buffer_oid(&buffer_, key.text(), id.data())); }
+    buffer &append(const key_text &key, const oid &id) noexcept { return said(bsonraw_buffer_oid(&buffer_, key.text(), id.data())); }
     // A document; or an array, as the view has it.
-    buffer &append(key_text key, view part) noexcept {
+    buffer &append(const key_text &key, view part) noexcept {
         if (part.tag() == BSONRAW_TAG_ARRAY) return said(bsonraw_buffer_array(&buffer_, key.text(), part.data(), part.size()));
         return said(bsonraw_buffer_document(&buffer_, key.text(), part.data(), part.size()));
     }
-    buffer &append(key_text key, date_time time) noexcept { return append_date_time(key, time.time_since_epoch().count()); }
-    buffer &append(key_text key, const binary &part) noexcept { return append_binary(key, part.subtype, part.data, part.size); }
+    buffer &append(const key_text &key, date_time time) noexcept { return append_date_time(key, time.time_since_epoch().count()); }
+    buffer &append(const key_text &key, std::chrono::system_clock::time_point time) noexcept {
+        return append_date_time(key, std::chrono::floor<std::chrono::milliseconds>(time).time_since_epoch().count());
+    }
+    buffer &append(const key_text &key, const timestamp &time) noexcept {
+        return said(bsonraw_buffer_timestamp(&buffer_, key.text(), time.time, time.increment));
+    }
+    buffer &append(const key_text &key, const decimal128 &number) noexcept {
+        return said(bsonraw_buffer_decimal128(&buffer_, key.text(), number.bytes.data()));
+    }
+    buffer &append(const key_text &key, const regex &expression) noexcept {
+        return said(bsonraw_buffer_append(&buffer_, BSONRAW_TAG_REGEX, key.text(), expression.pattern.data(), expression.pattern.size(),
+                                          expression.options.data(), expression.options.size()));
+    }
+    buffer &append(const key_text &key, const binary &part) noexcept { return append_binary(key, part.subtype, part.data, part.size); }
     buffer &append(const element &e) noexcept { return said(bsonraw_buffer_iter(&buffer_, &e.iter(), e.bytes(), e.len())); }
-    buffer &append_date_time(key_text key, int64_t millis) noexcept { return said(bsonraw_buffer_date_time(&buffer_, key.text(), millis)); }
-    buffer &append_binary(key_text key, uint8_t subtype, const void *data, size_t size) noexcept {
+    buffer &append_date_time(const key_text &key, int64_t millis) noexcept { return said(bsonraw_buffer_date_time(&buffer_, key.text(), millis)); }
+    buffer &append_binary(const key_text &key, uint8_t subtype, const void *data, size_t size) noexcept {
         return said(bsonraw_buffer_binary(&buffer_, key.text(), subtype, data, size));
     }
     buffer &concat(view document) noexcept { return said(bsonraw_buffer_concat(&buffer_, document.data(), document.size())); }
-    buffer &begin_document(key_text key) noexcept { return said(bsonraw_buffer_begin_document(&buffer_, key.text())); }
-    buffer &begin_array(key_text key) noexcept { return said(bsonraw_buffer_begin_array(&buffer_, key.text())); }
-    // Ends the innermost level, or the document.
+    buffer &begin_document(const key_text &key) noexcept { return said(bsonraw_buffer_begin_document(&buffer_, key.text())); }
+    buffer &begin_array(const key_text &key) noexcept { return said(bsonraw_buffer_begin_array(&buffer_, key.text())); }
+    // Ends the innermost level.
     buffer &end() noexcept { return said(bsonraw_buffer_end(&buffer_)); }
+    // The elements of a document with changes.
+    buffer &edit(view document, edits &changes) noexcept {
+        return said(bsonraw_buffer_edit(&buffer_, document.data(), document.size(), changes.data(), changes.size()));
+    }
+    // Finishes the document, where no level is open: a view of it, up to the next call; or the first status that isn't BSONRAW_OK.
+    result<view> finish() & noexcept {
+        int32_t status = bsonraw_buffer_finish(&buffer_);
+        return {status, status == BSONRAW_OK ? view(buffer_.bytes, buffer_.len) : view()};
+    }
     // Begins another document, in the same memory if there is some.
     buffer &reset() noexcept {
         return said(buffer_.resize == nullptr ? bsonraw_buffer_init(&buffer_) : bsonraw_buffer_reset(&buffer_));
     }
 
     int32_t status() const noexcept { return buffer_.status; }
-    // The document, once it is ended.
-    result<view> document() const noexcept {
+    // The document, once it is finished.
+    result<view> document() const & noexcept {
         int32_t status = buffer_.status == BSONRAW_OK && !buffer_.is_ended ? BSONRAW_MISUSE : buffer_.status;
         return {status, status == BSONRAW_OK ? view(buffer_.bytes, buffer_.len) : view()};
     }
@@ -328,6 +490,29 @@ public:
 private:
     buffer &said(int32_t) noexcept { return *this; }
     bsonraw_buffer buffer_;
+};
+
+// Documents one behind the other from a file, which somebody else owns: see struct bsonraw_stream.
+class stream {
+public:
+    explicit stream(std::FILE *file) noexcept { (void)bsonraw_stream_from_file(&stream_, file); }
+    explicit stream(int fd) noexcept { (void)bsonraw_stream_from_fd(&stream_, fd); }
+    ~stream() { bsonraw_stream_free(&stream_); }
+    stream(const stream &) = delete;
+    stream &operator=(const stream &) = delete;
+    // The next document, up to the next call; BSONRAW_NONE at the end.
+    result<view> read() noexcept {
+        int32_t status = bsonraw_stream_read(&stream_);
+        return {status, view(stream_.bytes, stream_.len)};
+    }
+    // Goes on behind damage: see bsonraw_stream_resync.
+    [[nodiscard]] int32_t resync(size_t max_bytes, size_t max_depth = 500) noexcept { return bsonraw_stream_resync(&stream_, max_bytes, max_depth); }
+    void max_bytes(size_t most) noexcept { stream_.max_bytes = most; }
+    uint64_t offset() const noexcept { return stream_.offset; }
+    const bsonraw_error &error() const noexcept { return stream_.error; }
+
+private:
+    bsonraw_stream stream_ = {};
 };
 
 // The document that a text of Extended JSON writes, of any length; else the status and, where that is BSONRAW_FAULT, in *why the line, the

@@ -2,9 +2,7 @@
 #define BSONRAW_UNCHECKED
 #include "bsonraw.h"
 
-#include <errno.h>
 #include <stdlib.h>
-#include <unistd.h>
 
 #define LONGEST 2147483647u /* bytes of a document */
 
@@ -76,16 +74,28 @@ static void put_number(struct out *out, uint64_t number) {
     while (count > 0) put(out, digits[--count]);
 }
 
-/* A key in quotes, as JSON has it. */
-static void put_key(struct out *out, const uint8_t *key, size_t len) {
+/* A control character as JSON escapes it. */
+static void put_escape(struct out *out, unsigned code) {
     static const char hex[] = "0123456789abcdef", names[] = "btn\0fr";
+    put(out, '\\');
+    if (code >= 8 && code <= 13 && code != 11) {
+        put(out, names[code - 8]);
+        return;
+    }
+    put(out, 'u'), put(out, '0'), put(out, '0');
+    put(out, hex[code >> 4]), put(out, hex[code & 15]);
+}
+
+/* A key, which is UTF-8, in quotes, as JSON has it; control characters from U+007F to U+009F are escaped, too, so that a terminal obeys
+ * none. */
+static void put_key(struct out *out, const uint8_t *key, size_t len) {
     size_t at;
     put(out, '"');
     for (at = 0; at < len; at++) {
         uint8_t byte = key[at];
         if (byte == '"' || byte == '\\') put(out, '\\'), put(out, (char)byte);
-        else if (byte >= 8 && byte <= 13 && byte != 11) put(out, '\\'), put(out, names[byte - 8]);
-        else if (byte < 32) put(out, '\\'), put(out, 'u'), put(out, '0'), put(out, '0'), put(out, hex[byte >> 4]), put(out, hex[byte & 15]);
+        else if (byte < 32 || byte == 127) put_escape(out, byte);
+        else if (byte == 0xc2 && at + 1 < len && key[at + 1] < 0xa0) put_escape(out, key[++at]);
         else put(out, (char)byte);
     }
     put(out, '"');
@@ -99,6 +109,43 @@ static void put_words(struct out *out, const char *words) {
 static size_t end(const struct out *out) {
     if (out->room > 0) out->text[out->len < out->room ? out->len : out->room - 1] = 0;
     return out->len;
+}
+
+/* Why a text of JSON isn't read, by its reason. */
+static const char *json_reason_text(uint32_t reason) {
+    static const char *const texts[] = {
+        "no fault", "the text ends too early", "a byte order mark in front of the text", "expected a document",
+        "expected a key in quotes", "expected a colon", "expected a comma or the end of the object or array", "expected a value",
+        "text behind the document", "not a number of JSON", "an integer of more than 64 bits", "a number beyond the greatest double",
+        "a control character that is not escaped", "not an escape of JSON", "half a surrogate pair",
+        "U+0000 in a key, a pattern or options", "no value of its wrapper", "a decimal that no Decimal128 is exactly", "not UTF-8",
+        "the bytes written are not a document",
+    };
+    return reason < sizeof texts / sizeof *texts ? texts[reason] : "no fault";
+}
+
+/* What the value of a wrapper has to be; NULL for none. */
+static const char *wrapper_text(uint32_t wrapper) {
+    static const char *const texts[] = {
+        "{\"$oid\": 24 hex digits}", "{\"$numberInt\": a 32-bit integer as a string}", "{\"$numberLong\": a 64-bit integer as a string}",
+        "{\"$numberDouble\": a double as a string}", "{\"$numberDecimal\": a decimal as a string}",
+        "{\"$binary\": {\"base64\": a string, \"subType\": hex digits}}", "{\"$uuid\": hex digits with hyphens}",
+        "{\"$date\": an ISO 8601 time or {\"$numberLong\": milliseconds}}",
+        "{\"$regularExpression\": {\"pattern\": a string, \"options\": a string}}",
+        "{\"$timestamp\": {\"t\": seconds, \"i\": increment}}", "{\"$code\": a string} or with \"$scope\": a document",
+        "{\"$code\": a string} or with \"$scope\": a document", "{\"$dbPointer\": {\"$ref\": a string, \"$id\": an object id}}",
+        "{\"$symbol\": a string}", "{\"$undefined\": true}", "{\"$minKey\": 1}", "{\"$maxKey\": 1}",
+    };
+    return wrapper > 0 && wrapper <= sizeof texts / sizeof *texts ? texts[wrapper - 1] : NULL;
+}
+
+size_t bsonraw_json_fault_text(const struct bsonraw_json_report *report, char *text, size_t room) {
+    struct out out = {text, text == NULL ? 0 : room, 0};
+    uint32_t reason = report == NULL ? 0 : report->json_reason;
+    const char *wanted = reason == BSONRAW_JSON_MALFORMED ? wrapper_text(report->wrapper) : NULL;
+    put_words(&out, wanted == NULL ? json_reason_text(reason) : "this is not ");
+    if (wanted != NULL) put_words(&out, wanted);
+    return end(&out);
 }
 
 size_t bsonraw_fault_text(const struct bsonraw_error *error, char *text, size_t room) {
@@ -123,6 +170,8 @@ static int32_t go_into(const struct bsonraw_iter *iter, const uint8_t *bytes, si
     return bsonraw_iter_init_at(inside, bytes, len, value.more_at, value.more_len);
 }
 
+#define SHOWN 10u /* levels of each end of a path that has more than twice as many */
+
 size_t bsonraw_path_text(const uint8_t *bytes, size_t len, const uint64_t *path, size_t path_len, char *text, size_t room) {
     struct out out = {text, text == NULL ? 0 : room, 0};
     struct bsonraw_iter it;
@@ -135,6 +184,10 @@ size_t bsonraw_path_text(const uint8_t *bytes, size_t len, const uint64_t *path,
             if (go_into(&outer, bytes, len, &it) != BSONRAW_OK) break;
         }
         for (number = 0; number <= path[level] && status == BSONRAW_OK; number++) status = bsonraw_iter_next(&it, bytes, len);
+        if (level >= SHOWN && level + SHOWN < path_len) {
+            if (level == SHOWN) put_words(&out, "/..");
+            continue;
+        }
         put(&out, '/');
         put_number(&out, path[level]);
         if (it.key_at < len) put(&out, ':'), put_key(&out, bytes + it.key_at, it.key_len);
@@ -778,6 +831,12 @@ static void print_levels(struct json *j, uint32_t tag) {
     write_piece(j);
 }
 
+static void begin_json(struct json *j, const uint8_t *bytes, size_t len, uint32_t flags) {
+    memset(j, 0, sizeof *j);
+    j->bytes = bytes, j->len = len;
+    j->canonical = flags & BSONRAW_JSON_CANONICAL, j->indented = flags & BSONRAW_JSON_INDENTED;
+}
+
 static void free_json(struct json *j) {
     free(j->piece.bytes);
     free(j->document.bytes);
@@ -785,7 +844,7 @@ static void free_json(struct json *j) {
     free(j->levels.bytes);
 }
 
-int32_t bsonraw_json_write(const uint8_t *bytes, size_t len, size_t max_bytes, size_t max_depth, uint32_t canonical, uint32_t indented,
+int32_t bsonraw_json_write(const uint8_t *bytes, size_t len, size_t max_bytes, size_t max_depth, uint32_t flags,
                            int32_t (*write)(void *context, const char *text, size_t len), void *context,
                            struct bsonraw_report *report, uint64_t *path, size_t path_room) {
     struct json j;
@@ -793,9 +852,9 @@ int32_t bsonraw_json_write(const uint8_t *bytes, size_t len, size_t max_bytes, s
     if (BSONRAW_LACKS(bytes, len) || !report || BSONRAW_LACKS(path, path_room)) return BSONRAW_NULL;
     status = bsonraw_first_fault(bsonraw_some_bytes(bytes), len, max_bytes, max_depth, report, bsonraw_some_path(path), path_room);
     if (status != BSONRAW_OK) return status;
-    memset(&j, 0, sizeof j);
-    j.bytes = bytes, j.len = len, j.canonical = canonical, j.indented = indented, j.write = write, j.context = context;
-    print_levels(&j, BSONRAW_TAG_DOCUMENT);
+    begin_json(&j, bytes, len, flags);
+    j.write = write, j.context = context;
+    print_levels(&j, flags & BSONRAW_JSON_ARRAY ? BSONRAW_TAG_ARRAY : BSONRAW_TAG_DOCUMENT);
     free_json(&j);
     if (j.status == BSONRAW_OK) report->count = j.count;
     return j.status;
@@ -829,29 +888,30 @@ static int32_t put_in_room(void *context, const char *text, size_t len) {
     return BSONRAW_OK;
 }
 
-/* Prints a value that isn't a document or an array: the one that an array has, without its bracket and new line. */
+/* Prints a value that isn't a document or an array: the one that a document has under the empty key, without that and its braces. The
+ * document is no longer than the one that the value is in. */
 static void print_single(struct json *j, const struct bsonraw_iter *it) {
-    uint8_t *to = document_for(j, BSONRAW_TAG_ARRAY, (size_t)it->payload_len + 2);
+    uint8_t *to = document_for(j, BSONRAW_TAG_DOCUMENT, (size_t)it->payload_len + 2);
     size_t len;
     if (to == NULL) return;
     to[0] = (uint8_t)it->tag, to[1] = 0;
     memcpy(to + 2, j->bytes + it->payload_at, it->payload_len);
     len = print_made(j);
     if (j->status != BSONRAW_OK) return;
-    emit_lines(j, j->text.bytes + (j->indented ? 14 : 5), len - (j->indented ? 20 : 7), 2);
+    emit_lines(j, j->text.bytes + (j->indented ? 8 : 4), len - (j->indented ? 10 : 5), 1);
     write_piece(j);
 }
 
-int32_t bsonraw_iter_json(const struct bsonraw_iter *iter, const uint8_t *bytes, size_t len, size_t max_depth, uint32_t canonical,
-                          uint32_t indented, char *text, size_t room, struct bsonraw_report *report) {
+int32_t bsonraw_iter_json(const struct bsonraw_iter *iter, const uint8_t *bytes, size_t len, size_t max_depth, uint32_t flags,
+                          char *text, size_t room, struct bsonraw_report *report) {
     struct out out = {text, room, 0};
     struct json j;
     int32_t status;
     if (iter == NULL || BSONRAW_LACKS(bytes, len) || BSONRAW_LACKS(text, room) || report == NULL) return BSONRAW_NULL;
     status = look_inside(iter, bsonraw_some_bytes(bytes), len, max_depth, report);
     if (status != BSONRAW_OK) return status;
-    memset(&j, 0, sizeof j);
-    j.bytes = bytes, j.len = len, j.canonical = canonical, j.indented = indented, j.write = put_in_room, j.context = &out;
+    begin_json(&j, bytes, len, flags);
+    j.write = put_in_room, j.context = &out;
     if (iter->tag == BSONRAW_TAG_DOCUMENT || iter->tag == BSONRAW_TAG_ARRAY) {
         j.bytes += iter->payload_at, j.len = iter->payload_len;
         print_levels(&j, iter->tag);
@@ -873,7 +933,7 @@ struct making {
     int32_t (*make)(struct making *m, uint8_t *room, size_t room_len);
     const uint8_t *bytes;
     size_t len, max_bytes, max_depth;
-    uint32_t canonical, indented;
+    uint32_t flags;
     struct bsonraw_report report;
     struct bsonraw_json_report json_report;
     uint64_t count;
@@ -881,7 +941,8 @@ struct making {
 
 static int32_t make_json(struct making *m, uint8_t *room, size_t room_len) {
     uint64_t none[1];
-    int32_t status = bsonraw_json(m->bytes, m->len, m->max_bytes, m->max_depth, m->canonical, m->indented, room, room_len, &m->report, none, 0);
+    int32_t status = bsonraw_json(m->bytes, m->len, m->max_bytes, m->max_depth, m->flags & BSONRAW_JSON_CANONICAL,
+                                  m->flags & BSONRAW_JSON_INDENTED, room, room_len, &m->report, none, 0);
     m->count = m->report.count + 1;
     return status;
 }
@@ -930,14 +991,25 @@ static int32_t make_of_document(struct making *m, size_t times, uint8_t **made, 
     return status;
 }
 
-int32_t bsonraw_json_new(const uint8_t *bytes, size_t len, size_t max_bytes, size_t max_depth, uint32_t canonical, uint32_t indented,
-                         char **text, struct bsonraw_report *report) {
-    struct making m = {.make = make_json, .bytes = bsonraw_some_bytes(bytes), .len = len, .max_bytes = max_bytes, .max_depth = max_depth,
-                       .canonical = canonical, .indented = indented};
+/* The same of an array, piece by piece. */
+static int32_t make_array_json(struct making *m, uint8_t *room, size_t room_len) {
+    struct out out = {(char *)room, room_len, 0};
+    uint64_t none[1];
+    int32_t status = bsonraw_json_write(m->bytes, m->len, m->max_bytes, m->max_depth, m->flags, put_in_room, &out, &m->report, none, 0);
+    m->count = m->report.count + 1;
+    if (status == BSONRAW_OK && out.len >= room_len) return BSONRAW_SMALL_BUFFER;
+    if (status == BSONRAW_OK) room[out.len] = 0;
+    return status;
+}
+
+int32_t bsonraw_json_new(const uint8_t *bytes, size_t len, size_t max_bytes, size_t max_depth, uint32_t flags, char **text,
+                         struct bsonraw_report *report) {
+    struct making m = {.make = flags & BSONRAW_JSON_ARRAY ? make_array_json : make_json, .bytes = bsonraw_some_bytes(bytes), .len = len,
+                       .max_bytes = max_bytes, .max_depth = max_depth, .flags = flags};
     uint8_t *made = NULL;
     int32_t status;
     if (text == NULL) return BSONRAW_NULL;
-    status = BSONRAW_LACKS(bytes, len) ? BSONRAW_NULL : make_of_document(&m, canonical || indented ? 4 : 2, &made, report);
+    status = BSONRAW_LACKS(bytes, len) ? BSONRAW_NULL : make_of_document(&m, flags & (BSONRAW_JSON_CANONICAL | BSONRAW_JSON_INDENTED) ? 4 : 2, &made, report);
     *text = (char *)made;
     return status;
 }
@@ -967,6 +1039,55 @@ int32_t bsonraw_from_json_new(const char *text, size_t len, size_t max_bytes, si
     return status;
 }
 
+static int is_blank(char byte) {
+    return byte == ' ' || byte == '\t' || byte == '\n' || byte == '\r';
+}
+
+/* Where the object that begins here ends, by its braces that are in no string; without such an end, the end of the text. */
+static size_t object_end(const char *text, size_t len, size_t at) {
+    size_t depth = 0;
+    int is_string = 0;
+    for (; at < len; at++) {
+        if (is_string && text[at] == '\\') at++;
+        else if (text[at] == '"') is_string = !is_string;
+        else if (!is_string && text[at] == '{') depth++;
+        else if (!is_string && text[at] == '}' && --depth == 0) return at + 1;
+        if (depth == 0) break;
+    }
+    return len;
+}
+
+/* Makes a place in the text behind this front one in the whole text. */
+static void move_place(struct bsonraw_json_report *report, const char *front, size_t len) {
+    uint64_t lines = 0, characters = 0;
+    size_t at;
+    for (at = 0; at < len; at++)
+        if (front[at] == '\n') lines++, characters = 0;
+        else characters += ((unsigned char)front[at] & 0xc0) != 0x80;
+    report->offset += len;
+    if (report->line == 1) report->column += characters;
+    report->line += lines;
+}
+
+int32_t bsonraw_from_json_next(const char *text, size_t len, size_t *at, size_t max_bytes, size_t max_depth, uint8_t **document,
+                               struct bsonraw_json_report *report) {
+    static const struct bsonraw_json_report nothing;
+    size_t begins, ends;
+    int32_t status;
+    if (document == NULL) return BSONRAW_NULL;
+    *document = NULL;
+    if (BSONRAW_LACKS(text, len) || at == NULL || report == NULL) return BSONRAW_NULL;
+    *report = nothing;
+    if (*at > len) return BSONRAW_BAD_OFFSET;
+    for (begins = *at; begins < len && is_blank(text[begins]);) begins++;
+    if (begins == len) return *at = len, BSONRAW_NONE;
+    ends = object_end(text, len, begins);
+    status = bsonraw_from_json_new(text + begins, ends - begins, max_bytes, max_depth, document, report);
+    if (status == BSONRAW_OK) *at = ends;
+    else if (report->line > 0) move_place(report, text, begins);
+    return status;
+}
+
 /* ---- a builder that grows ---- */
 
 static void *resize_by_malloc(void *context, void *memory, size_t size) {
@@ -981,10 +1102,21 @@ static int32_t take(struct bsonraw_buffer *buffer, int32_t status) {
     return status;
 }
 
+#define BEGUN 0x6e75676562667562 /* what a buffer has that a call has begun */
+
 /* Whether a call may change the buffer. */
 static int goes_on(struct bsonraw_buffer *buffer) {
-    if (buffer->status == BSONRAW_OK && buffer->is_ended) take(buffer, BSONRAW_MISUSE);
+    if (buffer->begun != BEGUN) take(buffer, BSONRAW_BAD_OFFSET);
+    else if (buffer->status == BSONRAW_OK && buffer->is_ended) take(buffer, BSONRAW_MISUSE);
     return buffer->status == BSONRAW_OK;
+}
+
+/* Whether the level that is open takes this key: NULL in an array, and a text in a document. */
+static int takes_key(struct bsonraw_buffer *buffer, const char *key) {
+    int is_array = buffer->level.tag == BSONRAW_TAG_ARRAY;
+    if (is_array == (key == NULL)) return 1;
+    take(buffer, is_array ? BSONRAW_MISUSE : BSONRAW_NULL);
+    return 0;
 }
 
 /* Makes room for so many bytes more, as far as a document may have them. */
@@ -992,7 +1124,6 @@ static int reserve(struct bsonraw_buffer *buffer, size_t more) {
     size_t len = buffer->level.len, wanted = more < LONGEST - len ? len + more : LONGEST, room;
     uint8_t *bytes;
     if (wanted <= buffer->room) return 1;
-    if (buffer->resize == NULL) return take(buffer, BSONRAW_BAD_OFFSET), 0; /* no call has begun it */
     room = buffer->room < LONGEST / 2 ? 2 * buffer->room : LONGEST;
     if (room < wanted) room = wanted;
     if (room < 256) room = 256;
@@ -1009,6 +1140,7 @@ static int reserve(struct bsonraw_buffer *buffer, size_t more) {
 int32_t bsonraw_buffer_init_with(struct bsonraw_buffer *buffer, void *(*resize)(void *context, void *memory, size_t size), void *context) {
     if (buffer == NULL) return BSONRAW_NULL;
     memset(buffer, 0, sizeof *buffer);
+    buffer->begun = BEGUN;
     buffer->resize = resize;
     buffer->context = context;
     return resize == NULL ? take(buffer, BSONRAW_NULL) : bsonraw_buffer_reset(buffer);
@@ -1020,7 +1152,8 @@ int32_t bsonraw_buffer_init(struct bsonraw_buffer *buffer) {
 
 int32_t bsonraw_buffer_reset(struct bsonraw_buffer *buffer) {
     if (buffer == NULL) return BSONRAW_NULL;
-    if (buffer->resize == NULL) return buffer->status == BSONRAW_OK ? take(buffer, BSONRAW_BAD_OFFSET) : buffer->status;
+    if (buffer->begun != BEGUN) return take(buffer, BSONRAW_BAD_OFFSET);
+    if (buffer->resize == NULL) return buffer->status;
     buffer->len = buffer->depth = buffer->is_ended = 0;
     buffer->status = BSONRAW_OK;
     memset(&buffer->level, 0, sizeof buffer->level);
@@ -1029,7 +1162,7 @@ int32_t bsonraw_buffer_reset(struct bsonraw_buffer *buffer) {
 }
 
 void bsonraw_buffer_free(struct bsonraw_buffer *buffer) {
-    if (buffer == NULL || buffer->resize == NULL) return;
+    if (buffer == NULL || buffer->begun != BEGUN || buffer->resize == NULL) return;
     if (buffer->bytes != NULL) buffer->resize(buffer->context, buffer->bytes, 0);
     if (buffer->levels != NULL) buffer->resize(buffer->context, buffer->levels, 0);
     memset(buffer, 0, sizeof *buffer);
@@ -1040,7 +1173,6 @@ static int reserve_level(struct bsonraw_buffer *buffer) {
     struct bsonraw_builder *levels;
     size_t room = buffer->levels_room < 8 ? 16 : 2 * buffer->levels_room;
     if (buffer->depth < buffer->levels_room) return 1;
-    if (buffer->resize == NULL) return take(buffer, BSONRAW_BAD_OFFSET), 0;
     levels = buffer->resize(buffer->context, buffer->levels, room * sizeof *levels);
     if (levels == NULL) {
         take(buffer, BSONRAW_NO_MEMORY);
@@ -1055,7 +1187,7 @@ static int32_t begin_level(struct bsonraw_buffer *buffer, uint32_t tag, const ch
     struct bsonraw_builder outer;
     size_t key_len = bsonraw_str_len(key);
     if (buffer == NULL) return BSONRAW_NULL;
-    if (!goes_on(buffer) || !reserve_level(buffer) || !reserve(buffer, key_len + 32)) return buffer->status;
+    if (!goes_on(buffer) || !takes_key(buffer, key) || !reserve_level(buffer) || !reserve(buffer, key_len + 32)) return buffer->status;
     outer = buffer->level;
     (void)bsonraw_append_begin(&outer, buffer->bytes, buffer->room, tag, bsonraw_str_bytes(key), key_len, &buffer->level);
     if (buffer->level.status == BSONRAW_OK) buffer->levels[buffer->depth++] = outer;
@@ -1073,15 +1205,22 @@ int32_t bsonraw_buffer_begin_array(struct bsonraw_buffer *buffer, const char *ke
 int32_t bsonraw_buffer_end(struct bsonraw_buffer *buffer) {
     struct bsonraw_builder inner;
     if (buffer == NULL) return BSONRAW_NULL;
-    if (!goes_on(buffer) || !reserve(buffer, 1)) return buffer->status;
-    if (buffer->depth == 0) {
-        take(buffer, bsonraw_builder_end(&buffer->level, buffer->bytes, buffer->room));
-        if (buffer->status == BSONRAW_OK) buffer->len = buffer->level.len, buffer->is_ended = 1;
-        return buffer->status;
-    }
+    if (!goes_on(buffer)) return buffer->status;
+    if (buffer->depth == 0) return take(buffer, BSONRAW_MISUSE);
+    if (!reserve(buffer, 1)) return buffer->status;
     inner = buffer->level;
     buffer->level = buffer->levels[--buffer->depth];
     return take(buffer, bsonraw_append_end(&buffer->level, buffer->bytes, buffer->room, &inner));
+}
+
+int32_t bsonraw_buffer_finish(struct bsonraw_buffer *buffer) {
+    if (buffer == NULL) return BSONRAW_NULL;
+    if (!goes_on(buffer)) return buffer->status;
+    if (buffer->depth > 0) return take(buffer, BSONRAW_MISUSE);
+    if (!reserve(buffer, 1)) return buffer->status;
+    take(buffer, bsonraw_builder_end(&buffer->level, buffer->bytes, buffer->room));
+    if (buffer->status == BSONRAW_OK) buffer->len = buffer->level.len, buffer->is_ended = 1;
+    return buffer->status;
 }
 
 /* Appends an element, whose parts have these lengths; a key is at most eleven bytes longer than the one that is given, in an array. */
@@ -1089,7 +1228,7 @@ static int32_t add(struct bsonraw_buffer *buffer, uint32_t tag, const char *key,
                    const uint8_t *two, size_t two_len) {
     size_t key_len = bsonraw_str_len(key);
     if (buffer == NULL) return BSONRAW_NULL;
-    if (!goes_on(buffer)) return buffer->status;
+    if (!goes_on(buffer) || !takes_key(buffer, key)) return buffer->status;
     if (BSONRAW_LACKS(one, one_len) || BSONRAW_LACKS(two, two_len)) return take(buffer, BSONRAW_NULL);
     if (one_len > LONGEST || two_len > LONGEST || key_len > LONGEST) return take(buffer, BSONRAW_TOO_LONG);
     if (!reserve(buffer, key_len + one_len + two_len + 32)) return buffer->status;
@@ -1115,10 +1254,11 @@ static uint8_t *put_front(struct bsonraw_buffer *buffer, uint32_t tag, const cha
     char number[11];
     size_t key_len, size;
     uint8_t *to;
-    if (buffer == NULL || buffer->status != BSONRAW_OK || buffer->is_ended) return NULL;
+    if (buffer == NULL || buffer->begun != BEGUN || buffer->status != BSONRAW_OK || buffer->is_ended) return NULL;
     level = &buffer->level;
-    if (level->tag == BSONRAW_TAG_ARRAY) key = number, key_len = put_decimal(level->count, number);
-    else key_len = bsonraw_str_len(key), key = key == NULL ? "" : key;
+    if ((level->tag == BSONRAW_TAG_ARRAY) != (key == NULL)) return NULL;
+    if (key == NULL) key = number, key_len = put_decimal(level->count, number);
+    else key_len = strlen(key);
     if (key_len > LONGEST || payload_len > LONGEST || !is_ascii(BSONRAW_BYTES(key), key_len)) return NULL;
     size = key_len + payload_len + 2;
     if (level->len + size >= LONGEST || level->count >= LONGEST || !reserve(buffer, size)) return NULL;
@@ -1222,198 +1362,18 @@ int32_t bsonraw_buffer_iter(struct bsonraw_buffer *buffer, const struct bsonraw_
     if (buffer == NULL) return BSONRAW_NULL;
     if (!goes_on(buffer)) return buffer->status;
     if (iter == NULL || BSONRAW_LACKS(bytes, len)) return take(buffer, BSONRAW_NULL);
+    if ((size_t)iter->key_len + iter->payload_len > len) return take(buffer, BSONRAW_BAD_OFFSET); /* it is at no element of these bytes */
     if (!reserve(buffer, (size_t)iter->key_len + iter->payload_len + 32)) return buffer->status;
     return take(buffer, bsonraw_append_iter(&buffer->level, buffer->bytes, buffer->room, iter, bsonraw_some_bytes(bytes), len));
 }
 
-/* Which elements of a document are copied. */
-struct copied {
-    const char *const *without; /* not those with these keys */
-    size_t count;
-    const uint8_t *over;        /* or the other's element in place of one whose key this document has */
-    size_t over_len;
-    int only_new;               /* or none whose key this document has */
-};
-
-static int has_any(const char *const *keys, size_t count, const uint8_t *key, size_t key_len) {
-    size_t at;
-    for (at = 0; at < count; at++)
-        if (strlen(keys[at]) == key_len && memcmp(keys[at], key, key_len) == 0) return 1;
-    return 0;
-}
-
-static int has_null(const char *const *keys, size_t count) {
-    while (keys != NULL && count > 0)
-        if (keys[--count] == NULL) return 1;
-    return 0;
-}
-
-/* Copies an element, or what is laid over it. */
-static void copy_one(struct bsonraw_buffer *buffer, const struct bsonraw_iter *it, const uint8_t *bytes, size_t len, const struct copied *of) {
-    const uint8_t *key = bytes + it->key_at;
-    struct bsonraw_iter found;
-    if (has_any(of->without, of->count, key, it->key_len)) return;
-    if (of->over == NULL || bsonraw_iter_init_find(&found, of->over, of->over_len, key, it->key_len) != BSONRAW_OK)
-        (void)bsonraw_buffer_iter(buffer, it, bytes, len);
-    else if (!of->only_new)
-        (void)bsonraw_buffer_iter(buffer, &found, of->over, of->over_len);
-}
-
-static int32_t copy(struct bsonraw_buffer *buffer, const uint8_t *bytes, size_t len, const struct copied *of) {
+int32_t bsonraw_buffer_concat(struct bsonraw_buffer *buffer, const uint8_t *bytes, size_t len) {
     struct bsonraw_iter it;
     int32_t status;
     if (buffer == NULL) return BSONRAW_NULL;
     if (!goes_on(buffer)) return buffer->status;
-    if (BSONRAW_LACKS(bytes, len) || BSONRAW_LACKS(of->without, of->count) || has_null(of->without, of->count))
-        return take(buffer, BSONRAW_NULL);
+    if (BSONRAW_LACKS(bytes, len)) return take(buffer, BSONRAW_NULL);
     status = bsonraw_iter_init(&it, bsonraw_some_bytes(bytes), len);
-    while (status == BSONRAW_OK && buffer->status == BSONRAW_OK) {
-        status = bsonraw_iter_next(&it, bytes, len);
-        if (status == BSONRAW_OK) copy_one(buffer, &it, bytes, len, of);
-    }
+    while (status == BSONRAW_OK && (status = bsonraw_iter_next(&it, bytes, len)) == BSONRAW_OK) status = bsonraw_buffer_iter(buffer, &it, bytes, len);
     return buffer->status == BSONRAW_OK && status != BSONRAW_NONE ? take(buffer, status) : buffer->status;
-}
-
-int32_t bsonraw_buffer_concat(struct bsonraw_buffer *buffer, const uint8_t *bytes, size_t len) {
-    static const struct copied all;
-    return copy(buffer, bytes, len, &all);
-}
-
-int32_t bsonraw_buffer_copy_without(struct bsonraw_buffer *buffer, const uint8_t *bytes, size_t len, const char *const *keys,
-                                    size_t count) {
-    struct copied of = {keys, count, NULL, 0, 0};
-    return copy(buffer, bytes, len, &of);
-}
-
-int32_t bsonraw_buffer_copy_with(struct bsonraw_buffer *buffer, const uint8_t *bytes, size_t len, const uint8_t *over, size_t over_len) {
-    struct copied laid = {NULL, 0, over, over_len, 0}, added = {NULL, 0, bytes, len, 1};
-    if (buffer == NULL) return BSONRAW_NULL;
-    if (BSONRAW_LACKS(over, over_len) && goes_on(buffer)) return take(buffer, BSONRAW_NULL);
-    (void)copy(buffer, bytes, len, &laid);
-    return copy(buffer, over, over_len, &added);
-}
-
-/* ---- documents from a file ---- */
-
-static int32_t begin_stream(struct bsonraw_stream *stream, FILE *file, int fd) {
-    if (stream == NULL) return BSONRAW_NULL;
-    memset(stream, 0, sizeof *stream);
-    stream->max_bytes = LONGEST;
-    stream->file = file;
-    stream->fd = fd;
-    return BSONRAW_OK;
-}
-
-int32_t bsonraw_stream_from_fd(struct bsonraw_stream *stream, int fd) {
-    return begin_stream(stream, NULL, fd);
-}
-
-int32_t bsonraw_stream_from_file(struct bsonraw_stream *stream, FILE *file) {
-    int32_t status = begin_stream(stream, file, -1);
-    return status == BSONRAW_OK && file == NULL ? stream->status = BSONRAW_NULL : status;
-}
-
-void bsonraw_stream_free(struct bsonraw_stream *stream) {
-    if (stream == NULL) return;
-    free(stream->memory);
-    memset(stream, 0, sizeof *stream);
-    stream->status = BSONRAW_NONE;
-}
-
-/* Makes room behind what was read: moves it to the front, or takes twice the memory. */
-static int32_t make_room(struct bsonraw_stream *stream) {
-    size_t room = stream->room < 1 << 16 ? 1 << 16 : 2 * stream->room;
-    uint8_t *memory;
-    if (stream->ends < stream->room) return BSONRAW_OK;
-    if (stream->begins > 0) {
-        memmove(stream->memory, stream->memory + stream->begins, stream->ends - stream->begins);
-        stream->ends -= stream->begins;
-        stream->begins = 0;
-        return BSONRAW_OK;
-    }
-    memory = realloc(stream->memory, room);
-    if (memory == NULL) return BSONRAW_NO_MEMORY;
-    stream->memory = memory;
-    stream->room = room;
-    return BSONRAW_OK;
-}
-
-/* Reads what comes next, of a FILE no more than is wanted: BSONRAW_NONE at the end. */
-static int32_t read_on(struct bsonraw_stream *stream, size_t wanted) {
-    uint8_t *to = stream->memory + stream->ends;
-    size_t room = stream->room - stream->ends;
-    ssize_t count;
-    if (stream->file != NULL) {
-        count = (ssize_t)fread(to, 1, wanted < room ? wanted : room, stream->file);
-        if (count == 0 && ferror(stream->file)) return BSONRAW_NOT_READ;
-    } else {
-        do count = read(stream->fd, to, room);
-        while (count < 0 && errno == EINTR);
-        if (count < 0) return BSONRAW_NOT_READ;
-    }
-    stream->ends += (size_t)count;
-    return count == 0 ? BSONRAW_NONE : BSONRAW_OK;
-}
-
-/* Reads until so many bytes of the document are there. */
-static int32_t fill(struct bsonraw_stream *stream, size_t wanted) {
-    int32_t status = BSONRAW_OK;
-    while (status == BSONRAW_OK && stream->ends - stream->begins < wanted) {
-        status = make_room(stream);
-        if (status == BSONRAW_OK) status = read_on(stream, wanted - (stream->ends - stream->begins));
-    }
-    return status;
-}
-
-/* What comes of a document where this much of it is there, and no more. */
-static int32_t show(struct bsonraw_stream *stream, size_t wanted, int32_t status) {
-    size_t there = stream->ends - stream->begins;
-    stream->bytes = stream->memory + stream->begins;
-    stream->len = there < wanted ? there : wanted;
-    return status == BSONRAW_NONE && there > 0 ? BSONRAW_CUT : status;
-}
-
-static int32_t next_document(struct bsonraw_stream *stream) {
-    struct bsonraw_iter it;
-    uint32_t len;
-    int32_t status = fill(stream, 4);
-    if (status != BSONRAW_OK) return status == BSONRAW_NONE ? show(stream, 4, status) : status;
-    len = length_at(stream->memory + stream->begins);
-    if (len < 5 || len > LONGEST) {
-        stream->error.kind = BSONRAW_MALFORMED;
-        stream->error.reason = BSONRAW_LENGTH_INCORRECT;
-        stream->error.offset = stream->offset;
-        return BSONRAW_NO_DOCUMENT;
-    }
-    if (len > stream->max_bytes) return BSONRAW_TOO_MANY_BYTES;
-    status = fill(stream, len);
-    if (status != BSONRAW_OK && status != BSONRAW_NONE) return status;
-    status = show(stream, len, status);
-    if (status != BSONRAW_OK) return status;
-    status = bsonraw_iter_init(&it, stream->bytes, len);
-    stream->error = it.error;
-    if (status != BSONRAW_OK) stream->error.offset = stream->offset;
-    return status;
-}
-
-int32_t bsonraw_stream_read(struct bsonraw_stream *stream) {
-    static const struct bsonraw_error none;
-    if (stream == NULL) return BSONRAW_NULL;
-    if (stream->status != BSONRAW_OK && stream->status != BSONRAW_NOT_READ &&
-        (stream->status != BSONRAW_NO_DOCUMENT || stream->error.reason != BSONRAW_NOT_TERMINATED))
-        return stream->status;
-    stream->begins += stream->len;
-    stream->offset += stream->len;
-    stream->bytes = NULL;
-    stream->len = 0;
-    stream->error = none;
-    return stream->status = next_document(stream);
-}
-
-int32_t bsonraw_reader_is_cut(const struct bsonraw_reader *reader, const uint8_t *bytes, size_t len) {
-    uint32_t wanted;
-    if (reader == NULL || bytes == NULL || reader->error.kind == 0 || reader->error.offset >= len) return 0;
-    if (len - reader->error.offset < 4) return 1;
-    wanted = length_at(bytes + reader->error.offset);
-    return wanted <= LONGEST && wanted > len - reader->error.offset;
 }

@@ -39,7 +39,7 @@ exports() {
 look_at_libraries() {
     ln -s "$kit/bin/clang" "$work/llvm-nm" && ln -s "$kit/bin/clang" "$work/llvm-readelf" || return 1
     declared >"$work/declared"
-    [ "$(proved | wc -l)" = 31 ] || fails "the header doesn't declare thirty-one functions that are proved"
+    [ "$(proved | wc -l)" = 32 ] || fails "the header doesn't declare thirty-two functions that are proved"
     exports libbsonraw.a "" | diff "$work/declared" - >&2 || fails "the static library has other names than the header"
     exports libbsonraw.so -D | diff "$work/declared" - >&2 || fails "the shared library has other names than the header"
     needed=$("$work/llvm-readelf" -d "$prefix/lib/libbsonraw.so" | sed -n 's/.*(NEEDED).*\[\(.*\)\]/\1/p')
@@ -160,7 +160,7 @@ page() {
 
 look_at_examples() {
     examples c/bsonraw.h >"$work/examples.c"
-    [ "$(grep -c '^void example_.*{$' "$work/examples.c")" = 32 ] || fails "the header doesn't have an example of each group of calls"
+    [ "$(grep -c '^void example_.*{$' "$work/examples.c")" = 36 ] || fails "the header doesn't have an example of each group of calls"
     # shellcheck disable=SC2086
     compile -std=c99 $warnings -O1 -fPIE -c -o "$work/examples.o" "$work/examples.c" &&
         run_examples || fails "an example of the header doesn't do what it says"
@@ -186,7 +186,7 @@ says() {
 }
 
 run_programs() {
-    for name in fields json json_text merge orders path unique validate; do
+    for name in edit fields json json_text merge orders path unique validate; do
         # shellcheck disable=SC2086
         compile -std=c99 $warnings -O1 -fPIE -c -o "$work/$name.o" "examples/c/$name.c" &&
             link libbsonraw.a "$work/$name" "$work/$name.o" || return 1
@@ -197,6 +197,9 @@ run_programs() {
     says sound "$work/validate"
     says "{\"hi\":\"y'all\"}" sh -c "cat - $work/greeting | $work/unique | $work/json_text"
     says "" "$work/path" ho
+    # {"ho": "changed"}
+    printf '\25\0\0\0\2ho\0\10\0\0\0changed\0\0' >"$work/changed"
+    "$work/edit" hi ho <"$work/greeting" | cmp -s - "$work/changed" || fails "edit doesn't change the greeting"
     # {"hi": "y'all"} with {"hi": 1, "ho": 2} laid over it
     printf '\25\0\0\0\20hi\0\1\0\0\0\20ho\0\2\0\0\0\0' >"$work/over"
     cat "$work/greeting" "$work/over" | "$work/merge" | cmp -s - "$work/over" || fails "merge doesn't lay a document over the greeting"
@@ -362,7 +365,7 @@ twin() {
 
 # Each program of examples/c does what one with libbson does, in at most its lines.
 run_twins() {
-    for name in fields json json_text merge orders path unique validate; do
+    for name in edit fields json json_text merge orders path unique validate; do
         [ "$(lines_of "examples/c/$name.c")" -le "$(lines_of "c/tests/twins/$name.c")" ] || fails "examples/c/$name.c has too many lines"
         # shellcheck disable=SC2046 # a list of flags
         cc -std=c99 -O1 -o "$work/twin_$name" "c/tests/twins/$name.c" $(pkg-config --cflags --libs libbson-1.0) || return 1
@@ -379,6 +382,10 @@ run_twins() {
     twin fields
     cat "$work/greeting" "$work/over" "$work/greeting" "$work/built" "$work/over" >"$work/input"
     twin unique
+    people | head -c 104 >"$work/input" # the first of them
+    twin edit address.street name
+    twin edit _id address
+    twin edit nothing.at.all new
     cp "$work/greeting" "$work/input"
     twin validate
     twin path hi
@@ -412,10 +419,13 @@ use_machine() {
     # shellcheck disable=SC2086
     c++ -x c++ -o "$work/machine" c/tests/greeting.c -x none $flags || fails "the greeting doesn't compile as C++"
     [ "$("$work/machine" <"$work/greeting")" = "02 hi" ] || fails "the greeting's elements aren't printed from C++"
-    for standard in c++17 c++20; do
-        # shellcheck disable=SC2086
-        c++ -std=$standard -Wall -Wextra -Wconversion -Wold-style-cast -Weffc++ -Werror -O1 -o "$work/machine" c/tests/hpp.cpp $flags &&
-            "$work/machine" || fails "bsonraw.hpp: its test doesn't pass as $standard"
+    for compiler in g++ clang++; do
+        command -v $compiler >/dev/null || { skip "$compiler for bsonraw.hpp"; continue; }
+        for standard in c++17 c++20; do
+            # shellcheck disable=SC2086
+            $compiler -std=$standard -Wall -Wextra -Wconversion -Wold-style-cast -Weffc++ -Werror -O1 -o "$work/machine" c/tests/hpp.cpp $flags &&
+                "$work/machine" || fails "bsonraw.hpp: its test doesn't pass by $compiler as $standard"
+        done
     done
 }
 
@@ -432,7 +442,7 @@ try_examples() {
             $compiler -std=$standard "-I$prefix/include" -Wall -Wextra -Wconversion -Werror -O2 -c -o "$work/example.o" "$work/examples.c" ||
                 fails "the examples of the header don't compile by $compiler as $standard"
         done
-        for name in fields json json_text merge orders path unique validate; do
+        for name in edit fields json json_text merge orders path unique validate; do
             $compiler -std=c99 "-I$prefix/include" -Wall -Wextra -Wconversion -Werror -O2 -c -o "$work/example.o" "examples/c/$name.c" ||
                 fails "examples/c/$name.c doesn't compile by $compiler"
         done
@@ -506,10 +516,10 @@ run_sanitized() {
         skip "AddressSanitizer"
         return
     fi
-    for name in agree build daily pieces slips; do
+    for name in agree build daily edit pieces slips streams; do
         [ "$name" = agree ] && fewer=4000 || fewer=
         # shellcheck disable=SC2086 # a list of flags
-        cc -std=gnu99 -g -O1 $sanitized -Ic -o "$work/sanitized" "c/tests/$name.c" c/tests/documents.c c/daily.c "$prefix/lib/libbsonraw.a" &&
+        cc -std=gnu99 -g -O1 $sanitized -Ic -o "$work/sanitized" "c/tests/$name.c" c/tests/documents.c c/daily.c c/edit.c c/stream.c "$prefix/lib/libbsonraw.a" &&
             "$work/sanitized" ${fewer:+"$fewer"} <"$work/documents" >"$work/said" 2>&1 || fails "$name with sanitizers: $(head -5 "$work/said")"
     done
     if [ -n "$has_cxx" ]; then

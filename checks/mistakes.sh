@@ -1,6 +1,6 @@
 #!/bin/sh
 # mistakes.sh [PREFIX]: the tests of the C library notice mistakes: each of c/tests/wrong.c, which calls the right functions under other names,
-# and each of c/tests/mistakes.txt in what is written in C and C++, the headers and c/daily.c. The compiler and the C library are the kit's,
+# and each of c/tests/mistakes.txt in what is written in C and C++, the headers and the files of c. The compiler and the C library are the kit's,
 # and for bsonraw.hpp the machine's C++ compiler, where it has one; if not, the last line says so. PREFIX is where bin/install put the
 # library; without it, that is done first.
 set -u
@@ -53,12 +53,11 @@ build_edited() {
         c++ -std=c++17 ${sanitized:+-fsanitize=leak} -w "-I$1" -o "$1/test" "c/tests/$3.cpp" "$prefix/lib/libbsonraw.a" 2>/dev/null
         return
     fi
-    # (an edit of daily.c leaves the test as it is built)
-    if [ "$2" = daily.c ]; then
-        source=$1/daily.c built=$work/$3.o
-    else
-        source=c/tests/$3.c built=
-    fi
+    # (an edit of a file of C leaves the test as it is built)
+    case $2 in
+    *.c) source=$1/$2 built=$work/$3.o ;;
+    *) source=c/tests/$3.c built= ;;
+    esac
     "$kit/bin/clang" -nostdinc -isystem c/tests/headers "-I$1" -Ic/tests -std=gnu99 -O1 -w -fPIE -c -o "$1/edited.o" "$source" &&
         link libbsonraw.a "$1/test" "$1/edited.o" ${built:+"$built"} "$work/documents.o"
 }
@@ -66,7 +65,7 @@ build_edited() {
 # try_edit FOLDER FILE TEST EDIT: says so if the test doesn't notice what sed makes of this file of c; in FOLDER is what it needs, and
 # the function that is changed
 try_edit() {
-    mkdir "$1" && cp c/bsonraw.h c/bsonraw.hpp c/daily.c "$1" && sed -i "$4" "$1/$2" || return 1
+    mkdir "$1" && cp c/bsonraw.h c/bsonraw.hpp c/daily.c c/edit.c c/stream.c "$1" && sed -i "$4" "$1/$2" || return 1
     ! cmp -s "c/$2" "$1/$2" || echo "this changes nothing in c/$2: $4"
     inlines "c/$2" "$1/$2" >"$1/changed"
     [ "$3" = agree ] && fewer=20000 || fewer=

@@ -28,7 +28,7 @@ static void read_ours(const char *text, size_t len) {
 static void read_places(const char *text, size_t len) {
     struct bsonraw_json_report report;
     int32_t status = read_text(text, len, &report);
-    if (status == BSONRAW_FAULT) printf("@%u %llu\n", report.reason, (unsigned long long)report.offset);
+    if (status == BSONRAW_FAULT) printf("@%u %llu\n", report.json_reason, (unsigned long long)report.offset);
     else if (status != BSONRAW_OK) puts("@0 0");
 }
 

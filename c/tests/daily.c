@@ -79,6 +79,93 @@ static void look_at_texts(void) {
     is((int64_t)bsonraw_path_text(damaged, sizeof damaged, path, (size_t)r.path_len, NULL, 0), 22, "a path's length");
 }
 
+/* What is wrong with a text of JSON, by a text of each reason that some text has. */
+static void look_at_json_faults(void) {
+    static const char *const texts[][2] = {
+        {"{\"a\":", "the text ends too early"}, {"\357\273\277{}", "a byte order mark in front of the text"}, {"[]", "expected a document"},
+        {"{a:1}", "expected a key in quotes"}, {"{\"a\" 1}", "expected a colon"},
+        {"{\"a\":1 \"b\":1}", "expected a comma or the end of the object or array"}, {"{\"a\":}", "expected a value"},
+        {"{}{}", "text behind the document"}, {"{\"a\":01}", "not a number of JSON"}, {"{\"a\":9223372036854775808}", "an integer of more than 64 bits"},
+        {"{\"a\":1e999}", "a number beyond the greatest double"}, {"{\"a\":\"\t\"}", "a control character that is not escaped"},
+        {"{\"a\":\"\\x\"}", "not an escape of JSON"}, {"{\"a\":\"\\ud800\"}", "half a surrogate pair"},
+        {"{\"\\u0000\":1}", "U+0000 in a key, a pattern or options"}, {"{\"a\":{\"$numberDecimal\":\"1E-9999\"}}", "a decimal that no Decimal128 is exactly"},
+        {"{\"a\":\"\377\"}", "not UTF-8"}, {"{\"a\":{\"$oid\":\"12\"}}", "this is not {\"$oid\": 24 hex digits}"},
+        {"{\"a\":{\"$numberInt\":1}}", "this is not {\"$numberInt\": a 32-bit integer as a string}"},
+        {"{\"a\":{\"$numberLong\":1}}", "this is not {\"$numberLong\": a 64-bit integer as a string}"},
+        {"{\"a\":{\"$numberDouble\":1}}", "this is not {\"$numberDouble\": a double as a string}"},
+        {"{\"a\":{\"$numberDecimal\":1}}", "this is not {\"$numberDecimal\": a decimal as a string}"},
+        {"{\"a\":{\"$binary\":1}}", "this is not {\"$binary\": {\"base64\": a string, \"subType\": hex digits}}"},
+        {"{\"a\":{\"$uuid\":1}}", "this is not {\"$uuid\": hex digits with hyphens}"},
+        {"{\"a\":{\"$date\":true}}", "this is not {\"$date\": an ISO 8601 time or {\"$numberLong\": milliseconds}}"},
+        {"{\"a\":{\"$regularExpression\":1}}", "this is not {\"$regularExpression\": {\"pattern\": a string, \"options\": a string}}"},
+        {"{\"a\":{\"$timestamp\":1}}", "this is not {\"$timestamp\": {\"t\": seconds, \"i\": increment}}"},
+        {"{\"a\":{\"$code\":1}}", "this is not {\"$code\": a string} or with \"$scope\": a document"},
+        {"{\"a\":{\"$scope\":1}}", "this is not {\"$code\": a string} or with \"$scope\": a document"},
+        {"{\"a\":{\"$dbPointer\":1}}", "this is not {\"$dbPointer\": {\"$ref\": a string, \"$id\": an object id}}"},
+        {"{\"a\":{\"$symbol\":1}}", "this is not {\"$symbol\": a string}"}, {"{\"a\":{\"$undefined\":1}}", "this is not {\"$undefined\": true}"},
+        {"{\"a\":{\"$minKey\":2}}", "this is not {\"$minKey\": 1}"}, {"{\"a\":{\"$maxKey\":2}}", "this is not {\"$maxKey\": 1}"},
+    };
+    struct bsonraw_json_report r;
+    uint8_t document[64];
+    char text[100];
+    size_t i;
+    for (i = 0; i < sizeof texts / sizeof *texts; i++) {
+        is(bsonraw_from_json(BSONRAW_STR(texts[i][0]), SIZE_MAX, 9, document, sizeof document, &r), BSONRAW_FAULT, texts[i][0]);
+        is((int64_t)bsonraw_json_fault_text(&r, text, sizeof text), (int64_t)strlen(texts[i][1]), texts[i][0]);
+        is_text(text, texts[i][1]);
+    }
+    is((int64_t)bsonraw_json_fault_text(&r, text, 9), (int64_t)strlen(texts[i - 1][1]), "a small room");
+    is_text(text, "this is ");
+    r.wrapper = 18;
+    is((int64_t)bsonraw_json_fault_text(&r, NULL, 0), (int64_t)strlen("no value of its wrapper"), "no wrapper");
+    r.json_reason = BSONRAW_JSON_UNSOUND;
+    bsonraw_json_fault_text(&r, text, sizeof text);
+    is_text(text, "the bytes written are not a document");
+    r.json_reason = 20;
+    bsonraw_json_fault_text(&r, text, sizeof text);
+    is_text(text, "no fault");
+    is((int64_t)bsonraw_json_fault_text(NULL, text, sizeof text), 8, "no report");
+}
+
+/* Keys with control characters of each sort, and with others around them. */
+static void look_at_control_characters(void) {
+    static const uint8_t damaged[] = "\36\0\0\0\10\302\233m\177\302\237\302\240\37\302\200\340\244\200\10\13\0\2";
+    uint8_t bytes[30];
+    uint64_t path[1];
+    char text[64];
+    struct bsonraw_report r;
+    memset(bytes, 0, sizeof bytes);
+    memcpy(bytes, damaged, sizeof damaged - 1);
+    bytes[0] = sizeof bytes;
+    is(bsonraw_first_fault(bytes, sizeof bytes, 99, 9, &r, path, 1), BSONRAW_FAULT, "control characters");
+    bsonraw_path_text(bytes, sizeof bytes, path, 1, text, sizeof text);
+    is_text(text, "/0:\"\\u009bm\\u007f\\u009f\302\240\\u001f\\u0080\340\244\200\\b\\u000b\"");
+}
+
+/* A fault at the end of so many levels, each of which is under the empty key, but for the first with a null in front. */
+static void look_at_levels(uint32_t levels, const char *wanted) {
+    struct bsonraw_buffer b;
+    struct bsonraw_report r;
+    uint64_t path[32];
+    char text[512];
+    uint32_t level;
+    bsonraw_buffer_init(&b);
+    bsonraw_buffer_null(&b, "n");
+    for (level = 1; level < levels; level++) bsonraw_buffer_begin_document(&b, "");
+    bsonraw_buffer_bool(&b, "x", 1);
+    for (level = 1; level < levels; level++) bsonraw_buffer_end(&b);
+    is(bsonraw_buffer_finish(&b), BSONRAW_OK, "levels");
+    b.bytes[b.len - levels - 1] = 2;
+    is(bsonraw_first_fault(b.bytes, b.len, SIZE_MAX, 32, &r, path, 32), BSONRAW_FAULT, "levels");
+    is((int64_t)r.path_len, levels, "levels");
+    bsonraw_path_text(b.bytes, b.len, path, (size_t)r.path_len, text, sizeof text);
+    is_text(text, wanted);
+    bsonraw_buffer_free(&b);
+}
+
+#define FIVE "/0:\"\"/0:\"\"/0:\"\"/0:\"\"/0:\"\""
+#define NINE FIVE "/0:\"\"/0:\"\"/0:\"\"/0:\"\""
+
 static void look_at_values(void) {
     int32_t number;
     int64_t wide;
@@ -209,17 +296,17 @@ static void look_at_new_forms(void) {
 static void look_at_new_texts(void) {
     struct bsonraw_report r;
     char *text = (char *)&r;
-    is(bsonraw_json_new(rarer, sizeof rarer, SIZE_MAX, 1, 0, 0, &text, &r), BSONRAW_OK, "a text");
+    is(bsonraw_json_new(rarer, sizeof rarer, SIZE_MAX, 1, 0, &text, &r), BSONRAW_OK, "a text");
     IS_MADE(text, r.count + 1, "{\"t\":{\"$timestamp\":{\"t\":1,\"i\":2}},\"d\":{\"$numberDecimal\":\"1.5\"},\"b\":{\"$binary\":{\"base64\":\"eHk=\","
                                "\"subType\":\"80\"}},\"r\":{\"$regularExpression\":{\"pattern\":\"^a\",\"options\":\"i\"}}}\0", "a text");
-    is(bsonraw_json_new((const uint8_t *)"\14\0\0\0\20a\0\1\0\0\0", 12, 12, 1, 7, 7, &text, NULL), BSONRAW_OK, "an indented text");
+    is(bsonraw_json_new((const uint8_t *)"\14\0\0\0\20a\0\1\0\0\0", 12, 12, 1, BSONRAW_JSON_CANONICAL | BSONRAW_JSON_INDENTED, &text, NULL), BSONRAW_OK, "an indented text");
     IS_MADE(text, strlen(text), "{\n  \"a\": {\"$numberInt\":\"1\"}\n}", "an indented text");
-    is(bsonraw_json_new(rarer, sizeof rarer, SIZE_MAX, 0, 0, 0, &text, &r), BSONRAW_TOO_DEEP, "no level");
+    is(bsonraw_json_new(rarer, sizeof rarer, SIZE_MAX, 0, 0, &text, &r), BSONRAW_TOO_DEEP, "no level");
     expect(text == NULL && r.count == 0, "no level", "a text");
     text = (char *)&r;
-    is(bsonraw_json_new(NULL, 1, SIZE_MAX, 9, 0, 0, &text, &r), BSONRAW_NULL, "bytes of NULL");
+    is(bsonraw_json_new(NULL, 1, SIZE_MAX, 9, 0, &text, &r), BSONRAW_NULL, "bytes of NULL");
     expect(text == NULL, "bytes of NULL", "a text");
-    is(bsonraw_json_new(rarer, sizeof rarer, SIZE_MAX, 9, 0, 0, NULL, &r), BSONRAW_NULL, "no place for a text");
+    is(bsonraw_json_new(rarer, sizeof rarer, SIZE_MAX, 9, 0, NULL, &r), BSONRAW_NULL, "no place for a text");
 }
 
 static void look_at_new_documents(void) {
@@ -232,13 +319,72 @@ static void look_at_new_documents(void) {
     expect(document[0] == 83 && document[4] == BSONRAW_TAG_ARRAY && memcmp(document + 74, "\20\71\0\1\0\0\0\0", 9) == 0, "a document that is longer than most", "another");
     free(document);
     is(bsonraw_from_json_new("{\"a\":\n", 6, 99, 1, &document, &r), BSONRAW_FAULT, "no document");
-    expect(document == NULL && r.reason == BSONRAW_JSON_END_OF_TEXT && r.line == 2 && r.column == 1 && r.count == 0, "no document", "another report");
+    expect(document == NULL && r.json_reason == BSONRAW_JSON_END_OF_TEXT && r.line == 2 && r.column == 1 && r.count == 0, "no document", "another report");
     is(bsonraw_from_json_new("{\"a\":1}", 7, 11, 1, &document, &r), BSONRAW_TOO_MANY_BYTES, "a limit of bytes");
     is(bsonraw_from_json_new(NULL, 0, 11, 1, &document, &r), BSONRAW_FAULT, "no text");
     document = (uint8_t *)1;
     is(bsonraw_from_json_new(NULL, 1, 11, 1, &document, &r), BSONRAW_NULL, "a text of NULL");
     expect(document == NULL, "a text of NULL", "a document");
     is(bsonraw_from_json_new("{}", 2, 11, 1, NULL, &r), BSONRAW_NULL, "no place for a document");
+}
+
+/* Documents one behind the other in a text, and where the first one that is none is wrong. */
+static void look_at_texts_in_a_row(void) {
+    static const char text[] = " {\"a\":1}{\"}\\\"{\":{}}\n\t{}\r\n  {\"\303\251\": tru}{}";
+    static const char *const wanted[] = {"\14\0\0\0\20a\0\1\0\0\0\0", "\17\0\0\0\3}\"{\0\5\0\0\0\0", "\5\0\0\0"};
+    static const size_t lens[] = {12, 15, 5}, ends[] = {8, 19, 23};
+    struct bsonraw_json_report r;
+    uint8_t *document = (uint8_t *)1;
+    size_t at = 0, i;
+    for (i = 0; i < 3; i++) {
+        is(bsonraw_from_json_next(text, sizeof text - 1, &at, 99, 9, &document, &r), BSONRAW_OK, "documents in a row");
+        is_made(document, r.count, wanted[i], lens[i], "documents in a row");
+        is((int64_t)at, (int64_t)ends[i], "how much was read");
+    }
+    is(bsonraw_from_json_next(text, sizeof text - 1, &at, 99, 9, &document, &r), BSONRAW_FAULT, "no document in a row");
+    expect(document == NULL && at == 23 && r.json_reason == BSONRAW_JSON_EXPECTED_VALUE && r.offset == 34 && r.line == 3 && r.column == 9, "no document in a row", "another place");
+    at = 0;
+    is(bsonraw_from_json_next("{}\303\251[", 5, &at, 99, 9, &document, &r), BSONRAW_OK, "a document before others");
+    free(document);
+    is(bsonraw_from_json_next("{}\303\251[", 5, &at, 99, 9, &document, &r), BSONRAW_FAULT, "another text behind a document");
+    expect(at == 2 && r.json_reason == BSONRAW_JSON_EXPECTED_DOCUMENT && r.line == 1 && r.column == 3 && r.offset == 2, "another text behind a document", "another place");
+    is(bsonraw_from_json_next("{}}", 3, &at, 99, 9, &document, &r), BSONRAW_FAULT, "a brace");
+    is(bsonraw_from_json_next("{} {\n x", 7, &at, 99, 9, &document, &r), BSONRAW_FAULT, "no key in the next line");
+    expect(r.line == 2 && r.column == 2 && r.offset == 6, "no key in the next line", "another place");
+    at = 8;
+    is(bsonraw_from_json_next("{\"\303\251\":1}{x", 10, &at, 99, 9, &document, &r), BSONRAW_FAULT, "no key behind a letter of two bytes");
+    expect(r.line == 1 && r.column == 9 && r.offset == 9, "no key behind a letter of two bytes", "another place");
+    at = 2;
+    is(bsonraw_from_json_next("{} {\"", 5, &at, 99, 9, &document, &r), BSONRAW_FAULT, "a text that is cut");
+    expect(r.json_reason == BSONRAW_JSON_END_OF_TEXT && r.column == 6, "a text that is cut", "another place");
+    is(bsonraw_from_json_next("{} {\"\\", 6, &at, 99, 9, &document, &r), BSONRAW_FAULT, "a text that is cut in an escape");
+    is(bsonraw_from_json_next("{} \n", 4, &at, 99, 9, &document, &r), BSONRAW_NONE, "the end");
+    is((int64_t)at, 4, "the end");
+    is(bsonraw_from_json_next("{}", 2, &at, 99, 9, &document, &r), BSONRAW_BAD_OFFSET, "an offset past the end");
+    is(bsonraw_from_json_next(NULL, 2, &at, 99, 9, &document, &r), BSONRAW_NULL, "a text of NULL");
+    is(bsonraw_from_json_next("{}", 2, NULL, 99, 9, &document, &r), BSONRAW_NULL, "no offset");
+    is(bsonraw_from_json_next("{}", 2, &at, 99, 9, NULL, &r), BSONRAW_NULL, "no place for a document");
+    is(bsonraw_from_json_next("{}", 2, &at, 99, 9, &document, NULL), BSONRAW_NULL, "no report");
+}
+
+/* An array that stands alone, as a text and in pieces; the text of its document is another. */
+static void look_at_arrays(void) {
+    static const uint8_t list[] = "\30\0\0\0\20\60\0\1\0\0\0\2\61\0\2\0\0\0x\0\12\62\0\0";
+    struct bsonraw_report r;
+    uint64_t path[1];
+    char *text;
+    is(bsonraw_json_new(list, 24, SIZE_MAX, 1, BSONRAW_JSON_ARRAY, &text, &r), BSONRAW_OK, "an array");
+    IS_MADE(text, r.count + 1, "[1,\"x\",null]\0", "an array");
+    is(bsonraw_json_new(list, 24, SIZE_MAX, 1, 0, &text, &r), BSONRAW_OK, "its document");
+    IS_MADE(text, r.count + 1, "{\"0\":1,\"1\":\"x\",\"2\":null}\0", "its document");
+    is(bsonraw_json_new(list, 24, SIZE_MAX, 1, BSONRAW_JSON_ARRAY | BSONRAW_JSON_INDENTED | BSONRAW_JSON_CANONICAL, &text, &r), BSONRAW_OK, "an indented array");
+    IS_MADE(text, r.count + 1, "[\n  {\"$numberInt\":\"1\"},\n  \"x\",\n  null\n]\0", "an indented array");
+    is(bsonraw_json_new(BSONRAW_KEY("\5\0\0\0\0"), SIZE_MAX, 1, BSONRAW_JSON_ARRAY, &text, NULL), BSONRAW_OK, "an empty array");
+    IS_MADE(text, 3, "[]\0", "an empty array");
+    is(bsonraw_json_new(list, 23, SIZE_MAX, 1, BSONRAW_JSON_ARRAY, &text, &r), BSONRAW_NO_DOCUMENT, "an array that is cut");
+    expect(text == NULL && r.error.reason == BSONRAW_LENGTH_INCORRECT, "an array that is cut", "another report");
+    is(bsonraw_json_write(list, 24, SIZE_MAX, 1, BSONRAW_JSON_ARRAY, NULL, NULL, &r, path, 1), BSONRAW_OK, "an array in pieces");
+    is((int64_t)r.count, 12, "an array in pieces");
 }
 
 static void look_at_places(void) {
@@ -384,14 +530,14 @@ static void look_at_edges(void) {
     bsonraw_buffer_begin_array(&b, "k");
     for (i = 0; i < 40; i++) bsonraw_buffer_int32(&b, NULL, i);
     bsonraw_buffer_end(&b);
-    is(bsonraw_buffer_end(&b), BSONRAW_OK, "an array");
+    is(bsonraw_buffer_finish(&b), BSONRAW_OK, "an array");
     is(bsonraw_find_many(b.bytes, b.len, far, 4), BSONRAW_NONE, "far elements");
     expect(far[0].value.integer == 39 && far[1].value.integer == 0 && far[1].status == BSONRAW_OK, "far elements", "another value");
     expect(far[2].status == BSONRAW_NONE && far[3].status == BSONRAW_NONE, "numbers that aren't there", "they are found");
     bsonraw_buffer_reset(&b);
     bsonraw_buffer_int32(&b, "long_key_1", 1);
     bsonraw_buffer_int32(&b, "long_key_2", 2);
-    is(bsonraw_buffer_end(&b), BSONRAW_OK, "long keys");
+    is(bsonraw_buffer_finish(&b), BSONRAW_OK, "long keys");
     is(bsonraw_find_many(b.bytes, b.len, alike, 1), BSONRAW_OK, "keys that begin alike");
     is(alike[0].value.integer, 2, "keys that begin alike");
     is(bsonraw_find_many((const uint8_t *)"\13\0\0\0\20k\0\1\0\0", 11, cut, 1), BSONRAW_OK, "an int32 up to the end, its final 0 too");
@@ -400,7 +546,7 @@ static void look_at_edges(void) {
     for (i = 0; i < 36; i++) bsonraw_buffer_begin_document(&b, "d");
     bsonraw_buffer_int32(&b, "x", 9);
     for (i = 0; i < 36; i++) bsonraw_buffer_end(&b);
-    is(bsonraw_buffer_end(&b), BSONRAW_OK, "levels");
+    is(bsonraw_buffer_finish(&b), BSONRAW_OK, "levels");
     is(bsonraw_find_many(b.bytes, b.len, deep, 1), BSONRAW_OK, "a long path");
     is(deep[0].value.integer, 9, "a long path");
     bsonraw_buffer_free(&b);
@@ -438,7 +584,7 @@ static int32_t build_sample(struct bsonraw_buffer *b) {
     bsonraw_buffer_date_time(b, "t", 5);
     bsonraw_buffer_int64(b, "w", (int64_t)1 << 40);
     bsonraw_buffer_oid(b, "i", (const uint8_t *)"\145\123\361\0abcdefgh");
-    return bsonraw_buffer_end(b);
+    return bsonraw_buffer_finish(b);
 }
 
 static void has(const struct bsonraw_buffer *b, const void *bytes, size_t len, const char *name) {
@@ -457,7 +603,7 @@ static void look_at_buffers(void) {
     is(bsonraw_buffer_reset(&b), BSONRAW_OK, "once more");
     is(build_sample(&b), BSONRAW_OK, "once more");
     has(&b, SAMPLE, "once more");
-    is(bsonraw_buffer_end(&b), BSONRAW_MISUSE, "an end too many");
+    is(bsonraw_buffer_finish(&b), BSONRAW_MISUSE, "an end too many");
     bsonraw_buffer_free(&b);
     bsonraw_buffer_free(&b);
     for (i = 0; i < 3; i++) {
@@ -467,24 +613,24 @@ static void look_at_buffers(void) {
         bsonraw_buffer_begin_document(&b, "o");
         bsonraw_buffer_utf8(&b, "x", long_text);
         bsonraw_buffer_end(&b);
-        is(bsonraw_buffer_end(&b), BSONRAW_NO_MEMORY, "memory is refused");
+        is(bsonraw_buffer_finish(&b), BSONRAW_NO_MEMORY, "memory is refused");
         bsonraw_buffer_free(&b);
     }
     is(limited.out, 0, "memory is kept");
     bsonraw_buffer_init(&b);
     memset(long_text, 'x', sizeof long_text - 1);
     bsonraw_buffer_utf8(&b, "x", long_text);
-    is(bsonraw_buffer_end(&b), BSONRAW_OK, "a long text");
+    is(bsonraw_buffer_finish(&b), BSONRAW_OK, "a long text");
     expect(b.len == sizeof long_text + 12 && b.bytes[b.len - 2] == 0 && b.bytes[b.len - 3] == 'x', "a long text", "another document");
     bsonraw_buffer_reset(&b);
     bsonraw_buffer_utf8(&b, "x", NULL);
-    is(bsonraw_buffer_end(&b), BSONRAW_NULL, "a text of NULL");
+    is(bsonraw_buffer_finish(&b), BSONRAW_NULL, "a text of NULL");
     bsonraw_buffer_reset(&b);
     bsonraw_buffer_text(&b, "x", "\xff", 1);
-    is(bsonraw_buffer_end(&b), BSONRAW_FAULT, "a text that isn't UTF-8");
+    is(bsonraw_buffer_finish(&b), BSONRAW_FAULT, "a text that isn't UTF-8");
     bsonraw_buffer_reset(&b);
     bsonraw_buffer_begin_document(&b, "\xff");
-    is(bsonraw_buffer_end(&b), BSONRAW_FAULT, "a key that isn't UTF-8");
+    is(bsonraw_buffer_finish(&b), BSONRAW_FAULT, "a key that isn't UTF-8");
     bsonraw_buffer_free(&b);
     is(bsonraw_buffer_init_with(&b, NULL, NULL), BSONRAW_NULL, "no function");
     is(bsonraw_buffer_null(&b, "x"), BSONRAW_NULL, "no function");
@@ -506,7 +652,7 @@ static void look_at_no_buffer(void) {
         default: bsonraw_buffer_reset(&b); break;
         }
         is(b.status, BSONRAW_BAD_OFFSET, "no buffer");
-        is(bsonraw_buffer_end(&b), BSONRAW_BAD_OFFSET, "no buffer");
+        is(bsonraw_buffer_finish(&b), BSONRAW_BAD_OFFSET, "no buffer");
         bsonraw_buffer_free(&b);
         is(bsonraw_buffer_init(&b), BSONRAW_OK, "one that begins");
         bsonraw_buffer_free(&b);
@@ -526,20 +672,21 @@ static void make_text(char *text) {
 static int append_any(struct bsonraw_buffer *b, struct bsonraw_builder *to, uint8_t *room, size_t len) {
     static const uint8_t id[] = "abcdefghijklmnop";
     char key[TEXT], text[TEXT];
+    const char *name = b->level.tag == BSONRAW_TAG_ARRAY ? NULL : key;
     int32_t status, number = (int32_t)random_number();
     make_text(key);
     make_text(text);
     switch (random_number() % 10) {
-    case 0: bsonraw_buffer_int32(b, key, number); status = bsonraw_append_int32(to, room, len, BSONRAW_STR(key), number); break;
-    case 1: bsonraw_buffer_int64(b, key, -number); status = bsonraw_append_int64(to, room, len, BSONRAW_STR(key), -number); break;
-    case 2: bsonraw_buffer_double(b, key, number); status = bsonraw_append_double(to, room, len, BSONRAW_STR(key), number); break;
-    case 3: bsonraw_buffer_bool(b, key, number & 2); status = bsonraw_append_bool(to, room, len, BSONRAW_STR(key), number & 2); break;
-    case 4: bsonraw_buffer_date_time(b, key, number); status = bsonraw_append_date_time(to, room, len, BSONRAW_STR(key), number); break;
-    case 5: bsonraw_buffer_null(b, key); status = bsonraw_append_null(to, room, len, BSONRAW_STR(key)); break;
-    case 6: bsonraw_buffer_oid(b, key, id); status = bsonraw_append_oid(to, room, len, BSONRAW_STR(key), id); break;
-    case 7: bsonraw_buffer_decimal128(b, key, id); status = bsonraw_append_decimal128(to, room, len, BSONRAW_STR(key), id); break;
-    case 8: bsonraw_buffer_timestamp(b, key, 7, 8); status = bsonraw_append_timestamp(to, room, len, BSONRAW_STR(key), 7, 8); break;
-    default: bsonraw_buffer_utf8(b, key, text); status = bsonraw_append_utf8(to, room, len, BSONRAW_STR(key), BSONRAW_STR(text)); break;
+    case 0: bsonraw_buffer_int32(b, name, number); status = bsonraw_append_int32(to, room, len, BSONRAW_STR(key), number); break;
+    case 1: bsonraw_buffer_int64(b, name, -number); status = bsonraw_append_int64(to, room, len, BSONRAW_STR(key), -number); break;
+    case 2: bsonraw_buffer_double(b, name, number); status = bsonraw_append_double(to, room, len, BSONRAW_STR(key), number); break;
+    case 3: bsonraw_buffer_bool(b, name, number & 2); status = bsonraw_append_bool(to, room, len, BSONRAW_STR(key), number & 2); break;
+    case 4: bsonraw_buffer_date_time(b, name, number); status = bsonraw_append_date_time(to, room, len, BSONRAW_STR(key), number); break;
+    case 5: bsonraw_buffer_null(b, name); status = bsonraw_append_null(to, room, len, BSONRAW_STR(key)); break;
+    case 6: bsonraw_buffer_oid(b, name, id); status = bsonraw_append_oid(to, room, len, BSONRAW_STR(key), id); break;
+    case 7: bsonraw_buffer_decimal128(b, name, id); status = bsonraw_append_decimal128(to, room, len, BSONRAW_STR(key), id); break;
+    case 8: bsonraw_buffer_timestamp(b, name, 7, 8); status = bsonraw_append_timestamp(to, room, len, BSONRAW_STR(key), 7, 8); break;
+    default: bsonraw_buffer_utf8(b, name, text); status = bsonraw_append_utf8(to, room, len, BSONRAW_STR(key), BSONRAW_STR(text)); break;
     }
     is(b->status, status, "an element of any kind");
     return status != BSONRAW_OK;
@@ -561,7 +708,7 @@ static void look_at_any(void) {
         while (count-- > 0 && !append_any(&b, &level, room, len)) continue;
         bsonraw_buffer_end(&b);
         bsonraw_append_end(&to, room, len, &level);
-        is(bsonraw_buffer_end(&b), bsonraw_builder_end(&to, room, len), "a level of any elements");
+        is(bsonraw_buffer_finish(&b), bsonraw_builder_end(&to, room, len), "a level of any elements");
         if (to.status == BSONRAW_OK) has(&b, room, to.len, "a level of any elements");
     }
     bsonraw_buffer_free(&b);
@@ -579,7 +726,7 @@ static void look_at_kinds(void) {
     bsonraw_buffer_document(&b, "e", (const uint8_t *)"\5\0\0\0", 5);
     bsonraw_buffer_array(&b, "f", (const uint8_t *)"\5\0\0\0", 5);
     bsonraw_buffer_append(&b, BSONRAW_TAG_SYMBOL, "g", "s", 1, NULL, 0);
-    is(bsonraw_buffer_end(&b), BSONRAW_OK, "kinds");
+    is(bsonraw_buffer_finish(&b), BSONRAW_OK, "kinds");
     has(&b, kinds, sizeof kinds, "kinds");
     bsonraw_buffer_reset(&b);
     bsonraw_buffer_regex(&b, "r", "^a", "i");
@@ -587,7 +734,7 @@ static void look_at_kinds(void) {
     bsonraw_buffer_regex(&b, NULL, "", NULL);
     bsonraw_buffer_append(&b, BSONRAW_TAG_MIN_KEY, NULL, NULL, 0, NULL, 0);
     bsonraw_buffer_end(&b);
-    is(bsonraw_buffer_end(&b), BSONRAW_OK, "regular expressions");
+    is(bsonraw_buffer_finish(&b), BSONRAW_OK, "regular expressions");
     has(&b, "\35\0\0\0\13r\0^a\0i\0\4l\0\15\0\0\0\13\60\0\0\0\377\61\0\0", 29, "regular expressions");
     bsonraw_buffer_reset(&b);
     is(bsonraw_buffer_regex(&b, "r", NULL, "i"), BSONRAW_NULL, "a pattern of NULL");
@@ -603,28 +750,28 @@ static void look_at_copies(void) {
     bsonraw_buffer_init(&b);
     bsonraw_buffer_concat(&b, one, sizeof one);
     bsonraw_buffer_concat(&b, two, sizeof two);
-    is(bsonraw_buffer_end(&b), BSONRAW_OK, "one behind the other");
+    is(bsonraw_buffer_finish(&b), BSONRAW_OK, "one behind the other");
     has(&b, both, sizeof both, "one behind the other");
     bsonraw_buffer_reset(&b);
     bsonraw_buffer_copy_with(&b, one, sizeof one, two, sizeof two);
-    is(bsonraw_buffer_end(&b), BSONRAW_OK, "one laid over the other");
+    is(bsonraw_buffer_finish(&b), BSONRAW_OK, "one laid over the other");
     has(&b, laid, sizeof laid, "one laid over the other");
     bsonraw_buffer_reset(&b);
     bsonraw_buffer_copy_without(&b, both, sizeof both, keys, 4);
-    is(bsonraw_buffer_end(&b), BSONRAW_OK, "without keys");
+    is(bsonraw_buffer_finish(&b), BSONRAW_OK, "without keys");
     has(&b, "\20\0\0\0\20b\0\2\0\0\0\10b\0\1", 16, "without keys");
     bsonraw_buffer_reset(&b);
     bsonraw_buffer_concat(&b, one, sizeof one - 1);
-    is(bsonraw_buffer_end(&b), BSONRAW_NO_DOCUMENT, "a document that is cut");
+    is(bsonraw_buffer_finish(&b), BSONRAW_NO_DOCUMENT, "a document that is cut");
     bsonraw_buffer_reset(&b);
     bsonraw_buffer_concat(&b, (const uint8_t *)"\11\0\0\0\12x\0\5", 9);
-    is(bsonraw_buffer_end(&b), BSONRAW_FAULT, "a document with a stop");
+    is(bsonraw_buffer_finish(&b), BSONRAW_FAULT, "a document with a stop");
     bsonraw_buffer_reset(&b);
     bsonraw_buffer_copy_with(&b, one, sizeof one, NULL, 5);
-    is(bsonraw_buffer_end(&b), BSONRAW_NULL, "a document of NULL");
+    is(bsonraw_buffer_finish(&b), BSONRAW_NULL, "a document of NULL");
     bsonraw_buffer_reset(&b);
     bsonraw_buffer_copy_without(&b, both, sizeof both, no_keys, 2);
-    is(bsonraw_buffer_end(&b), BSONRAW_NULL, "a key of NULL");
+    is(bsonraw_buffer_finish(&b), BSONRAW_NULL, "a key of NULL");
     bsonraw_buffer_free(&b);
 }
 
@@ -751,12 +898,20 @@ int main(void) {
     static struct documents all;
     read_documents(&all);
     look_at_texts();
+    look_at_json_faults();
+    look_at_control_characters();
+    look_at_levels(1, "/1:\"x\"");
+    look_at_levels(20, "/1:\"\"" NINE NINE "/0:\"x\"");
+    look_at_levels(21, "/1:\"\"" NINE "/.." NINE "/0:\"x\"");
+    look_at_levels(25, "/1:\"\"" NINE "/.." NINE "/0:\"x\"");
     look_at_values();
     look_at_rarer();
     look_at_dots();
     look_at_new_forms();
     look_at_new_texts();
     look_at_new_documents();
+    look_at_texts_in_a_row();
+    look_at_arrays();
     look_at_places();
     look_at_order();
     look_at_many(&all);

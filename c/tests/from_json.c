@@ -276,11 +276,11 @@ static void has_bytes(const struct row *row) {
     struct bsonraw_json_report r;
     int32_t status = bsonraw_from_json(TEXT(row->text), 256, 10, document, sizeof document, &r);
     if (row->hex == NULL) {
-        expect(status == BSONRAW_FAULT && r.count == 0 && r.reason != 0 && r.line == 1, row->text, "it is read");
+        expect(status == BSONRAW_FAULT && r.count == 0 && r.json_reason != 0 && r.line == 1, row->text, "it is read");
         expect(r.column == r.offset + 1 && r.offset <= strlen(row->text), row->text, "the place isn't in the text");
     } else {
         expect(status == BSONRAW_OK && is_hex(document, (size_t)r.count, row->hex), row->text, "other bytes");
-        expect(r.offset == 0 && r.line == 0 && r.column == 0 && r.reason == 0 && r.wrapper == 0, row->text, "a document has a place");
+        expect(r.offset == 0 && r.line == 0 && r.column == 0 && r.json_reason == 0 && r.wrapper == 0, row->text, "a document has a place");
         status = bsonraw_from_json(TEXT(row->text), strlen(row->hex) / 2 - 1, 10, document, sizeof document, &r);
         expect(status == BSONRAW_TOO_MANY_BYTES, row->text, "a byte less is enough");
     }
@@ -297,7 +297,7 @@ static void is_refused(const char *text, uint64_t line, uint64_t column, enum bs
     case BSONRAW_JSON_BAD_NUMBER: case BSONRAW_JSON_INTEGER_TOO_LARGE: case BSONRAW_JSON_NUMBER_TOO_LARGE:
     case BSONRAW_JSON_CONTROL_CHARACTER: case BSONRAW_JSON_BAD_ESCAPE: case BSONRAW_JSON_LONE_SURROGATE: case BSONRAW_JSON_INTERIOR_NUL:
     case BSONRAW_JSON_MALFORMED: case BSONRAW_JSON_INEXACT_DECIMAL: case BSONRAW_JSON_NOT_UTF8: case BSONRAW_JSON_UNSOUND:
-        expect(r.reason == reason && r.wrapper == wrapper, text, "another reason");
+        expect(r.json_reason == reason && r.wrapper == wrapper, text, "another reason");
     }
     expect(r.line == line && r.column == column, text, "another place");
 }
@@ -336,7 +336,7 @@ static void say_wrappers(void) {
         uint8_t document[256];
         struct bsonraw_json_report r;
         snprintf(text, sizeof text, "{\"a\": {\"$%s\": null}}", keys[at]);
-        expect(bsonraw_from_json(TEXT(text), 256, 2, document, sizeof document, &r) == BSONRAW_FAULT && r.reason == BSONRAW_JSON_MALFORMED &&
+        expect(bsonraw_from_json(TEXT(text), 256, 2, document, sizeof document, &r) == BSONRAW_FAULT && r.json_reason == BSONRAW_JSON_MALFORMED &&
                    r.wrapper == (uint32_t)numbers[at] && (size_t)numbers[at] == at + 1,
                text, "another wrapper");
     }
@@ -573,11 +573,11 @@ static void say_places(void) {
         is_refused(refusals[at].text, refusals[at].line, refusals[at].column, refusals[at].reason, refusals[at].wrapper);
     for (at = 0; at < sizeof cut / sizeof *cut; at++) {
         expect(bsonraw_from_json(TEXT(cut[at]), 256, 2, document, sizeof document, &r) == BSONRAW_FAULT, cut[at], "it is read");
-        expect(r.reason == BSONRAW_JSON_END_OF_TEXT && r.offset == strlen(cut[at]), cut[at], "it doesn't end there");
+        expect(r.json_reason == BSONRAW_JSON_END_OF_TEXT && r.offset == strlen(cut[at]), cut[at], "it doesn't end there");
     }
     for (at = 0; at < sizeof mixed / sizeof *mixed; at++) {
         expect(bsonraw_from_json(TEXT(mixed[at].text), 256, 2, document, sizeof document, &r) == BSONRAW_FAULT, mixed[at].text, "it is read");
-        expect(r.reason == BSONRAW_JSON_MALFORMED && r.wrapper == mixed[at].wrapper, mixed[at].text, "another wrapper");
+        expect(r.json_reason == BSONRAW_JSON_MALFORMED && r.wrapper == mixed[at].wrapper, mixed[at].text, "another wrapper");
     }
     for (at = 0; at < sizeof tops / sizeof *tops; at++)
         expect(bsonraw_from_json(TEXT(tops[at]), 256, 9, document, sizeof document, &r) == BSONRAW_OK, tops[at], "it isn't read");
@@ -600,9 +600,9 @@ static void fits(void) {
         expect(room < len || memcmp(document, again, len) == 0, text, "another document with other room");
         for (at = room < len ? 0 : len; at < sizeof again; at++) expect(again[at] == 0xa5, text, "a byte is written that isn't to be written");
     }
-    expect(bsonraw_from_json(TEXT(text), len - 1, 3, again, sizeof again, &r) == BSONRAW_TOO_MANY_BYTES && r.reason == 0 && r.line == 1, text,
+    expect(bsonraw_from_json(TEXT(text), len - 1, 3, again, sizeof again, &r) == BSONRAW_TOO_MANY_BYTES && r.json_reason == 0 && r.line == 1, text,
            "a byte less is no limit");
-    expect(bsonraw_from_json(TEXT(text), len, 2, again, sizeof again, &r) == BSONRAW_TOO_DEEP && r.reason == 0 && r.column == 11, text,
+    expect(bsonraw_from_json(TEXT(text), len, 2, again, sizeof again, &r) == BSONRAW_TOO_DEEP && r.json_reason == 0 && r.column == 11, text,
            "a level less is no limit");
 }
 

@@ -165,7 +165,7 @@ typedef int32_t reading(const uint8_t *text, size_t len, uint8_t *form, size_t f
 static int32_t said(const struct document *d, int32_t status, const struct bsonraw_json_report *r, struct bsonraw_report *report) {
     memset(report, 0, sizeof *report);
     if (status == BSONRAW_NO_MEMORY) {
-        expect(r->count == 0 && r->line > 0 && r->column > 0 && r->offset <= ROOM && r->reason == 0 && r->wrapper == 0, d->name, "out of memory has no place");
+        expect(r->count == 0 && r->line > 0 && r->column > 0 && r->offset <= ROOM && r->json_reason == 0 && r->wrapper == 0, d->name, "out of memory has no place");
         report->key_at = d->len;
     } else {
         expect(status == BSONRAW_OK, d->name, "its text isn't read");
@@ -207,7 +207,7 @@ static int32_t call_new_form(const struct document *d, uint8_t *form, size_t for
 static int32_t call_new_text(const struct document *d, uint8_t *form, size_t form_len, struct bsonraw_report *report, uint64_t *path,
                              size_t path_room) {
     char *own = NULL;
-    int32_t status = bsonraw_json_new(d->bytes, d->len, 1 << 24, LEVELS, 1, 1, &own, report);
+    int32_t status = bsonraw_json_new(d->bytes, d->len, 1 << 24, LEVELS, BSONRAW_JSON_CANONICAL | BSONRAW_JSON_INDENTED, &own, report);
     (void)path, (void)path_room;
     give_back((uint8_t *)own, status, report->count + 1, form, form_len, d->name);
     return status;
@@ -260,7 +260,7 @@ static int32_t put(void *context, const char *text, size_t len) {
 static int32_t call_pieces(const struct document *d, uint8_t *form, size_t form_len, struct bsonraw_report *report, uint64_t *path,
                            size_t path_room) {
     struct room r = {form, 0, form_len};
-    return bsonraw_json_write(d->bytes, d->len, 1 << 24, LEVELS, 0, 1, put, &r, report, path, path_room);
+    return bsonraw_json_write(d->bytes, d->len, 1 << 24, LEVELS, BSONRAW_JSON_INDENTED, put, &r, report, path, path_room);
 }
 
 /* The last element's value as text. */
@@ -270,7 +270,7 @@ static int32_t call_value(const struct document *d, uint8_t *form, size_t form_l
     int32_t status = bsonraw_iter_init(&it, d->bytes, d->len);
     (void)path, (void)path_room;
     while (status == BSONRAW_OK && (status = bsonraw_iter_next(&it, d->bytes, d->len)) == BSONRAW_OK) last = it;
-    return bsonraw_iter_json(&last, d->bytes, d->len, LEVELS, 0, 1, (char *)form, form_len, report);
+    return bsonraw_iter_json(&last, d->bytes, d->len, LEVELS, BSONRAW_JSON_INDENTED, (char *)form, form_len, report);
 }
 
 /* The calls that are asked for a length alone. */
@@ -311,9 +311,9 @@ static void look_at_text(size_t levels, size_t count) {
     }
     for (at -= 2; at < len - levels; at += 2) d.bytes[at] = BSONRAW_TAG_NULL;
     before = peak = in_use;
-    expect(bsonraw_json_write(d.bytes, len, SIZE_MAX, levels, 0, 1, NULL, NULL, &r, path, 1) == BSONRAW_OK && r.count == text, d.name, "it isn't counted");
+    expect(bsonraw_json_write(d.bytes, len, SIZE_MAX, levels, BSONRAW_JSON_INDENTED, NULL, NULL, &r, path, 1) == BSONRAW_OK && r.count == text, d.name, "it isn't counted");
     took(before, little, d.name);
-    expect(bsonraw_json_write(d.bytes, len, SIZE_MAX, levels, 0, 1, put, &none, &r, path, 1) == BSONRAW_OK, d.name, "it isn't given");
+    expect(bsonraw_json_write(d.bytes, len, SIZE_MAX, levels, BSONRAW_JSON_INDENTED, put, &none, &r, path, 1) == BSONRAW_OK, d.name, "it isn't given");
     took(before, little, d.name);
     expect(bsonraw_json(d.bytes, len, SIZE_MAX, levels, 0, 1, to, 0, &r, path, 1) == BSONRAW_SMALL_BUFFER && r.count == text, d.name, "its length isn't said");
     took(before, little, d.name);

@@ -6,6 +6,8 @@
 #include <stdlib.h>
 #include <string.h>
 
+#define FLAGS(canonical, indented) ((canonical ? BSONRAW_JSON_CANONICAL : 0) | (indented ? BSONRAW_JSON_INDENTED : 0))
+
 /* A text that a call gave, in pieces. */
 struct pieces {
     char *text;
@@ -28,11 +30,11 @@ static void compare_new(const struct document *d, uint32_t canonical, uint32_t i
     uint64_t path[STEPS];
     size_t room = text == NULL ? 0 : (size_t)wanted->count + 1;
     char *own = (char *)&r, *into = needed(room + 1);
-    expect(bsonraw_json_new(d->bytes, d->len, 1 << 24, LEVELS, canonical, indented, &own, &r) == status, d->name, "another status of a new text");
+    expect(bsonraw_json_new(d->bytes, d->len, 1 << 24, LEVELS, FLAGS(canonical, indented), &own, &r) == status, d->name, "another status of a new text");
     expect(memcmp(&r, wanted, sizeof r) == 0, d->name, "another report of a new text");
     expect(text == NULL ? own == NULL : own != NULL && memcmp(own, text, room) == 0, d->name, "another new text");
     free(own);
-    expect(bsonraw_json_text(d->bytes, d->len, 1 << 24, LEVELS, canonical, indented, into, room, &r, path, STEPS) == status, d->name, "another status with char");
+    expect(bsonraw_json_text(d->bytes, d->len, 1 << 24, LEVELS, FLAGS(canonical, indented), into, room, &r, path, STEPS) == status, d->name, "another status with char");
     expect(memcmp(&r, wanted, sizeof r) == 0 && (text == NULL || memcmp(into, text, room) == 0), d->name, "another text with char");
     free(into);
 }
@@ -44,7 +46,7 @@ static void compare(const struct document *d, uint32_t canonical, uint32_t inden
     uint8_t *text;
     int32_t status = bsonraw_json(d->bytes, d->len, 1 << 24, LEVELS, canonical, indented, NULL, 0, &wanted, path, STEPS);
     if (status != BSONRAW_SMALL_BUFFER) {
-        expect(bsonraw_json_write(d->bytes, d->len, 1 << 24, LEVELS, canonical, indented, keep, &p, &r, other, STEPS) == status, d->name, "another status");
+        expect(bsonraw_json_write(d->bytes, d->len, 1 << 24, LEVELS, FLAGS(canonical, indented), keep, &p, &r, other, STEPS) == status, d->name, "another status");
         expect(p.count == 0 && memcmp(&r, &wanted, sizeof r) == 0, d->name, "another report");
         expect(r.path_len > STEPS || memcmp(path, other, (size_t)r.path_len * sizeof *path) == 0, d->name, "another path");
         compare_new(d, canonical, indented, status, &wanted, NULL);
@@ -53,12 +55,12 @@ static void compare(const struct document *d, uint32_t canonical, uint32_t inden
     text = needed((size_t)wanted.count + 1);
     p.text = needed((size_t)wanted.count + 1), p.room = (size_t)wanted.count;
     expect(bsonraw_json(d->bytes, d->len, 1 << 24, LEVELS, canonical, indented, text, p.room + 1, &wanted, path, STEPS) == BSONRAW_OK, d->name, "no text");
-    expect(bsonraw_json_write(d->bytes, d->len, 1 << 24, LEVELS, canonical, indented, keep, &p, &r, path, STEPS) == BSONRAW_OK, d->name, "no pieces");
+    expect(bsonraw_json_write(d->bytes, d->len, 1 << 24, LEVELS, FLAGS(canonical, indented), keep, &p, &r, path, STEPS) == BSONRAW_OK, d->name, "no pieces");
     expect(memcmp(&r, &wanted, sizeof r) == 0, d->name, "another count");
     expect(p.len == p.room && memcmp(p.text, text, p.room) == 0, d->name, "another text in pieces");
-    expect(bsonraw_json_write(d->bytes, d->len, 1 << 24, LEVELS, canonical, indented, NULL, NULL, &r, path, STEPS) == BSONRAW_OK && r.count == p.room, d->name, "it is counted otherwise");
+    expect(bsonraw_json_write(d->bytes, d->len, 1 << 24, LEVELS, FLAGS(canonical, indented), NULL, NULL, &r, path, STEPS) == BSONRAW_OK && r.count == p.room, d->name, "it is counted otherwise");
     p.stop_at = p.count, p.count = p.len = 0;
-    expect(bsonraw_json_write(d->bytes, d->len, 1 << 24, LEVELS, canonical, indented, keep, &p, &r, path, STEPS) == 77, d->name, "a stop isn't returned");
+    expect(bsonraw_json_write(d->bytes, d->len, 1 << 24, LEVELS, FLAGS(canonical, indented), keep, &p, &r, path, STEPS) == 77, d->name, "a stop isn't returned");
     expect(p.count == p.stop_at && r.count == 0, d->name, "it goes on behind a stop");
     compare_new(d, canonical, indented, BSONRAW_OK, &wanted, text);
     free(text);
@@ -93,17 +95,17 @@ static void compare_values(const struct document *d, uint32_t canonical, uint32_
     if (bsonraw_iter_init(&it, d->bytes, d->len) != BSONRAW_OK) return;
     while (bsonraw_iter_next(&it, d->bytes, d->len) == BSONRAW_OK) {
         size_t len = value_of(d, &it, canonical, indented, wanted);
-        int32_t status = bsonraw_iter_json(&it, d->bytes, d->len, SIZE_MAX, canonical, indented, text, sizeof text, &r);
+        int32_t status = bsonraw_iter_json(&it, d->bytes, d->len, SIZE_MAX, FLAGS(canonical, indented), text, sizeof text, &r);
         expect((len > 0) == (status == BSONRAW_OK), d->name, "a value with another status");
         if (status != BSONRAW_OK) {
             expect(status == BSONRAW_FAULT && r.error.offset + 1 >= it.key_at && r.error.offset <= it.next && r.count == 0, d->name, "another place of a fault");
             continue;
         }
         expect(r.count == len && memcmp(text, wanted, len) == 0 && text[len] == 0, d->name, "another text of a value");
-        expect(bsonraw_iter_json(&it, d->bytes, d->len, SIZE_MAX, canonical, indented, text, len, &r) == BSONRAW_SMALL_BUFFER && r.count == len, d->name, "a room that is too small");
-        expect(bsonraw_iter_json(&it, d->bytes, d->len, SIZE_MAX, canonical, indented, NULL, 0, &r) == BSONRAW_SMALL_BUFFER && r.count == len, d->name, "no room");
+        expect(bsonraw_iter_json(&it, d->bytes, d->len, SIZE_MAX, FLAGS(canonical, indented), text, len, &r) == BSONRAW_SMALL_BUFFER && r.count == len, d->name, "a room that is too small");
+        expect(bsonraw_iter_json(&it, d->bytes, d->len, SIZE_MAX, FLAGS(canonical, indented), NULL, 0, &r) == BSONRAW_SMALL_BUFFER && r.count == len, d->name, "no room");
     }
-    expect(bsonraw_iter_json(&it, d->bytes, d->len, SIZE_MAX, canonical, indented, text, sizeof text, &r) == BSONRAW_BAD_OFFSET, d->name, "a value of none");
+    expect(bsonraw_iter_json(&it, d->bytes, d->len, SIZE_MAX, FLAGS(canonical, indented), text, sizeof text, &r) == BSONRAW_BAD_OFFSET, d->name, "a value of none");
 }
 
 static void compare_each(const struct document *d) {
@@ -141,7 +143,7 @@ static void fill(struct bsonraw_buffer *b, int levels, uint32_t count, int is_ar
         else {
             bsonraw_buffer_init(&scope);
             fill(&scope, levels - 1, more, 0);
-            bsonraw_buffer_end(&scope);
+            expect(bsonraw_buffer_finish(&scope) == BSONRAW_OK, "a scope", "it isn't built");
             bsonraw_buffer_append(b, BSONRAW_TAG_JAVASCRIPT_WITH_SCOPE, name, text, random_number() % sizeof text, scope.bytes, scope.len);
             bsonraw_buffer_free(&scope);
         }
@@ -158,7 +160,7 @@ static void look_at_large(void) {
         bsonraw_buffer_init(&b);
         left = 3000;
         fill(&b, 1 + number % 6, 30 + random_number() % 300, 0);
-        expect(bsonraw_buffer_end(&b) == BSONRAW_OK, d.name, "it isn't built");
+        expect(bsonraw_buffer_finish(&b) == BSONRAW_OK, d.name, "it isn't built");
         d.bytes = b.bytes, d.len = b.len;
         compare(&d, 0, 0);
         compare(&d, 1, 0);
@@ -183,19 +185,26 @@ static void look_at_large_values(void) {
     bsonraw_buffer_end(&b);
     bsonraw_buffer_append(&b, BSONRAW_TAG_JAVASCRIPT_WITH_SCOPE, "c", text, sizeof text, "\5\0\0\0", 5);
     bsonraw_buffer_text(&b, "t", text, sizeof text);
-    expect(bsonraw_buffer_end(&b) == BSONRAW_OK, d.name, "they aren't built");
+    expect(bsonraw_buffer_finish(&b) == BSONRAW_OK, d.name, "they aren't built");
     d.bytes = b.bytes, d.len = b.len;
     compare(&d, 0, 0);
     compare(&d, 0, 1);
     expect(bsonraw_iter_init_find(&it, b.bytes, b.len, BSONRAW_KEY("a")) == BSONRAW_OK, d.name, "no array");
-    expect(bsonraw_iter_json(&it, b.bytes, b.len, 1, 0, 0, json, sizeof json, &r) == BSONRAW_OK && r.count == 6001, d.name, "an array");
+    expect(bsonraw_iter_json(&it, b.bytes, b.len, 1, 0, json, sizeof json, &r) == BSONRAW_OK && r.count == 6001, d.name, "an array");
     expect(memcmp(json, "[0,1,2,", 7) == 0 && strcmp(json + 5997, "8,9]") == 0, d.name, "an array");
-    expect(bsonraw_iter_json(&it, b.bytes, b.len, 1, 0, 1, json, sizeof json, &r) == BSONRAW_OK && r.count == 15002, d.name, "an indented array");
+    expect(bsonraw_iter_json(&it, b.bytes, b.len, 1, BSONRAW_JSON_INDENTED, json, sizeof json, &r) == BSONRAW_OK && r.count == 15002, d.name, "an indented array");
     expect(memcmp(json, "[\n  0,\n  1,", 11) == 0 && strcmp(json + 14997, "  9\n]") == 0, d.name, "an indented array");
-    expect(bsonraw_iter_json(&it, b.bytes, b.len, 0, 0, 0, json, sizeof json, &r) == BSONRAW_TOO_DEEP, d.name, "no level");
+    expect(bsonraw_iter_json(&it, b.bytes, b.len, 0, 0, json, sizeof json, &r) == BSONRAW_TOO_DEEP, d.name, "no level");
     expect(bsonraw_iter_init_find(&it, b.bytes, b.len, BSONRAW_KEY("c")) == BSONRAW_OK, d.name, "no code");
-    expect(bsonraw_iter_json(&it, b.bytes, b.len, 1, 0, 0, json, sizeof json, &r) == BSONRAW_OK && r.count == 20024, d.name, "a code");
+    expect(bsonraw_iter_json(&it, b.bytes, b.len, 1, 0, json, sizeof json, &r) == BSONRAW_OK && r.count == 20024, d.name, "a code");
     expect(memcmp(json, "{\"$code\":\"xx", 12) == 0 && strcmp(json + 20008, "xx\",\"$scope\":{}}") == 0, d.name, "a code");
+    bsonraw_buffer_reset(&b);
+    bsonraw_buffer_begin_document(&b, "d");
+    bsonraw_buffer_append(&b, BSONRAW_TAG_JAVASCRIPT_WITH_SCOPE, "c", "f", 1, "\14\0\0\0\20x\0\1\0\0\0", 12);
+    bsonraw_buffer_end(&b);
+    expect(bsonraw_buffer_finish(&b) == BSONRAW_OK && bsonraw_get(b.bytes, b.len, "d.c", &it) == BSONRAW_OK, d.name, "no code");
+    expect(bsonraw_iter_json(&it, b.bytes, b.len, 1, BSONRAW_JSON_INDENTED, json, sizeof json, &r) == BSONRAW_OK &&
+               strcmp(json, "{\"$code\":\"f\",\"$scope\":{\n  \"x\": 1\n}}") == 0, d.name, "an indented scope");
     bsonraw_buffer_free(&b);
 }
 
@@ -207,14 +216,14 @@ static void look_at_null(void) {
     char text[BSONRAW_DECIMAL128_TEXT], hex[BSONRAW_OID_TEXT];
     int64_t millis;
     expect(bsonraw_iter_init(&it, bytes, 5) == BSONRAW_OK, "NULL", "a cursor");
-    expect(bsonraw_json_write(NULL, 5, 9, 9, 0, 0, NULL, NULL, &r, NULL, 0) == BSONRAW_NULL, "NULL", "bytes");
-    expect(bsonraw_json_write(NULL, 0, 9, 9, 0, 0, NULL, NULL, &r, NULL, 0) == BSONRAW_NO_DOCUMENT, "NULL", "no bytes");
-    expect(bsonraw_json_write(bytes, 5, 9, 9, 0, 0, NULL, NULL, NULL, NULL, 0) == BSONRAW_NULL, "NULL", "a report");
-    expect(bsonraw_json_write(bytes, 5, 9, 9, 0, 0, NULL, NULL, &r, NULL, 1) == BSONRAW_NULL, "NULL", "a path");
-    expect(bsonraw_iter_json(NULL, bytes, 5, 9, 0, 0, text, 9, &r) == BSONRAW_NULL, "NULL", "a cursor");
-    expect(bsonraw_iter_json(&it, NULL, 5, 9, 0, 0, text, 9, &r) == BSONRAW_NULL, "NULL", "bytes");
-    expect(bsonraw_iter_json(&it, bytes, 5, 9, 0, 0, NULL, 9, &r) == BSONRAW_NULL, "NULL", "a text");
-    expect(bsonraw_iter_json(&it, bytes, 5, 9, 0, 0, text, 9, NULL) == BSONRAW_NULL, "NULL", "a report");
+    expect(bsonraw_json_write(NULL, 5, 9, 9, 0, NULL, NULL, &r, NULL, 0) == BSONRAW_NULL, "NULL", "bytes");
+    expect(bsonraw_json_write(NULL, 0, 9, 9, 0, NULL, NULL, &r, NULL, 0) == BSONRAW_NO_DOCUMENT, "NULL", "no bytes");
+    expect(bsonraw_json_write(bytes, 5, 9, 9, 0, NULL, NULL, NULL, NULL, 0) == BSONRAW_NULL, "NULL", "a report");
+    expect(bsonraw_json_write(bytes, 5, 9, 9, 0, NULL, NULL, &r, NULL, 1) == BSONRAW_NULL, "NULL", "a path");
+    expect(bsonraw_iter_json(NULL, bytes, 5, 9, 0, text, 9, &r) == BSONRAW_NULL, "NULL", "a cursor");
+    expect(bsonraw_iter_json(&it, NULL, 5, 9, 0, text, 9, &r) == BSONRAW_NULL, "NULL", "bytes");
+    expect(bsonraw_iter_json(&it, bytes, 5, 9, 0, NULL, 9, &r) == BSONRAW_NULL, "NULL", "a text");
+    expect(bsonraw_iter_json(&it, bytes, 5, 9, 0, text, 9, NULL) == BSONRAW_NULL, "NULL", "a report");
     expect(bsonraw_decimal128_to_text(NULL, text) == BSONRAW_NULL && bsonraw_decimal128_to_text(own, NULL) == BSONRAW_NULL, "NULL", "a decimal");
     expect(bsonraw_decimal128_from_text(NULL, own) == BSONRAW_NULL && bsonraw_decimal128_from_text("1", NULL) == BSONRAW_NULL, "NULL", "a decimal's text");
     expect(bsonraw_date_time_to_text(0, NULL) == BSONRAW_NULL, "NULL", "a time");
@@ -240,7 +249,7 @@ static void look_at_any_cursor(void) {
         fields[0] = &it.tag, fields[1] = &it.key_at, fields[2] = &it.key_len, fields[3] = &it.payload_at, fields[4] = &it.payload_len;
         fields[5] = &it.next, fields[6] = &it.document_at, fields[7] = &it.document_len;
         for (; change > 0; change--) *fields[random_number() % 8] = random_number() % 4 ? random_number() % 30 : random_number() * 2;
-        if (bsonraw_iter_json(&it, bytes, 27, 9, 0, 0, text, sizeof text, &r) == BSONRAW_OK) expect(strlen(text) == r.count, "any cursor", text);
+        if (bsonraw_iter_json(&it, bytes, 27, 9, 0, text, sizeof text, &r) == BSONRAW_OK) expect(strlen(text) == r.count, "any cursor", text);
     }
     expect(number == 20000, "any cursor", "no cursor");
     free(bytes);

@@ -1,6 +1,7 @@
 /* What a user gets wrong, and what comes of it: NULL for no bytes and for what is needed, and builders that are used out of turn. */
 #include "documents.h"
 
+#include <stdlib.h>
 #include <string.h>
 
 static uint8_t room[256];
@@ -178,6 +179,133 @@ static void look_at_any_rows(void) {
     expect(good > 1000, "any row of calls", "no document is built");
 }
 
+/* What is taken back had found the room too small, and so had what came before it, or not: that is as it was before the level. */
+static void look_at_small_rooms(void) {
+    int was_small;
+    for (was_small = 0; was_small < 2; was_small++) {
+        size_t first = was_small ? 8 : 40;
+        memset(room, 0xa5, len);
+        bsonraw_builder_begin(&b, room, first);
+        is(bsonraw_append_int32(&b, room, first, BSONRAW_KEY("number"), 1), was_small ? BSONRAW_SMALL_BUFFER : BSONRAW_OK, "a number");
+        is(bsonraw_append_array_begin(&b, room, 16, BSONRAW_KEY("taken back"), &outer), BSONRAW_SMALL_BUFFER, "a level");
+        is(bsonraw_append_document_begin(&outer, room, 16, BSONRAW_NO_KEY, &inner), BSONRAW_SMALL_BUFFER, "a level in it");
+        is(bsonraw_append_cancel(&outer, &inner), BSONRAW_SMALL_BUFFER, "the level in it is taken back");
+        is(bsonraw_append_cancel(&b, &outer), was_small ? BSONRAW_SMALL_BUFFER : BSONRAW_OK, "the level is taken back");
+        expect(b.tag == BSONRAW_TAG_DOCUMENT, "the level is taken back", "another tag");
+        bsonraw_append_null(&b, room, len, BSONRAW_KEY("n"));
+        is(bsonraw_builder_end(&b, room, len), was_small ? BSONRAW_SMALL_BUFFER : BSONRAW_OK, "the document");
+        expect(b.len == 20, "the document", "another length is wanted");
+        expect(was_small || memcmp(room, "\24\0\0\0\20number\0\1\0\0\0\12n\0", 20) == 0, "the document", "other bytes");
+    }
+    begin();
+    is(bsonraw_append_utf8(&inner, room, len, BSONRAW_NO_KEY, BSONRAW_KEY("\xff")), BSONRAW_FAULT, "a text that isn't UTF-8");
+    is(bsonraw_append_cancel(&outer, &inner), BSONRAW_FAULT, "a level that refused something");
+    is(bsonraw_append_cancel(&b, &outer), BSONRAW_FAULT, "the level around it");
+    bsonraw_builder_begin(&b, room, 4);
+    bsonraw_append_null(&b, room, 4, BSONRAW_KEY("a"));
+    bsonraw_append_array_begin(&b, room, 4, BSONRAW_KEY("l"), &outer);
+    bsonraw_append_null(&outer, room, 4, BSONRAW_NO_KEY);
+    is(bsonraw_append_end(&b, room, 4, &outer), BSONRAW_SMALL_BUFFER, "a level in no room");
+    is(bsonraw_builder_end(&b, room, 4), BSONRAW_SMALL_BUFFER, "a document in no room");
+    expect(b.len == 19 && b.tag == BSONRAW_TAG_DOCUMENT, "a document in no room", "another length is wanted");
+}
+
+/* A level whose end was forgotten, and keys that are given where none is taken, or aren't where one is. */
+static void look_at_keys(void) {
+    struct bsonraw_buffer buffer;
+    bsonraw_buffer_init(&buffer);
+    bsonraw_buffer_begin_array(&buffer, "tags");
+    is(bsonraw_buffer_utf8(&buffer, NULL, "new"), BSONRAW_OK, "an item");
+    is(bsonraw_buffer_utf8(&buffer, "name", "Emmy"), BSONRAW_MISUSE, "a key in an array");
+    is(bsonraw_buffer_int32(&buffer, "born", 1882), BSONRAW_MISUSE, "the next one");
+    is(bsonraw_buffer_finish(&buffer), BSONRAW_MISUSE, "a record in a level that wasn't ended");
+    expect(buffer.len == 0 && buffer.level.count == 1, "a record in a level that wasn't ended", "another number was refused");
+    bsonraw_buffer_reset(&buffer);
+    bsonraw_buffer_begin_array(&buffer, "tags");
+    bsonraw_buffer_utf8(&buffer, NULL, "new");
+    is(bsonraw_buffer_finish(&buffer), BSONRAW_MISUSE, "a level that wasn't ended");
+    is(bsonraw_buffer_end(&buffer), BSONRAW_MISUSE, "its end, which is too late");
+    bsonraw_buffer_reset(&buffer);
+    bsonraw_buffer_int32(&buffer, "a", 1);
+    is(bsonraw_buffer_end(&buffer), BSONRAW_MISUSE, "the end of no level");
+    bsonraw_buffer_reset(&buffer);
+    bsonraw_buffer_begin_array(&buffer, "l");
+    is(bsonraw_buffer_begin_document(&buffer, "d"), BSONRAW_MISUSE, "a level with a key in an array");
+    bsonraw_buffer_reset(&buffer);
+    bsonraw_buffer_begin_array(&buffer, "l");
+    is(bsonraw_buffer_append(&buffer, BSONRAW_TAG_MIN_KEY, "", NULL, 0, NULL, 0), BSONRAW_MISUSE, "the empty key in an array");
+    bsonraw_buffer_reset(&buffer);
+    is(bsonraw_buffer_int32(&buffer, NULL, 1), BSONRAW_NULL, "no key in a document");
+    is(bsonraw_buffer_finish(&buffer), BSONRAW_NULL, "no key in a document");
+    bsonraw_buffer_reset(&buffer);
+    is(bsonraw_buffer_binary(&buffer, NULL, 0, "x", 1), BSONRAW_NULL, "no key of a binary");
+    bsonraw_buffer_reset(&buffer);
+    is(bsonraw_buffer_begin_array(&buffer, NULL), BSONRAW_NULL, "no key of a level");
+    bsonraw_buffer_reset(&buffer);
+    is(bsonraw_buffer_int32(&buffer, "", 1), BSONRAW_OK, "the empty key");
+    is(bsonraw_buffer_finish(&buffer), BSONRAW_OK, "the empty key");
+    expect(buffer.len == 11 && memcmp(buffer.bytes, "\13\0\0\0\20\0\1\0\0\0", 11) == 0, "the empty key", "another document");
+    bsonraw_buffer_free(&buffer);
+    is(bsonraw_buffer_finish(NULL), BSONRAW_NULL, "no buffer");
+}
+
+/* Memory that no call has begun as a buffer, whatever is in it. */
+static void look_at_any_memory(void) {
+    static const uint8_t bytes[] = "\10\0\0\0\12a\0";
+    struct bsonraw_buffer buffer;
+    struct bsonraw_change change[1];
+    struct bsonraw_iter it;
+    int byte, call;
+    is(bsonraw_iter_init_find(&it, bytes, sizeof bytes, BSONRAW_KEY("a")), BSONRAW_OK, "an element");
+    for (byte = 0; byte < 256; byte++)
+        for (call = 0; call < 10; call++) {
+            int32_t status;
+            change[0] = bsonraw_change_remove("a");
+            memset(&buffer, byte, sizeof buffer);
+            switch (call) {
+            case 0: status = bsonraw_buffer_int32(&buffer, "a", 1); break;
+            case 1: status = bsonraw_buffer_utf8(&buffer, "a", "b"); break;
+            case 2: status = bsonraw_buffer_begin_array(&buffer, "a"); break;
+            case 3: status = bsonraw_buffer_end(&buffer); break;
+            case 4: status = bsonraw_buffer_finish(&buffer); break;
+            case 5: status = bsonraw_buffer_reset(&buffer); break;
+            case 6: status = bsonraw_buffer_iter(&buffer, &it, bytes, sizeof bytes); break;
+            case 7: status = bsonraw_buffer_concat(&buffer, bytes, sizeof bytes); break;
+            case 8: status = bsonraw_buffer_edit(&buffer, bytes, sizeof bytes, change, 1); break;
+            default: status = bsonraw_buffer_regex(&buffer, "a", "b", NULL); break;
+            }
+            is(status, BSONRAW_BAD_OFFSET, "memory that is no buffer");
+            bsonraw_buffer_free(&buffer);
+        }
+}
+
+static size_t most_memory;
+
+static void *measure(void *context, void *memory, size_t size) {
+    (void)context;
+    if (size > most_memory) most_memory = size;
+    if (size > 0) return realloc(memory, size);
+    free(memory);
+    return NULL;
+}
+
+/* A cursor of any fields takes no memory for them. */
+static void look_at_forged(void) {
+    static const uint8_t bytes[] = "\10\0\0\0\12a\0";
+    struct bsonraw_buffer buffer;
+    struct bsonraw_iter it;
+    int field;
+    for (field = 0; field < 2; field++) {
+        is(bsonraw_iter_init_find(&it, bytes, sizeof bytes, BSONRAW_KEY("a")), BSONRAW_OK, "an element");
+        if (field) it.key_len = 2147483000;
+        else it.payload_len = 2147483000;
+        bsonraw_buffer_init_with(&buffer, measure, NULL);
+        is(bsonraw_buffer_iter(&buffer, &it, bytes, sizeof bytes), BSONRAW_BAD_OFFSET, "a forged cursor");
+        expect(most_memory < 10000, "a forged cursor", "memory is taken");
+        bsonraw_buffer_free(&buffer);
+    }
+}
+
 /* Which append to a buffer was refused. */
 static void look_at_refused(void) {
     struct bsonraw_buffer buffer;
@@ -188,7 +316,7 @@ static void look_at_refused(void) {
     bsonraw_buffer_int32(&buffer, NULL, 2);
     bsonraw_buffer_utf8(&buffer, NULL, "\xff");
     bsonraw_buffer_int32(&buffer, NULL, 3);
-    is(bsonraw_buffer_end(&buffer), BSONRAW_FAULT, "a buffer");
+    is(bsonraw_buffer_finish(&buffer), BSONRAW_FAULT, "a buffer");
     expect(buffer.level.count == 2 && buffer.depth == 1, "a buffer", "another element was refused");
     bsonraw_buffer_free(&buffer);
 }
@@ -325,6 +453,10 @@ int main(void) {
     look_at_slips();
     look_at_old_levels();
     look_at_any_rows();
+    look_at_small_rooms();
+    look_at_keys();
+    look_at_any_memory();
+    look_at_forged();
     look_at_refused();
     look_at_null();
     look_at_null_in_builders();

@@ -33,6 +33,7 @@ static int use(int call, uint8_t *bytes, size_t len) {
     struct bsonraw_iter it = {0, 0, 0, 0, 0, 0, 0, 0, {0, 0, 0, 0, 0}};
     struct bsonraw_reader reader = {0, 0, 0, {0, 0, 0, 0, 0}};
     struct bsonraw_report r;
+    struct bsonraw_json_report told = {0, 0, 0, 0, 0, 0};
     struct bsonraw_value value;
     uint64_t count;
     int32_t number;
@@ -43,7 +44,7 @@ static int use(int call, uint8_t *bytes, size_t len) {
     const uint8_t *part;
     char *new_text;
     uint8_t *made;
-    size_t part_len;
+    size_t part_len = 0;
     bsonraw_buffer_init(&b);
     switch (call) {
     case 0: (void)bsonraw_fault_text(&error, room, len); break;
@@ -72,8 +73,8 @@ static int use(int call, uint8_t *bytes, size_t len) {
     case 23: (void)!bsonraw_set_bool(bytes, len, "a", 1); break;
     case 24: (void)!bsonraw_set_date_time(bytes, len, "a", 1); break;
     case 25: (void)!bsonraw_set_oid(bytes, 5, "a", end - 12); break;
-    case 26: (void)!bsonraw_json_write(bytes, len, 9, 9, 0, 0, put, NULL, &r, NULL, 0); break;
-    case 27: (void)!bsonraw_iter_json(&it, bytes, len, 9, 0, 0, NULL, 0, &r); break;
+    case 26: (void)!bsonraw_json_write(bytes, len, 9, 9, 0, put, NULL, &r, NULL, 0); break;
+    case 27: (void)!bsonraw_iter_json(&it, bytes, len, 9, 0, NULL, 0, &r); break;
     case 28: bsonraw_buffer_append(&b, 0, "a", bytes, len, NULL, 0); break;
     case 29: bsonraw_buffer_text(&b, "\xff", room, len); break;
     case 30: b.status = BSONRAW_FAULT, bsonraw_buffer_oid(&b, "a", end - 12); break;
@@ -91,9 +92,14 @@ static int use(int call, uint8_t *bytes, size_t len) {
     case 42: (void)!bsonraw_get_binary(bytes, len, "a", &one, &part, &part_len); break;
     case 43: (void)!bsonraw_set_timestamp(bytes, len, "a", 1, 1); break;
     case 44: (void)!bsonraw_set_decimal128(bytes, 5, "a", end - 16); break;
-    case 45: (void)!bsonraw_json_new(bytes, len, 9, 9, 0, 0, &new_text, &r); break;
+    case 45: (void)!bsonraw_json_new(bytes, len, 9, 9, 0, &new_text, &r); break;
     case 46: (void)!bsonraw_canonical_new(bytes, len, 9, 9, &made, &r); break;
     case 47: (void)!bsonraw_from_json_new(room, len, 9, 9, &made, NULL); break;
+    case 48: (void)bsonraw_json_fault_text(&told, room, len); break;
+    case 49: (void)bsonraw_change_value("a", 0, bytes, len, NULL, 0); break;
+    case 50: (void)bsonraw_change_iter("a", &it, bytes, len); break;
+    case 51: bsonraw_buffer_edit(&b, bytes, len, NULL, 0); break;
+    case 52: (void)!bsonraw_from_json_next(room, len, &part_len, 9, 9, &made, &told); break;
     default: return 0;
     }
     return 1;
@@ -115,7 +121,7 @@ int main(void) {
     expect(is_touched(pages + 4096, 4096), "a right length", "it ends the process");
     expect(!is_touched(pages + 4096, 4097), "a length that is too long", "it isn't seen");
     expect(!is_touched(pages + 4095, 4096), "bytes that begin too early", "they aren't seen");
-    for (call = 0; call < 48; call++) {
+    for (call = 0; call < 53; call++) {
         expect(is_used(call, pages + 4096, 4096), "a right length", "it ends the process");
         expect(!is_used(call, pages + 4096, 4097), "a length that is too long", "it isn't seen");
     }

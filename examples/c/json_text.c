@@ -8,6 +8,6 @@ static char text[1 << 24];
 int main(void) {
     struct bsonraw_report r;
     size_t len = fread(bytes, 1, sizeof bytes, stdin);
-    if (bsonraw_json_text(bytes, len, sizeof bytes, 100, 0, 0, text, sizeof text, &r, NULL, 0) != BSONRAW_OK) return 1;
+    if (bsonraw_json_text(bytes, len, sizeof bytes, 100, 0, text, sizeof text, &r, NULL, 0) != BSONRAW_OK) return 1;
     return puts(text) < 0;
 }

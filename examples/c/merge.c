@@ -13,7 +13,7 @@ int main(void) {
     if (bsonraw_reader_read(&other, bytes, len) != BSONRAW_OK) return 1;
     bsonraw_buffer_init(&b);
     bsonraw_buffer_copy_with(&b, bytes + one.document_at, one.document_len, bytes + other.document_at, other.document_len);
-    if (bsonraw_buffer_end(&b) != BSONRAW_OK) return 2;
+    if (bsonraw_buffer_finish(&b) != BSONRAW_OK) return 2;
     fwrite(b.bytes, 1, b.len, stdout);
     bsonraw_buffer_free(&b);
     return 0;

@@ -19,7 +19,7 @@ int main(int count, char **arguments) {
     }
     bsonraw_buffer_end(&b);
     bsonraw_buffer_int32(&b, "count", orders);
-    if (bsonraw_buffer_end(&b) != BSONRAW_OK) return 1;
+    if (bsonraw_buffer_finish(&b) != BSONRAW_OK) return 1;
     fwrite(b.bytes, 1, b.len, stdout);
     bsonraw_buffer_free(&b);
     return 0;

@@ -42,7 +42,7 @@ static const char *reason_text(const struct bsonraw_json_report *report) {
         [BSONRAW_JSON_MIN_KEY] = "this is not {\"$minKey\": 1}",
         [BSONRAW_JSON_MAX_KEY] = "this is not {\"$maxKey\": 1}",
     };
-    return report->reason == BSONRAW_JSON_MALFORMED ? wrappers[report->wrapper] : texts[report->reason];
+    return report->json_reason == BSONRAW_JSON_MALFORMED ? wrappers[report->wrapper] : texts[report->json_reason];
 }
 
 static const char *what_is_wrong(int32_t status, const struct bsonraw_json_report *report) {

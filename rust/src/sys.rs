@@ -270,7 +270,7 @@ layout! {
         offset: u64,
         line: u64,
         column: u64,
-        reason: u32,
+        json_reason: u32,
         wrapper: u32,
     }
 }
@@ -348,6 +348,7 @@ functions! {
         builder: *mut bsonraw_builder, room: *mut u8, room_len: usize, tag: u32, key: *const u8, key_len: usize,
         level: *mut bsonraw_builder
     ) -> i32;
+    fn bsonraw_append_cancel(builder: *mut bsonraw_builder, level: *mut bsonraw_builder) -> i32;
     fn bsonraw_append_end(
         builder: *mut bsonraw_builder, room: *mut u8, room_len: usize, level: *mut bsonraw_builder
     ) -> i32;

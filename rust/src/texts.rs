@@ -98,7 +98,7 @@ impl JsonReason {
             BSONRAW_TOO_DEEP => return JsonReason::TooDeep,
             _ => {}
         }
-        match said.reason {
+        match said.json_reason {
             BSONRAW_JSON_END_OF_TEXT => JsonReason::EndOfText,
             BSONRAW_JSON_BYTE_ORDER_MARK => JsonReason::ByteOrderMark,
             BSONRAW_JSON_EXPECTED_DOCUMENT => JsonReason::ExpectedDocument,

@@ -35,8 +35,8 @@ int LLVMFuzzerTestOneInput(const uint8_t *text, size_t len) {
     uint64_t path[1];
     int32_t status = bsonraw_from_json(text, len, ROOM, LEVELS, document, ROOM, &read);
     if (status != BSONRAW_OK) {
-        if (read.offset > len || read.line == 0 || read.column == 0 || (status == BSONRAW_FAULT) != (read.reason != 0)) abort();
-        is_new(1100 + read.reason + 32 * read.wrapper, read.offset < 32 ? read.offset : 32);
+        if (read.offset > len || read.line == 0 || read.column == 0 || (status == BSONRAW_FAULT) != (read.json_reason != 0)) abort();
+        is_new(1100 + read.json_reason + 32 * read.wrapper, read.offset < 32 ? read.offset : 32);
         return 0;
     }
     look_into(document, (size_t)read.count);

@@ -1,3 +1,4 @@
+pub mod Comparing
 pub mod Dump
 pub mod Keeping
 pub mod Matching

@@ -1,6 +1,6 @@
 -- A builder of documents, and what its calls leave in the caller's room. A level is a document or an array that isn't ended
 -- yet; its elements are in the room, and its final 0 and its length aren't.
-use Rattle.std.specs.Prelude.{◌≡◌, ◌≢◌, ◌⊎◌, ◌<◌, ◌≤◌, ◌+◌, ◌-◌, ℕ, ℤ, pos, Bool, nat_eq, cond, List, [], ◌∷◌, ◌++◌, length, take, drop, get_or, decimal}
+use Rattle.std.specs.Prelude.{◌≡◌, ◌≢◌, ◌⊎◌, ◌<◌, ◌≤◌, ◌+◌, ◌-◌, ◌+ℤ◌, ◌≤ℤ◌, ◌<ℤ◌, ℕ, ℤ, pos, Bool, nat_eq, nat_le, cond, List, [], ◌∷◌, ◌++◌, length, take, drop, get_or, decimal}
 use Rattle.std.specs.Str.{IsUtf8}
 use Rattle.raw_bson.specs.Append.{frame_bytes}
 use Rattle.raw_bson.specs.Bytes.{NulFree}
@@ -270,6 +270,35 @@ HoldsEnded level old new before after =
     → HoldsElements level before ((front ++ elements fs) ++ frame_bytes (head_of k key)) inner → new.status ≡ pos 0
     → HoldsElements new after front (fs ++ level_of k key inner ∷ []) × IsEnvelope (framed (elements inner))
     × (IsNested k → IsCText key → StandsAnywhere (level_of k key inner))
+
+-- The level is open in the builder, as the calls of the header note it there: the builder's status is where the level begins, negated.
+-- The level isn't ended, and no level is open in it.
+abbrev pub IsOpenIn : Builder → Builder → Type 0
+IsOpenIn level b = (pos 0 ≤ℤ level.status) × (level.begins < level.len) × (0 < level.begins) × ((b.status +ℤ pos level.begins) ≡ pos 0)
+
+-- The builder as it was before a level was begun in it. The calls of the header add 256 to its tag where the room was too small by then.
+abbrev pub before_level : Builder → Builder
+before_level b = cond (nat_le 256 b.tag) (record b { tag = b.tag - 256; status = pos 8 }) (record b { status = pos 0 })
+
+-- the builder takes no more since a call was out of turn, unless it took no more before
+abbrev pub RefusesMisuse : Builder → Builder → Type 0
+RefusesMisuse old new =
+    (((old.status ≤ℤ pos 0) ⊎ (old.status ≡ pos 8)) × (new ≡ record old { status = pos (status_code status.Misuse) }))
+    ⊎ ((pos 0 <ℤ old.status) × (old.status ≢ pos 8) × (new ≡ old))
+
+-- What it leaves to take a level back: the builder is what it was before the level, but that it takes over what the level was refused; and
+-- the level is ended. Or the level isn't open in the builder.
+abbrev pub CancelsLevel : (level_old level_new old new : Builder) → Type 0
+CancelsLevel level_old level_new old new =
+    (IsOpenIn level_old old × TakesMore level_old × (new ≡ before_level old) × (level_new ≡ record level_old { begins = level_old.len }))
+    ⊎ (IsOpenIn level_old old × (¬ TakesMore level_old) × (new ≡ record (before_level old) { status = level_old.status }) × (level_new ≡ record level_old { begins = level_old.len }))
+    ⊎ ((¬ IsOpenIn level_old old) × RefusesMisuse old new × (level_new ≡ level_old))
+
+-- Where the builder held elements before the level was begun in it, and nothing is refused, it holds them again, in each room in which the
+-- bytes that it had taken then are as they were.
+abbrev pub HoldsAgain : Builder → Builder → Type 0
+HoldsAgain old new =
+    (room now front : List ℕ) (fs : List Frame) → HoldsElements (before_level old) room front fs → take old.len now ≡ take old.len room → new.status ≡ pos 0 → HoldsElements new now front fs
 
 -- The element that the iterator is at, under the key that it has here. It is read as that wherever it is, unless it is a code
 -- with scope whose declared length is under four.

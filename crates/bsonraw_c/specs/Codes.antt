@@ -25,6 +25,7 @@ status_code status.SmallBuffer = 8
 status_code status.BadOffset = 9
 status_code status.NoMemory = 10
 status_code status.OtherKind = 11
+status_code status.Misuse = 13
 
 abbrev pub fault_code : Fault → ℕ
 fault_code (Malformed _) = 1

@@ -1,7 +1,7 @@
 //! A builder of documents in the caller's room, as C keeps it.
 
 ghost use Rattle.std.specs.Prelude.{◌≡◌, ◌≤◌, ◌<◌, ◌+◌, ◌++◌, ◌∷◌, [], ◌↔◌, length, pos, IsTrue, IfSome, IfNone};
-ghost use Rattle.bsonraw_c.specs.Build.{Adds, Appends, AppendsElement, AreParts, Begins, ClosesLevel, EndsLevel, TakesMore, HoldsDocument, HoldsEnded, HoldsLevel, HoldsMore, IsBegun, IsElementOf, IsReadElement, IsTooLong, OpensLevel, Refuses, TakesLevel};
+ghost use Rattle.bsonraw_c.specs.Build.{Adds, Appends, AppendsElement, AreParts, Begins, CancelsLevel, ClosesLevel, EndsLevel, TakesMore, HoldsAgain, HoldsDocument, HoldsEnded, HoldsLevel, HoldsMore, IsBegun, IsElementOf, IsOpenIn, IsReadElement, IsTooLong, OpensLevel, Refuses, RefusesMisuse, TakesLevel, before_level};
 ghost use Rattle.bsonraw_c.specs.BuildParts.{AddsUnder, frame_of_parts};
 ghost use Rattle.bsonraw_c.specs.Codes.{status_code};
 
@@ -142,6 +142,25 @@ pub extern "C" fn bsonraw_append_end(builder: &mut Builder, room: &mut [u8], lev
     builder.status
 }
 
+/// Takes back a level that is open in the builder, with all that is in it.
+#[unsafe(no_mangle)]
+pub extern "C" fn bsonraw_append_cancel(builder: &mut Builder, level: &mut Builder) -> i32
+    ensures cancels { CancelsLevel level.old level.new builder.old builder.new }
+    ensures holds { HoldsAgain builder.old builder.new }
+    ensures status { result ≡ builder.new.status }
+{
+    if level.is_open_in(builder) {
+        builder.take_back();
+        if !level.goes_on() {
+            builder.status = level.status;
+        }
+        level.begins = level.len;
+    } else {
+        builder.refuse_misuse();
+    }
+    builder.status
+}
+
 impl Builder {
     /// Whether nothing was refused so far; there may have been too little room.
     #[inline(always)]
@@ -165,6 +184,37 @@ impl Builder {
         ensures { self.new ≡ record self.old { status = pos (status_code status) } }
     {
         self.status = status.number();
+    }
+
+    /// Whether the level is open in the builder, as the header's calls note it there, and no level is open in the level.
+    fn is_open_in(&self, builder: &Builder) -> bool
+        ensures { IsTrue result ↔ IsOpenIn self.now builder.now }
+    {
+        0 <= self.status
+            && self.begins < self.len
+            && 0 < self.begins
+            && i64::from(builder.status) + i64::from(self.begins) == 0
+    }
+
+    /// Becomes what it was before the level that is open in it was begun.
+    fn take_back(&mut self)
+        ensures { self.new ≡ before_level self.old }
+    {
+        if 256 <= self.tag {
+            self.tag -= 256;
+            self.status = 8;
+        } else {
+            self.status = 0;
+        }
+    }
+
+    /// Says that a call was out of turn from now on, unless it said another refusal before.
+    fn refuse_misuse(&mut self)
+        ensures { RefusesMisuse self.old self.new }
+    {
+        if self.status <= 0 || self.status == 8 {
+            self.refuse(Status::Misuse);
+        }
     }
 
     /// How many bytes are taken with an element of so many more; or none, where the level couldn't be ended then.

@@ -33,6 +33,8 @@ pub enum Status {
     NoMemory,
     /// a value of another kind
     OtherKind,
+    /// a call out of turn
+    Misuse,
 }
 
 impl Status {
@@ -54,6 +56,7 @@ impl Status {
             Status::BadOffset => 9,
             Status::NoMemory => 10,
             Status::OtherKind => 11,
+            Status::Misuse => 13,
         }
     }
 
