@@ -6,8 +6,8 @@ use raw_bson::{Error, RawDocumentBuf, Result, canonical_bytes};
 use raw_shelf::{PutError, Shelf};
 use std::alloc::Global;
 
-/// Keeps a document in its canonical form, unless a document of the same tree is there: whether none was. It fails as
-/// `canonical_bytes` does, and then leaves the shelf as it was.
+/// Keeps a document in its canonical form, unless a document with the same tree is there. Returns whether it was new. It
+/// fails as `canonical_bytes` does, and then leaves the shelf as it was.
 /// ```
 /// let mut shelf = Shelf::new(alloc);
 /// assert!(rt; keep(alloc, &mut shelf, b"\x13\0\0\0\x10a\0\x01\0\0\0\x10a\0\x02\0\0\0\0")?);
