@@ -1,21 +1,43 @@
-# What bin/bsonraw, bin/bsonraw-dump and bin/install share: the proved build of a crate, and a run of a program. They source it,
-# with root the repository's folder and me the script's name.
+# What bin/bsonraw, bin/bsonraw-dump, bin/install, bin/package and bin/test share: the proved build of crates, and runs of a program. They
+# source it, with root the repository's folder and me the script's name. plan.py knows the crates' keys, and how long they take.
 
 say() {
     echo "$me: $*" >&2
 }
 
+# need_rt WHAT: ends the script where the kit isn't there, and says what there is without it
 need_rt() {
     command -v rt >/dev/null && return
-    say "$1 needs the command rt of the Rattle kit, which isn't in PATH; without the kit use a package of a release"
+    say "$1 needs the command rt of the Rattle kit, which isn't in PATH, and neither the kit nor a release has a public address yet." \
+        "README.md says what can be read without them"
     exit 127
 }
 
-# Whether the last build of a crate, which made this file, is out of date. A folder is newer where a file was added or
-# removed in it. The file out/built is as old as the start of the last build that ended well.
+# need_tools: ends the script where a tool of the build isn't there
+need_tools() {
+    for tool in make flock setsid python3; do
+        command -v "$tool" >/dev/null || { say "a build needs $tool, which isn't in PATH: bin/setup installs all that is needed" && exit 127; }
+    done
+}
+
+# kit: the kit's folder; rt isn't run for it where it is a program of the kit's folder bin
+kit() {
+    found=$(dirname "$(dirname "$(realpath "$(command -v rt)")")")
+    if [ -e "$found/KIT-ID" ]; then echo "$found"; else dirname "$(rt doc)"; fi
+}
+
+plan() {
+    python3 -I "$root/bin/plan.py" "$@"
+}
+
+# key_of CRATE: a sum of all that its build is made with: the kit, flags, names and content of files, also of the crates below it
+key_of() {
+    plan key "$(kit)" "$1"
+}
+
+# is_stale CRATE: whether what its build leaves isn't there, or was made with something else than what is there now
 is_stale() {
-    [ -e "$2" ] && [ -e "$root/crates/$1/out/built" ] || return 0
-    [ -n "$(find "$root/crates.txt" "$root"/crates/*/* -name out -prune -o -newer "$root/crates/$1/out/built" -print)" ]
+    [ ! -e "$(made_by "$1")" ] || ! plan is-built "$(kit)" "$1"
 }
 
 # made_by CRATE: the file that its build leaves: a program, or the library for C
@@ -26,14 +48,14 @@ made_by() {
     esac
 }
 
-# note_built CRATE BEGUN: notes the sum of what a build made, in a file that is as old as the start of the build, which BEGUN is
+# note_built CRATE [KEY]: notes the key of a build, or today's, and the sum of what it made
 note_built() {
-    sha256sum <"$(made_by "$1")" >"$root/crates/$1/out/built" && touch -r "$2" "$root/crates/$1/out/built"
+    noted=${2-$(key_of "$1")} && printf '%s\n%s\n' "$noted" "$(sha256sum <"$(made_by "$1")")" >"$root/crates/$1/out/built"
 }
 
 # is_as_built CRATE: whether what is there is what its build made
 is_as_built() {
-    [ "$(sha256sum 2>/dev/null <"$(made_by "$1")")" = "$(cat "$root/crates/$1/out/built" 2>/dev/null)" ]
+    [ "$(sha256sum 2>/dev/null <"$(made_by "$1")")" = "$(sed -n 2p "$root/crates/$1/out/built" 2>/dev/null)" ]
 }
 
 # The crates below these crates, and themselves, in the order of crates.txt: the lowest first.
@@ -54,70 +76,13 @@ crates() {
     ' "$root/crates.txt"
 }
 
-# minutes_of CRATE: how many processor minutes its first proof takes, as far as it was measured
-minutes_of() {
-    case $1 in
-    raw_tree) echo 10 ;;
-    raw_view | raw_bson | values_from_json | bytes_from_json | bsonraw_dump) echo 6 ;;
-    bson_model | key_set | bsonraw | bsonraw_c) echo 3 ;;
-    *) echo 4 ;;
-    esac
-}
-
-# say_how_long CRATE..: how many of the crates were proved here before, and how long the build may take: of these only what
-# changed is proved again. A proof has two to four jobs on four processors and more, and takes twice as long on a machine that
-# does something else besides.
-say_how_long() {
-    before=0 # crates that were proved here before
-    least=0
-    most=0
-    for name in "$@"; do
-        minutes=$(minutes_of "$name")
-        most=$((most + minutes))
-        if [ -d "$root/crates/$name/out/incremental" ]; then before=$((before + 1)); else least=$((least + minutes)); fi
-    done
-    if [ "$(nproc)" -ge 4 ]; then
-        least=$((least / 2))
-        most=$(((most + 1) / 2))
-    fi
-    say "$# crates are proved, once: $((least + 1)) to $((2 * most)) minutes on $(nproc) processors;" \
-        "$before were proved here before, and of these only what changed is proved again"
-}
-
-# Says that a crate begins and, on a terminal, in the same line how much of it is done.
-show_share() {
-    if [ ! -t 2 ]; then
-        echo "$1" >&2
-        cat >/dev/null
-        return
-    fi
-    printf '%s' "$1" >&2
-    while IFS= read -r line; do
-        case $line in
-        "so far: "*) share=${line#so far: } && printf '\r%s: %s' "$1" "${share%%;*}" >&2 ;;
-        esac
-    done
-    echo >&2
-}
-
-# A library is proved and kept for the crates above it, or for C. A program's build ends in a run, so that its status is 0
-# exactly where the program was built and runs.
-prove() {
-    cd "$root/crates/$1" || return 1
-    case $1 in
-    bsonraw) echo 0500000000 | rt run -- list ;;
-    bsonraw_dump) rt run -- --version </dev/null ;;
-    *) rt lib </dev/null ;;
-    esac
-}
-
 # over COMMAND CRATE FOLDER FLAG..: has the kit's compiler itself check or build a crate whose files are in this folder, over the
 # libraries below it that are in out/ of the repository's crates. That proves the crate alone.
 over() {
     command=$1
     crate=$2
     folder=$3
-    kit=$(dirname "$(rt doc)")
+    kit=$(kit)
     shift 3
     for name in $(sed -n "s/^$crate\( staticlib\)\{0,1\}: *//p" "$root/crates.txt"); do
         if [ -d "$root/crates/$name" ]; then
@@ -135,133 +100,171 @@ over() {
 
 # build_over CRATE FOLDER FLAG..: builds a crate so
 build_over() {
-    over build "$@" --toolchain "$(dirname "$(rt doc)")/toolchain" --backend llvm
+    over build "$@" --toolchain "$(kit)/toolchain" --backend llvm
 }
 
-# build FOLDER CRATE..: proves and builds the crates and those below them; the log and the status are left in the folder
-build() {
-    folder=$1
+# locked CRATE COMMAND..: runs a command; meanwhile no `rt` and no other build works in this crate, and none changes those below it
+locked() {
+    crate=$1
     shift
-    names=$(crates "$@")
-    count=$(echo "$names" | wc -l)
-    # shellcheck disable=SC2086 # a list of crates
-    say_how_long $names
-    begun=$(date +%s)
-    number=0
-    for name in $names; do
-        number=$((number + 1))
-        here="$number of $count, after $((($(date +%s) - begun) / 60)) min: $name"
-        { prove "$name" 2>&1; echo "$?" >"$folder/status"; } | tee -a "$folder/log" | show_share "$here"
-        [ "$(cat "$folder/status")" = 0 ] || return 1
+    for name in $(crates "$crate" | LC_ALL=C sort -r); do
+        if [ "$name" = "$crate" ]; then set -- flock "$root/crates/$name" "$@"; else set -- flock -s "$root/crates/$name" "$@"; fi
     done
+    "$@"
 }
 
-# make_proved CRATE..: proves and builds these crates, in one run; the log is shown where that fails. It is a shell of its own, with
-# a folder and traps of its own.
-make_proved() (
-    work=$(mktemp -d) || exit 1
-    trap 'rm -rf "$work"' EXIT
-    trap 'exit 1' HUP INT TERM
-    touch "$work/begun"
-    if ! build "$work" "$@"; then
-        cat "$work/log" >&2
-        say "the build of $* failed: see above; bin/bsonraw --unproved, and bin/bsonraw-dump --unproved, run without a proof"
-        exit 1
+# link_program CRATE: links what was compiled of a program
+link_program() {
+    made=$root/crates/$1/out/$1
+    kit=$(kit)
+    "$kit/bin/rattle-link" --target x86_64-unknown-linux-gnu --toolchain "$kit/toolchain" -o "$made" "$made.o" "$kit/c/libos_c.a" \
+        "$kit/c/liblibc_c.a" && rm "$made.o"
+}
+
+# runs CRATE: whether its program prints what the file stdout beside src/ has, given the files args and stdin
+runs() {
+    folder=$root/crates/$1
+    printed=$(xargs -d '\n' sh -c 'exec "$0" "$@" <"$given"' "$folder/out/$1" <"$folder/args") && [ "$printed" = "$(cat "$folder/stdout")" ] && return
+    echo "$1 prints something else than its file stdout has: $printed"
+    return 1
+}
+
+# prove_alone CRATE JOBS: proves and builds a crate over those below it: a library, the library for C, or a program
+prove_alone() {
+    folder=$root/crates/$1
+    if [ -e "$folder/src/main.rt" ]; then
+        build_over "$1" "$folder" src/main.rt --jobs "$2" --incremental out/incremental -o "out/$1.o" && link_program "$1" && given=$folder/stdin runs "$1"
+    elif grep -q "^$1 staticlib" "$root/crates.txt"; then
+        build_over "$1" "$folder" src/lib.rt --jobs "$2" --incremental out/incremental --crate-type staticlib -o "out/lib$1.a"
+    else
+        rm -rf "$folder/out/rlib" && mkdir "$folder/out/rlib" &&
+            over build "$1" "$folder" src/lib.rt --jobs "$2" --incremental out/incremental -o "out/rlib/$1.rlib"
     fi
-    for crate in "$@"; do note_built "$crate" "$work/begun" || exit 1; done
+}
+
+# prove CRATE JOBS KEY: the same, with the key noted of what it was made with, if that is still there
+prove() {
+    mkdir -p "$root/crates/$1/out" || return 1
+    prove_alone "$1" "$2"
+    status=$?
+    if [ "$status" = 137 ] && [ "$2" != 1 ]; then
+        echo "the check was killed, most likely for memory: once more, with one job"
+        prove_alone "$1" 1
+        status=$?
+    fi
+    [ "$status" = 0 ] || return 1
+    if [ "$(key_of "$1")" != "$3" ]; then
+        echo "$1, or a crate below it, was changed while it was proved"
+        return 1
+    fi
+    if [ -d "$root/crates/$1/out/rlib" ]; then printf '%s' "$3" >"$root/crates/$1/out/rlib/stamp"; else note_built "$1" "$3"; fi
+}
+
+# run_step GOAL JOBS KEY: what make runs for a goal of plan.py
+run_step() {
+    touch "$work/begun/$1"
+    case $1 in
+    *:again)
+        built_for=$machine
+        . "$root/bin/release.sh" && for_machine "$built_for" && build_others
+        ;;
+    *) locked "$1" sh -c '. "$root/bin/build.sh" && prove "$@"' sh "$@" ;;
+    esac >"$work/log/$1" 2>&1 </dev/null
+    if [ $? = 0 ]; then touch "$work/ended/$1"; else echo "$1" >>"$work/failed"; fi
+    [ -e "$work/ended/$1" ]
+}
+
+# say_how_long CRATES KEPT MINUTES: what the build takes
+say_how_long() {
+    kept=
+    [ "$2" = 0 ] || kept=" $2 of them were proved here before, and of these only what changed is proved again."
+    say "crates to prove, once: $1, up to $slots at a time, in about $3 minutes.$kept"
+}
+
+# columns: how many the terminal has
+columns() {
+    stty size </dev/tty 2>/dev/null | cut -d ' ' -f 2 | grep -x '[1-9][0-9]*' || echo 80
+}
+
+# show_left: says how far the build is: on a terminal every five seconds, in a line that is written over; else where a step is through
+show_left() {
+    now=$(date +%s)
+    through=$(find "$work/ended" -type f | wc -l)
+    [ "$through" != "$shown" ] || { [ -t 2 ] && [ $((now - said_at)) -ge 5 ]; } || return 0
+    shown=$through
+    said_at=$now
+    # shellcheck disable=SC2046 # words
+    set -- $(plan left "$work" "$slots")
+    text="$me: $1 of $2 steps are through after $(((now - began) / 60)) min; about $3 min left"
+    shift 3
+    if [ -t 2 ]; then
+        printf '\r%s\033[K' "$(echo "$text${1+; now: $*}" | cut -c "1-$(($(columns) - 1))")" >&2
+    else
+        echo "$text" >&2
+    fi
+}
+
+# build GOAL..: proves and builds the crates of these goals of plan.py and those below them, where they aren't. make says which is next. In
+# the folder $work are left log/GOAL of each and, where one failed, its name in the file failed.
+build() {
+    mkdir "$work/begun" "$work/ended" "$work/log" && slots=$(plan slots) && planned=$(plan makefile "$(kit)" "$work" "$slots" "$@") || return 1
+    # shellcheck disable=SC2086 # three numbers
+    say_how_long $planned
+    export root me work machine
+    # in a session of its own, so that it ends with all that it started
+    env -u MAKEFLAGS -u MFLAGS -u MAKELEVEL setsid sh -c 'make -s -f "$work/Makefile" -j "$1" >"$work/make" 2>&1; echo "$?" >"$work/status"' \
+        sh "$slots" </dev/null &
+    making=$!
+    began=$(date +%s)
+    said_at=$began
+    shown=0
+    while [ ! -e "$work/status" ] && [ ! -e "$work/failed" ] && kill -0 "$making" 2>/dev/null; do
+        sleep 1
+        kill -0 "$$" 2>/dev/null || exit 1
+        show_left
+    done
+    [ ! -t 2 ] || echo >&2
+    [ ! -e "$work/failed" ] && wait "$making" && making= && [ "$(cat "$work/status")" = 0 ]
+}
+
+# make_proved GOAL..: proves and builds these goals of plan.py, in one run; what the compiler said is shown where that fails
+make_proved() {
+    need_tools
+    make_in_a_folder "$@" &
+    wait "$!"
+}
+
+# The same in a shell with a folder and traps of its own, which ends when the script ends.
+make_in_a_folder() (
+    work=$(mktemp -d) || exit 1
+    making=
+    trap '[ -z "$making" ] || kill -TERM "-$making" 2>/dev/null; rm -rf "$work"' EXIT
+    trap 'exit 1' HUP INT TERM
+    build "$@" && exit
+    for name in $(cat "$work/failed" 2>/dev/null); do
+        grep -vE '^(fn .*: proved|statements .*|checked .*|so far: .*)$' "$work/log/$name" >&2
+        say "$name isn't built: see above"
+    done
+    [ -e "$work/failed" ] || cat "$work/make" >&2
+    say "the build failed; bin/bsonraw --unproved, and bin/bsonraw-dump --unproved, run without a proof"
+    exit 1
 )
 
-most_input=67108864 # bytes of standard input that a run without a proof may have
-most_seconds=600    # how long it may take, once it is compiled
-
-unproved_fails() {
-    say "$*"
-    exit 125
-}
-
-# take_input FILE: puts standard input into a file, as `rt try` takes a pipe that is silent for two seconds for one that has ended
-take_input() {
-    head -c $((most_input + 1)) >"$1" || exit 125
-    [ "$(wc -c <"$1")" -le "$most_input" ] || unproved_fails "without a proof standard input has at most 64 MiB; name a FILE, or leave out --unproved"
-}
-
-# is_copied WORD: whether it names a file of which a run without a proof gets a copy under the same name, in a folder of its own
-is_copied() {
-    [ -f "$1" ] || return 1
-    case $1 in
-    /* | ../* | */../*) return 1 ;;
-    *=*) unproved_fails "without a proof a FILE's name can't have an = in it: $1" ;;
-    esac
-}
-
-# seen_as WORD: the word as the program is given it there
-seen_as() {
-    case $1 in
-    ../* | */../*) [ -f "$1" ] && realpath -- "$1" && return ;;
-    esac
-    printf '%s\n' "$1"
-}
-
-# run_unproved CRATE COMMAND ARGUMENT..: runs the program as it is, with no proof: `rt try` compiles it for this one run
-run_unproved() {
-    need_rt "a run without a proof"
-    crate=$1
-    shift
-    work=$(mktemp -d) || exit 125
-    trap 'rm -rf "$work"' EXIT
-    touch "$work/stdin"
-    takes_input=
-    files=0
-    [ "${1-}" != pick ] || files=-1 # its PATHS are no FILE
-    count=$#
-    for word in "$@"; do # what is named is put behind these words, and then they themselves
-        case $word in
-        -o* | --output*) unproved_fails "without a proof nothing is written to an OUTPUT; redirect standard output" ;;
-        -) takes_input=yes ;;
-        -h | --help | -V | --version) files=2 ;; # nothing is read
-        -*) ;;
-        *) files=$((files + 1)) ;; # the command is one of them
-        esac
-        ! is_copied "$word" || set -- "$@" --data "$word=$(realpath -- "$word")"
-    done
-    [ "$count" = 0 ] || { [ -z "$takes_input" ] && [ "$files" -gt 1 ]; } || take_input "$work/stdin"
-    set -- "$@" --
-    while [ "$count" -gt 0 ]; do
-        set -- "$@" "$(seen_as "$1")"
-        shift
-        count=$((count - 1))
-    done
-    say "nothing is proved in this run; the program is compiled for it, which takes half a minute to four"
-    (cd "$root/crates/$crate" && rt try --steps 1 --seconds "$most_seconds" "$@") <"$work/stdin" >"$work/stdout" 2>"$work/stderr"
-    end_unproved
-}
-
-# end_unproved: passes on what a run without a proof wrote and its status, where it came to its end and all of it is there
-end_unproved() {
-    status=$(sed -n 's/^run=ended status=\([0-9]*\) .*/\1/p' "$work/stderr")
-    if [ -z "$status" ]; then
-        cat "$work/stderr" >&2
-        unproved_fails "this run has no result: see above. Without a proof it may take $most_seconds seconds, and write 1 MiB"
-    fi
-    sed '/^interpreter: /,$d' "$work/stderr" >&2 # what the program itself says there
-    cat "$work/stdout"
-    exit "$status"
-}
-
-# run_program CRATE ARGUMENT..: runs a crate's program, built first where it is out of date; without a proof where the
-# first argument is --unproved
+# run_program CRATE WORD..: runs a crate's program, built first where that isn't done with what is there now; or, with --unproved first,
+# without a proof. Words that ask for nothing that a build is needed for are answered as the program answers them.
 run_program() {
     crate=$1
-    program=$root/crates/$crate/out/$crate
     shift
+    if [ "${1-}" != --unproved ] && command -v rt >/dev/null && ! is_stale "$crate"; then exec "$(made_by "$crate")" "$@"; fi
+    python3 -I "$root/bin/words.py" "$crate" "$@"
+    status=$?
+    [ "$status" = 100 ] || exit "$status"
     if [ "${1-}" = --unproved ]; then
-        shift
-        run_unproved "$crate" "$@"
+        need_rt "a run without a proof"
+        exec python3 -I "$root/bin/unproved.py" "$me" "$crate" "$@"
     fi
-    if is_stale "$crate" "$program"; then
-        say "building the proved program; for a first look without a proof: $me --unproved COMMAND"
-        need_rt "the build of $crate"
-        make_proved "$crate" || exit 125
-    fi
-    exec "$program" "$@"
+    need_rt "the build of $me"
+    say "the proved program is built first; for a first look without a proof: $me --unproved COMMAND"
+    make_proved "$crate" || exit 125
+    exec "$(made_by "$crate")" "$@"
 }

@@ -65,9 +65,10 @@ checksums() {
 # their manual pages
 put_programs() {
     [ -n "$programs" ] || return 0
-    mkdir -p "$2/bin" "$2/share/man/man1" && install -m 644 "$root"/man/*.1 "$2/share/man/man1" || return 1
+    mkdir -p "$2/bin" "$2/share/man/man1" || return 1
     for name in $programs; do
         put=$2/bin/$(echo "$name" | tr _ -)
+        install -m 644 "$root/man/$(basename "$put").1" "$2/share/man/man1" || return 1
         "$1" --strip-all "$(program_of "$name")" "$put" && put_commit "$put" && chmod 755 "$put" || return 1
     done
 }

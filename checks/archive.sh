@@ -1,10 +1,10 @@
 #!/bin/sh
 # Builds the C library's archive, crates/bsonraw_c/out/libbsonraw_c.a. `rt ci` proves its crate and builds no archive, and
-# `rt lib` would prove the crates below once more, since it takes what only its own runs have kept. So on a fresh clone, where
+# bin/install would prove the crates below once more, since it takes what only its own runs and those of `rt lib` have kept. So on a fresh clone, where
 # `rt ci` has proved the crates below and maybe goes on with this one and others, the archive is built here over the libraries that this run
 # left, by the kit's compiler itself: that proves of the crate alone what no earlier build on this machine proved; `rt ci` proves it from
 # nothing. It does so in a folder of its own, from which all goes into out/ at the end.
-# Where `rt lib` has kept libraries, it builds the archive. In either case the library is laid out in the new folder as bin/install does it,
+# Where bin/install or `rt` has kept libraries, the archive is built over them, as by bin/install. In either case the library is laid out in the new folder as bin/install does it,
 # but for the programs.
 #
 #   checks/archive.sh [--anew] FOLDER        behind the proof of the crates below by `rt ci`, with nothing changed since; with --anew
@@ -23,10 +23,11 @@ laid=$(realpath -m "$1") || exit 1
 cd "$root/crates/bsonraw_c" || exit 1
 mkdir -p out || exit 1
 programs=
-if [ -e ../raw_bson/out/rlib/stamp ]; then
-    rt lib && build_others && lay_out "$laid" "$laid" lib
+for name in $(crates bsonraw_c); do
+    [ -e "../$name/out/rlib/stamp" ] || continue
+    { ! is_stale bsonraw_c || make_proved bsonraw_c; } && build_others && lay_out "$laid" "$laid" lib
     exit
-fi
+done
 
 room=$(mktemp -d) || exit 1
 trap 'rm -rf "$room"' EXIT

@@ -1,7 +1,7 @@
 #!/bin/sh
 # bin/install, tried on what is built: a prefix with blanks, `&` and `|` is named rightly in all that names it, and what it
 # says to try works; where it can't write, and where a step of it or a proof fails or is interrupted, it says so in its last line and
-# leaves the prefix as it was, and no temporary folder. Where the machine has no C compiler or no pkg-config, the lines for these are left out, and that is said.
+# leaves the prefix as it was, and no temporary folder; a part is installed as it is with the rest. Where the machine has no C compiler or no pkg-config, the lines for these are left out, and that is said.
 set -u
 cd "$(dirname "$(realpath "$0")")/.." || exit 1
 work=$(mktemp -d) || exit 1
@@ -68,6 +68,23 @@ try_compilers() {
     [ "$(LD_LIBRARY_PATH=$prefix/lib "$work/b.out" <"$work/greeting")" = "02 hi" ] || fails "the shared library doesn't print the greeting"
 }
 
+# What is installed of the C library or of a program alone is what is installed of it with the rest.
+try_parts() {
+    for part in --library '--program bsonraw' '--program bsonraw-dump'; do
+        # shellcheck disable=SC2086 # words
+        bin/install $part "$work/part" >"$work/said" 2>"$work/error" || fails "it doesn't install with $part: $(cat "$work/error")"
+        (cd "$work/part" && find . ! -type d ! -name bsonraw.pc -exec cmp {} "$prefix/{}" \;) >&2 || fails "with $part it installs something else than without"
+        case $part in
+        --library) (cd "$prefix" && find include lib share/man/man3 ! -type d) ;;
+        *) printf 'bin/%s\nshare/man/man1/%s.1\n' "${part#* }" "${part#* }" ;;
+        esac | sort >"$work/wanted"
+        (cd "$work/part" && find . ! -type d) | sed 's|^\./||' | sort | diff "$work/wanted" - >&2 || fails "with $part other files are there"
+        sed -n 's/^  \([a-z]*\/[^ ]*\)$/\1/p' "$work/said" | while read -r file; do [ -e "$work/part/$file" ] || echo "$file"; done >"$work/lost"
+        [ ! -s "$work/lost" ] || fails "with $part it names files that aren't there: $(cat "$work/lost")"
+        rm -r "$work/part"
+    done
+}
+
 # failing TOOL N: puts in front of PATH a tool that fails when it is run for the Nth time
 failing() {
     rm -rf "$work/tools" && mkdir "$work/tools" || exit 1
@@ -80,17 +97,12 @@ END
     chmod +x "$work/tools/$1"
 }
 
-# unbuilt COMMAND: a copy of the repository in which nothing is built, and in front of PATH an rt that runs COMMAND for a proof
+# unbuilt COMMAND: a copy of the repository in which nothing is built, and in front of PATH an rt of a kit whose compiler runs COMMAND for a proof
 unbuilt() {
     [ -d "$work/unbuilt" ] || { mkdir "$work/unbuilt" && git ls-files -z | xargs -0 cp -P --parents -t "$work/unbuilt"; } || exit 1
-    rm -rf "$work/tools" && mkdir "$work/tools" || exit 1
-    cat >"$work/tools/rt" <<END
-#!/bin/sh
-case \$1 in doc | version | help) exec $(command -v rt) "\$@" ;; esac
-echo >>"$work/tools/runs"
-$1
-END
-    chmod +x "$work/tools/rt"
+    rm -rf "$work/tools" "$work/kit" && mkdir -p "$work/tools" "$work/kit/bin" && echo kit | tee "$work/kit/KIT-ID" >"$work/kit/WHAT" || exit 1
+    printf '#!/bin/sh\nexit 9\n' >"$work/kit/bin/rt" && ln -s "$work/kit/bin/rt" "$work/tools" || exit 1
+    printf '#!/bin/sh\necho >>"%s"\n%s\n' "$work/tools/runs" "$1" >"$work/kit/bin/rattle" && chmod +x "$work"/kit/bin/*
 }
 
 # interrupted PREFIX: as refused, of an installation whose proof is under way when it is ended, with all that it started
@@ -146,6 +158,7 @@ refused "$work/before/it\"s" "bsonraw.pc can't name the prefix"
 [ -z "$(ls -A "$work/temporary")" ] || fails "temporary files are left: $(ls -A "$work/temporary")"
 bin/install >"$work/output" 2>&1
 [ "$?" = 2 ] || fails "without a prefix it ends with another status than 2"
-bin/install --help >"$work/output" 2>&1
-[ "$?" = 2 ] && [ ! -e --help ] || fails "an option is taken for a prefix"
+bin/install --prefix >"$work/output" 2>&1
+[ "$?" = 2 ] && [ ! -e --prefix ] || fails "an option is taken for a prefix"
+try_parts
 exit "$failed"

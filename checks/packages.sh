@@ -153,7 +153,7 @@ skipped rust: cargo of 1.81 or later'
     record "$work/copy" passed "$well"
     refuses "nothing says that bin/install proved it" --untested
     claims "$work/proved" 'was not seen|no proof|no test' "it has no test"
-    touch "$work/now" && (root=$work/copy && . bin/build.sh && for name in $crates; do note_built "$name" "$work/now" || exit 1; done) || exit 1
+    (root=$work/copy && . bin/build.sh && for name in $crates; do note_built "$name" || exit 1; done) || exit 1
     "$work/copy/bin/install" "$work/installed" >/dev/null || fails "what is built isn't installed"
     makes untested --untested
     ! "$work/copy/bin/package" --untested "$work/untested" >/dev/null 2>&1 || fails "something is put beside what is there"
@@ -162,7 +162,7 @@ skipped rust: cargo of 1.81 or later'
     claims "$work/untested" '\btested\b' 'no test'
     echo >>"$work/copy/crates/bsonraw_dump/out/bsonraw_dump"
     refuses "another program is there than bin/install proved" --untested
-    : >"$work/copy/crates/bsonraw_dump/out/built"
+    sed -i 2d "$work/copy/crates/bsonraw_dump/out/built"
     "$work/copy/bin/install" "$work/installed" >/dev/null || fails "what is built isn't installed again"
     refuses "nothing says which program a build made" --untested
 }

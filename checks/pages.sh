@@ -23,7 +23,7 @@ if [ -z "$as_typed" ]; then
         [ -e "$built" ] || { echo "pages: $built isn't there, which bin/install builds" >&2 && exit 1; }
         cp -rp --parents "$built" "$clone" || exit 1
     done
-    for crate in bsonraw bsonraw_dump bsonraw_c; do touch "$clone/crates/$crate/out/built"; done
+    (root=$clone && . bin/build.sh && for crate in bsonraw bsonraw_dump bsonraw_c; do note_built "$crate" || exit 1; done) || exit 1
 fi
 cd "$clone" || exit 1
 pages='README.md examples/README.md CONTRIBUTING.md docs/*.md'
@@ -43,11 +43,9 @@ skip_lines() {
     without="$without${without:+,}$2"
 }
 
-# A Python that can build the package is the first in PATH.
+# Debian's Python, by which README has the package built, is the first in PATH where it can.
 mkdir "$work/bin" || exit 1
-for python in python3 /usr/bin/python3; do
-    "$python" -c 'import ensurepip, setuptools, wheel' 2>/dev/null && ln -sf "$(command -v "$python")" "$work/bin/python3" && break
-done
+/usr/bin/python3 -c 'import ensurepip, setuptools, wheel' 2>/dev/null && ln -s /usr/bin/python3 "$work/bin/python3"
 [ -e "$work/bin/python3" ] || skip_lines "the Python package, without setuptools or wheel" "bsonraw/bin/,venv"
 "$work/bin/python3" -c 'import dask.distributed' 2>/dev/null || skip_lines Dask "--workers 4"
 command -v jq >/dev/null || skip_lines jq jq

@@ -58,7 +58,8 @@ tried() {
 }
 
 for file in checks/*.sh bin/install rt; do put "$file" || exit 1; done
-cp -P bin/test bin/build.sh bin/release.sh "$work/copy/bin" && cp VERSION crates.txt "$work/copy" && mv "$work/copy/rt" "$work/tools/rt" || exit 1
+cp -P bin/test bin/build.sh bin/plan.py bin/release.sh "$work/copy/bin" && cp VERSION crates.txt "$work/copy" && mv "$work/copy/rt" "$work/tools/rt" || exit 1
+echo kit >"$work/KIT-ID" && echo kit >"$work/WHAT" || exit 1 # so that $work is taken for the kit's folder
 for name in bsonraw bsonraw_dump bsonraw_c; do mkdir -p "$work/copy/crates/$name/out" && echo built >"$work/copy/crates/$name/out/$name" || exit 1; done
 echo built >"$work/copy/crates/bsonraw_c/out/libbsonraw_c.a" || exit 1
 tried || fails "bin/test fails though all its parts pass: $(cat "$work/output")"

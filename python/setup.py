@@ -62,7 +62,8 @@ class Build(build_ext):
 
 
 if "dist_info" in sys.argv and not find_spec("wheel") and not find_spec("setuptools.command.bdist_wheel"):
-    raise SystemExit("bsonraw: to build a wheel, setuptools wants the package wheel (Debian: python3-wheel)")
+    python = os.path.realpath(sys.executable)
+    raise SystemExit(f"bsonraw: {python} has no package wheel, which setuptools needs here; Debian's python3-wheel is for /usr/bin/python3")
 include, lib = folders()
 limited = sys.version_info >= (3, 11)
 os.chdir(FOLDER)
