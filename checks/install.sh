@@ -1,9 +1,10 @@
 #!/bin/sh
 # bin/install, tried on what is built: a prefix with blanks, `&` and `|` is named rightly in all that names it, and what it
 # says to try works; where it can't write, and where a step of it or a proof fails or is interrupted, it says so in its last line and
-# leaves the prefix as it was, and no temporary folder; a part is installed as it is with the rest. Where the machine has no C compiler or no pkg-config, the lines for these are left out, and that is said.
+# leaves the prefix as it was, and no temporary folder; a part is installed as it is with the rest. Where the machine has no C compiler or no pkg-config, the lines for these are skipped, and that is said.
 set -u
 cd "$(dirname "$(realpath "$0")")/.." || exit 1
+. checks/skips.sh
 work=$(mktemp -d) || exit 1
 trap 'rm -rf "$work"' EXIT
 version=$(cat VERSION)
@@ -50,7 +51,7 @@ END
 
 try_compilers() {
     if ! echo 'int main(void) { return 0; }' | cc -x c -o "$work/probe" - 2>/dev/null; then
-        echo "install: no C program is compiled, since there is no compiler"
+        skip "C programs, without a compiler (gcc)"
         return
     fi
     cp c/tests/greeting.c "$work/FILE.c"
@@ -58,7 +59,7 @@ try_compilers() {
     (cd "$work" && sh -c "$(grep '^cc ' lines)") || fails "the line that it says to try doesn't compile"
     [ "$("$work/a.out" <"$work/greeting")" = "02 hi" ] || fails "the greeting's elements aren't printed"
     if ! command -v pkg-config >/dev/null; then
-        echo "install: nothing is compiled by pkg-config, since it isn't there"
+        skip "pkg-config"
         return
     fi
     eval "$(sed -n 's/^pkg-config finds.* by \(PKG_CONFIG_PATH=\)/export \1/p' "$work/said")"
