@@ -73,8 +73,8 @@ is_reader() {
 }
 
 for program in "$work/programs"/*; do
-    [ "$program" = "$work/programs/readme_1.rt" ] && is_reader "$program" README.md && continue
-    echo "$(basename "$program"): README has one program, that of crates/reader, and says what it prints of the greeting" >&2
+    [ "$program" = "$work/programs/docs_rattle_1.rt" ] && is_reader "$program" docs/RATTLE.md && continue
+    echo "$(basename "$program"): docs/RATTLE.md has one program, that of crates/reader, and says what it prints of the greeting" >&2
     failed=1
 done
 
