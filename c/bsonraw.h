@@ -1655,6 +1655,28 @@ BSONRAW_USE int32_t bsonraw_has_key(const uint8_t *bytes, size_t len, const char
 /* How many elements a document has at its own level; with BSONRAW_FAULT those before the stop. */
 BSONRAW_USE int32_t bsonraw_count(const uint8_t *bytes, size_t len, uint64_t *count) BSONRAW_READS(1, 2);
 
+/* Whether the keys at all levels are some that a server takes, which is asked for by flags. The keys of arrays aren't looked at. */
+enum bsonraw_key_flags {
+    BSONRAW_KEYS_DOLLAR = 1, /* none begins with a $, those of a reference, as $id, neither */
+    BSONRAW_KEYS_DOTS = 2,   /* none has a dot */
+    BSONRAW_KEYS_EMPTY = 4   /* none is empty */
+};
+
+/* The cause of a breach then. */
+enum bsonraw_key_cause { BSONRAW_DOLLAR_KEY = 6, BSONRAW_DOTTED_KEY = 7, BSONRAW_EMPTY_KEY = 8 };
+
+/* BSONRAW_OK; or BSONRAW_BREACH, with the cause and the place of the first key that isn't, depth first; before these the statuses and the
+ * reports of bsonraw_first_fault, but count is 0. It takes memory for the tokens of bsonraw_flatten, and 16 bytes more for each.
+ *
+ *     struct bsonraw_report r;
+ *     uint64_t path[16];
+ *     if (bsonraw_check_keys(bytes, len, 1 << 20, 100, BSONRAW_KEYS_DOLLAR | BSONRAW_KEYS_DOTS, &r, path, 16) == BSONRAW_BREACH)
+ *         printf("%s at %lu\n", bsonraw_cause_text(r.cause), r.error.offset);
+ */
+BSONRAW_USE int32_t bsonraw_check_keys(const uint8_t *bytes, size_t len, size_t max_bytes, size_t max_depth, uint32_t flags,
+                                       struct bsonraw_report *report, uint64_t *path, size_t path_room)
+                                       BSONRAW_READS(1, 2) BSONRAW_WRITES(7, 8);
+
 /* The order of two documents by the bytes of their canonical forms, as memcmp has it: under 0, 0 or over 0. It is 0 where both have one
  * form, whatever their bytes are. BSONRAW_OK; else the status of bsonraw_canonical with the first one that has no form, with as many
  * levels as there are, and order is 0. It takes memory for both forms. */
@@ -2033,6 +2055,11 @@ BSONRAW_TOUCHING(BSONRAW_USE int32_t, has_key, (const uint8_t *bytes, size_t len
 BSONRAW_TOUCHING(BSONRAW_USE int32_t, count, (const uint8_t *bytes, size_t len, uint64_t *count),
                  BSONRAW_LACKS(bytes, len), (bytes, len, count))
 #define bsonraw_count bsonraw_touching_count
+BSONRAW_TOUCHING(BSONRAW_USE int32_t, check_keys, (const uint8_t *bytes, size_t len, size_t max_bytes, size_t max_depth, uint32_t flags,
+                  struct bsonraw_report *report, uint64_t *path, size_t path_room),
+                 BSONRAW_LACKS(bytes, len) + BSONRAW_LACKS(path, path_room),
+                 (bytes, len, max_bytes, max_depth, flags, report, path, path_room))
+#define bsonraw_check_keys bsonraw_touching_check_keys
 BSONRAW_TOUCHING(BSONRAW_USE int32_t, compare, (const uint8_t *one, size_t one_len, const uint8_t *other, size_t other_len, int32_t *order),
                  BSONRAW_LACKS(one, one_len) + BSONRAW_LACKS(other, other_len), (one, one_len, other, other_len, order))
 #define bsonraw_compare bsonraw_touching_compare

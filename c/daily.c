@@ -36,7 +36,7 @@ const char *bsonraw_reason_text(uint32_t reason) {
 }
 
 const char *bsonraw_cause_text(uint32_t cause) {
-    static const char *const texts[] = {"no cause", "stop", "value", "repeated-key", "array-key", "options"};
+    static const char *const texts[] = {"no cause", "stop", "value", "repeated-key", "array-key", "options", "dollar-key", "dotted-key", "empty-key"};
     return cause < sizeof texts / sizeof *texts ? texts[cause] : "no cause";
 }
 
@@ -539,6 +539,73 @@ int32_t bsonraw_count(const uint8_t *bytes, size_t len, uint64_t *count) {
         *count += more;
     }
     return status == BSONRAW_NONE ? BSONRAW_OK : status;
+}
+
+/* Why a key is refused by these flags; 0 where it isn't. */
+static uint32_t key_cause(const uint8_t *key, uint32_t len, uint32_t flags) {
+    if (flags & BSONRAW_KEYS_DOLLAR && len > 0 && key[0] == '$') return BSONRAW_DOLLAR_KEY;
+    if (flags & BSONRAW_KEYS_DOTS && len > 0 && memchr(key, '.', len) != NULL) return BSONRAW_DOTTED_KEY;
+    return flags & BSONRAW_KEYS_EMPTY && len == 0 ? BSONRAW_EMPTY_KEY : 0;
+}
+
+/* A level that a token is in: the number of its element there, and whether it is an array. */
+struct key_level {
+    uint64_t number;
+    int is_array;
+};
+
+static const struct key_level before_first = {(uint64_t)-1, 0};
+
+/* Says the place of a key, which is the last of these levels. */
+static void tell_key(const struct bsonraw_token *token, const struct key_level *levels, struct bsonraw_report *report, uint64_t *path,
+                     size_t path_room) {
+    size_t level;
+    report->has_key = 1, report->key_at = token->key_at, report->key_len = token->key_len;
+    report->error.offset = token->key_at - 1;
+    report->path_len = (uint64_t)token->depth + 1;
+    for (level = 0; level <= token->depth && level < path_room; level++) path[level] = levels[level].number;
+}
+
+/* Looks at the keys of tokens, but of arrays; the report says the first that is refused. */
+static int32_t look_at_keys(const uint8_t *bytes, const struct bsonraw_token *tokens, uint32_t flags, struct key_level *levels,
+                            struct bsonraw_report *report, uint64_t *path, size_t path_room) {
+    uint64_t at;
+    levels[0] = before_first;
+    for (at = 0; at < report->count; at++) {
+        const struct bsonraw_token *token = &tokens[at];
+        struct key_level *level = levels + token->depth;
+        level->number++;
+        report->cause = level->is_array ? 0 : key_cause(bytes + token->key_at, token->key_len, flags);
+        if (report->cause != 0) {
+            tell_key(token, levels, report, path, path_room);
+            return BSONRAW_BREACH;
+        }
+        level[1] = before_first;
+        level[1].is_array = token->tag == BSONRAW_TAG_ARRAY;
+    }
+    return BSONRAW_OK;
+}
+
+int32_t bsonraw_check_keys(const uint8_t *bytes, size_t len, size_t max_bytes, size_t max_depth, uint32_t flags,
+                           struct bsonraw_report *report, uint64_t *path, size_t path_room) {
+    struct bsonraw_token none, *tokens;
+    struct key_level *levels; /* with the tokens behind them, as each of these is in one level more at most */
+    uint64_t no_path[1];
+    size_t count;
+    int32_t status;
+    if (BSONRAW_LACKS(bytes, len) || report == NULL || BSONRAW_LACKS(path, path_room)) return BSONRAW_NULL;
+    path = path == NULL ? no_path : path;
+    status = bsonraw_flatten(bsonraw_some_bytes(bytes), len, max_bytes, max_depth, &none, 0, report, path, path_room);
+    if (status != BSONRAW_SMALL_BUFFER) return status;
+    count = (size_t)report->count;
+    levels = malloc((count + 1) * (sizeof *tokens + sizeof *levels));
+    if (levels == NULL) return report->count = 0, BSONRAW_NO_MEMORY;
+    tokens = (struct bsonraw_token *)(void *)(levels + count + 1);
+    status = bsonraw_flatten(bytes, len, max_bytes, max_depth, tokens, count, report, path, path_room);
+    if (status == BSONRAW_OK) status = look_at_keys(bytes, tokens, flags, levels, report, path, path_room);
+    report->count = 0;
+    free(levels);
+    return status;
 }
 
 /* The order of two forms, which begin with their lengths: none begins with another one. */

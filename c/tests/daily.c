@@ -58,7 +58,8 @@ static void look_at_texts(void) {
     is_text(bsonraw_status_text(-9), "a level is open");
     is_text(bsonraw_reason_text(21), "no reason");
     is_text(bsonraw_cause_text(BSONRAW_ARRAY_KEY), "array-key");
-    is_text(bsonraw_cause_text(6), "no cause");
+    is_text(bsonraw_cause_text(BSONRAW_EMPTY_KEY), "empty-key");
+    is_text(bsonraw_cause_text(9), "no cause");
     is_text(bsonraw_tag_text(BSONRAW_TAG_INT64), "int64");
     is_text(bsonraw_tag_text(BSONRAW_TAG_MIN_KEY), "MinKey");
     is_text(bsonraw_tag_text(20), "no kind");
@@ -385,6 +386,45 @@ static void look_at_arrays(void) {
     expect(text == NULL && r.error.reason == BSONRAW_LENGTH_INCORRECT, "an array that is cut", "another report");
     is(bsonraw_json_write(list, 24, SIZE_MAX, 1, BSONRAW_JSON_ARRAY, NULL, NULL, &r, path, 1), BSONRAW_OK, "an array in pieces");
     is((int64_t)r.count, 12, "an array in pieces");
+}
+
+/* Keys that are refused where it is asked: this cause, at this path, of a document that a text writes; 0 for none. */
+static void refuses_key(const char *json, uint32_t flags, uint32_t cause, const char *wanted) {
+    struct bsonraw_json_report read;
+    struct bsonraw_report r;
+    uint64_t path[4];
+    uint8_t document[256];
+    char text[64];
+    is(bsonraw_from_json(BSONRAW_STR(json), SIZE_MAX, 9, document, sizeof document, &read), BSONRAW_OK, json);
+    is(bsonraw_check_keys(document, (size_t)read.count, SIZE_MAX, 4, flags, &r, path, 4), cause ? BSONRAW_BREACH : BSONRAW_OK, json);
+    is(r.cause, cause, json);
+    is((int64_t)r.count, 0, json);
+    is((int64_t)bsonraw_path_text(document, (size_t)read.count, path, (size_t)r.path_len, text, sizeof text), (int64_t)strlen(wanted), json);
+    is_text(text, wanted);
+    if (cause == 0) return;
+    expect(r.has_key == 1 && document[r.error.offset + 1 + r.key_len] == 0 && r.key_at == r.error.offset + 1, json, "another key");
+    is(bsonraw_check_keys(document, (size_t)read.count, SIZE_MAX, 4, flags, &r, NULL, 0), BSONRAW_BREACH, json);
+}
+
+static void look_at_keys(void) {
+    struct bsonraw_report r;
+    uint64_t path[4];
+    refuses_key("{\"a\": 1, \"$b\": 2}", BSONRAW_KEYS_DOLLAR, BSONRAW_DOLLAR_KEY, "/1:\"$b\"");
+    refuses_key("{\"a\": 1, \"$b\": 2, \"c$\": 3}", BSONRAW_KEYS_DOTS | BSONRAW_KEYS_EMPTY, 0, "");
+    refuses_key("{\"a$\": 1, \"b\": {\"c\": [{}, {\"x\": 0, \"y.z\": 1}]}}", 7, BSONRAW_DOTTED_KEY, "/1:\"b\"/0:\"c\"/1:\"1\"/1:\"y.z\"");
+    refuses_key("{\"a\": {\"b\": 1}, \"c\": {\"\": 1}}", 7, BSONRAW_EMPTY_KEY, "/1:\"c\"/0:\"\"");
+    refuses_key("{\"a\": {\"b\": 1}, \"c\": {\"\": 1}}", BSONRAW_KEYS_DOTS | BSONRAW_KEYS_DOLLAR, 0, "");
+    refuses_key("{\"c\": {\"$code\": \"f\", \"$scope\": {\"$x\": 1}}}", 7, BSONRAW_DOLLAR_KEY, "/0:\"c\"/0:\"$x\"");
+    refuses_key("{}", 7, 0, "");
+    /* keys of an array, which are none of a server's */
+    is(bsonraw_check_keys((const uint8_t *)"\23\0\0\0\4a\0\13\0\0\0\12$.\0\12\0\0", 19, 99, 9, 7, &r, path, 4), BSONRAW_OK, "keys of an array");
+    is(bsonraw_check_keys((const uint8_t *)"\23\0\0\0\3a\0\13\0\0\0\12$.\0\12\0\0", 19, 99, 9, BSONRAW_KEYS_DOTS, &r, path, 4), BSONRAW_BREACH, "keys of a document");
+    is(bsonraw_check_keys((const uint8_t *)"\23\0\0\0\3a\0\13\0\0\0\12$.\0\12\0\0", 19, 99, 1, 7, &r, path, 4), BSONRAW_TOO_DEEP, "a limit of levels");
+    is(bsonraw_check_keys((const uint8_t *)"\23\0\0\0\3a\0\13\0\0\0\12$.\0\12\0\0", 19, 18, 9, 7, &r, path, 4), BSONRAW_TOO_MANY_BYTES, "a limit of bytes");
+    is(bsonraw_check_keys((const uint8_t *)"\11\0\0\0\12x\0\5", 9, 99, 9, 7, &r, path, 4), BSONRAW_FAULT, "a stop");
+    is(bsonraw_check_keys(NULL, 9, 99, 9, 7, &r, path, 4), BSONRAW_NULL, "bytes of NULL");
+    is(bsonraw_check_keys(NULL, 0, 99, 9, 7, &r, path, 4), BSONRAW_NO_DOCUMENT, "no bytes");
+    is(bsonraw_check_keys(NULL, 0, 99, 9, 7, NULL, path, 4), BSONRAW_NULL, "no report");
 }
 
 static void look_at_places(void) {
@@ -912,6 +952,7 @@ int main(void) {
     look_at_new_documents();
     look_at_texts_in_a_row();
     look_at_arrays();
+    look_at_keys();
     look_at_places();
     look_at_order();
     look_at_many(&all);
