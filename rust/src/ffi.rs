@@ -5,7 +5,7 @@
 //!   with its capacity, where what isn't initialised is only written. What is written is behind a `&mut`, or in a buffer that is owned,
 //!   so that it overlaps nothing else and no other thread touches it.
 //! - A pointer to a struct or to a number is that of a reference, so it is aligned, and points to a `repr(C)` struct whose fields
-//!   are those of the header (`tests/suite/header.rs`). Any fields may be handed over.
+//!   are those of the header (`bsonraw-sys/tests/header.rs`), and of the library: see [`LAYOUT`]. Any fields may be handed over.
 //!
 //! What the library returns is used without a second look where [`text`] shows what it judged to be UTF-8, and where [`append`] and [`grown`]
 //! let a buffer grow over what it wrote. All other offsets are used to slice, which is checked.
@@ -18,6 +18,10 @@ use core::{ptr, str};
 
 use crate::raw::{RawArray, RawDocument};
 use crate::sys::*;
+
+/// A name that only a library has whose structs are those of `sys`: with another one no program links.
+#[used]
+static LAYOUT: unsafe extern "C" fn() -> u32 = bsonraw_layout_2;
 
 /// How many elements are read in a block.
 const BLOCK: usize = 8;

@@ -15,7 +15,7 @@
 //! # Ok::<(), Box<dyn std::error::Error>>(())
 //! ```
 //!
-//! The library is linked in; `build.rs` says where it is looked for. All calls into it, and all that is `unsafe`, is in one file.
+//! The library is linked in; `build.rs` of `bsonraw-sys` says where it is looked for. All calls into it, and all that is `unsafe`, is in one file.
 
 #![no_std]
 #![deny(unsafe_code)]
@@ -28,11 +28,11 @@ mod macros;
 pub mod oid;
 pub mod raw;
 pub mod spec;
-pub mod sys;
 mod texts;
 mod values;
 pub mod whole;
 
+pub use bsonraw_sys as sys;
 pub use raw::{
     RawArray, RawArrayBuf, RawBinaryRef, RawBson, RawBsonRef, RawDbPointerRef, RawDocument, RawDocumentBuf,
     RawJavaScriptCodeWithScope, RawJavaScriptCodeWithScopeRef, RawRegexRef,

@@ -21,7 +21,7 @@
 ///
 /// # Panics
 ///
-/// Where a key or a regular expression has a 0: [`append`](crate::raw::RawDocumentBuf::append) returns that as an error.
+/// Where a key or a regular expression has a 0: [`try_append`](crate::raw::RawDocumentBuf::try_append) returns that as an error.
 #[macro_export]
 macro_rules! rawdoc {
     ($($content:tt)*) => {{
@@ -87,7 +87,7 @@ macro_rules! __push {
         $crate::__push!($array $($($rest)*)?);
     };
     (@ $array:ident, $value:expr) => {
-        $array.push($value).expect("a value can't be pushed")
+        $array.push($value)
     };
 }
 
@@ -113,7 +113,7 @@ macro_rules! __put {
         $crate::__put!($document () $($($rest)*)?);
     };
     (@ $document:ident, $key:expr, $value:expr) => {
-        $document.append($key, $value).expect("an element can't be appended")
+        $document.append($key, $value)
     };
     ($document:ident ($($key:tt)*) $more:tt $($rest:tt)*) => {
         $crate::__put!($document ($($key)* $more) $($rest)*);

@@ -7,8 +7,8 @@
 //! use bsonraw::raw::{RawBsonRef, RawDocument, RawDocumentBuf, ValueAccessErrorKind};
 //!
 //! let mut document = RawDocumentBuf::new();
-//! document.append("name", "Ada")?;
-//! document.append("born", 1815)?;
+//! document.append("name", "Ada");
+//! document.append("born", 1815);
 //!
 //! let document = RawDocument::from_bytes(document.as_bytes())?;
 //! for element in document {
@@ -64,9 +64,9 @@
 //! use bsonraw::raw::RawDocumentBuf;
 //!
 //! let mut document = RawDocumentBuf::new();
-//! document.append("a", 1).unwrap();
+//! document.append("a", 1);
 //! let mut elements = document.iter();
-//! document.append("b", 2).unwrap();
+//! document.append("b", 2);
 //! elements.next();
 //! ```
 

@@ -116,8 +116,8 @@ fn append_all(document: &RawDocument) {
     let mut pushed = RawArrayBuf::new();
     for element in document {
         let (key, value) = element.unwrap();
-        made.append_ref(key, value).unwrap();
-        pushed.push(value.to_raw_bson()).unwrap();
+        made.append_ref(key, value);
+        pushed.push(value.to_raw_bson());
     }
     assert_eq!(*made, *document);
     let mut numbers = pushed.iter_keys();

@@ -1,6 +1,5 @@
 //! The tests of the crate; examples in its comments are others.
 
-mod header;
 mod made;
 mod maker;
 mod plain;

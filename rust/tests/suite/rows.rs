@@ -215,7 +215,7 @@ fn each_kind_has_its_tag_and_its_payload() {
     }
     for (kind, value, payload) in kinds() {
         let mut made = RawDocumentBuf::new();
-        made.append("k", value.clone()).unwrap();
+        made.append("k", value.clone());
         let element = made.iter_elements().next().unwrap().unwrap();
         assert_eq!((element.key(), element.element_type(), element.payload()), ("k", kind, &bytes(payload)[..]));
         assert_eq!(value.element_type(), kind);
@@ -224,7 +224,7 @@ fn each_kind_has_its_tag_and_its_payload() {
         assert_eq!(RawBson::try_from(element).unwrap(), value);
         assert_eq!(RawBsonRef::try_from(element).unwrap(), value.as_raw_bson_ref());
         let mut pushed = RawArrayBuf::new();
-        pushed.push(value.clone()).unwrap();
+        pushed.push(value.clone());
         assert_eq!(pushed.get(0).unwrap(), Some(value.as_raw_bson_ref()));
     }
 }
@@ -382,7 +382,7 @@ fn look_up_in_an_array_counts_faults() {
 
     let mut copied = array.to_raw_array_buf();
     assert_eq!(format!("{copied:?}"), "RawArrayBuf { data: \"060000000a00\", len: 2 }");
-    copied.push(RawBson::Null).unwrap();
+    copied.push(RawBson::Null);
     assert_eq!(copied.as_bytes(), bytes("09000000 0a 0a3200 00"));
     assert_eq!(items(RawDocument::from_bytes(copied.as_bytes()).unwrap()), ["\"\\n2\" Null"]);
 
@@ -399,7 +399,7 @@ fn look_up_in_an_array_counts_faults() {
 fn an_element_whose_length_is_too_small_takes_in_what_is_appended() {
     let mut made = document("0b000000 0f 6100 03000000");
     assert_eq!(made.iter_elements().map(|element| element.unwrap().len()).collect::<Vec<_>>(), [3]);
-    made.append("b", true).unwrap();
+    made.append("b", true);
     assert_eq!(made.as_bytes(), bytes("0f000000 0f 6100 03000008 62000100"));
 }
 
@@ -424,7 +424,7 @@ fn appends_make_these_bytes() {
     }
     let mut list = RawArrayBuf::new();
     for text in ["binary", "serialized", "object", "notation"] {
-        list.push(text).unwrap();
+        list.push(text);
     }
     assert_eq!((list.as_bytes().len(), list.as_bytes()[0]), (67, 0x43));
     assert_eq!((list.get_str(0), list.get_str(3)), (Ok("binary"), Ok("notation")));
@@ -440,20 +440,40 @@ fn what_has_a_0_is_refused_and_changes_nothing() {
     let mut made = rawdoc! { "a": 1 };
     let before = made.clone();
     let regex = |pattern: &str, options: &str| Regex { pattern: pattern.into(), options: options.into() };
-    let error = made.append("a\0b", RawBson::Null).unwrap_err();
+    let error = made.try_append("a\0b", RawBson::Null).unwrap_err();
     assert_eq!((error.to_string().as_str(), error.key()), ("malformed value: \"interior NUL\"", None));
-    assert!(made.append("r", regex("a\0", "")).is_err());
-    assert!(made.append("r", regex("a", "\0")).is_err());
-    assert!(made.append_ref("r\0", 1).is_err());
+    assert!(made.try_append("r", regex("a\0", "")).is_err());
+    assert!(made.try_append("r", regex("a", "\0")).is_err());
+    assert!(made.try_append_ref("r\0", 1).is_err());
     assert_eq!(made, before);
     let mut list = RawArrayBuf::new();
-    assert!(list.push(regex("a\0", "")).is_err());
+    assert!(list.try_push(regex("a\0", "")).is_err());
     assert_eq!(format!("{list:?}"), "RawArrayBuf { data: \"0500000000\", len: 0 }");
     assert!(RawDocumentBuf::try_from_iter([("a", RawBson::from(true)), ("b\0", RawBson::Null)]).is_err());
     assert!(RawArrayBuf::try_from_iter([regex("\0", "")]).is_err());
     // a text may hold one
-    made.append("t", "a\0b").unwrap();
+    made.append("t", "a\0b");
     assert_eq!(made.get_str("t"), Ok("a\0b"));
+}
+
+/// What a call panics with.
+fn panic_of(call: impl FnOnce() + std::panic::UnwindSafe) -> String {
+    *std::panic::catch_unwind(call).unwrap_err().downcast::<String>().unwrap()
+}
+
+#[test]
+fn what_has_a_0_ends_an_append_without_a_result() {
+    let wanted = "the element can't be appended: malformed value: \"interior NUL\"";
+    let regex = || RawBson::RegularExpression(Regex { pattern: "a\0".into(), options: String::new() });
+    assert_eq!(panic_of(|| RawDocumentBuf::new().append("a\0", 1)), wanted);
+    assert_eq!(panic_of(|| RawDocumentBuf::new().append("a", regex())), wanted);
+    assert_eq!(panic_of(|| RawDocumentBuf::new().append_ref("a\0b", "c")), wanted);
+    assert_eq!(panic_of(|| RawArrayBuf::new().push(regex())), wanted);
+    assert_eq!(panic_of(|| RawArrayBuf::new().push_ref(&regex())), wanted);
+    assert_eq!(panic_of(|| drop([("\0", 1)].into_iter().collect::<RawDocumentBuf>())), wanted);
+    assert_eq!(panic_of(|| drop([regex()].into_iter().collect::<RawArrayBuf>())), wanted);
+    assert_eq!(panic_of(|| drop(rawdoc! { "a\0": 1 })), wanted);
+    assert_eq!(panic_of(|| drop(rawbson!([{ "a\0": 1 }]))), wanted);
 }
 
 #[test]
@@ -465,9 +485,9 @@ fn no_document_is_longer_than_its_length_can_say() {
     data[4..11].copy_from_slice(&[&[5, b'b', 0], &size.to_le_bytes()[..]].concat());
     let mut longest = RawDocumentBuf::from_bytes(data).unwrap();
     assert_eq!(longest.get_binary("b").unwrap().bytes.len(), size as usize);
-    let error = longest.append("", RawBson::Null).unwrap_err();
+    let error = longest.try_append("", RawBson::Null).unwrap_err();
     assert_eq!(error.to_string(), "malformed value: \"document too long\"");
-    assert!(longest.append("a\0", RawBson::Null).unwrap_err().to_string().contains("interior NUL"));
+    assert!(longest.try_append("a\0", RawBson::Null).unwrap_err().to_string().contains("interior NUL"));
     assert_eq!(longest.iter_elements().count(), 1);
 }
 
@@ -477,8 +497,8 @@ fn options_are_sorted_by_a_copy_alone() {
     let copied = borrowed.to_raw_bson();
     assert_eq!(copied.as_regex().unwrap().options, "im");
     let mut made = RawDocumentBuf::new();
-    made.append_ref("r", borrowed).unwrap();
-    made.append("r", Regex { pattern: "a".into(), options: "mi".into() }).unwrap();
+    made.append_ref("r", borrowed);
+    made.append("r", Regex { pattern: "a".into(), options: "mi".into() });
     assert_eq!(hex(made.as_bytes()), "150000000b720061006d69000b720061006d690000");
 }
 
@@ -658,7 +678,7 @@ fn traits_lead_from_buffers_to_views_and_back() {
     assert_eq!([("a", 1), ("b", 2)].into_iter().collect::<RawDocumentBuf>(), rawdoc! { "a": 1, "b": 2 });
     assert_eq!([1, 2].into_iter().collect::<RawArrayBuf>(), owned);
     let mut value = RawBson::from(made);
-    value.as_document_mut().unwrap().append("b", 1).unwrap();
+    value.as_document_mut().unwrap().append("b", 1);
     assert_eq!(value.as_document().unwrap().get_i32("b"), Ok(1));
     assert!(value.as_array_mut().is_none());
     assert_eq!(format!("{:?}", rawdoc! {}), "RawDocumentBuf { data: \"0500000000\" }");
