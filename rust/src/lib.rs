@@ -5,39 +5,50 @@
 //! of a document: the first fault, whether it is canonical, its canonical form, and its text as Extended JSON.
 //!
 //! ```
-//! use bsonraw::{raw::RawDocument, whole::Limits};
+//! use bsonraw::raw::RawDocument;
 //!
 //! let document = RawDocument::from_bytes(b"\x13\0\0\0\x10a\0\x01\0\0\0\x10a\0\x02\0\0\0\0")?;
 //! assert_eq!(document.get_i32("a")?, 1);
-//! let form = document.canonical(Limits::default())?;
+//! let form = document.canonical()?;
 //! assert_eq!(form.get_i32("a")?, 2);
-//! assert_eq!(form.to_json(Limits::default(), Default::default())?, r#"{"a":2}"#);
+//! assert_eq!(form.to_json()?, r#"{"a":2}"#);
 //! # Ok::<(), Box<dyn std::error::Error>>(())
 //! ```
 //!
 //! The library is linked in; `build.rs` of `bsonraw-sys` says where it is looked for. All calls into it, and all that is `unsafe`, is in one file.
 
-#![no_std]
 #![deny(unsafe_code)]
 #![warn(missing_debug_implementations, missing_docs)]
 
-extern crate alloc;
-
+mod bson;
+pub mod datetime;
+pub mod de;
+pub mod decimal128;
+pub mod document;
+mod entries;
 mod ffi;
 mod macros;
 pub mod oid;
+mod path_error;
 pub mod raw;
+mod read;
+pub mod ser;
 pub mod spec;
 mod texts;
 mod values;
 pub mod whole;
 
+pub use bson::{Array, Bson};
 pub use bsonraw_sys as sys;
+pub use datetime::DateTime;
+pub use decimal128::Decimal128;
+pub use document::Document;
 pub use raw::{
     RawArray, RawArrayBuf, RawBinaryRef, RawBson, RawBsonRef, RawDbPointerRef, RawDocument, RawDocumentBuf,
     RawJavaScriptCodeWithScope, RawJavaScriptCodeWithScopeRef, RawRegexRef,
 };
-pub use values::{Binary, DateTime, DbPointer, Decimal128, Regex, Timestamp};
+pub use ser::to_vec;
+pub use values::{Binary, DbPointer, JavaScriptCodeWithScope, Regex, Timestamp};
 
 /// The version of the library that is linked in: 20000 for 2.0.0.
 pub fn version() -> u32 {

@@ -1,11 +1,10 @@
 //! Arrays that own their bytes.
 
-use core::borrow::Borrow;
-use core::fmt;
-use core::hash::{Hash, Hasher};
-use core::ops::Deref;
-
-use alloc::borrow::Cow;
+use std::borrow::Borrow;
+use std::borrow::Cow;
+use std::fmt;
+use std::hash::{Hash, Hasher};
+use std::ops::Deref;
 
 use super::document_buf::not_appended;
 use super::{Error, ErrorKind, Hex, RawArray, RawArrayIter, RawBson, RawBsonRef, RawDocumentBuf, Result};

@@ -1,11 +1,9 @@
 //! Documents that own their bytes.
 
-use core::borrow::Borrow;
-use core::fmt;
-use core::ops::Deref;
-
-use alloc::borrow::{Cow, ToOwned};
-use alloc::vec::Vec;
+use std::borrow::Borrow;
+use std::borrow::Cow;
+use std::fmt;
+use std::ops::Deref;
 
 use super::{Error, ErrorKind, Hex, Iter, RawBson, RawBsonRef, RawDocument, RawIter, Result};
 use crate::ffi;

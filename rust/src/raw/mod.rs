@@ -70,7 +70,7 @@
 //! elements.next();
 //! ```
 
-use core::fmt;
+use std::fmt;
 
 /// The twelve getters of a view, each over its `get_with`.
 macro_rules! getters {
@@ -120,6 +120,7 @@ mod array;
 mod array_buf;
 mod bson;
 mod bson_ref;
+mod convert;
 mod document;
 mod document_buf;
 mod error;

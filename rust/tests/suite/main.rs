@@ -2,6 +2,8 @@
 
 mod made;
 mod maker;
+mod memory;
 mod plain;
 mod printed;
 mod rows;
+mod texts;
