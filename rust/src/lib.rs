@@ -37,10 +37,14 @@ pub mod spec;
 mod texts;
 mod values;
 pub mod whole;
+#[cfg(feature = "serde")]
+mod with_serde;
 
 pub use bson::{Array, Bson};
 pub use bsonraw_sys as sys;
 pub use datetime::DateTime;
+#[cfg(feature = "serde")]
+pub use de::{from_bson, from_document, from_reader, from_slice};
 pub use decimal128::Decimal128;
 pub use document::Document;
 pub use raw::{
@@ -48,6 +52,8 @@ pub use raw::{
     RawJavaScriptCodeWithScope, RawJavaScriptCodeWithScopeRef, RawRegexRef,
 };
 pub use ser::to_vec;
+#[cfg(feature = "serde")]
+pub use ser::{to_bson, to_document, to_raw_document_buf};
 pub use values::{Binary, DbPointer, JavaScriptCodeWithScope, Regex, Timestamp};
 
 /// The version of the library that is linked in: 20000 for 2.0.0.

@@ -2,7 +2,7 @@
 
 /// Declares the error of a module: what is wrong, and the keys to where it is.
 macro_rules! path_error {
-    ($what:literal) => {
+    ($what:literal, $trait:path) => {
         #[doc = $what]
         #[derive(Clone, Debug)]
         #[non_exhaustive]
@@ -45,6 +45,13 @@ macro_rules! path_error {
             pub(crate) fn under(mut self, key: impl Into<String>) -> Error {
                 self.path.insert(0, key.into());
                 self
+            }
+        }
+
+        #[cfg(feature = "serde")]
+        impl $trait for Error {
+            fn custom<T: std::fmt::Display>(message: T) -> Error {
+                Error::custom(message.to_string())
             }
         }
 

@@ -45,12 +45,35 @@ impl fmt::Display for Binary {
     }
 }
 
+/// The digits of Base64.
+const DIGITS: &[u8; 64] = b"ABCDEFGHIJKLMNOPQRSTUVWXYZabcdefghijklmnopqrstuvwxyz0123456789+/";
+
+/// The bytes that a text of Base64 writes.
+#[cfg(feature = "serde")]
+pub(crate) fn from_base64(text: &str) -> Option<Vec<u8>> {
+    let digits = text.trim_end_matches('=');
+    if text.len() % 4 != 0 || text.len() - digits.len() > 2 {
+        return None;
+    }
+    let mut bytes = Vec::new();
+    let (mut number, mut bits) = (0_u32, 0);
+    for digit in digits.bytes() {
+        let value = DIGITS.iter().position(|it| *it == digit)?;
+        number = (number << 6 | value as u32) & 0xFFFF;
+        bits += 6;
+        if bits >= 8 {
+            bits -= 8;
+            bytes.push((number >> bits) as u8);
+        }
+    }
+    Some(bytes)
+}
+
 /// Bytes that are printed in Base64.
-struct Base64<'a>(&'a [u8]);
+pub(crate) struct Base64<'a>(pub(crate) &'a [u8]);
 
 impl fmt::Display for Base64<'_> {
     fn fmt(&self, f: &mut fmt::Formatter<'_>) -> fmt::Result {
-        const DIGITS: &[u8; 64] = b"ABCDEFGHIJKLMNOPQRSTUVWXYZabcdefghijklmnopqrstuvwxyz0123456789+/";
         for three in self.0.chunks(3) {
             let number = (0..3).fold(0, |number, at| number << 8 | three.get(at).map_or(0, |byte| u32::from(*byte)));
             for digit in 0..4 {

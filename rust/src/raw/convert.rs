@@ -75,7 +75,7 @@ fn array_buf_of(values: &[Bson]) -> Result<RawArrayBuf> {
 }
 
 /// Hands a value over, borrowed.
-fn with_raw<T>(value: &Bson, take: impl FnOnce(RawBsonRef<'_>) -> Result<T>) -> Result<T> {
+pub(crate) fn with_raw<T>(value: &Bson, take: impl FnOnce(RawBsonRef<'_>) -> Result<T>) -> Result<T> {
     let borrowed = match value {
         Bson::Document(document) => return take((&RawDocumentBuf::from_document(document)?).into()),
         Bson::Array(values) => return take((&array_buf_of(values)?).into()),

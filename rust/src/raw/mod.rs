@@ -130,6 +130,8 @@ pub use self::array::RawArray;
 pub use self::array_buf::RawArrayBuf;
 pub use self::bson::{RawBson, RawJavaScriptCodeWithScope};
 pub use self::bson_ref::{RawBinaryRef, RawBsonRef, RawDbPointerRef, RawJavaScriptCodeWithScopeRef, RawRegexRef};
+#[cfg(feature = "serde")]
+pub(crate) use self::convert::with_raw;
 pub use self::document::RawDocument;
 pub use self::document_buf::RawDocumentBuf;
 pub use self::error::{Error, ErrorKind, Result, ValueAccessError, ValueAccessErrorKind, ValueAccessResult};

@@ -1,5 +1,6 @@
 //! The tests of the crate; examples in its comments are others.
 
+mod examples;
 mod made;
 mod maker;
 mod memory;
