@@ -24,6 +24,10 @@ use crate::spec::BinarySubtype;
 use crate::{de, ser};
 use crate::{Array, Bson, DateTime, Decimal128, Timestamp};
 
+/// How many levels a document has at most that comes into memory from bytes: each takes some of the stack, also of what prints, compares
+/// or drops it. MongoDB has 100.
+pub(crate) const LEVELS: usize = 200;
+
 /// An ordered map of keys to values: they come in the order in which they were inserted. Two are equal if they have the same keys with
 /// equal values, in any order.
 #[derive(Clone, PartialEq)]

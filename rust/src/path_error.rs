@@ -39,6 +39,17 @@ macro_rules! path_error {
                 &self.path
             }
 
+            /// The error, met in the value with this number, if it doesn't say where it is.
+            #[cfg(feature = "serde")]
+            #[allow(dead_code)]
+            pub(crate) fn at(self, number: usize) -> Error {
+                if self.path.is_empty() {
+                    self.under(number.to_string())
+                } else {
+                    self
+                }
+            }
+
             /// The error, met in the value of this key.
             #[allow(dead_code)]
             #[cold]

@@ -118,8 +118,8 @@ impl<R: Read> DocumentReader<R> {
             }
             Next::Bytes(bytes) => {
                 self.offset += bytes.len() as u64;
-                let len = bytes.first_chunk().map(|head| u32::from_le_bytes(*head) as usize);
-                self.is_done = len != Some(bytes.len());
+                let len = bytes.first_chunk().map_or(0, |head| u32::from_le_bytes(*head) as usize);
+                self.is_done = len < 5 || len != bytes.len();
                 RawDocument::from_bytes(&bytes).map_err(ReadError::Raw)?;
                 Ok(Some(RawDocumentBuf::of_made(bytes)))
             }

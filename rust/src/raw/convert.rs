@@ -2,7 +2,7 @@
 
 use super::{Error, ErrorKind, RawArray, RawArrayBuf, RawBson, RawBsonRef, RawDbPointerRef, RawDocument};
 use super::{RawDocumentBuf, RawElement, RawJavaScriptCodeWithScope, RawRegexRef, Result};
-use crate::whole::Limits;
+use crate::document::LEVELS;
 use crate::{Array, Bson, Document, JavaScriptCodeWithScope};
 
 /// How many levels may be inside, where this many are allowed; the error is that there are too many.
@@ -10,15 +10,24 @@ fn inside(levels: usize) -> Result<usize> {
     levels.checked_sub(1).ok_or_else(|| Error::new(ErrorKind::malformed("more levels than allowed")))
 }
 
-/// The document of a view, with so many levels at most.
+/// The document of a view, with so many levels at most. This is a loop, so that a level takes little of the stack.
 fn document_of(view: &RawDocument, levels: usize) -> Result<Document> {
     let levels = inside(levels)?;
-    view.iter().map(|item| item.and_then(|(key, value)| Ok((key.to_owned(), value_of(value, levels)?)))).collect()
+    let mut made = Document::new();
+    for item in view {
+        let (key, value) = item?;
+        made.insert(key, value_of(value, levels)?);
+    }
+    Ok(made)
 }
 
 fn array_of(view: &RawArray, levels: usize) -> Result<Array> {
     let levels = inside(levels)?;
-    view.iter().map(|item| item.and_then(|value| value_of(value, levels))).collect()
+    let mut made = Array::new();
+    for value in view {
+        made.push(value_of(value?, levels)?);
+    }
+    Ok(made)
 }
 
 /// The value of a borrowed one, whose documents have so many levels at most.
@@ -112,9 +121,9 @@ pub(crate) fn with_raw<T>(value: &Bson, take: impl FnOnce(RawBsonRef<'_>) -> Res
 
 impl RawDocument {
     /// The document in memory, each key once with its last value. The error is that of the first element without a value, depth first in
-    /// the order of the bytes, or that there are more than 500 levels.
+    /// the order of the bytes, or that there are more than 200 levels.
     pub fn to_document(&self) -> Result<Document> {
-        document_of(self, Limits::default().max_depth)
+        document_of(self, LEVELS)
     }
 }
 
@@ -171,8 +180,8 @@ try_from! {
     &RawDocument => Document, view view.to_document();
     RawDocumentBuf => Document, document document.to_document();
     &Document => RawDocumentBuf, document RawDocumentBuf::from_document(document);
-    &RawArray => Array, view array_of(view, Limits::default().max_depth);
-    RawBsonRef<'_> => Bson, value value_of(value, Limits::default().max_depth);
+    &RawArray => Array, view array_of(view, LEVELS);
+    RawBsonRef<'_> => Bson, value value_of(value, LEVELS);
     RawElement<'_> => Bson, element element.value()?.try_into();
     RawBson => Bson, value match value {
         RawBson::Document(document) => Ok(Bson::Document(document.to_document()?)),

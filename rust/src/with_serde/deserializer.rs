@@ -5,6 +5,7 @@ use serde::de::{self, DeserializeSeed, IntoDeserializer, MapAccess, SeqAccess, U
 
 use super::{lane, wrapper};
 use crate::de::{Error, Result};
+use crate::document::LEVELS;
 use crate::raw::{Iter, RawArrayIter, RawBsonRef};
 use crate::spec::BinarySubtype;
 
@@ -18,7 +19,11 @@ pub(crate) struct Deserializer<'de> {
 
 impl<'de> Deserializer<'de> {
     pub(crate) fn new(value: RawBsonRef<'de>, is_human_readable: bool) -> Deserializer<'de> {
-        Deserializer { value, levels: super::LEVELS, is_human_readable }
+        Deserializer::within(value, LEVELS, is_human_readable)
+    }
+
+    pub(super) fn within(value: RawBsonRef<'de>, levels: usize, is_human_readable: bool) -> Deserializer<'de> {
+        Deserializer { value, levels, is_human_readable }
     }
 
     /// A value inside.
@@ -61,7 +66,7 @@ impl<'de> de::Deserializer<'de> for Deserializer<'de> {
             RawBsonRef::Binary(binary) if binary.subtype == BinarySubtype::Generic => {
                 visitor.visit_borrowed_bytes(binary.bytes)
             }
-            value => wrapper::give(value, visitor),
+            value => wrapper::give(value, self.deeper()?.levels, visitor),
         }
     }
 
@@ -158,7 +163,8 @@ impl<'de> SeqAccess<'de> for Seq<'de> {
         let Some(item) = self.items.next() else { return Ok(None) };
         let number = self.number;
         self.number += 1;
-        seed.deserialize(self.source.inside(item?)).map(Some).map_err(|error| error.under(number.to_string()))
+        let value = item.map_err(|error| Error::from(error).at(number))?;
+        seed.deserialize(self.source.inside(value)).map(Some).map_err(|error| error.under(number.to_string()))
     }
 }
 

@@ -13,9 +13,6 @@ mod wrapper;
 pub(crate) use deserializer::Deserializer;
 pub(crate) use serializer::Serializer;
 
-/// How many levels are read at most, and written: each takes some of the stack.
-pub(crate) const LEVELS: usize = 200;
-
 /// Names that the crate bson has for its documents, arrays and values, so that BSON goes from the one to the other as it is.
 const RAW_DOCUMENT: &str = "$__private__bson_RawDocument";
 const RAW_ARRAY: &str = "$__private__bson_RawArray";

@@ -3,6 +3,7 @@
 use serde::ser::{self, Serialize};
 
 use super::wrapper;
+use crate::document::LEVELS;
 use crate::raw::{RawArrayBuf, RawBson, RawDocumentBuf};
 use crate::ser::{Error, Result};
 use crate::spec::BinarySubtype;
@@ -17,7 +18,7 @@ pub(crate) struct Serializer {
 
 impl Serializer {
     pub(crate) fn new(is_human_readable: bool) -> Serializer {
-        Serializer { levels: super::LEVELS, is_human_readable }
+        Serializer { levels: LEVELS, is_human_readable }
     }
 
     /// What makes the values inside, which are a level deeper.

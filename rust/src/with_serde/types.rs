@@ -1,10 +1,11 @@
 //! `Serialize` and `Deserialize` of the types of this crate.
 
 use serde::de::{self, Deserialize, Deserializer};
-use serde::ser::{Serialize, SerializeMap, Serializer};
+use serde::ser::{Serialize, SerializeMap, SerializeSeq, Serializer};
 
 use super::value::{document_of, Value};
 use super::wrapper;
+use crate::document::LEVELS;
 use crate::oid::ObjectId;
 use crate::raw::{RawArray, RawArrayBuf, RawBinaryRef, RawBson, RawBsonRef, RawDbPointerRef, RawDocument};
 use crate::raw::{RawDocumentBuf, RawJavaScriptCodeWithScope, RawJavaScriptCodeWithScopeRef, RawRegexRef};
@@ -25,67 +26,95 @@ impl Serialize for Bytes<'_> {
     }
 }
 
-/// The elements of a document, for formats that people read.
-struct Elements<'a>(&'a RawDocument);
+/// A value, whose documents may have so many levels where a format that people read has each value of its own.
+pub(super) struct Within<'a> {
+    pub(super) value: RawBsonRef<'a>,
+    pub(super) levels: usize,
+}
+
+impl<'a> Within<'a> {
+    /// A value inside of one with so many levels.
+    fn inside<S: Serializer>(value: RawBsonRef<'a>, levels: usize) -> Result<Within<'a>, S::Error> {
+        match levels.checked_sub(1) {
+            Some(levels) => Ok(Within { value, levels }),
+            None => Err(serde::ser::Error::custom("more levels than allowed")),
+        }
+    }
+}
+
+impl Serialize for Within<'_> {
+    fn serialize<S: Serializer>(&self, serializer: S) -> Result<S::Ok, S::Error> {
+        let is_human_readable = serializer.is_human_readable();
+        match self.value {
+            RawBsonRef::Double(number) => serializer.serialize_f64(number),
+            RawBsonRef::String(text) => serializer.serialize_str(text),
+            RawBsonRef::Array(array) if is_human_readable => {
+                serializer.serialize_newtype_struct(super::RAW_ARRAY, &Values(array, self.levels))
+            }
+            RawBsonRef::Array(array) => serializer.serialize_newtype_struct(super::RAW_ARRAY, &Bytes(array.as_bytes())),
+            RawBsonRef::Document(document) if is_human_readable => {
+                serializer.serialize_newtype_struct(super::RAW_DOCUMENT, &Elements(document, self.levels))
+            }
+            RawBsonRef::Document(document) => {
+                serializer.serialize_newtype_struct(super::RAW_DOCUMENT, &Bytes(document.as_bytes()))
+            }
+            RawBsonRef::Boolean(is_true) => serializer.serialize_bool(is_true),
+            RawBsonRef::Null => serializer.serialize_unit(),
+            RawBsonRef::Int32(number) => serializer.serialize_i32(number),
+            RawBsonRef::Int64(number) => serializer.serialize_i64(number),
+            RawBsonRef::Binary(binary) if binary.subtype == BinarySubtype::Generic && !is_human_readable => {
+                serializer.serialize_bytes(binary.bytes)
+            }
+            value => {
+                let inside = Within::inside::<S>(value, self.levels)?;
+                wrapper::of(value, is_human_readable, inside.levels).serialize(serializer)
+            }
+        }
+    }
+}
+
+/// The elements of a document, which may have so many levels.
+struct Elements<'a>(&'a RawDocument, usize);
 
 impl Serialize for Elements<'_> {
     fn serialize<S: Serializer>(&self, serializer: S) -> Result<S::Ok, S::Error> {
         let mut map = serializer.serialize_map(None)?;
         for item in self.0 {
             let (key, value) = item.map_err(serde::ser::Error::custom)?;
-            map.serialize_entry(key, &value)?;
+            map.serialize_entry(key, &Within::inside::<S>(value, self.1)?)?;
         }
         map.end()
     }
 }
 
-struct Values<'a>(&'a RawArray);
+struct Values<'a>(&'a RawArray, usize);
 
 impl Serialize for Values<'_> {
     fn serialize<S: Serializer>(&self, serializer: S) -> Result<S::Ok, S::Error> {
-        let values: Vec<_> = self.0.iter().collect::<crate::raw::Result<_>>().map_err(serde::ser::Error::custom)?;
-        serializer.collect_seq(values)
-    }
-}
-
-impl Serialize for RawDocument {
-    fn serialize<S: Serializer>(&self, serializer: S) -> Result<S::Ok, S::Error> {
-        if serializer.is_human_readable() {
-            serializer.serialize_newtype_struct(super::RAW_DOCUMENT, &Elements(self))
-        } else {
-            serializer.serialize_newtype_struct(super::RAW_DOCUMENT, &Bytes(self.as_bytes()))
+        let mut seq = serializer.serialize_seq(None)?;
+        for value in self.0 {
+            let value = value.map_err(serde::ser::Error::custom)?;
+            seq.serialize_element(&Within::inside::<S>(value, self.1)?)?;
         }
-    }
-}
-
-impl Serialize for RawArray {
-    fn serialize<S: Serializer>(&self, serializer: S) -> Result<S::Ok, S::Error> {
-        if serializer.is_human_readable() {
-            serializer.serialize_newtype_struct(super::RAW_ARRAY, &Values(self))
-        } else {
-            serializer.serialize_newtype_struct(super::RAW_ARRAY, &Bytes(self.as_bytes()))
-        }
+        seq.end()
     }
 }
 
 impl Serialize for RawBsonRef<'_> {
     fn serialize<S: Serializer>(&self, serializer: S) -> Result<S::Ok, S::Error> {
-        match *self {
-            RawBsonRef::Double(number) => serializer.serialize_f64(number),
-            RawBsonRef::String(text) => serializer.serialize_str(text),
-            RawBsonRef::Array(array) => array.serialize(serializer),
-            RawBsonRef::Document(document) => document.serialize(serializer),
-            RawBsonRef::Boolean(is_true) => serializer.serialize_bool(is_true),
-            RawBsonRef::Null => serializer.serialize_unit(),
-            RawBsonRef::Int32(number) => serializer.serialize_i32(number),
-            RawBsonRef::Int64(number) => serializer.serialize_i64(number),
-            RawBsonRef::Binary(binary)
-                if binary.subtype == BinarySubtype::Generic && !serializer.is_human_readable() =>
-            {
-                serializer.serialize_bytes(binary.bytes)
-            }
-            value => wrapper::of(value, serializer.is_human_readable()).serialize(serializer),
-        }
+        Within { value: *self, levels: LEVELS }.serialize(serializer)
+    }
+}
+
+impl Serialize for RawDocument {
+    fn serialize<S: Serializer>(&self, serializer: S) -> Result<S::Ok, S::Error> {
+        RawBsonRef::Document(self).serialize(serializer)
+    }
+}
+
+impl Serialize for RawArray {
+    fn serialize<S: Serializer>(&self, serializer: S) -> Result<S::Ok, S::Error> {
+        RawBsonRef::Array(self).serialize(serializer)
     }
 }
 

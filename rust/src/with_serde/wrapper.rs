@@ -20,7 +20,8 @@ pub(super) enum Tree<'de> {
     Bytes(Cow<'de, [u8]>),
     Number(i64),
     True,
-    Document(&'de RawDocument),
+    /// A document, and how many levels it may have.
+    Document(&'de RawDocument, usize),
 }
 
 fn text<'de>(text: impl Into<Cow<'de, str>>) -> Tree<'de> {
@@ -46,8 +47,9 @@ pub(super) fn has(value: RawBsonRef<'_>) -> bool {
     ) && !matches!(value, RawBsonRef::Binary(binary) if binary.subtype == BinarySubtype::Generic)
 }
 
-/// The wrapper of a value that has one: in a format that people read as Extended JSON has it, and else with bytes and numbers.
-pub(super) fn of(value: RawBsonRef<'_>, is_human_readable: bool) -> Tree<'_> {
+/// The wrapper of a value that has one: in a format that people read as Extended JSON has it, and else with bytes and numbers. A scope may
+/// have so many levels.
+pub(super) fn of(value: RawBsonRef<'_>, is_human_readable: bool, levels: usize) -> Tree<'_> {
     match value {
         RawBsonRef::ObjectId(id) if is_human_readable => one("$oid", text(id.to_hex())),
         RawBsonRef::ObjectId(id) => one("$oid", Tree::Bytes(id.bytes().to_vec().into())),
@@ -76,11 +78,11 @@ pub(super) fn of(value: RawBsonRef<'_>, is_human_readable: bool) -> Tree<'_> {
         ),
         RawBsonRef::JavaScriptCode(code) => one("$code", text(code)),
         RawBsonRef::JavaScriptCodeWithScope(code) => {
-            Tree::Map(vec![("$code", text(code.code)), ("$scope", Tree::Document(code.scope))])
+            Tree::Map(vec![("$code", text(code.code)), ("$scope", Tree::Document(code.scope, levels))])
         }
         RawBsonRef::Symbol(symbol) => one("$symbol", text(symbol)),
         RawBsonRef::DbPointer(pointer) => {
-            let id = of(RawBsonRef::ObjectId(pointer.id), is_human_readable);
+            let id = of(RawBsonRef::ObjectId(pointer.id), is_human_readable, levels);
             one("$dbPointer", Tree::Map(vec![("$ref", text(pointer.namespace)), ("$id", id)]))
         }
         RawBsonRef::Undefined => one("$undefined", Tree::True),
@@ -91,8 +93,8 @@ pub(super) fn of(value: RawBsonRef<'_>, is_human_readable: bool) -> Tree<'_> {
 }
 
 /// Hands the wrapper of a value over to what reads any.
-pub(super) fn give<'de, V: Visitor<'de>>(value: RawBsonRef<'de>, visitor: V) -> Result<V::Value, Error> {
-    de::Deserializer::deserialize_any(of(value, true), visitor)
+pub(super) fn give<'de, V: Visitor<'de>>(value: RawBsonRef<'de>, levels: usize, visitor: V) -> Result<V::Value, Error> {
+    de::Deserializer::deserialize_any(of(value, true, levels), visitor)
 }
 
 impl<'de> IntoDeserializer<'de, Error> for Tree<'de> {
@@ -115,8 +117,8 @@ impl<'de> de::Deserializer<'de> for Tree<'de> {
             Tree::Bytes(Cow::Owned(bytes)) => visitor.visit_byte_buf(bytes),
             Tree::Number(number) => visitor.visit_i64(number),
             Tree::True => visitor.visit_bool(true),
-            Tree::Document(document) => {
-                super::Deserializer::new(RawBsonRef::Document(document), true).deserialize_any(visitor)
+            Tree::Document(document, levels) => {
+                super::Deserializer::within(RawBsonRef::Document(document), levels, true).deserialize_any(visitor)
             }
         }
     }
@@ -143,7 +145,9 @@ impl Serialize for Tree<'_> {
             Tree::Bytes(bytes) => serializer.serialize_bytes(bytes),
             Tree::Number(number) => serializer.serialize_i64(*number),
             Tree::True => serializer.serialize_bool(true),
-            Tree::Document(document) => document.serialize(serializer),
+            Tree::Document(document, levels) => {
+                super::types::Within { value: RawBsonRef::Document(document), levels: *levels }.serialize(serializer)
+            }
         }
     }
 }

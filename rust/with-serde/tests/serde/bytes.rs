@@ -186,8 +186,15 @@ fn errors_say_the_keys_to_their_place() {
     assert_eq!(path(rawdoc! { "name": "Ada" }), (String::new(), "missing field `homes`".into()));
     assert_eq!(path(rawdoc! { "name": "Ada", "homes": [{}] }).1, "error at key \"homes.0\": missing field `city`");
     let damaged =
-        RawDocumentBuf::from_bytes(bytes("19000000 04 686f6d657300 0d000000 03 3000 ffffffff 00 00")).unwrap();
+        RawDocumentBuf::from_bytes(bytes("18000000 04 686f6d657300 0c000000 03 3000 ffffffff 00 00")).unwrap();
     assert_eq!(path(damaged).1, "error at key \"homes.0\": malformed value: \"lengths can't be negative\"");
+
+    let text =
+        RawDocumentBuf::from_bytes(bytes("1b000000 04 686f6d657300 0f000000 02 3000 03000000 63ff00 00 00")).unwrap();
+    assert_eq!(
+        path(text).1,
+        "error at key \"homes.0\": utf-8 encoding error: invalid utf-8 sequence of 1 bytes from index 1"
+    );
 
     let error = to_vec(&One { a: vec![One { a: 1 }, One { a: u64::MAX }] }).unwrap_err();
     assert_eq!(error.path(), ["a", "1", "a"]);
@@ -249,10 +256,20 @@ fn levels_are_limited() {
     let longer = Chain { next: Some(Box::new(chain)) };
     assert!(to_vec(&longer).unwrap_err().to_string().ends_with(": more levels than allowed"));
     let deep = levels(5000);
+    assert!(serde_json::to_string(&deep).unwrap_err().to_string().contains("more levels than allowed"));
+    assert!(serde_json::to_string(&levels(200)).is_ok());
+    let scope = |inner| bsonraw::raw::RawJavaScriptCodeWithScope { code: "c".into(), scope: inner };
+    let codes = (1..2000).fold(RawDocumentBuf::new(), |inner, _| rawdoc! { "next": scope(inner) });
+    assert!(serde_json::to_string(&codes).unwrap_err().to_string().contains("more levels than allowed"));
+    assert!(from_slice::<serde_json::Value>(codes.as_bytes())
+        .unwrap_err()
+        .to_string()
+        .ends_with("more levels than allowed"));
+    assert!(from_slice::<Document>(codes.as_bytes()).unwrap_err().to_string().ends_with("more levels than allowed\""));
     assert!(from_slice::<serde_json::Value>(deep.as_bytes()).is_err());
     assert!(from_slice::<Document>(deep.as_bytes()).is_err());
     assert!(from_slice::<Bson>(deep.as_bytes()).is_err());
     assert_eq!(from_slice::<&RawDocument>(deep.as_bytes()).unwrap(), &*deep);
     assert_eq!(from_slice::<serde::de::IgnoredAny>(deep.as_bytes()).map(|_| ()).ok(), Some(()));
-    assert_eq!(from_slice::<Document>(levels(500).as_bytes()).unwrap(), levels(500).to_document().unwrap());
+    assert_eq!(from_slice::<Document>(levels(200).as_bytes()).unwrap(), levels(200).to_document().unwrap());
 }
