@@ -5,10 +5,12 @@ use std::fs;
 
 use bsonraw_sys as sys;
 
+/// Where the header is, if a library was found.
+const HEADER: Option<&str> = option_env!("BSONRAW_HEADER");
+
 /// The header.
 fn text() -> String {
-    fs::read_to_string(option_env!("BSONRAW_HEADER").expect("a library is found"))
-        .expect("the header is beside the library")
+    fs::read_to_string(HEADER.expect("a library is found")).expect("the header is beside the library")
 }
 
 /// The header without its comments, the lines of the preprocessor, and what is for C++ alone.
