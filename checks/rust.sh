@@ -1,6 +1,6 @@
 #!/bin/sh
 # The crates for Rust, without the net, in a folder of their own: format, lints, pages, tests with the examples in their comments, and
-# those of docs/RUST.md; that a library of another version or layout is refused, and none is needed for pages; programs as users of the
+# those of docs/RUST.md and rust/README.md; that a library of another version or layout is refused, and none is needed for pages; programs as users of the
 # crate bson write them; and a new user's crate that takes it by `cargo add --path`. With Debian's serde (librust-serde+serde-derive-dev,
 # librust-serde-json-dev) the same of rust/with-serde. Where cargo of 1.81 or later isn't there, it says so and passes; what else is left
 # out is said, too.
@@ -147,12 +147,15 @@ for change in 'bsonraw-sys/src/lib.rs:s/BSONRAW_OPTIONS = 5/BSONRAW_OPTIONS = 6/
     cp "$work/right" "$work/rust/$file"
 done
 
-# The page's examples, and those that must not compile.
+# The pages' examples, and those that must not compile.
 library=$(echo "$work"/target/debug/libbsonraw.rlib)
 in_crate cargo build --lib --examples || fails "the examples aren't built"
-(cd "$work" && rustdoc --edition 2021 --test "$OLDPWD/docs/RUST.md" --extern "bsonraw=$library" -L "dependency=$work/target/debug/deps") \
-    >"$work/said" 2>&1 || fails "an example of docs/RUST.md doesn't do what it says"
-echo "rust: $(passed) examples of docs/RUST.md"
+python3 -B checks/pages.py shown rust/README.md || exit 1
+for page in docs/RUST.md rust/README.md; do
+    (cd "$work" && rustdoc --edition 2021 --test "$OLDPWD/$page" --extern "bsonraw=$library" -L "dependency=$work/target/debug/deps") \
+        >"$work/said" 2>&1 || fails "an example of $page doesn't do what it says"
+    echo "rust: $(passed) examples of $page"
+done
 
 # The examples of the module raw of the crate bson, with this crate in its place.
 found=$(find ../shared -name '*raw--mod.rs.txt' 2>/dev/null | head -n 1)
@@ -210,9 +213,9 @@ if ls -d $registry/serde-1* $registry/serde_derive-1* $registry/serde_json-1* >/
             -L "dependency=$work/with_serde/debug/deps" >"$work/said" 2>&1 || fails "an example of the crate bson doesn't do with serde what it says"
         [ "$(passed)" = 33 ] || fails "$(passed) examples of the crate bson are there with serde, not 33"
     fi
-    python3 -B checks/pages.py blocks rust,ignore "$work/blocks" docs/RUST.md || exit 1
+    python3 -B checks/pages.py blocks rust,ignore "$work/blocks" rust/README.md || exit 1
     cargo new --quiet --vcs none "$work/keeper" >"$work/said" 2>&1 && cp -r "$work/rust/with-serde/.cargo" "$work/keeper" &&
-        cp "$work/blocks/docs_rust_1.rs" "$work/keeper/src/main.rs" &&
+        cp "$work/blocks/rust_readme_1.rs" "$work/keeper/src/main.rs" &&
         (cd "$work/keeper" && cargo add --quiet --offline --path "$work/rust/with-serde" && cargo add --quiet --offline serde --features derive) \
             >"$work/said" 2>&1 || fails "cargo add --path doesn't take the crate with serde"
     (cd "$work/keeper" && cargo run --quiet) >"$work/said" 2>&1 || fails "the page's program with serde doesn't run"

@@ -120,10 +120,20 @@ impl DateTime {
     /// The time that a text says, as RFC 3339 has it, in UTC or with a zone. What is finer than a millisecond is cut off.
     pub fn parse_rfc3339_str(text: impl AsRef<str>) -> Result<DateTime> {
         let text = text.as_ref();
-        ffi::date_time_from_text(text.as_bytes())
+        ffi::date_time_from_text(as_read(text).as_bytes())
             .map(DateTime)
             .ok_or_else(|| Error::InvalidTimestamp { message: format!("not a time of RFC 3339: {text:?}") })
     }
+}
+
+/// A text as the library reads it: with capital letters, and three digits behind the seconds at most.
+fn as_read(text: &str) -> String {
+    let mut text = text.to_ascii_uppercase();
+    if let Some(point) = text.find('.') {
+        let digits = text[point + 1..].bytes().take_while(u8::is_ascii_digit).count();
+        text.replace_range(point + 1 + digits.min(3)..point + 1 + digits, "");
+    }
+    text
 }
 
 /// What the library's text of a time has before the fraction of a second, and the digits of that without zeros at the end.

@@ -1,4 +1,4 @@
-//! Documents that are read.
+//! Documents that are read. With the feature `serde`, values of any type that has `Deserialize`, of 200 levels at most.
 
 use std::io::{self, Read};
 

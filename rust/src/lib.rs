@@ -1,8 +1,10 @@
 //! Raw BSON documents, read as they lie in memory, over a library whose calls are proved to return what a short definition of the
 //! format says, on any bytes.
 //!
-//! [`raw`] has the names of the module `raw` of the crate `bson`, and does what they do there; [`whole`] has calls over all levels
-//! of a document: the first fault, whether it is canonical, its canonical form, and its text as Extended JSON.
+//! [`raw`] has the names of the module `raw` of the crate `bson`, and does what they do there; so have [`Document`], [`Bson`] and [`doc!`],
+//! for documents in memory. [`whole`] has calls over all levels of a document: the first fault, whether it is canonical, its canonical
+//! form, and its text as Extended JSON; and the documents of a dump. With the feature `serde`, which the manifest in `with-serde` has,
+//! [`de`] and [`ser`] read and write values of any type.
 //!
 //! ```
 //! use bsonraw::raw::RawDocument;
@@ -15,7 +17,8 @@
 //! # Ok::<(), Box<dyn std::error::Error>>(())
 //! ```
 //!
-//! The library is linked in; `build.rs` of `bsonraw-sys` says where it is looked for. All calls into it, and all that is `unsafe`, is in one file.
+//! The library is linked in; `build.rs` of `bsonraw-sys` says where it is looked for. All calls into it, and all that is `unsafe`, is in
+//! one file.
 
 #![deny(unsafe_code)]
 #![warn(missing_debug_implementations, missing_docs)]

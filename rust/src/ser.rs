@@ -1,4 +1,4 @@
-//! Documents that are written.
+//! Documents that are written. With the feature `serde`, values of any type that has `Serialize`, of 200 levels at most.
 
 use crate::path_error::path_error;
 #[cfg(feature = "serde")]

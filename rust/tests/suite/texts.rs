@@ -29,7 +29,18 @@ fn times_have_texts_of_rfc_3339() {
     }
     let zoned = DateTime::parse_rfc3339_str("2012-12-24T13:15:30.501+01:00");
     assert_eq!(zoned, Ok(DateTime::from_millis(1_356_351_330_501)));
-    for text in ["", "2012-12-24", "2012-13-24T12:15:30Z", "2012-12-24T12:15:30", "2012-12-24T12:15:30.501Zx"] {
+    for text in ["2012-12-24t12:15:30.501z", "2012-12-24T12:15:30.501999999Z", "2012-12-24T11:15:30.5019-01:00"] {
+        assert_eq!(text.parse(), zoned);
+    }
+    for text in [
+        "",
+        "2012-12-24",
+        "2012-12-24T12:15:30.Z",
+        "2012-12-24T12:15:30.5é",
+        "2012-13-24T12:15:30Z",
+        "2012-12-24T12:15:30",
+        "2012-12-24T12:15:30.501Zx",
+    ] {
         let error = DateTime::parse_rfc3339_str(text).unwrap_err();
         assert!(matches!(&error, Error::InvalidTimestamp { .. }));
         assert_eq!(error.to_string(), format!("not a time of RFC 3339: {text:?}"));
