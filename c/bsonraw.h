@@ -204,6 +204,12 @@ BSONRAW_LOCAL size_t bsonraw_str_len(const char *text) {
  */
 uint32_t bsonraw_version(void);
 
+/* The number of the layout of the structs. Another layout has another name: a program in a language that declares the structs itself
+ * names this function, so that it doesn't link with a library whose structs are others. */
+BSONRAW_INLINE uint32_t bsonraw_layout_2(void) {
+    return 2;
+}
+
 /* A fault: what is wrong, and where. */
 struct bsonraw_error {
     uint32_t kind;   /* enum bsonraw_kind; 0 no fault */

@@ -181,7 +181,7 @@ claims() {
     done
     find "$work/unpacked" -type f -name '*.gz' -exec gunzip {} +
     find "$work/unpacked" -name PROMISES.md -exec sed -i '1!d' {} +
-    find "$work/unpacked" -type f ! -iname 'changelog*' ! -name DEFINITIONS.md ! -name LICENCES ! -name copyright ! -name verify ! -path '*/rust/tests/*' \
+    find "$work/unpacked" -type f ! -iname 'changelog*' ! -name DEFINITIONS.md ! -name LICENCES ! -name copyright ! -name verify ! -path '*/rust/*tests/*' \
         -exec grep -hIEi "$2" {} + | grep -Eiv "$3" >"$work/claims"
     [ ! -s "$work/claims" ] || fails "of what is packed this isn't known: $(cat "$work/claims")"
 }
@@ -420,21 +420,22 @@ try_arm() {
         fails "lintian has something against the Debian packages for ARM"
 }
 
-# The archive's crate in one of the new user, which cargo builds over the archive's library, and no other.
+# A copy of the archive's crate in one of the new user, which cargo builds over the library that the crate carries, and no other.
 try_crate() {
     if ! command -v cargo >/dev/null || [ -z "$has_compiler" ]; then
         skip "the crate for Rust"
         return
     fi
-    cargo new --quiet --vcs none "$work/user" 2>"$work/said" && (
-        unset BSONRAW_PREFIX PKG_CONFIG_PATH
-        export CARGO_NET_OFFLINE=true CARGO_TARGET_DIR="$work/user/target"
-        cd "$work/user" && cargo add --quiet --path "$archive/rust" &&
+    cargo new --quiet --vcs none "$work/user" 2>"$work/said" && cp -r "$archive/rust" "$work/carried" && (
+        unset BSONRAW_PREFIX
+        export PKG_CONFIG=false CARGO_NET_OFFLINE=true CARGO_TARGET_DIR="$work/user/target"
+        cd "$work/user" && cargo add --quiet --path "$work/carried" &&
             echo 'fn main() { println!("{:?}", bsonraw::rawdoc! { "hi": "ho" }.get("hi")) }' >src/main.rs &&
             cargo run --quiet >output
     ) 2>"$work/said" || fails "the archive's crate isn't built: $(cat "$work/said")"
     [ "$(cat "$work/user/output")" = 'Ok(Some(String("ho")))' ] || fails "the archive's crate reads something else"
-    [ ! -e "$archive/rust/target" ] || fails "the archive's crate is built in its own folder"
+    grep -q "$work/carried/bsonraw-sys/native/" "$work"/user/target/debug/build/bsonraw-sys-*/output || fails "the crate takes another library than it carries"
+    [ ! -e "$work/carried/target" ] || fails "the archive's crate is built in its own folder"
 }
 
 try_packages() {

@@ -9,8 +9,8 @@
     pages.py tests FOLDER FILE..         writes the examples in doc comments of each file of Rust as tests, such as
                                          FOLDER/raw_view_array.rt with a test line_25, and says how many they are
 
-A block in fences is Rattle (`rust`), which compiles.sh compiles; Rust (`rust,edition2021`, and what is to
-be compiled alone `rust,no_run`), which rust.sh has rustdoc run; C, which c.sh compiles; Python, which is compiled here; or commands,
+A block in fences is Rattle (`rust`), which compiles.sh compiles; Rust (`rust,edition2021`, what is to
+be compiled alone `rust,no_run`, and what needs serde `rust,ignore`), which rust.sh runs; C, which c.sh compiles; Python, which is compiled here; or commands,
 which are run. `text` is a picture, or the output of the commands right before it. An indented block is so in the
 sources of a crate, but for comments and for how far it is indented, and a record is shown whole.
 """
@@ -22,8 +22,8 @@ import sys
 from pathlib import Path
 from typing import Iterator, List, NamedTuple, Optional
 
-KINDS = ("rust", "rust,edition2021", "rust,no_run", "c", "python", "sh", "text")
-SUFFIXES = {"rust": "rt", "rust,no_run": "rs"}
+KINDS = ("rust", "rust,edition2021", "rust,no_run", "rust,ignore", "c", "python", "sh", "text")
+SUFFIXES = {"rust": "rt", "rust,no_run": "rs", "rust,ignore": "rs"}
 MUST_RUN = ("README.md", "docs/USING.md")  # pages that show the program, so that a page without an example is wrong
 
 

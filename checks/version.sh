@@ -12,7 +12,9 @@ named() {
     sed -n 's/^#define BSONRAW_VERSION \([0-9]*\).*/\1/p' c/bsonraw.h | as_version c/bsonraw.h
     sed -n 's/^    \([0-9][0-9]*\)$/\1/p' crates/bsonraw_c/src/version.rt | as_version crates/bsonraw_c/src/version.rt
     sed -n 's/^version = "\(.*\)"/\1/p' python/pyproject.toml | sed 's|^|python/pyproject.toml |'
-    sed -n 's/^version = "\(.*\)"/\1/p' rust/Cargo.toml | sed 's|^|rust/Cargo.toml |'
+    for manifest in rust/Cargo.toml rust/bsonraw-sys/Cargo.toml rust/with-serde/Cargo.toml; do
+        sed -n 's/^version = "\(.*\)"/\1/p; s/.*version = "=\([^"]*\)", path = .*/\1/p' "$manifest" | sed "s|^|$manifest |"
+    done
     grep -rE --include='*.py' '^__version__ = "' python | sed 's/:__version__ = "/ /; s/".*//'
     sed -n 's/^pub const VERSION: &str = "\(.*\) (unreleased)";/\1/p' crates/bsonraw_dump/src/version.rt | sed 's|^|crates/bsonraw_dump/src/version.rt |'
     grep -E '^\.TH ' man/*.[13] | sed 's/:.*"[a-z][a-z-]* \([0-9][0-9.]*\)".*/ \1/'
@@ -33,7 +35,7 @@ differing() {
     version=$(cat VERSION)
     named >"$work/named"
     awk -v version="$version" '$2 != version' "$work/named"
-    for place in c/bsonraw.h crates/bsonraw_c/src/version.rt crates/bsonraw_dump/src/version.rt rust/Cargo.toml man/bsonraw.1 man/bsonraw.3 CHANGELOG.md; do
+    for place in c/bsonraw.h crates/bsonraw_c/src/version.rt crates/bsonraw_dump/src/version.rt rust/Cargo.toml rust/bsonraw-sys/Cargo.toml rust/with-serde/Cargo.toml man/bsonraw.1 man/bsonraw.3 CHANGELOG.md; do
         grep -q "^$place " "$work/named" || echo "$place names no version"
     done
 }

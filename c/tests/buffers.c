@@ -252,5 +252,6 @@ int main(void) {
     refuses(none.bytes, 0, BSONRAW_TOO_SHORT, "no bytes");
     unmap(none);
     expect(bsonraw_version() == BSONRAW_VERSION, "version", "another than the header's");
+    expect(bsonraw_layout_2() == 2, "layout", "another than its name says");
     return result("buffers");
 }

@@ -65,10 +65,10 @@ fn main() -> Result<(), Box<dyn std::error::Error>> {
         println!("{count} elements, {}, {}", document.iter_elements().count(), look_up(document, "a"));
         let (mut copy, mut list) = (RawDocumentBuf::new(), RawArrayBuf::new());
         for (key, value) in document.iter().flatten() {
-            let _ = copy.append_ref(key, value);
-            let _ = list.push(value.to_raw_bson());
+            copy.append_ref(key, value);
+            list.push(value.to_raw_bson());
         }
-        let _ = copy.append("list", list);
+        copy.append("list", list);
         println!("{copy:?}");
         rest = behind;
     }

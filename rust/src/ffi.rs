@@ -5,25 +5,34 @@
 //!   with its capacity, where what isn't initialised is only written. What is written is behind a `&mut`, or in a buffer that is owned,
 //!   so that it overlaps nothing else and no other thread touches it.
 //! - A pointer to a struct or to a number is that of a reference, so it is aligned, and points to a `repr(C)` struct whose fields
-//!   are those of the header (`tests/suite/header.rs`). Any fields may be handed over.
+//!   are those of the header (`bsonraw-sys/tests/header.rs`), and of the library: see [`LAYOUT`]. Any fields may be handed over.
 //!
 //! What the library returns is used without a second look where [`text`] shows what it judged to be UTF-8, and where [`append`] and [`grown`]
 //! let a buffer grow over what it wrote. All other offsets are used to slice, which is checked.
 
 #![allow(unsafe_code)]
 
-use alloc::vec;
-use alloc::vec::Vec;
-use core::{ptr, str};
+use std::ffi::CStr;
+use std::{ptr, str};
 
 use crate::raw::{RawArray, RawDocument};
 use crate::sys::*;
+
+/// A name that only a library has whose structs are those of `sys`: with another one no program links.
+#[used]
+static LAYOUT: unsafe extern "C" fn() -> u32 = bsonraw_layout_2;
 
 /// How many elements are read in a block.
 const BLOCK: usize = 8;
 
 /// How many bytes a document has at most.
 pub(crate) const MOST: usize = i32::MAX as usize;
+
+/// How many bytes the text of a Decimal128 has at most, with its 0, by the header.
+const DECIMAL128_TEXT: usize = 43;
+
+/// How many bytes the text of a time has at most, with its 0.
+const DATE_TIME_TEXT: usize = 25;
 
 /// How many numbers of a path are asked for at first.
 const PATH_ROOM: usize = 32;
@@ -290,6 +299,12 @@ pub(crate) fn find<'a>(document: &'a [u8], key: &str) -> Option<Result<Frame<'a>
     let mut cursor = whole(document);
     // SAFETY: as said at the head of this file.
     let status = unsafe { bsonraw_iter_find(&mut cursor, document.as_ptr(), document.len(), key.as_ptr(), key.len()) };
+    found(document, &cursor, status)
+}
+
+/// What a search that ended so has found.
+#[inline]
+fn found<'a>(document: &'a [u8], cursor: &bsonraw_iter, status: i32) -> Option<Result<Frame<'a>, Stop<'a>>> {
     match status {
         BSONRAW_OK => Some(Ok(Frame {
             document,
@@ -301,9 +316,23 @@ pub(crate) fn find<'a>(document: &'a [u8], key: &str) -> Option<Result<Frame<'a>
                 payload_len: cursor.payload_len,
             },
         })),
-        BSONRAW_FAULT => Some(Err(Stop::of(document, &cursor))),
+        BSONRAW_FAULT => Some(Err(Stop::of(document, cursor))),
         _ => None,
     }
+}
+
+/// The element at the end of a path, whose steps have the separator between them; or why it isn't known. There is none, too, where a step
+/// goes into what is neither a document nor an array.
+pub(crate) fn find_descendant<'a>(
+    document: &'a [u8],
+    path: &[u8],
+    separator: u8,
+) -> Option<Result<Frame<'a>, Stop<'a>>> {
+    let mut cursor = whole(document);
+    let (at, len) = (document.as_ptr(), document.len());
+    // SAFETY: as said at the head of this file.
+    let status = unsafe { bsonraw_iter_find_descendant(&mut cursor, at, len, path.as_ptr(), path.len(), separator) };
+    found(document, &cursor, status)
 }
 
 /// Appends an element by its parts to the document that the bytes are, or the array, for which the library is given room for so many
@@ -556,4 +585,42 @@ pub(crate) fn oid_from_hex(hex: &[u8]) -> Option<[u8; 12]> {
 pub(crate) fn oid_time(id: &[u8; 12]) -> u32 {
     // SAFETY: an id has twelve bytes.
     unsafe { bsonraw_oid_time(id.as_ptr()) }
+}
+
+/// The text in front of the 0 in a room that the library wrote.
+fn text_of(room: &[u8]) -> String {
+    let text = CStr::from_bytes_until_nul(room).unwrap_or_default();
+    text.to_string_lossy().into_owned()
+}
+
+/// `bsonraw_decimal128_to_text`; none without memory.
+pub(crate) fn decimal128_to_text(decimal: &[u8; 16]) -> Option<String> {
+    let mut room = [0_u8; DECIMAL128_TEXT];
+    // SAFETY: as said at the head of this file; a decimal has 16 bytes, and no text more than the room.
+    let status = unsafe { bsonraw_decimal128_to_text(decimal.as_ptr(), room.as_mut_ptr().cast()) };
+    (status == BSONRAW_OK).then(|| text_of(&room))
+}
+
+/// `bsonraw_decimal128_from_text`: the number, if the text is that of one.
+pub(crate) fn decimal128_from_text(text: &[u8]) -> Option<[u8; 16]> {
+    let mut decimal = [0; 16];
+    // SAFETY: as said at the head of this file; a decimal has 16 bytes.
+    let status = unsafe { bsonraw_decimal128_from_text(text.as_ptr(), text.len(), decimal.as_mut_ptr()) };
+    (status == BSONRAW_OK).then_some(decimal)
+}
+
+/// `bsonraw_date_time_to_text`; none in a year that has no text, and without memory.
+pub(crate) fn date_time_to_text(millis: i64) -> Option<String> {
+    let mut room = [0_u8; DATE_TIME_TEXT];
+    // SAFETY: as said at the head of this file; no text has more bytes than the room.
+    let status = unsafe { bsonraw_date_time_to_text(millis, room.as_mut_ptr().cast()) };
+    (status == BSONRAW_OK).then(|| text_of(&room))
+}
+
+/// `bsonraw_date_time_from_text`: the milliseconds, if the text is a time.
+pub(crate) fn date_time_from_text(text: &[u8]) -> Option<i64> {
+    let mut millis = 0;
+    // SAFETY: as said at the head of this file.
+    let status = unsafe { bsonraw_date_time_from_text(text.as_ptr(), text.len(), &mut millis) };
+    (status == BSONRAW_OK).then_some(millis)
 }

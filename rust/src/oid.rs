@@ -1,9 +1,10 @@
 //! Ids of twelve bytes.
 
-use core::{fmt, str};
-
-use alloc::borrow::ToOwned;
-use alloc::string::{String, ToString};
+use std::collections::hash_map::RandomState;
+use std::hash::BuildHasher;
+use std::sync::atomic::{AtomicU32, Ordering};
+use std::sync::OnceLock;
+use std::{fmt, str};
 
 use crate::raw::Hex;
 use crate::{ffi, DateTime};
@@ -41,10 +42,10 @@ impl fmt::Display for Error {
     }
 }
 
-impl core::error::Error for Error {}
+impl std::error::Error for Error {}
 
 /// What reading an id returns.
-pub type Result<T> = core::result::Result<T, Error>;
+pub type Result<T> = std::result::Result<T, Error>;
 
 /// An id of twelve bytes.
 #[derive(Clone, Copy, Eq, Hash, Ord, PartialEq, PartialOrd)]
@@ -52,7 +53,46 @@ pub struct ObjectId {
     id: [u8; 12],
 }
 
+/// What the ids of this process have in common, and how many there were.
+struct Source {
+    hashes: RandomState,
+    count: AtomicU32,
+}
+
+/// The source of this process, which begins at random.
+fn source() -> &'static Source {
+    static SOURCE: OnceLock<Source> = OnceLock::new();
+    SOURCE.get_or_init(|| {
+        let hashes = RandomState::new();
+        let count = AtomicU32::new(hashes.hash_one("count") as u32);
+        Source { hashes, count }
+    })
+}
+
 impl ObjectId {
+    /// A new id: the seconds from 1970 on in four bytes, five bytes that are random and another process has others, and a number in three
+    /// bytes that is the next each time.
+    ///
+    /// ```
+    /// use bsonraw::oid::ObjectId;
+    ///
+    /// let (first, second) = (ObjectId::new(), ObjectId::new());
+    /// assert_ne!(first, second);
+    /// assert!(second.timestamp() >= first.timestamp());
+    /// ```
+    pub fn new() -> ObjectId {
+        let seconds = (DateTime::now().timestamp_millis() / 1000) as u32;
+        let source = source();
+        // A child of this process has another number, so its ids are others.
+        let process = source.hashes.hash_one(std::process::id()).to_le_bytes();
+        let number = source.count.fetch_add(1, Ordering::Relaxed).to_be_bytes();
+        let mut id = [0; 12];
+        id[..4].copy_from_slice(&seconds.to_be_bytes());
+        id[4..9].copy_from_slice(&process[..5]);
+        id[9..].copy_from_slice(&number[1..]);
+        ObjectId { id }
+    }
+
     /// The id of these bytes.
     #[inline]
     pub const fn from_bytes(bytes: [u8; 12]) -> ObjectId {
@@ -105,6 +145,13 @@ impl str::FromStr for ObjectId {
 
     fn from_str(hex: &str) -> Result<ObjectId> {
         ObjectId::parse_str(hex)
+    }
+}
+
+/// A new one.
+impl Default for ObjectId {
+    fn default() -> ObjectId {
+        ObjectId::new()
     }
 }
 

@@ -1,6 +1,6 @@
 //! Documents from Extended JSON.
 
-use core::fmt;
+use std::fmt;
 
 use crate::ffi;
 use crate::raw::RawDocumentBuf;
@@ -158,22 +158,27 @@ impl fmt::Display for JsonError {
     }
 }
 
-impl core::error::Error for JsonError {}
+impl std::error::Error for JsonError {}
 
 impl RawDocumentBuf {
     /// The document that a text of MongoDB Extended JSON v2 writes, canonical or relaxed.
     ///
     /// ```
     /// use bsonraw::raw::RawDocumentBuf;
-    /// use bsonraw::whole::{JsonReason, Limits};
+    /// use bsonraw::whole::JsonReason;
     ///
-    /// let document = RawDocumentBuf::from_json(r#"{"a": 1}"#, Limits::default())?;
+    /// let document = RawDocumentBuf::from_json(r#"{"a": 1}"#)?;
     /// assert_eq!(document.get_i32("a")?, 1);
-    /// let error = RawDocumentBuf::from_json("{\n \"a\": tru}", Limits::default()).unwrap_err();
+    /// let error = RawDocumentBuf::from_json("{\n \"a\": tru}").unwrap_err();
     /// assert_eq!((error.reason, error.line, error.column), (JsonReason::ExpectedValue, 2, 7));
     /// # Ok::<(), Box<dyn std::error::Error>>(())
     /// ```
-    pub fn from_json(text: &str, limits: Limits) -> Result<RawDocumentBuf, JsonError> {
+    pub fn from_json(text: &str) -> Result<RawDocumentBuf, JsonError> {
+        RawDocumentBuf::from_json_with(text, Limits::default())
+    }
+
+    /// [`from_json`](RawDocumentBuf::from_json) within these limits.
+    pub fn from_json_with(text: &str, limits: Limits) -> Result<RawDocumentBuf, JsonError> {
         let (status, said, made) = ffi::from_json(text.as_bytes(), limits.max_bytes, limits.max_depth);
         if status == BSONRAW_OK {
             return Ok(RawDocumentBuf::of_made(made));

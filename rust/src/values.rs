@@ -1,31 +1,11 @@
 //! Values that own their parts.
 
-use core::fmt;
-
-use alloc::string::String;
-use alloc::vec::Vec;
+use std::fmt;
 
 use crate::oid::ObjectId;
 use crate::raw::{RawBinaryRef, RawRegexRef};
 use crate::spec::BinarySubtype;
-
-/// A time: milliseconds from the beginning of 1970 on.
-#[derive(Clone, Copy, Debug, Eq, Hash, Ord, PartialEq, PartialOrd)]
-pub struct DateTime(i64);
-
-impl DateTime {
-    /// The time of so many milliseconds.
-    #[inline]
-    pub const fn from_millis(millis: i64) -> DateTime {
-        DateTime(millis)
-    }
-
-    /// How many milliseconds it is.
-    #[inline]
-    pub const fn timestamp_millis(self) -> i64 {
-        self.0
-    }
-}
+use crate::Document;
 
 /// A time in seconds, and a number among those of that time.
 #[derive(Clone, Copy, Debug, Eq, Hash, Ord, PartialEq, PartialOrd)]
@@ -39,26 +19,6 @@ pub struct Timestamp {
 impl fmt::Display for Timestamp {
     fn fmt(&self, f: &mut fmt::Formatter<'_>) -> fmt::Result {
         write!(f, "Timestamp({}, {})", self.time, self.increment)
-    }
-}
-
-/// A decimal number of 128 bits, as its bytes.
-#[derive(Clone, Copy, Debug, Eq, Hash, PartialEq)]
-pub struct Decimal128 {
-    bytes: [u8; 16],
-}
-
-impl Decimal128 {
-    /// The number of these bytes.
-    #[inline]
-    pub const fn from_bytes(bytes: [u8; 16]) -> Decimal128 {
-        Decimal128 { bytes }
-    }
-
-    /// The bytes of the number.
-    #[inline]
-    pub const fn bytes(&self) -> [u8; 16] {
-        self.bytes
     }
 }
 
@@ -78,6 +38,53 @@ impl Binary {
     }
 }
 
+/// As the crate `bson` prints it: the subtype in hex and the bytes in Base64, `Binary(0x0, AQI=)`.
+impl fmt::Display for Binary {
+    fn fmt(&self, f: &mut fmt::Formatter<'_>) -> fmt::Result {
+        write!(f, "Binary({:#x}, {})", u8::from(self.subtype), Base64(&self.bytes))
+    }
+}
+
+/// The digits of Base64.
+const DIGITS: &[u8; 64] = b"ABCDEFGHIJKLMNOPQRSTUVWXYZabcdefghijklmnopqrstuvwxyz0123456789+/";
+
+/// The bytes that a text of Base64 writes.
+#[cfg(feature = "serde")]
+pub(crate) fn from_base64(text: &str) -> Option<Vec<u8>> {
+    let digits = text.trim_end_matches('=');
+    if text.len() % 4 != 0 || text.len() - digits.len() > 2 {
+        return None;
+    }
+    let mut bytes = Vec::new();
+    let (mut number, mut bits) = (0_u32, 0);
+    for digit in digits.bytes() {
+        let value = DIGITS.iter().position(|it| *it == digit)?;
+        number = (number << 6 | value as u32) & 0xFFFF;
+        bits += 6;
+        if bits >= 8 {
+            bits -= 8;
+            bytes.push((number >> bits) as u8);
+        }
+    }
+    Some(bytes)
+}
+
+/// Bytes that are printed in Base64.
+pub(crate) struct Base64<'a>(pub(crate) &'a [u8]);
+
+impl fmt::Display for Base64<'_> {
+    fn fmt(&self, f: &mut fmt::Formatter<'_>) -> fmt::Result {
+        for three in self.0.chunks(3) {
+            let number = (0..3).fold(0, |number, at| number << 8 | three.get(at).map_or(0, |byte| u32::from(*byte)));
+            for digit in 0..4 {
+                let value = number >> (18 - 6 * digit) & 63;
+                write!(f, "{}", if digit > three.len() { '=' } else { char::from(DIGITS[value as usize]) })?;
+            }
+        }
+        Ok(())
+    }
+}
+
 /// A regular expression.
 #[derive(Clone, Debug, Eq, Hash, PartialEq)]
 pub struct Regex {
@@ -88,12 +95,37 @@ pub struct Regex {
 }
 
 impl Regex {
+    /// The regular expression of this pattern and these options, which are put in ascending order.
+    ///
+    /// ```
+    /// assert_eq!(bsonraw::Regex::new("^a", "xi").options, "ix");
+    /// ```
+    pub fn new(pattern: impl AsRef<str>, options: impl AsRef<str>) -> Regex {
+        Regex::sorted(RawRegexRef { pattern: pattern.as_ref(), options: options.as_ref() })
+    }
+
     /// A copy of a borrowed regular expression, with its options in ascending order.
     pub(crate) fn sorted(regex: RawRegexRef<'_>) -> Regex {
         let mut options: Vec<char> = regex.options.chars().collect();
         options.sort_unstable();
         Regex { pattern: regex.pattern.into(), options: options.into_iter().collect() }
     }
+}
+
+/// As the crate `bson` prints it: `/^a/ix`.
+impl fmt::Display for Regex {
+    fn fmt(&self, f: &mut fmt::Formatter<'_>) -> fmt::Result {
+        write!(f, "/{}/{}", self.pattern, self.options)
+    }
+}
+
+/// Code with a document of its variables, in memory.
+#[derive(Clone, Debug, PartialEq)]
+pub struct JavaScriptCodeWithScope {
+    /// The code.
+    pub code: String,
+    /// The variables.
+    pub scope: Document,
 }
 
 /// A namespace with an id.

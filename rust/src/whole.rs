@@ -1,33 +1,31 @@
 //! Calls over all levels of a document, within limits; and documents one behind the other.
 //!
 //! ```
-//! use bsonraw::whole::{Cause, Limits, ProblemKind};
+//! use bsonraw::whole::{Cause, ProblemKind};
 //! use bsonraw::{raw::RawDocument, rawdoc};
 //!
 //! let document = rawdoc! { "a": { "b": [1, 2] } };
-//! assert_eq!(document.validate(Limits::default()), Ok(()));
-//! assert_eq!(document.canonical(Limits::default())?, document);
+//! assert_eq!(document.validate(), Ok(()));
+//! assert_eq!(document.canonical()?, document);
 //!
 //! let repeated = RawDocument::from_bytes(b"\x13\0\0\0\x10a\0\x01\0\0\0\x10a\0\x02\0\0\0\0")?;
-//! let problem = repeated.validate(Limits::default()).unwrap_err();
+//! let problem = repeated.validate().unwrap_err();
 //! assert_eq!(problem.kind, ProblemKind::NotCanonical(Cause::RepeatedKey));
 //! assert_eq!(problem.place.unwrap().path, [1]);
 //!
 //! let damaged = RawDocument::from_bytes(b"\x09\0\0\0\x08a\0\x02\0")?;
-//! let problem = damaged.first_fault(Limits::default()).unwrap();
+//! let problem = damaged.first_fault().unwrap();
 //! assert_eq!(problem.to_string(), "at /0:\"a\", byte 4: malformed value: \"boolean must be stored as 0 or 1, got 2\"");
 //! # Ok::<(), Box<dyn std::error::Error>>(())
 //! ```
 
-use core::fmt;
-
-use alloc::string::String;
-use alloc::vec::Vec;
+use std::fmt;
 
 use crate::ffi::{self, Flat, Report};
 use crate::raw::{Error, ErrorKind, RawDocument, RawDocumentBuf, RawElement};
 use crate::sys::*;
 
+pub use crate::read::{DocumentReader, ReadError};
 pub use crate::texts::{JsonError, JsonReason};
 
 /// How large a document may be: a call over all levels refuses a larger one.
@@ -157,7 +155,7 @@ impl fmt::Display for Problem {
     }
 }
 
-impl core::error::Error for Problem {}
+impl std::error::Error for Problem {}
 
 /// What the library reported of a document, which has an envelope: nothing, or a problem.
 fn outcome(bytes: &[u8], report: &Report) -> Result<(), Problem> {
@@ -208,23 +206,39 @@ impl<'a> Token<'a> {
     }
 }
 
+/// Each call has limits, those of [`Limits::default`] where none are given.
 impl RawDocument {
     /// The first fault at any level, or what is in the way of looking for it.
-    pub fn first_fault(&self, limits: Limits) -> Option<Problem> {
+    pub fn first_fault(&self) -> Option<Problem> {
+        self.first_fault_with(Limits::default())
+    }
+
+    /// [`first_fault`](RawDocument::first_fault) within these limits.
+    pub fn first_fault_with(&self, limits: Limits) -> Option<Problem> {
         let report = ffi::first_fault(self.as_bytes(), limits.max_bytes, limits.max_depth);
         outcome(self.as_bytes(), &report).err()
     }
 
     /// Whether the document is canonical: has no fault at any level, no key twice, the numbers of elements as keys in arrays, and options
     /// of regular expressions in ascending order.
-    pub fn validate(&self, limits: Limits) -> Result<(), Problem> {
+    pub fn validate(&self) -> Result<(), Problem> {
+        self.validate_with(Limits::default())
+    }
+
+    /// [`validate`](RawDocument::validate) within these limits.
+    pub fn validate_with(&self, limits: Limits) -> Result<(), Problem> {
         let report = ffi::check(self.as_bytes(), limits.max_bytes, limits.max_depth);
         outcome(self.as_bytes(), &report)
     }
 
     /// The canonical form: two documents have the same exactly where they are read as the same ordered tree. A repeated key has its
     /// last value in its first place.
-    pub fn canonical(&self, limits: Limits) -> Result<RawDocumentBuf, Problem> {
+    pub fn canonical(&self) -> Result<RawDocumentBuf, Problem> {
+        self.canonical_with(Limits::default())
+    }
+
+    /// [`canonical`](RawDocument::canonical) within these limits.
+    pub fn canonical_with(&self, limits: Limits) -> Result<RawDocumentBuf, Problem> {
         let (report, form) = ffi::canonical(self.as_bytes(), limits.max_bytes, limits.max_depth);
         outcome(self.as_bytes(), &report)?;
         Ok(RawDocumentBuf::of_made(form))
@@ -233,22 +247,41 @@ impl RawDocument {
     /// The elements of all levels, depth first in the order of the bytes.
     ///
     /// ```
-    /// use bsonraw::{rawdoc, whole::Limits};
-    ///
-    /// let document = rawdoc! { "a": { "b": 1 }, "c": 2 };
-    /// let tokens = document.flatten(Limits::default())?;
+    /// let document = bsonraw::rawdoc! { "a": { "b": 1 }, "c": 2 };
+    /// let tokens = document.flatten()?;
     /// let keys: Vec<_> = tokens.iter().map(|token| (token.depth, token.element.key())).collect();
     /// assert_eq!(keys, [(0, "a"), (1, "b"), (0, "c")]);
     /// # Ok::<(), bsonraw::whole::Problem>(())
     /// ```
-    pub fn flatten(&self, limits: Limits) -> Result<Vec<Token<'_>>, Problem> {
+    pub fn flatten(&self) -> Result<Vec<Token<'_>>, Problem> {
+        self.flatten_with(Limits::default())
+    }
+
+    /// [`flatten`](RawDocument::flatten) within these limits.
+    pub fn flatten_with(&self, limits: Limits) -> Result<Vec<Token<'_>>, Problem> {
         let (report, tokens) = ffi::flatten(self.as_bytes(), limits.max_bytes, limits.max_depth);
         outcome(self.as_bytes(), &report)?;
         Ok(tokens.into_iter().map(Token::of).collect())
     }
 
-    /// The document as MongoDB Extended JSON v2. Each element is written as it is, repeated keys too.
-    pub fn to_json(&self, limits: Limits, style: JsonStyle) -> Result<String, Problem> {
+    /// The document as MongoDB Extended JSON v2, relaxed and on one line. Each element is written as it is, repeated keys too.
+    ///
+    /// ```
+    /// use bsonraw::whole::{JsonStyle, Limits};
+    ///
+    /// let document = bsonraw::rawdoc! { "a": [1, null] };
+    /// assert_eq!(document.to_json()?, r#"{"a":[1,null]}"#);
+    /// let style = JsonStyle { canonical: true, ..JsonStyle::default() };
+    /// let text = document.to_json_with(Limits::default(), style)?;
+    /// assert_eq!(text, r#"{"a":[{"$numberInt":"1"},null]}"#);
+    /// # Ok::<(), bsonraw::whole::Problem>(())
+    /// ```
+    pub fn to_json(&self) -> Result<String, Problem> {
+        self.to_json_with(Limits::default(), JsonStyle::default())
+    }
+
+    /// [`to_json`](RawDocument::to_json) within these limits, in this style.
+    pub fn to_json_with(&self, limits: Limits, style: JsonStyle) -> Result<String, Problem> {
         let (report, text) =
             ffi::json(self.as_bytes(), limits.max_bytes, limits.max_depth, style.canonical, style.indented);
         outcome(self.as_bytes(), &report)?;
@@ -296,18 +329,23 @@ impl<'a> Documents<'a> {
     /// came yet, or all did, nothing is changed.
     ///
     /// ```
-    /// use bsonraw::{rawdoc, whole::{Documents, Limits}};
+    /// use bsonraw::{rawdoc, whole::Documents};
     ///
     /// let mut dump = [rawdoc! { "a": 1 }.into_bytes(), rawdoc! { "b": 2 }.into_bytes()].concat();
     /// dump[0] = 0;
     /// let mut documents = Documents::new(&dump);
     /// let (_, damaged) = documents.next().unwrap();
     /// assert!(damaged.is_err());
-    /// documents.resync(Limits::default())?;
+    /// documents.resync()?;
     /// assert_eq!(documents.next().unwrap().0, 12);
     /// # Ok::<(), bsonraw::whole::ProblemKind>(())
     /// ```
-    pub fn resync(&mut self, limits: Limits) -> Result<Resync, ProblemKind> {
+    pub fn resync(&mut self) -> Result<Resync, ProblemKind> {
+        self.resync_with(Limits::default())
+    }
+
+    /// [`resync`](Documents::resync) within these limits.
+    pub fn resync_with(&mut self, limits: Limits) -> Result<Resync, ProblemKind> {
         if !self.is_behind {
             return Ok(Resync { is_believed: false, left_out: false });
         }

@@ -1,9 +1,7 @@
 //! Borrowed arrays.
 
-use core::fmt;
-
-use alloc::borrow::{Cow, ToOwned};
-use alloc::string::ToString;
+use std::borrow::Cow;
+use std::fmt;
 
 use super::{Hex, RawArrayBuf, RawArrayIter, RawBinaryRef, RawBsonRef, RawDocument, RawRegexRef, Result};
 use super::{ValueAccessError, ValueAccessErrorKind, ValueAccessResult};

@@ -1,12 +1,12 @@
 //! Arrays that own their bytes.
 
-use core::borrow::Borrow;
-use core::fmt;
-use core::hash::{Hash, Hasher};
-use core::ops::Deref;
+use std::borrow::Borrow;
+use std::borrow::Cow;
+use std::fmt;
+use std::hash::{Hash, Hasher};
+use std::ops::Deref;
 
-use alloc::borrow::Cow;
-
+use super::document_buf::not_appended;
 use super::{Error, ErrorKind, Hex, RawArray, RawArrayIter, RawBson, RawBsonRef, RawDocumentBuf, Result};
 use crate::ffi;
 use crate::sys::BSONRAW_TAG_ARRAY;
@@ -17,11 +17,11 @@ use crate::sys::BSONRAW_TAG_ARRAY;
 /// use bsonraw::raw::RawArrayBuf;
 ///
 /// let mut array = RawArrayBuf::new();
-/// array.push("a string")?;
-/// array.push(12_i32)?;
+/// array.push("a string");
+/// array.push(12_i32);
 /// assert_eq!(array.get_str(0)?, "a string");
 /// assert_eq!(array.get_i32(1)?, 12);
-/// # Ok::<(), Box<dyn std::error::Error>>(())
+/// # Ok::<(), bsonraw::raw::ValueAccessError>(())
 /// ```
 #[derive(Clone)]
 pub struct RawArrayBuf {
@@ -45,19 +45,44 @@ impl RawArrayBuf {
     pub fn try_from_iter<T: Into<RawBson>>(values: impl IntoIterator<Item = T>) -> Result<RawArrayBuf> {
         let mut array = RawArrayBuf::new();
         for value in values {
-            array.push(value)?;
+            array.try_push(value)?;
         }
         Ok(array)
     }
 
-    /// Appends a value. It fails, and changes nothing, where a 0 is in a regular expression, and where the array would have more than
-    /// 2147483647 bytes.
-    pub fn push(&mut self, value: impl Into<RawBson>) -> Result<()> {
-        self.push_ref(value.into().as_raw_bson_ref())
+    /// Appends a value.
+    ///
+    /// # Panics
+    ///
+    /// Where [`try_push`](RawArrayBuf::try_push) returns an error: where a 0 is in a regular expression, and where the array would have
+    /// more than 2147483647 bytes.
+    #[inline]
+    #[track_caller]
+    pub fn push(&mut self, value: impl Into<RawBson>) {
+        self.push_ref(value.into().as_raw_bson_ref());
     }
 
-    /// The same of a borrowed value.
-    pub fn push_ref<'a>(&mut self, value: impl Into<RawBsonRef<'a>>) -> Result<()> {
+    /// Appends a borrowed value.
+    ///
+    /// # Panics
+    ///
+    /// As [`push`](RawArrayBuf::push) does.
+    #[inline]
+    #[track_caller]
+    pub fn push_ref<'a>(&mut self, value: impl Into<RawBsonRef<'a>>) {
+        if let Err(error) = self.try_push_ref(value) {
+            not_appended(&error);
+        }
+    }
+
+    /// Appends a value, as [`push`](RawArrayBuf::push) does. It fails, and changes nothing, where a 0 is in a regular expression, and
+    /// where the array would have more than 2147483647 bytes.
+    pub fn try_push(&mut self, value: impl Into<RawBson>) -> Result<()> {
+        self.try_push_ref(value.into().as_raw_bson_ref())
+    }
+
+    /// Appends a borrowed value, or fails as [`try_push`](RawArrayBuf::try_push) does.
+    pub fn try_push_ref<'a>(&mut self, value: impl Into<RawBsonRef<'a>>) -> Result<()> {
         let count = u32::try_from(self.len).map_err(|_| Error::new(ErrorKind::malformed("document too long")))?;
         self.inner.put(BSONRAW_TAG_ARRAY, count, "", value.into())?;
         self.len += 1;
@@ -139,6 +164,6 @@ impl<'a> From<&'a RawArrayBuf> for Cow<'a, RawArray> {
 /// Where a value can't be pushed, as a regular expression has a 0; [`try_from_iter`](RawArrayBuf::try_from_iter) returns the error.
 impl<T: Into<RawBson>> FromIterator<T> for RawArrayBuf {
     fn from_iter<I: IntoIterator<Item = T>>(values: I) -> RawArrayBuf {
-        RawArrayBuf::try_from_iter(values).expect("a value can't be pushed")
+        RawArrayBuf::try_from_iter(values).unwrap_or_else(|error| not_appended(&error))
     }
 }

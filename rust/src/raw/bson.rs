@@ -1,8 +1,5 @@
 //! Values that own their parts.
 
-use alloc::borrow::ToOwned;
-use alloc::string::String;
-
 use super::{RawArray, RawArrayBuf, RawBinaryRef, RawBsonRef, RawDbPointerRef, RawDocument, RawDocumentBuf};
 use super::{RawJavaScriptCodeWithScopeRef, RawRegexRef};
 use crate::oid::ObjectId;

@@ -1,7 +1,5 @@
 //! Borrowed values.
 
-use alloc::borrow::ToOwned;
-
 use super::{RawArray, RawArrayBuf, RawBson, RawDocument, RawDocumentBuf, RawJavaScriptCodeWithScope};
 use crate::oid::ObjectId;
 use crate::spec::{BinarySubtype, ElementType};

@@ -1,8 +1,7 @@
 //! Borrowed documents.
 
-use core::fmt;
-
-use alloc::borrow::{Cow, ToOwned};
+use std::borrow::Cow;
+use std::fmt;
 
 use super::{Error, Hex, Iter, RawArray, RawBinaryRef, RawBsonRef, RawDocumentBuf, RawElement, RawIter, RawRegexRef};
 use super::{Result, ValueAccessError, ValueAccessErrorKind, ValueAccessResult};
@@ -70,6 +69,54 @@ impl RawDocument {
     #[inline]
     pub fn get(&self, key: impl AsRef<str>) -> Result<Option<RawBsonRef<'_>>> {
         match ffi::find(&self.data, key.as_ref()) {
+            Some(Ok(frame)) => RawElement::new(frame).value().map(Some),
+            Some(Err(stop)) => Err(Error::of_stop(&self.data, &stop)),
+            None => Ok(None),
+        }
+    }
+
+    /// The value at a path of keys with dots between them; in an array a step is a number, from 0 on. Of a repeated key the first is
+    /// taken. There is none, too, where a step goes into what is neither a document nor an array.
+    ///
+    /// ```
+    /// use bsonraw::{rawdoc, RawBsonRef};
+    ///
+    /// let document = rawdoc! { "authors": [{ "name": "Ada" }, { "name": "Emmy" }] };
+    /// assert_eq!(document.get_path("authors.1.name")?, Some(RawBsonRef::String("Emmy")));
+    /// assert_eq!(document.get_path("authors.2.name")?, None);
+    /// # Ok::<(), bsonraw::raw::Error>(())
+    /// ```
+    pub fn get_path(&self, path: impl AsRef<str>) -> Result<Option<RawBsonRef<'_>>> {
+        self.descendant(path.as_ref(), b'.')
+    }
+
+    /// The same by the steps of a path, of which each may have a dot. No steps lead to the document itself.
+    ///
+    /// ```
+    /// use bsonraw::{rawdoc, RawBsonRef};
+    ///
+    /// let document = rawdoc! { "sums": { "a.b": 7 } };
+    /// assert_eq!(document.get_steps(["sums", "a.b"])?, Some(RawBsonRef::Int32(7)));
+    /// # Ok::<(), bsonraw::raw::Error>(())
+    /// ```
+    pub fn get_steps<S: AsRef<str>>(&self, steps: impl IntoIterator<Item = S>) -> Result<Option<RawBsonRef<'_>>> {
+        let mut path: Option<String> = None;
+        for step in steps {
+            let step = step.as_ref();
+            // No key has a 0, so a step with one finds nothing, and a 0 may be between the others.
+            if step.contains('\0') {
+                return Ok(None);
+            }
+            path = Some(path.map_or_else(|| step.to_owned(), |path| path + "\0" + step));
+        }
+        match path {
+            Some(path) => self.descendant(&path, 0),
+            None => Ok(Some(RawBsonRef::Document(self))),
+        }
+    }
+
+    fn descendant(&self, path: &str, separator: u8) -> Result<Option<RawBsonRef<'_>>> {
+        match ffi::find_descendant(&self.data, path.as_bytes(), separator) {
             Some(Ok(frame)) => RawElement::new(frame).value().map(Some),
             Some(Err(stop)) => Err(Error::of_stop(&self.data, &stop)),
             None => Ok(None),

@@ -1,11 +1,9 @@
 //! Documents that own their bytes.
 
-use core::borrow::Borrow;
-use core::fmt;
-use core::ops::Deref;
-
-use alloc::borrow::{Cow, ToOwned};
-use alloc::vec::Vec;
+use std::borrow::Borrow;
+use std::borrow::Cow;
+use std::fmt;
+use std::ops::Deref;
 
 use super::{Error, ErrorKind, Hex, Iter, RawBson, RawBsonRef, RawDocument, RawIter, Result};
 use crate::ffi;
@@ -18,12 +16,12 @@ use crate::sys::*;
 /// use bsonraw::raw::RawDocumentBuf;
 ///
 /// let mut inner = RawDocumentBuf::new();
-/// inner.append("city", "Zürich")?;
+/// inner.append("city", "Zürich");
 /// let mut document = RawDocumentBuf::new();
-/// document.append("name", "Emmy")?;
-/// document.append("home", inner)?;
+/// document.append("name", "Emmy");
+/// document.append("home", inner);
 /// assert_eq!(document.get_document("home")?.get_str("city")?, "Zürich");
-/// # Ok::<(), Box<dyn std::error::Error>>(())
+/// # Ok::<(), bsonraw::raw::ValueAccessError>(())
 /// ```
 #[derive(Clone, Eq, Hash, PartialEq)]
 pub struct RawDocumentBuf {
@@ -78,7 +76,7 @@ impl RawDocumentBuf {
     ) -> Result<RawDocumentBuf> {
         let mut document = RawDocumentBuf::new();
         for (key, value) in elements {
-            document.append(key, value)?;
+            document.try_append(key, value)?;
         }
         Ok(document)
     }
@@ -101,27 +99,61 @@ impl RawDocumentBuf {
         self.data
     }
 
-    /// Appends an element. Whether its key is there already isn't looked at. It fails, and changes nothing, where a 0 is in the key or
-    /// in a regular expression, and where the document would have more than 2147483647 bytes.
+    /// Appends an element. Whether its key is there already isn't looked at.
     ///
     /// ```
     /// use bsonraw::raw::RawDocumentBuf;
     ///
     /// let mut document = RawDocumentBuf::new();
-    /// document.append("a string", "some string")?;
-    /// document.append("a number", 12_i32)?;
-    /// assert!(document.append("a\0", 1).is_err());
+    /// document.append("a string", "some string");
+    /// document.append("a number", 12_i32);
     /// assert_eq!(document.iter().count(), 2);
+    /// ```
+    ///
+    /// # Panics
+    ///
+    /// Where [`try_append`](RawDocumentBuf::try_append) returns an error: where a 0 is in the key or in a regular expression, and where
+    /// the document would have more than 2147483647 bytes.
+    #[inline(always)]
+    #[track_caller]
+    pub fn append(&mut self, key: impl AsRef<str>, value: impl Into<RawBson>) {
+        self.append_ref(key, value.into().as_raw_bson_ref());
+    }
+
+    /// Appends an element with a borrowed value.
+    ///
+    /// # Panics
+    ///
+    /// As [`append`](RawDocumentBuf::append) does.
+    #[inline(always)]
+    #[track_caller]
+    pub fn append_ref<'a>(&mut self, key: impl AsRef<str>, value: impl Into<RawBsonRef<'a>>) {
+        if let Err(error) = self.try_append_ref(key, value) {
+            not_appended(&error);
+        }
+    }
+
+    /// Appends an element, as [`append`](RawDocumentBuf::append) does. It fails, and changes nothing, where a 0 is in the key or in a
+    /// regular expression, and where the document would have more than 2147483647 bytes.
+    ///
+    /// ```
+    /// use bsonraw::raw::RawDocumentBuf;
+    ///
+    /// let mut document = RawDocumentBuf::new();
+    /// document.try_append("a", 1)?;
+    /// let error = document.try_append("a\0", 1).unwrap_err();
+    /// assert_eq!(error.to_string(), "malformed value: \"interior NUL\"");
+    /// assert_eq!(document.iter().count(), 1);
     /// # Ok::<(), bsonraw::raw::Error>(())
     /// ```
     #[inline(always)]
-    pub fn append(&mut self, key: impl AsRef<str>, value: impl Into<RawBson>) -> Result<()> {
-        self.append_ref(key, value.into().as_raw_bson_ref())
+    pub fn try_append(&mut self, key: impl AsRef<str>, value: impl Into<RawBson>) -> Result<()> {
+        self.try_append_ref(key, value.into().as_raw_bson_ref())
     }
 
-    /// The same of a borrowed value.
+    /// Appends an element with a borrowed value, or fails as [`try_append`](RawDocumentBuf::try_append) does.
     #[inline(always)]
-    pub fn append_ref<'a>(&mut self, key: impl AsRef<str>, value: impl Into<RawBsonRef<'a>>) -> Result<()> {
+    pub fn try_append_ref<'a>(&mut self, key: impl AsRef<str>, value: impl Into<RawBsonRef<'a>>) -> Result<()> {
         self.put(BSONRAW_TAG_DOCUMENT, 0, key.as_ref(), value.into())
     }
 
@@ -144,6 +176,13 @@ impl RawDocumentBuf {
             status => Err(refusal(status)),
         }
     }
+}
+
+/// Ends an append that has no way to return its error.
+#[cold]
+#[track_caller]
+pub(super) fn not_appended(error: &Error) -> ! {
+    panic!("the element can't be appended: {error}")
 }
 
 /// Why an element isn't appended. The parts are those of a value, so that nothing else is wrong.
@@ -270,6 +309,6 @@ impl Borrow<RawDocument> for RawDocumentBuf {
 /// Where an element can't be appended, as its key has a 0; [`try_from_iter`](RawDocumentBuf::try_from_iter) returns the error.
 impl<S: AsRef<str>, T: Into<RawBson>> FromIterator<(S, T)> for RawDocumentBuf {
     fn from_iter<I: IntoIterator<Item = (S, T)>>(elements: I) -> RawDocumentBuf {
-        RawDocumentBuf::try_from_iter(elements).expect("an element can't be appended")
+        RawDocumentBuf::try_from_iter(elements).unwrap_or_else(|error| not_appended(&error))
     }
 }

@@ -1,11 +1,7 @@
 //! Errors: that bytes are no value or no document, and that a look-up doesn't find what is asked for.
 
-use core::fmt;
-use core::str::Utf8Error;
-
-use alloc::borrow::ToOwned;
-use alloc::format;
-use alloc::string::{String, ToString};
+use std::fmt;
+use std::str::Utf8Error;
 
 use crate::ffi::{Frame, Stop};
 use crate::spec::ElementType;
@@ -22,7 +18,7 @@ pub struct Error {
 }
 
 /// The result of reading, or of an append.
-pub type Result<T> = core::result::Result<T, Error>;
+pub type Result<T> = std::result::Result<T, Error>;
 
 /// The kinds of errors.
 #[derive(Clone, Debug, PartialEq)]
@@ -151,7 +147,7 @@ fn not_utf8(bytes: &[u8], offset: usize) -> ErrorKind {
     };
     [key, one, two]
         .into_iter()
-        .find_map(|text| core::str::from_utf8(text).err())
+        .find_map(|text| std::str::from_utf8(text).err())
         .map_or_else(|| ErrorKind::malformed("a text isn't UTF-8"), ErrorKind::Utf8EncodingError)
 }
 
@@ -173,7 +169,7 @@ impl fmt::Display for Error {
     }
 }
 
-impl core::error::Error for Error {}
+impl std::error::Error for Error {}
 
 /// Why a getter, such as [`get_i32`](crate::raw::RawDocument::get_i32), doesn't find what is asked for.
 #[derive(Clone, Debug, PartialEq)]
@@ -186,7 +182,7 @@ pub struct ValueAccessError {
 }
 
 /// The result of a getter.
-pub type ValueAccessResult<T> = core::result::Result<T, ValueAccessError>;
+pub type ValueAccessResult<T> = std::result::Result<T, ValueAccessError>;
 
 /// The kinds of errors of a getter.
 #[derive(Clone, Debug, PartialEq)]
@@ -229,4 +225,4 @@ impl fmt::Display for ValueAccessError {
     }
 }
 
-impl core::error::Error for ValueAccessError {}
+impl std::error::Error for ValueAccessError {}

@@ -1,6 +1,6 @@
 //! Iterators, and the elements that they give.
 
-use core::fmt;
+use std::fmt;
 
 use super::{Error, RawArray, RawBinaryRef, RawBson, RawBsonRef, RawDbPointerRef, RawDocument};
 use super::{RawJavaScriptCodeWithScopeRef, RawRegexRef, Result};
@@ -43,7 +43,7 @@ impl RawIter<'_> {
     }
 }
 
-impl core::iter::FusedIterator for RawIter<'_> {}
+impl std::iter::FusedIterator for RawIter<'_> {}
 
 /// The keys and values of a document. After an element without a value it goes on; after any other error there are no more.
 #[derive(Clone)]
@@ -74,7 +74,7 @@ impl<'a> Iterator for Iter<'a> {
     }
 }
 
-impl core::iter::FusedIterator for Iter<'_> {}
+impl std::iter::FusedIterator for Iter<'_> {}
 
 /// The values of an array. After an element without a value it goes on; after any other error there are no more.
 #[derive(Clone)]
@@ -108,7 +108,7 @@ impl<'a> Iterator for RawArrayIter<'a> {
     }
 }
 
-impl core::iter::FusedIterator for RawArrayIter<'_> {}
+impl std::iter::FusedIterator for RawArrayIter<'_> {}
 
 /// Prints an iterator as the items that are left.
 macro_rules! debug {
@@ -145,7 +145,7 @@ fn plain_text(payload: &[u8]) -> Option<&str> {
     let text = payload.get(4..payload.len() - 1)?;
     match text.first_chunk::<32>() {
         Some(head) if !head.is_ascii() => None,
-        _ => core::str::from_utf8(text).ok(),
+        _ => std::str::from_utf8(text).ok(),
     }
 }
 

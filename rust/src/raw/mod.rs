@@ -7,8 +7,8 @@
 //! use bsonraw::raw::{RawBsonRef, RawDocument, RawDocumentBuf, ValueAccessErrorKind};
 //!
 //! let mut document = RawDocumentBuf::new();
-//! document.append("name", "Ada")?;
-//! document.append("born", 1815)?;
+//! document.append("name", "Ada");
+//! document.append("born", 1815);
 //!
 //! let document = RawDocument::from_bytes(document.as_bytes())?;
 //! for element in document {
@@ -64,13 +64,13 @@
 //! use bsonraw::raw::RawDocumentBuf;
 //!
 //! let mut document = RawDocumentBuf::new();
-//! document.append("a", 1).unwrap();
+//! document.append("a", 1);
 //! let mut elements = document.iter();
-//! document.append("b", 2).unwrap();
+//! document.append("b", 2);
 //! elements.next();
 //! ```
 
-use core::fmt;
+use std::fmt;
 
 /// The twelve getters of a view, each over its `get_with`.
 macro_rules! getters {
@@ -120,6 +120,7 @@ mod array;
 mod array_buf;
 mod bson;
 mod bson_ref;
+mod convert;
 mod document;
 mod document_buf;
 mod error;
@@ -129,6 +130,8 @@ pub use self::array::RawArray;
 pub use self::array_buf::RawArrayBuf;
 pub use self::bson::{RawBson, RawJavaScriptCodeWithScope};
 pub use self::bson_ref::{RawBinaryRef, RawBsonRef, RawDbPointerRef, RawJavaScriptCodeWithScopeRef, RawRegexRef};
+#[cfg(feature = "serde")]
+pub(crate) use self::convert::with_raw;
 pub use self::document::RawDocument;
 pub use self::document_buf::RawDocumentBuf;
 pub use self::error::{Error, ErrorKind, Result, ValueAccessError, ValueAccessErrorKind, ValueAccessResult};

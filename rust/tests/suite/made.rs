@@ -116,8 +116,8 @@ fn append_all(document: &RawDocument) {
     let mut pushed = RawArrayBuf::new();
     for element in document {
         let (key, value) = element.unwrap();
-        made.append_ref(key, value).unwrap();
-        pushed.push(value.to_raw_bson()).unwrap();
+        made.append_ref(key, value);
+        pushed.push(value.to_raw_bson());
     }
     assert_eq!(*made, *document);
     let mut numbers = pushed.iter_keys();
@@ -142,17 +142,17 @@ impl Keys for RawArrayBuf {
 fn look_at_all_levels(document: &RawDocument) {
     let limits = Limits::default();
     let wanted = plain::first_fault(document.as_bytes(), 0, &[]);
-    let problem = document.first_fault(limits);
-    let tokens = document.flatten(limits);
-    let form = document.canonical(limits);
+    let problem = document.first_fault_with(limits);
+    let tokens = document.flatten_with(limits);
+    let form = document.canonical_with(limits);
     let Some(wanted) = wanted else {
         assert_eq!(problem, None);
         assert_eq!(tokens.unwrap().len(), plain::count(document.as_bytes()));
         let form = form.unwrap();
-        assert_eq!(document.validate(limits).is_ok(), *form == *document);
-        assert_eq!(form.validate(limits), Ok(()));
-        assert_eq!(form.canonical(limits).unwrap(), form);
-        assert!(document.to_json(limits, Default::default()).is_ok());
+        assert_eq!(document.validate_with(limits).is_ok(), *form == *document);
+        assert_eq!(form.validate_with(limits), Ok(()));
+        assert_eq!(form.canonical_with(limits).unwrap(), form);
+        assert!(document.to_json_with(limits, Default::default()).is_ok());
         return;
     };
     let problem = problem.unwrap();
@@ -164,8 +164,8 @@ fn look_at_all_levels(document: &RawDocument) {
     );
     assert_eq!(tokens.err().as_ref(), Some(&problem));
     assert_eq!(form.unwrap_err(), problem);
-    assert_eq!(document.to_json(limits, Default::default()).unwrap_err(), problem);
-    assert!(document.validate(limits).is_err());
+    assert_eq!(document.to_json_with(limits, Default::default()).unwrap_err(), problem);
+    assert!(document.validate_with(limits).is_err());
 }
 
 #[test]

@@ -1,8 +1,10 @@
 //! The tests of the crate; examples in its comments are others.
 
-mod header;
+mod examples;
 mod made;
 mod maker;
+mod memory;
 mod plain;
 mod printed;
 mod rows;
+mod texts;

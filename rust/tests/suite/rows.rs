@@ -12,13 +12,13 @@ use bsonraw::{rawbson, rawdoc, Binary, DateTime, Decimal128, Regex, Timestamp};
 use crate::plain;
 
 /// The bytes of hex digits with blanks between them.
-fn bytes(hex: &str) -> Vec<u8> {
+pub fn bytes(hex: &str) -> Vec<u8> {
     let digits: Vec<u8> = hex.bytes().filter(|c| *c != b' ').collect();
     let pairs = digits.chunks(2).map(|pair| std::str::from_utf8(pair).unwrap());
     pairs.map(|pair| u8::from_str_radix(pair, 16).unwrap()).collect()
 }
 
-fn document(hex: &str) -> RawDocumentBuf {
+pub fn document(hex: &str) -> RawDocumentBuf {
     RawDocumentBuf::from_bytes(bytes(hex)).unwrap()
 }
 
@@ -174,7 +174,7 @@ fn bytes_without_an_envelope_are_no_document() {
 }
 
 /// An array and an id of each: a value of each kind, and its payload.
-fn kinds() -> Vec<(ElementType, RawBson, &'static str)> {
+pub fn kinds() -> Vec<(ElementType, RawBson, &'static str)> {
     let scope = RawJavaScriptCodeWithScope { code: "c".into(), scope: rawdoc! {} };
     let regex = Regex { pattern: "p".into(), options: "im".into() };
     let binary = |subtype, bytes: &[u8]| Binary { subtype, bytes: bytes.to_vec() };
@@ -215,7 +215,7 @@ fn each_kind_has_its_tag_and_its_payload() {
     }
     for (kind, value, payload) in kinds() {
         let mut made = RawDocumentBuf::new();
-        made.append("k", value.clone()).unwrap();
+        made.append("k", value.clone());
         let element = made.iter_elements().next().unwrap().unwrap();
         assert_eq!((element.key(), element.element_type(), element.payload()), ("k", kind, &bytes(payload)[..]));
         assert_eq!(value.element_type(), kind);
@@ -224,7 +224,7 @@ fn each_kind_has_its_tag_and_its_payload() {
         assert_eq!(RawBson::try_from(element).unwrap(), value);
         assert_eq!(RawBsonRef::try_from(element).unwrap(), value.as_raw_bson_ref());
         let mut pushed = RawArrayBuf::new();
-        pushed.push(value.clone()).unwrap();
+        pushed.push(value.clone());
         assert_eq!(pushed.get(0).unwrap(), Some(value.as_raw_bson_ref()));
     }
 }
@@ -382,7 +382,7 @@ fn look_up_in_an_array_counts_faults() {
 
     let mut copied = array.to_raw_array_buf();
     assert_eq!(format!("{copied:?}"), "RawArrayBuf { data: \"060000000a00\", len: 2 }");
-    copied.push(RawBson::Null).unwrap();
+    copied.push(RawBson::Null);
     assert_eq!(copied.as_bytes(), bytes("09000000 0a 0a3200 00"));
     assert_eq!(items(RawDocument::from_bytes(copied.as_bytes()).unwrap()), ["\"\\n2\" Null"]);
 
@@ -399,7 +399,7 @@ fn look_up_in_an_array_counts_faults() {
 fn an_element_whose_length_is_too_small_takes_in_what_is_appended() {
     let mut made = document("0b000000 0f 6100 03000000");
     assert_eq!(made.iter_elements().map(|element| element.unwrap().len()).collect::<Vec<_>>(), [3]);
-    made.append("b", true).unwrap();
+    made.append("b", true);
     assert_eq!(made.as_bytes(), bytes("0f000000 0f 6100 03000008 62000100"));
 }
 
@@ -424,7 +424,7 @@ fn appends_make_these_bytes() {
     }
     let mut list = RawArrayBuf::new();
     for text in ["binary", "serialized", "object", "notation"] {
-        list.push(text).unwrap();
+        list.push(text);
     }
     assert_eq!((list.as_bytes().len(), list.as_bytes()[0]), (67, 0x43));
     assert_eq!((list.get_str(0), list.get_str(3)), (Ok("binary"), Ok("notation")));
@@ -440,20 +440,40 @@ fn what_has_a_0_is_refused_and_changes_nothing() {
     let mut made = rawdoc! { "a": 1 };
     let before = made.clone();
     let regex = |pattern: &str, options: &str| Regex { pattern: pattern.into(), options: options.into() };
-    let error = made.append("a\0b", RawBson::Null).unwrap_err();
+    let error = made.try_append("a\0b", RawBson::Null).unwrap_err();
     assert_eq!((error.to_string().as_str(), error.key()), ("malformed value: \"interior NUL\"", None));
-    assert!(made.append("r", regex("a\0", "")).is_err());
-    assert!(made.append("r", regex("a", "\0")).is_err());
-    assert!(made.append_ref("r\0", 1).is_err());
+    assert!(made.try_append("r", regex("a\0", "")).is_err());
+    assert!(made.try_append("r", regex("a", "\0")).is_err());
+    assert!(made.try_append_ref("r\0", 1).is_err());
     assert_eq!(made, before);
     let mut list = RawArrayBuf::new();
-    assert!(list.push(regex("a\0", "")).is_err());
+    assert!(list.try_push(regex("a\0", "")).is_err());
     assert_eq!(format!("{list:?}"), "RawArrayBuf { data: \"0500000000\", len: 0 }");
     assert!(RawDocumentBuf::try_from_iter([("a", RawBson::from(true)), ("b\0", RawBson::Null)]).is_err());
     assert!(RawArrayBuf::try_from_iter([regex("\0", "")]).is_err());
     // a text may hold one
-    made.append("t", "a\0b").unwrap();
+    made.append("t", "a\0b");
     assert_eq!(made.get_str("t"), Ok("a\0b"));
+}
+
+/// What a call panics with.
+fn panic_of(call: impl FnOnce() + std::panic::UnwindSafe) -> String {
+    *std::panic::catch_unwind(call).unwrap_err().downcast::<String>().unwrap()
+}
+
+#[test]
+fn what_has_a_0_ends_an_append_without_a_result() {
+    let wanted = "the element can't be appended: malformed value: \"interior NUL\"";
+    let regex = || RawBson::RegularExpression(Regex { pattern: "a\0".into(), options: String::new() });
+    assert_eq!(panic_of(|| RawDocumentBuf::new().append("a\0", 1)), wanted);
+    assert_eq!(panic_of(|| RawDocumentBuf::new().append("a", regex())), wanted);
+    assert_eq!(panic_of(|| RawDocumentBuf::new().append_ref("a\0b", "c")), wanted);
+    assert_eq!(panic_of(|| RawArrayBuf::new().push(regex())), wanted);
+    assert_eq!(panic_of(|| RawArrayBuf::new().push_ref(&regex())), wanted);
+    assert_eq!(panic_of(|| drop([("\0", 1)].into_iter().collect::<RawDocumentBuf>())), wanted);
+    assert_eq!(panic_of(|| drop([regex()].into_iter().collect::<RawArrayBuf>())), wanted);
+    assert_eq!(panic_of(|| drop(rawdoc! { "a\0": 1 })), wanted);
+    assert_eq!(panic_of(|| drop(rawbson!([{ "a\0": 1 }]))), wanted);
 }
 
 #[test]
@@ -465,9 +485,9 @@ fn no_document_is_longer_than_its_length_can_say() {
     data[4..11].copy_from_slice(&[&[5, b'b', 0], &size.to_le_bytes()[..]].concat());
     let mut longest = RawDocumentBuf::from_bytes(data).unwrap();
     assert_eq!(longest.get_binary("b").unwrap().bytes.len(), size as usize);
-    let error = longest.append("", RawBson::Null).unwrap_err();
+    let error = longest.try_append("", RawBson::Null).unwrap_err();
     assert_eq!(error.to_string(), "malformed value: \"document too long\"");
-    assert!(longest.append("a\0", RawBson::Null).unwrap_err().to_string().contains("interior NUL"));
+    assert!(longest.try_append("a\0", RawBson::Null).unwrap_err().to_string().contains("interior NUL"));
     assert_eq!(longest.iter_elements().count(), 1);
 }
 
@@ -477,8 +497,8 @@ fn options_are_sorted_by_a_copy_alone() {
     let copied = borrowed.to_raw_bson();
     assert_eq!(copied.as_regex().unwrap().options, "im");
     let mut made = RawDocumentBuf::new();
-    made.append_ref("r", borrowed).unwrap();
-    made.append("r", Regex { pattern: "a".into(), options: "mi".into() }).unwrap();
+    made.append_ref("r", borrowed);
+    made.append("r", Regex { pattern: "a".into(), options: "mi".into() });
     assert_eq!(hex(made.as_bytes()), "150000000b720061006d69000b720061006d690000");
 }
 
@@ -510,11 +530,11 @@ fn forms_and_breaches_are_those_of_worked_documents() {
     for (hex, form, breach) in FORMS {
         let given = document(hex);
         let form = document(form);
-        assert_eq!(given.canonical(limits).as_ref(), Ok(&form));
-        assert_eq!(form.canonical(limits).as_ref(), Ok(&form));
-        assert_eq!(form.validate(limits), Ok(()));
-        assert_eq!(given.first_fault(limits), None);
-        let problem = given.validate(limits).err();
+        assert_eq!(given.canonical_with(limits).as_ref(), Ok(&form));
+        assert_eq!(form.canonical_with(limits).as_ref(), Ok(&form));
+        assert_eq!(form.validate_with(limits), Ok(()));
+        assert_eq!(given.first_fault_with(limits), None);
+        let problem = given.validate_with(limits).err();
         assert_eq!(
             problem.as_ref().map(|it| it.kind.clone()),
             breach.map(|(cause, _)| ProblemKind::NotCanonical(cause))
@@ -522,18 +542,18 @@ fn forms_and_breaches_are_those_of_worked_documents() {
         assert_eq!(problem.map(|it| it.place.unwrap().path), breach.map(|(_, path)| path.to_vec()));
     }
     let bad_first = document("0d000000 08 6100 02 08 6100 01 00");
-    assert_eq!(bad_first.validate(limits).unwrap_err().kind, ProblemKind::NotCanonical(Cause::Value));
-    let problem = bad_first.canonical(limits).unwrap_err();
+    assert_eq!(bad_first.validate_with(limits).unwrap_err().kind, ProblemKind::NotCanonical(Cause::Value));
+    let problem = bad_first.canonical_with(limits).unwrap_err();
     let wanted = "at /0:\"a\", byte 4: malformed value: \"boolean must be stored as 0 or 1, got 2\"";
     assert_eq!(problem.to_string(), wanted);
     let stop = document("0e000000 03 6100 06000000 0a 00 00");
-    assert_eq!(stop.validate(limits).unwrap_err().kind, ProblemKind::NotCanonical(Cause::Stop));
-    let place = stop.first_fault(limits).unwrap().place.unwrap();
+    assert_eq!(stop.validate_with(limits).unwrap_err().kind, ProblemKind::NotCanonical(Cause::Stop));
+    let place = stop.first_fault_with(limits).unwrap().place.unwrap();
     assert_eq!((place.path, place.offset, place.key), (vec![0, 1], 13, None));
 }
 
 /// So many levels, each but the innermost holding the next under the empty key.
-fn levels(count: usize) -> RawDocumentBuf {
+pub fn levels(count: usize) -> RawDocumentBuf {
     (1..count).fold(RawDocumentBuf::new(), |inner, _| rawdoc! { "": inner })
 }
 
@@ -542,25 +562,25 @@ fn limits_are_kept() {
     let limits = Limits::default();
     let deep = levels(500);
     assert_eq!((deep.as_bytes().len(), &deep.as_bytes()[..4]), (3498, &[0xaa, 0x0d, 0, 0][..]));
-    assert_eq!(deep.canonical(limits).as_ref(), Ok(&deep));
-    assert_eq!(deep.flatten(limits).unwrap().len(), 499);
+    assert_eq!(deep.canonical_with(limits).as_ref(), Ok(&deep));
+    assert_eq!(deep.flatten_with(limits).unwrap().len(), 499);
     let deeper = levels(501);
     for problem in [
-        deeper.canonical(limits).unwrap_err(),
-        deeper.first_fault(limits).unwrap(),
-        deeper.validate(limits).unwrap_err(),
-        deeper.to_json(limits, Default::default()).unwrap_err(),
-        deeper.flatten(limits).err().unwrap(),
+        deeper.canonical_with(limits).unwrap_err(),
+        deeper.first_fault_with(limits).unwrap(),
+        deeper.validate_with(limits).unwrap_err(),
+        deeper.to_json_with(limits, Default::default()).unwrap_err(),
+        deeper.flatten_with(limits).err().unwrap(),
     ] {
         assert_eq!(problem.kind, ProblemKind::TooDeep);
         assert_eq!(problem.place.unwrap().path, [0; 500]);
     }
     let deepest = levels(1001);
     let all = Limits { max_depth: usize::MAX, ..limits };
-    assert_eq!(deepest.canonical(all).as_ref(), Ok(&deepest));
-    assert_eq!(deepest.flatten(all).unwrap().len(), 1000);
+    assert_eq!(deepest.canonical_with(all).as_ref(), Ok(&deepest));
+    assert_eq!(deepest.flatten_with(all).unwrap().len(), 1000);
     let small = Limits { max_bytes: 4, ..limits };
-    let problem = RawDocumentBuf::new().validate(small).unwrap_err();
+    let problem = RawDocumentBuf::new().validate_with(small).unwrap_err();
     assert_eq!((problem.kind, problem.place), (ProblemKind::TooManyBytes, None));
 }
 
@@ -568,7 +588,7 @@ fn limits_are_kept() {
 fn tokens_are_elements_of_all_levels() {
     let scope = RawJavaScriptCodeWithScope { code: "f".into(), scope: rawdoc! { "x": "y" } };
     let given = rawdoc! { "a": [{ "b": "c" }], "s": scope, "d": 1.5 };
-    let tokens = given.flatten(Limits::default()).unwrap();
+    let tokens = given.flatten().unwrap();
     let told: Vec<_> = tokens.iter().map(|it| (it.element.key(), it.depth, it.inside)).collect();
     assert_eq!(told, [("a", 0, 2), ("0", 1, 1), ("b", 2, 0), ("s", 0, 1), ("x", 1, 0), ("d", 0, 0)]);
     assert_eq!(tokens[2].element.value(), Ok(RawBsonRef::String("c")));
@@ -580,14 +600,14 @@ fn tokens_are_elements_of_all_levels() {
 fn json_has_its_styles() {
     let given = rawdoc! { "a": 1, "b": [true, null] };
     let text = |canonical, indented| {
-        given.to_json(Limits::default(), bsonraw::whole::JsonStyle { canonical, indented }).unwrap()
+        given.to_json_with(Limits::default(), bsonraw::whole::JsonStyle { canonical, indented }).unwrap()
     };
     assert_eq!(text(false, false), r#"{"a":1,"b":[true,null]}"#);
     assert_eq!(text(true, false), r#"{"a":{"$numberInt":"1"},"b":[true,null]}"#);
     assert_eq!(text(false, true), "{\n  \"a\": 1,\n  \"b\": [\n    true,\n    null\n  ]\n}");
     let long = "x".repeat(5000);
     let given = rawdoc! { "a": long.as_str(), "b": "\u{1}".repeat(3000) };
-    let text = given.to_json(Limits::default(), Default::default()).unwrap();
+    let text = given.to_json().unwrap();
     assert_eq!(text.len(), 23 - 8 + 5000 + 6 * 3000);
 }
 
@@ -595,14 +615,14 @@ fn json_has_its_styles() {
 fn documents_come_from_json() {
     use bsonraw::whole::JsonReason;
     let limits = Limits::default();
-    let read = |text: &str| RawDocumentBuf::from_json(text, limits);
+    let read = |text: &str| RawDocumentBuf::from_json_with(text, limits);
     let wanted = rawdoc! { "a": 1, "b": [true, RawBson::Null], "c": RawBson::Double(-0.0), "d": i64::MAX };
     assert_eq!(
         read(r#"{"a":1,"b":[true,null],"c":-0.0,"d":{"$numberLong":"9223372036854775807"}}"#),
         Ok(wanted.clone())
     );
     let style = bsonraw::whole::JsonStyle { canonical: true, indented: true };
-    assert_eq!(read(&wanted.to_json(limits, style).unwrap()), Ok(wanted));
+    assert_eq!(read(&wanted.to_json_with(limits, style).unwrap()), Ok(wanted));
     let items = "0,".repeat(99_999) + "0";
     let long = read(&format!("{{\"a\":[{items}]}}")).unwrap();
     assert_eq!(long.get_array("a").unwrap().into_iter().count(), 100_000);
@@ -615,9 +635,9 @@ fn documents_come_from_json() {
         (error.reason, error.to_string().as_str()),
         (JsonReason::Malformed("$oid"), "line 1, column 16: a malformed $oid")
     );
-    let error = RawDocumentBuf::from_json(r#"{"a": 1}"#, Limits { max_bytes: 11, ..limits }).unwrap_err();
+    let error = RawDocumentBuf::from_json_with(r#"{"a": 1}"#, Limits { max_bytes: 11, ..limits }).unwrap_err();
     assert_eq!(error.reason, JsonReason::TooManyBytes);
-    let error = RawDocumentBuf::from_json(r#"{"a": {}}"#, Limits { max_depth: 1, ..limits }).unwrap_err();
+    let error = RawDocumentBuf::from_json_with(r#"{"a": {}}"#, Limits { max_depth: 1, ..limits }).unwrap_err();
     assert_eq!(error.reason, JsonReason::TooDeep);
 }
 
@@ -629,6 +649,50 @@ fn documents_lie_one_behind_the_other() {
     assert_eq!(found, [(0, true), (5, false), (11, true)]);
     let found: Vec<_> = Documents::new(&dump[..8]).map(|(offset, document)| (offset, document.is_ok())).collect();
     assert_eq!(found, [(0, true), (5, false)]);
+}
+
+/// A reader that gives a byte at a time, and fails at the end.
+struct Slow<'a>(&'a [u8]);
+
+impl std::io::Read for Slow<'_> {
+    fn read(&mut self, room: &mut [u8]) -> std::io::Result<usize> {
+        let (byte, rest) = self.0.split_first().ok_or(std::io::ErrorKind::ConnectionReset)?;
+        self.0 = rest;
+        room[0] = *byte;
+        Ok(1)
+    }
+}
+
+#[test]
+fn documents_come_from_a_reader() {
+    use bsonraw::whole::{DocumentReader, Documents, ReadError};
+    let told = |item: (u64, Result<RawDocumentBuf, ReadError>)| match item {
+        (offset, Ok(document)) => format!("{offset} {}", document.as_bytes().len()),
+        (offset, Err(error)) => format!("{offset} {error}"),
+    };
+    let all = |dump: &[u8], most| DocumentReader::with_max_bytes(dump, most).map(told).collect::<Vec<_>>();
+    let not_terminated = "malformed value: \"document not null-terminated\"";
+    let dump = bytes("0500000000 060000000001 080000000a610000 0500000000");
+    assert_eq!(all(&dump, 100), ["0 5", &format!("5 {not_terminated}"), "11 8", "19 5"]);
+    assert_eq!(all(&dump, 6), ["0 5", &format!("5 {not_terminated}"), "11 more bytes than allowed", "19 5"]);
+    assert_eq!(all(&dump[..18], 6), ["0 5", &format!("5 {not_terminated}"), "11 more bytes than allowed"]);
+    let incorrect = "malformed value: \"document length incorrect\"";
+    assert_eq!(all(&dump[..18], 100)[2], format!("11 {incorrect}"));
+    assert_eq!(all(b"", 100), [""; 0]);
+    for short in [&b"\x05\0\0"[..], b"\x05\0\0\0", b"\x04\0\0\0\0", b"\xff\xff\xff\xff\0\0"] {
+        assert_eq!(all(short, 100), ["0 malformed value: \"document too short\""]);
+    }
+    // as those of the bytes
+    for cut in 0..=dump.len() {
+        let of_bytes: Vec<_> = Documents::new(&dump[..cut]).map(|(at, it)| (at as u64, it.is_ok())).collect();
+        let of_reader: Vec<_> = DocumentReader::new(&dump[..cut]).map(|(at, it)| (at, it.is_ok())).collect();
+        assert_eq!(of_reader, of_bytes);
+    }
+    let mut slow = DocumentReader::new(Slow(&dump));
+    assert_eq!(slow.by_ref().take(4).map(told).last().unwrap(), "19 5");
+    assert!(matches!(slow.next(), Some((24, Err(ReadError::Io(_))))));
+    assert!(slow.next().is_none());
+    assert_eq!(DocumentReader::new(&dump[..]).into_inner().len(), dump.len());
 }
 
 #[test]
@@ -658,7 +722,7 @@ fn traits_lead_from_buffers_to_views_and_back() {
     assert_eq!([("a", 1), ("b", 2)].into_iter().collect::<RawDocumentBuf>(), rawdoc! { "a": 1, "b": 2 });
     assert_eq!([1, 2].into_iter().collect::<RawArrayBuf>(), owned);
     let mut value = RawBson::from(made);
-    value.as_document_mut().unwrap().append("b", 1).unwrap();
+    value.as_document_mut().unwrap().append("b", 1);
     assert_eq!(value.as_document().unwrap().get_i32("b"), Ok(1));
     assert!(value.as_array_mut().is_none());
     assert_eq!(format!("{:?}", rawdoc! {}), "RawDocumentBuf { data: \"0500000000\" }");
@@ -714,10 +778,10 @@ fn iterators_print_what_is_left() {
         let text = format!("{:?} {:?}", given.iter_elements(), given.iter());
         assert!(text.starts_with("RawIter [") && text.ends_with(']'), "{text}");
     }
-    let tokens = list.flatten(Limits::default()).unwrap();
+    let tokens = list.flatten().unwrap();
     let wanted = r#"Token { element: RawElement { key: "1", kind: Null, len: 0 }, depth: 1, inside: 0 }"#;
     assert_eq!(format!("{:?}", tokens[2]), wanted);
-    assert_eq!(bad.flatten(Limits::default()).unwrap_err().place.unwrap().path, [0]);
+    assert_eq!(bad.flatten().unwrap_err().place.unwrap().path, [0]);
     let dump = bytes("0500000000 0500000000 01");
     let mut documents = Documents::new(&dump);
     documents.next();
@@ -794,10 +858,10 @@ fn limits_come_before_memory() {
         return;
     }
     let text = "\0".repeat(600 << 20);
-    let error = RawDocumentBuf::from_json(&text, Limits::default()).unwrap_err();
+    let error = RawDocumentBuf::from_json(&text).unwrap_err();
     assert_eq!(error.reason, JsonReason::ExpectedDocument);
     let all = Limits { max_bytes: usize::MAX, max_depth: 500 };
-    let error = RawDocumentBuf::from_json(&text, all).unwrap_err();
+    let error = RawDocumentBuf::from_json_with(&text, all).unwrap_err();
     assert_eq!((error.reason, error.offset, error.line, error.column), (JsonReason::OutOfMemory, 0, 1, 1));
     drop(text);
 
@@ -806,9 +870,9 @@ fn limits_come_before_memory() {
     let large = RawDocumentBuf::from_bytes(large).unwrap();
     for (limits, wanted) in [(Limits::default(), ProblemKind::TooManyBytes), (all, ProblemKind::OutOfMemory)] {
         for problem in [
-            large.to_json(limits, Default::default()).unwrap_err(),
-            large.canonical(limits).unwrap_err(),
-            large.flatten(limits).unwrap_err(),
+            large.to_json_with(limits, Default::default()).unwrap_err(),
+            large.canonical_with(limits).unwrap_err(),
+            large.flatten_with(limits).unwrap_err(),
         ] {
             assert_eq!((problem.kind, problem.place), (wanted.clone(), None));
         }

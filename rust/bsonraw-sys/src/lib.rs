@@ -1,8 +1,11 @@
 //! What `bsonraw.h` declares, under the names that it has there; the header says what each is. A test compares both.
 //!
-//! Only a caller that keeps what the head of the header asks may call these functions. The rest of the crate does.
+//! Only a caller that keeps what the head of the header asks may call these functions. The crate `bsonraw` does, and is what programs
+//! use. A program that calls them itself names [`bsonraw_layout_2`], so that it links with no library whose structs are others.
 
+#![no_std]
 #![allow(non_camel_case_types)]
+#![warn(missing_docs)]
 
 use core::ffi::c_char;
 
@@ -157,9 +160,12 @@ numbers! {
     BSONRAW_JSON_MAX_KEY = 17,
 }
 
-/// Declares a struct of the header, and what a test compares with it: its fields, how large it is, and where each field is.
+/// Declares a struct of the header of this size, and what a test compares with it: its fields, and where each is. The library's file
+/// `exported.c` has the same sizes.
 macro_rules! layout {
-    ($(#[$what:meta])* struct $name:ident { $($field:ident: $of:ty,)* }) => {
+    ($(#[$what:meta])* struct $name:ident of $size:literal { $($field:ident: $of:ty,)* }) => {
+        const _: () = assert!(size_of::<$name>() == $size, "the layout has another size than the library's");
+
         $(#[$what])*
         #[repr(C)]
         #[derive(Clone, Copy, Debug, Default, PartialEq)]
@@ -180,7 +186,7 @@ macro_rules! layout {
 
 layout! {
     /// A fault.
-    struct bsonraw_error {
+    struct bsonraw_error of 32 {
         kind: u32,
         reason: u32,
         number: u64,
@@ -191,7 +197,7 @@ layout! {
 
 layout! {
     /// A cursor over elements.
-    struct bsonraw_iter {
+    struct bsonraw_iter of 64 {
         tag: u32,
         key_at: u32,
         key_len: u32,
@@ -206,7 +212,7 @@ layout! {
 
 layout! {
     /// An element.
-    struct bsonraw_entry {
+    struct bsonraw_entry of 20 {
         tag: u32,
         key_at: u32,
         key_len: u32,
@@ -217,7 +223,7 @@ layout! {
 
 layout! {
     /// A value.
-    struct bsonraw_value {
+    struct bsonraw_value of 80 {
         tag: u32,
         subtype: u32,
         integer: i64,
@@ -234,7 +240,7 @@ layout! {
 
 layout! {
     /// A builder.
-    struct bsonraw_builder {
+    struct bsonraw_builder of 20 {
         len: u32,
         begins: u32,
         count: u32,
@@ -245,7 +251,7 @@ layout! {
 
 layout! {
     /// A reader of documents one behind the other.
-    struct bsonraw_reader {
+    struct bsonraw_reader of 56 {
         document_at: u64,
         document_len: u64,
         next: u64,
@@ -255,7 +261,7 @@ layout! {
 
 layout! {
     /// What the searches behind damage cost so far, and what the last one found.
-    struct bsonraw_resync {
+    struct bsonraw_resync of 24 {
         spent: u64,
         reach: u64,
         believed: u32,
@@ -265,7 +271,7 @@ layout! {
 
 layout! {
     /// What is said of a text.
-    struct bsonraw_json_report {
+    struct bsonraw_json_report of 40 {
         count: u64,
         offset: u64,
         line: u64,
@@ -277,7 +283,7 @@ layout! {
 
 layout! {
     /// What a call over a whole document says.
-    struct bsonraw_report {
+    struct bsonraw_report of 72 {
         count: u64,
         path_len: u64,
         cause: u32,
@@ -290,7 +296,7 @@ layout! {
 
 layout! {
     /// An element of any level.
-    struct bsonraw_token {
+    struct bsonraw_token of 28 {
         tag: u32,
         depth: u32,
         key_at: u32,
@@ -317,6 +323,11 @@ macro_rules! functions {
             $((stringify!($name), stringify!($result), &[$((stringify!($argument), stringify!($of))),*]),)*
         ];
     };
+}
+
+extern "C" {
+    /// `bsonraw_layout_2` of the header: the structs of the library are those that are declared here, as another layout has another name.
+    pub fn bsonraw_layout_2() -> u32;
 }
 
 functions! {

@@ -3,11 +3,19 @@
 
 use std::fs;
 
-use bsonraw::sys;
+use bsonraw_sys as sys;
+
+/// Where the header is, if a library was found.
+const HEADER: Option<&str> = option_env!("BSONRAW_HEADER");
+
+/// The header.
+fn text() -> String {
+    fs::read_to_string(HEADER.expect("a library is found")).expect("the header is beside the library")
+}
 
 /// The header without its comments, the lines of the preprocessor, and what is for C++ alone.
 fn header() -> String {
-    let text = fs::read_to_string(env!("BSONRAW_HEADER")).expect("the header is beside the library");
+    let text = text();
     let mut code = String::new();
     let mut rest = text.as_str();
     while let Some(at) = rest.find("/*") {
@@ -195,10 +203,11 @@ fn functions_are_those_of_the_header() {
 
 #[test]
 fn the_version_is_that_of_the_header_and_the_library() {
-    let text = fs::read_to_string(env!("BSONRAW_HEADER")).expect("the header is beside the library");
+    let text = text();
     let line = text.lines().find_map(|line| line.strip_prefix("#define BSONRAW_VERSION "));
     let number: u32 = line.expect("it has a version").split(' ').next().unwrap().parse().unwrap();
-    assert_eq!(bsonraw::version(), number);
+    // SAFETY: these take nothing.
+    assert_eq!(unsafe { (sys::bsonraw_version(), sys::bsonraw_layout_2()) }, (number, 2));
     // The last four digits are raised by what is added.
     assert_eq!(sys::BSONRAW_VERSION / 10000, number / 10000);
     assert!(sys::BSONRAW_VERSION <= number);
