@@ -1,6 +1,6 @@
 import array
 import mmap
-from typing import Any, Callable, Dict, Iterator, List, Literal, Mapping, Optional, Protocol, Sequence, SupportsIndex, Tuple, Type, TypeVar, Union
+from typing import Any, Callable, Dict, Iterator, List, Literal, Mapping, Optional, Protocol, Sequence, SupportsIndex, Tuple, Type, TypeVar, Union, overload
 
 from ._types import Breach, BsonError, ElementType
 from ._values import Pairs
@@ -43,6 +43,15 @@ class Pair:
 class Int64(int):
     @property
     def _type_marker(self) -> int: ...
+
+class Lazy:
+    def __init__(self, data: Buffer) -> None: ...
+    @property
+    def raw(self) -> bytes: ...
+    def __getitem__(self, key: str, /) -> Any: ...
+    def __contains__(self, key: object, /) -> bool: ...
+    def __iter__(self) -> Iterator[str]: ...
+    def __len__(self) -> int: ...
 
 class Element:
     @property
@@ -88,10 +97,23 @@ class Documents(Iterator[Tuple[int, bytes]]):
     def __exit__(self, *error: object) -> None: ...
     def close(self) -> None: ...
 
+@overload
 def decode(
     data: Buffer,
     codec_options: None = ...,
     *,
+    type: Type[_T],
+    tz_aware: Optional[bool] = ...,
+    uuid: bool = ...,
+    max_bytes: int = ...,
+    max_depth: int = ...,
+) -> _T: ...
+@overload
+def decode(
+    data: Buffer,
+    codec_options: None = ...,
+    *,
+    type: Any = ...,
     pairs: bool = ...,
     types: Types = ...,
     tz_aware: Optional[bool] = ...,
@@ -114,6 +136,9 @@ def elements(data: Buffer) -> Elements: ...
 def walk(data: Buffer, *, max_bytes: int = ..., max_depth: int = ...) -> Walk: ...
 def get(data: Buffer, key: str) -> Optional[Element]: ...
 def find(data: Buffer, path: Union[str, Sequence[Union[str, SupportsIndex]]]) -> Optional[Element]: ...
+def edit(
+    data: Buffer, changes: Mapping[Union[str, Tuple[Union[str, SupportsIndex], ...]], Any], *, default: Optional[Callable[[Any], Any]] = ...
+) -> bytes: ...
 def canonical(data: Buffer, *, max_bytes: int = ..., max_depth: int = ...) -> bytes: ...
 def check(data: Buffer, *, max_bytes: int = ..., max_depth: int = ...) -> Optional[Breach]: ...
 def first_fault(data: Buffer, *, max_bytes: int = ..., max_depth: int = ...) -> Optional[BsonError]: ...
@@ -128,6 +153,7 @@ def decode_all(
     data: Documents,
     *,
     codec_options: None = ...,
+    type: Any = ...,
     pairs: bool = ...,
     types: Types = ...,
     tz_aware: Optional[bool] = ...,
