@@ -22,14 +22,18 @@ def _utf8_of(text: Union[str, Buffer]) -> bytes:
     return text.encode() if isinstance(text, str) else bytes(memoryview(given))
 
 
-def _made(data: bytes, before: int, max_bytes: int, max_depth: int) -> bytes:
-    """The document of a text, in front of which some bytes aren't the caller's."""
+def _made(data: bytes, max_bytes: int, max_depth: int) -> bytes:
+    """The document of a text."""
     made = _native.from_json(data, max_bytes, max_depth)
     if isinstance(made, bytes):
         return made
     message, offset = made
+    raise _error(_with_limit(message, max_bytes, max_depth), data, offset)
+
+
+def _with_limit(message: str, max_bytes: int, max_depth: int) -> str:
     limits = {"more bytes than allowed": f": max_bytes is {max_bytes}", "deeper than allowed": f": max_depth is {max_depth}"}
-    raise _error(message + limits.get(message, ""), data[before:], offset - before)
+    return message + limits.get(message, "")
 
 
 def _error(message: str, data: bytes, offset: int) -> ValueError:
@@ -51,7 +55,7 @@ def from_json(text: Union[str, Buffer], *, max_bytes: int = _MAX_BYTES, max_dept
     lineno and colno as json.loads has them; also where the document would have
     more than max_bytes bytes, or be deeper than max_depth levels.
     """
-    return _made(_utf8_of(text), 0, max_bytes, max_depth)
+    return _made(_utf8_of(text), max_bytes, max_depth)
 
 
 def _is_array(data: bytes) -> bool:
@@ -62,10 +66,10 @@ def _documents_of(data: bytes, max_bytes: int, max_depth: int) -> List[bytes]:
     """The documents of the text of an array."""
     if not _is_array(data):
         raise _error("expected an array", data, len(data) - len(data.lstrip(b" \t\r\n")))
-    inner = data.rstrip(b" \t\r\n")
-    if not inner.endswith(b"]"):  # what is behind it has to end in it, too: else the error would be behind the text
-        raise _error("expected an array alone", data, len(inner))
-    whole = _made(_BEFORE + data + _BEHIND, len(_BEFORE), _MOST_BYTES, max_depth + 2)
+    whole = _native.from_json(_BEFORE + data + _BEHIND, _MOST_BYTES, max_depth + 2)
+    if not isinstance(whole, bytes):
+        message, offset = whole
+        raise _error(_with_limit(message, _MOST_BYTES, max_depth), data, min(offset - len(_BEFORE), len(data)))
     first, *others = _native.elements(whole)
     if others:
         from json import JSONDecodeError, JSONDecoder
@@ -137,7 +141,7 @@ def loads(
         raise TypeError('json_options aren\'t taken: in their place use tz_aware, uuid, types="bson" and object_hook')
     data = _utf8_of(text)
     is_array = _is_array(data)
-    documents = _documents_of(data, max_bytes, max_depth) if is_array else [_made(data, 0, max_bytes, max_depth)]
+    documents = _documents_of(data, max_bytes, max_depth) if is_array else [_made(data, max_bytes, max_depth)]
     values = [
         _native.decode(
             document,
