@@ -69,7 +69,10 @@ def _documents_of(data: bytes, max_bytes: int, max_depth: int) -> List[bytes]:
     whole = _native.from_json(_BEFORE + data + _BEHIND, _MOST_BYTES, max_depth + 2)
     if not isinstance(whole, bytes):
         message, offset = whole
-        raise _error(_with_limit(message, _MOST_BYTES, max_depth), data, min(offset - len(_BEFORE), len(data)))
+        at = min(offset - len(_BEFORE), len(data))
+        if at == len(data) and message.startswith("text behind"):  # the text's own last brace ended what is around the array
+            at = data.rindex(b"}")
+        raise _error(_with_limit(message, _MOST_BYTES, max_depth), data, at)
     first, *others = _native.elements(whole)
     if others:
         from json import JSONDecodeError, JSONDecoder
