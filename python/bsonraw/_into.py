@@ -66,15 +66,15 @@ def _float(value: Any, keys: Keys) -> float:
 
 
 def _plain_int(value: Any, keys: Keys) -> int:
-    return int(value) if isinstance(value, int) and not isinstance(value, bool) else _refuse(value, keys, int)
+    return int(value) if isinstance(value, int) and not isinstance(value, bool) else _refuse(value, keys, int)  # type: ignore[no-any-return]
 
 
 def _decimal(value: Any, keys: Keys) -> Decimal:
-    return value.to_decimal() if isinstance(value, Decimal128) else _refuse(value, keys, Decimal)
+    return value.to_decimal() if isinstance(value, Decimal128) else _refuse(value, keys, Decimal)  # type: ignore[no-any-return]
 
 
 def _date(value: Any, keys: Keys) -> date:
-    return value.date() if isinstance(value, datetime) else _refuse(value, keys, date)
+    return value.date() if isinstance(value, datetime) else _refuse(value, keys, date)  # type: ignore[no-any-return]
 
 
 def _called(kind: Any) -> Maker:

@@ -145,7 +145,7 @@ class BsonError(BSONError, ValueError):
     def __new__(cls, kind: int, reason: Optional[int] = None, *parts: Any, **named: Any) -> BsonError:
         if cls is BsonError:
             cls = DamagedError if kind != ErrorKind.REFUSED else LimitError if reason != Reason.INTERIOR_NUL else BsonError
-        return super().__new__(cls, kind, reason, *parts)
+        return super().__new__(cls, kind, reason, *parts)  # type: ignore[call-arg]
 
     def __init__(
         self,

@@ -100,23 +100,14 @@ print(bsonraw.decode(bsonraw.encode({"a": 1})))
 EMBEDDED = r"""
 #include <Python.h>
 #include <stdio.h>
+#include <stdlib.h>
 
 int main(int count, char **arguments) {
     int round;
     for (round = 0; round < 3; round++) {
         int status;
         Py_Initialize();
-        status = PyRun_SimpleString(
-            "import sys, os\n"
-            "sys.path[:0] = os.environ['TRIED_PATH'].split(os.pathsep)\n"
-            "import bsonraw, bsonraw.compat\n"
-            "value = {'i': bsonraw.Int64(5), 'o': bsonraw.ObjectId(), 'u': bsonraw.decode(bsonraw.encode({'t': bsonraw.DatetimeMS(0)}))['t']}\n"
-            "assert bsonraw.decode(bsonraw.encode(value)) == value\n"
-            "assert len(bsonraw.decode_all(bsonraw.encode(value) * 3)) == 3\n"
-            "assert bsonraw.first_fault(b'').kind == bsonraw.ErrorKind.NO_DOCUMENT\n"
-            "assert bsonraw.edit(bsonraw.encode({'a': 1}), {'a': 2}) == bsonraw.encode({'a': 2})\n"
-            "assert bsonraw.decode(bsonraw.encode({'u': bsonraw.Binary(bytes(16), 4)}), uuid=True)['u'].int == 0\n"
-            "assert bsonraw.to_json(bsonraw.encode({'a': 'é'})) == '{\"a\":\"é\"}'\n");
+        status = PyRun_SimpleString(getenv("TRIED_CODE"));
         if (status != 0) return 1;
         if (Py_FinalizeEx() != 0) return 2;
         printf("round %d\n", round);
@@ -124,6 +115,19 @@ int main(int count, char **arguments) {
     }
     return 0;
 }
+"""
+
+ROUND = """
+import os, sys
+sys.path[:0] = os.environ["TRIED_PATH"].split(os.pathsep)
+import bsonraw, bsonraw.compat
+value = {'i': bsonraw.Int64(5), 'o': bsonraw.ObjectId(), 'u': bsonraw.decode(bsonraw.encode({'t': bsonraw.DatetimeMS(0)}))['t']}
+assert bsonraw.decode(bsonraw.encode(value)) == value
+assert len(bsonraw.decode_all(bsonraw.encode(value) * 3)) == 3
+assert bsonraw.first_fault(b'').kind == bsonraw.ErrorKind.NO_DOCUMENT
+assert bsonraw.edit(bsonraw.encode({'a': 1}), {'a': 2}) == bsonraw.encode({'a': 2})
+assert bsonraw.decode(bsonraw.encode({'u': bsonraw.Binary(bytes(16), 4)}), uuid=True)['u'].int == 0
+assert bsonraw.to_json(bsonraw.encode({'a': 'é'})) == '{"a":"é"}'
 """
 
 
@@ -169,7 +173,13 @@ class State(unittest.TestCase):
                 self.skipTest("the library for embedding this Python isn't linked")
             self.assertEqual((built.returncode, built.stderr), (0, b""))
             environment = {**os.environ, "TRIED_PATH": os.pathsep.join(one for one in sys.path if one), "PYTHONHOME": sys.base_prefix}
-            done = subprocess.run([str(program)], stdout=subprocess.PIPE, stderr=subprocess.PIPE, timeout=120, env=environment)
+            rounds = []
+            for code in ("import datetime, decimal, uuid", ROUND):
+                run = {"stdout": subprocess.PIPE, "stderr": subprocess.PIPE, "timeout": 120, "env": {**environment, "TRIED_CODE": code}}
+                rounds.append(subprocess.run([str(program)], **run))  # type: ignore[call-overload]
+            if rounds[0].returncode != 0:
+                self.skipTest("this Python itself doesn't import datetime in a second round")
+            done = rounds[1]
             self.assertEqual((done.stdout, done.returncode), (b"round 0\nround 1\nround 2\n", 0), done.stderr)
             said = [line for line in done.stderr.splitlines() if line and b"mpd_setminalloc" not in line]  # which decimal says in each round
             self.assertEqual(said, [])

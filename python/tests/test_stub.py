@@ -62,7 +62,7 @@ class Stub(unittest.TestCase):
             if call.__text_signature__ is not None:
                 self.assertEqual(arguments_of(one), arguments_there(call), one.name)
                 count += 1
-        self.assertEqual(count, 12)
+        self.assertGreaterEqual(count, 12)
 
     def test_options_of_calls_without_a_signature(self) -> None:
         """Such a call misses its argument where it knows the option, and else the option."""

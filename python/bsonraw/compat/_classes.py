@@ -43,7 +43,7 @@ class SON(Dict[str, Any]):
     def __ne__(self, other: object) -> bool:
         return not self == other
 
-    __hash__ = None  # type: ignore[assignment]
+    __hash__ = None
 
     def __repr__(self) -> str:
         return f"SON([{', '.join(f'({key!r}, {value!r})' for key, value in self.items())}])"
@@ -60,7 +60,7 @@ class SON(Dict[str, Any]):
 class DBRef:
     """A reference to a document of a collection."""
 
-    __slots__ = ("_DBRef__collection", "_DBRef__id", "_DBRef__database", "_DBRef__kwargs")
+    __slots__ = ("_collection", "_id", "_database", "_kwargs")
     _type_marker = 100
 
     def __init__(self, collection: str, id: Any, database: Optional[str] = None, _extra: Optional[Mapping[str, Any]] = None, **kwargs: Any) -> None:
@@ -68,29 +68,29 @@ class DBRef:
             raise TypeError("collection must be an instance of str")
         if database is not None and not isinstance(database, str):
             raise TypeError("database must be an instance of str")
-        self.__collection, self.__id, self.__database = collection, id, database
-        self.__kwargs = {**kwargs, **(_extra or {})}
+        self._collection, self._id, self._database = collection, id, database
+        self._kwargs = {**kwargs, **(_extra or {})}
 
     @property
     def collection(self) -> str:
         """The collection's name."""
-        return self.__collection
+        return self._collection
 
     @property
     def id(self) -> Any:
         """The document's _id."""
-        return self.__id
+        return self._id
 
     @property
     def database(self) -> Optional[str]:
         """The database's name, or None."""
-        return self.__database
+        return self._database
 
     def __getattr__(self, key: str) -> Any:
         if key.startswith("_"):
             raise AttributeError(key)
         try:
-            return self.__kwargs[key]
+            return self._kwargs[key]
         except KeyError:
             raise AttributeError(key) from None
 
@@ -99,25 +99,25 @@ class DBRef:
         document = SON([("$ref", self.collection), ("$id", self.id)])
         if self.database is not None:
             document["$db"] = self.database
-        document.update(self.__kwargs)
+        document.update(self._kwargs)
         return document
 
     def __repr__(self) -> str:
-        extra = "".join(f", {key}={value!r}" for key, value in self.__kwargs.items())
+        extra = "".join(f", {key}={value!r}" for key, value in self._kwargs.items())
         database = "" if self.database is None else f", {self.database!r}"
         return f"DBRef({self.collection!r}, {self.id!r}{database}{extra})"
 
     def _parts(self) -> Tuple[Any, ...]:
-        return self.__database, self.__collection, self.__id, self.__kwargs
+        return self._database, self._collection, self._id, self._kwargs
 
     def __eq__(self, other: object) -> bool:
-        return self._parts() == other._parts() if isinstance(other, DBRef) else NotImplemented
+        return isinstance(other, DBRef) and self._parts() == other._parts()
 
     def __hash__(self) -> int:
-        return hash((self.__collection, self.__id, self.__database, tuple(sorted(self.__kwargs.items()))))
+        return hash((self._collection, self._id, self._database, tuple(sorted(self._kwargs.items()))))
 
     def __reduce__(self) -> Tuple[Any, ...]:
-        return DBRef, (self.__collection, self.__id, self.__database, self.__kwargs)
+        return DBRef, (self._collection, self._id, self._database, self._kwargs)
 
 
 def reference_of(value: Dict[str, Any]) -> Any:
@@ -172,7 +172,8 @@ class RawBSONDocument(Mapping[str, Any]):
         if self._values is None:
             from ._options import asked
 
-            call, _ = asked(self._options.with_options(document_class=dict))
+            options: Any = self._options
+            call, _ = asked(options.with_options(document_class=dict))
             self._values = {
                 one.key: RawBSONDocument(one.payload, self._options) if one.kind == 3 else one.decode(max_bytes=0x7FFFFFFF, **call)
                 for one in elements(self._raw)
@@ -192,7 +193,7 @@ class RawBSONDocument(Mapping[str, Any]):
         return len(self._inflated())
 
     def __eq__(self, other: object) -> bool:
-        return self.raw == other.raw if isinstance(other, RawBSONDocument) else NotImplemented
+        return isinstance(other, RawBSONDocument) and self.raw == other.raw
 
     __hash__ = None  # type: ignore[assignment]
 
