@@ -91,15 +91,40 @@ if ! tests "$work/relinked" test_large; then
     echo "python: texts are other ones on processors without blocks of bytes" >&2
     exit 1
 fi
+# The source archive has all that a build wants, and its own tests pass, in a folder where nothing else is. The version is known without the
+# library.
+cmp LICENSE python/LICENSE >&2 || exit 1
+if [ "$(cd python && BSONRAW_PREFIX=/nowhere "$python" setup.py --version 2>/dev/null)" != "$(cat VERSION)" ]; then
+    echo "python: setup.py --version doesn't say what VERSION says" >&2
+    exit 1
+fi
+mkdir "$work/archive" "$work/empty"
+if ! (cd "$work/again" && "$python" setup.py -q sdist -d "$work/archive") >"$work/said" 2>&1 || ! tar -xzf "$work"/archive/bsonraw-*.tar.gz -C "$work/empty"; then
+    cat "$work/said" >&2
+    echo "python: no source archive is made" >&2
+    exit 1
+fi
 if "$python" -m pip --version >/dev/null 2>&1; then
-    if ! "$python" -m pip install --no-build-isolation --no-index --no-deps --no-compile --target "$work/site" "$work/python" \
-        >"$work/said" 2>&1 || ! "$python" -S -c 'import sys; sys.path.insert(0, sys.argv[1]); import bsonraw' "$work/site"; then
-        cat "$work/said" >&2
-        echo "python: pip doesn't install the package without the net" >&2
-        exit 1
-    fi
+    (cd "$work/empty" && "$python" -m pip install --no-build-isolation --no-index --no-deps --no-compile --target "$work/site" "$work"/archive/bsonraw-*.tar.gz) \
+        >"$work/said" 2>&1
 else
     skip "pip"
+    built "$work"/empty/bsonraw-* "$work/site"
+fi || {
+    cat "$work/said" >&2
+    echo "python: the source archive isn't installed without the net" >&2
+    exit 1
+}
+if ! (cd "$work"/empty/bsonraw-*/tests && PYTHONPATH=$work/site timeout 900 "$python" -W ignore -m unittest test_documents test_values test_edit test_foreign \
+    test_texts test_compat test_into test_columns) >"$work/said" 2>&1 || ! "$python" -S -c 'import sys; sys.path.insert(0, sys.argv[1]); import bsonraw, bsonraw.compat' "$work/site"; then
+    cat "$work/said" >&2
+    echo "python: the tests of the source archive fail" >&2
+    exit 1
+fi
+# What the module keeps is in the module.
+if grep -nE '^ *static [^(]*(PyObject|PyTypeObject|struct (slot|tokens|out|text_room|classes)) *\**[a-z_, *]*(;|=)' python/src/*.c >&2; then
+    echo "python: something is kept outside of the module" >&2
+    exit 1
 fi
 if grep -rn ctypes python/bsonraw python/src python/setup.py python/pyproject.toml >&2; then
     echo "python: ctypes is back" >&2
@@ -128,6 +153,12 @@ if [ "$failed" = 1 ]; then
     exit 1
 fi
 echo "python: $(sed -n 's/^Ran \([0-9]* tests\) in .*/\1/p' "$work/said") by $("$python" --version)"
+# What the module reads by itself is what the library reads, in a million documents whose rows are changed.
+if ! PYTHONPATH="$work/package:python/tests" "$python" python/tests/rows.py 1000000 >"$work/said" 2>&1; then
+    cat "$work/said" >&2
+    exit 1
+fi
+cat "$work/said"
 if ! PYTHONPATH="$work/package:python/tests" "$python" python/tests/long.py 100000 >"$work/said" 2>&1; then
     cat "$work/said" >&2
     echo "python: something grows with the number of calls" >&2

@@ -34,7 +34,7 @@ asan=$(clang -print-file-name=libclang_rt.asan-x86_64.so 2>/dev/null)
 if [ -f "$asan" ] && CC=clang LDSHARED="clang -shared" BSONRAW_CFLAGS="-fsanitize=address -g -fno-omit-frame-pointer -DMANY_BYTES=2048" \
     BSONRAW_LDFLAGS="-fsanitize=address -shared-libasan" built "$python" "$work/asan"; then
     tests="test_documents test_calls.Buffers test_calls.Hostile test_calls.Errors test_dumps test_columns test_json test_texts test_values
-        test_made test_large test_service test_resync test_stack test_foreign test_edit"
+        test_made test_large test_service test_resync test_stack test_foreign test_edit test_compat test_into"
     # shellcheck disable=SC2086 # a list of tests
     LD_PRELOAD=$asan ASAN_OPTIONS=detect_leaks=0 PYTHONMALLOC=malloc PYTHONPATH=$work/asan:python/tests \
         "$python" -W ignore -m unittest $tests >"$work/said" 2>&1 || { cat "$work/said" >&2 && failed=1; }

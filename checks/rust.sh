@@ -9,8 +9,7 @@
 #
 # Where BSONRAW_BESIDE names a folder in which cargo has built a crate `bson` with the module `raw` (target/release/deps), a program
 # written for that module prints the same with it of the made documents. Where BSONRAW_RAW names a folder with the files of that module,
-# or ../shared has one, the 33 examples in their comments do here what they say; rust/tests/suite/examples.rs has what they show in other
-# words.
+# the 33 examples in their comments do here what they say; rust/tests/suite/examples.rs has what they show in other words.
 set -u
 cd "$(dirname "$(realpath "$0")")/.." || exit 1
 work=$(mktemp -d) || exit 1
@@ -148,16 +147,14 @@ for page in docs/RUST.md rust/README.md; do
 done
 
 # The examples of the module raw of the crate bson, with this crate in its place.
-found=$(find ../shared -name '*raw--mod.rs.txt' 2>/dev/null | head -n 1)
-raw=${BSONRAW_RAW-${found%/*}}
-if [ -n "$raw" ]; then
-    checks/crate_examples.py bson bsonraw "$raw" >"$work/raw.md" || exit 1
+if [ -n "${BSONRAW_RAW-}" ]; then
+    checks/crate_examples.py bson bsonraw "$BSONRAW_RAW" >"$work/raw.md" || exit 1
     rustdoc --edition 2021 --test "$work/raw.md" --extern "bsonraw=$library" -L "dependency=$work/target/debug/deps" >"$work/said" 2>&1 ||
         fails "an example of the crate bson doesn't do here what it says"
     [ "$(passed)" = 33 ] || fails "$(passed) examples of the crate bson are there, not 33"
     echo "rust: 33 examples of the crate bson"
 else
-    skip "the examples of the crate bson"
+    skip "the 33 examples of the crate bson (BSONRAW_RAW; what they show is in rust/tests/suite/examples.rs)"
 fi
 
 # tells NAME COMMAND..: whether a program for the crate bson, with other lines `use`, prints what checks/rust/NAME.txt has
@@ -225,6 +222,6 @@ if [ -n "${BSONRAW_BESIDE-}" ]; then
     cmp "$work/ours" "$work/theirs" >"$work/said" 2>&1 || fails "a program prints something else than over the crate bson"
     echo "rust: a program prints the same $(wc -l <"$work/ours") lines as over the crate bson"
 else
-    skip "the crate bson"
+    skip "a program beside the crate bson (BSONRAW_BESIDE)"
 fi
 echo "rust: skipped: ${skipped:-nothing}"

@@ -2,7 +2,7 @@
 
 The header and the library are those of the prefix that BSONRAW_PREFIX names, where bin/install put them; without it, those of
 the first prefix that has them, ~/.local, /usr/local or /usr, or else those that pkg-config finds, such as those of Debian's
-packages. By CPython 3.11 and later one build serves these and all later ones; an older one makes a build for itself.
+packages. They are looked for when the module is compiled: for the metadata and the source archive they needn't be there. By CPython 3.11 and later one build serves these and all later ones; an older one makes a build for itself.
 """
 
 import hashlib
@@ -10,6 +10,7 @@ import os
 import re
 import subprocess
 import sys
+import sysconfig
 from importlib.util import find_spec
 from pathlib import Path
 
@@ -42,16 +43,28 @@ def folders() -> "tuple[Path, Path]":
     )
 
 
-def version(header: Path) -> str:
+def version_of(header: Path) -> str:
     number = int(re.findall(r"^#define BSONRAW_VERSION (\d+)", header.read_text(), re.M)[0])
     return f"{number // 10000}.{number // 100 % 100}.{number % 100}"
+
+
+def version() -> str:
+    """The version: in a source archive that of its PKG-INFO, in a clone that of its VERSION, and elsewhere the library's."""
+    if (FOLDER / "PKG-INFO").exists():
+        return re.findall(r"^Version: (.*)", (FOLDER / "PKG-INFO").read_text(), re.M)[0]
+    if (FOLDER.parent / "c" / "bsonraw.h").exists() and (FOLDER.parent / "VERSION").exists():
+        return (FOLDER.parent / "VERSION").read_text().strip()
+    return version_of(folders()[0] / "bsonraw.h")
 
 
 class Build(build_ext):
     """Builds anew what an earlier build made of another library or header, whatever the times of the files."""
 
     def build_extension(self, extension: Extension) -> None:
+        include, lib = folders()
         files = (include / "bsonraw.h", lib / "libbsonraw.a")
+        extension.include_dirs.append(str(include))
+        extension.extra_objects.append(str(files[1]))
         content = hashlib.sha256(b"".join(hashlib.sha256(file.read_bytes()).digest() for file in files)).hexdigest()
         noted = Path(self.build_temp) / "library.sha256"
         if not noted.exists() or noted.read_text() != content:
@@ -64,23 +77,20 @@ class Build(build_ext):
 if "dist_info" in sys.argv and not find_spec("wheel") and not find_spec("setuptools.command.bdist_wheel"):
     python = os.path.realpath(sys.executable)
     raise SystemExit(f"bsonraw: {python} has no package wheel, which setuptools needs here; Debian's python3-wheel is for /usr/bin/python3")
-include, lib = folders()
-limited = sys.version_info >= (3, 11)
+limited = sys.version_info >= (3, 11) and not sysconfig.get_config_var("Py_GIL_DISABLED")
 os.chdir(FOLDER)
 setup(
     name="bsonraw",
-    packages=["bsonraw"],
+    packages=["bsonraw", "bsonraw.compat"],
     package_data={"bsonraw": ["py.typed", "*.pyi"]},
-    version=version(include / "bsonraw.h"),
+    version=version(),
     ext_modules=[
         Extension(
             "bsonraw._native",
             sorted(str(path) for path in Path("src").glob("*.c")),
-            depends=[*sorted(str(path) for path in Path("src").glob("*.h")), str(lib / "libbsonraw.a")],
-            include_dirs=[str(include)],
+            depends=sorted(str(path) for path in Path("src").glob("*.h")),
             define_macros=[("Py_LIMITED_API", "0x030B0000")] if limited else [],
             py_limited_api=limited,
-            extra_objects=[str(lib / "libbsonraw.a")],
             extra_compile_args=["-O3", "-falign-functions=64", "-g0", "-fno-plt", "-fvisibility=hidden", *os.environ.get("BSONRAW_CFLAGS", "").split()],
             extra_link_args=["-Wl,--exclude-libs,ALL", *os.environ.get("BSONRAW_LDFLAGS", "").split()],
         )

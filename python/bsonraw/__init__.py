@@ -40,7 +40,7 @@ import io
 import os
 from typing import TYPE_CHECKING, Any, Callable, Dict, Iterable, List, Literal, Optional, Tuple, Union, overload
 
-from . import _native, _types, _values
+from . import _edit, _native, _types, _values
 from ._native import (
     Documents,
     Element,
@@ -50,6 +50,7 @@ from ._native import (
     canonical,
     check,
     decode,
+    edit,
     elements,
     encode,
     find,
@@ -60,10 +61,11 @@ from ._native import (
 )
 from ._codec import Codec
 from ._columns import Column
-from ._edit import REMOVE, RawDocument, edit, steps_of
-from ._json import from_json, loads
+from ._edit import REMOVE, RawDocument, steps_of
+from ._into import MismatchError
+from ._json import from_json, from_json_array, loads, to_json_array
 from ._streams import documents_async
-from ._types import Breach, BsonError, Cause, ElementType, ErrorKind, Forms, Reason
+from ._types import Breach, BsonError, Cause, DamagedError, ElementType, ErrorKind, Forms, LimitError, Reason
 from ._values import (
     Binary,
     Code,
@@ -94,6 +96,7 @@ __all__ = [
     "Codec",
     "Column",
     "DBPointer",
+    "DamagedError",
     "DatetimeMS",
     "Decimal128",
     "Documents",
@@ -103,9 +106,11 @@ __all__ = [
     "ErrorKind",
     "Forms",
     "Int64",
+    "LimitError",
     "MAX_BYTES",
     "MAX_DEPTH",
     "MaxKey",
+    "MismatchError",
     "MinKey",
     "ObjectId",
     "Pairs",
@@ -131,10 +136,12 @@ __all__ = [
     "find",
     "first_fault",
     "from_json",
+    "from_json_array",
     "get",
     "loads",
     "partitions",
     "to_json",
+    "to_json_array",
     "walk",
 ]
 
@@ -155,11 +162,9 @@ class _Parts:
     """What the compiled module makes, and calls."""
 
     def __getattr__(self, name: str) -> Any:
-        if name in ("convert", "placed"):
-            from . import _foreign
+        from . import _foreign, _into
 
-            return getattr(_foreign, name)
-        return getattr(_values if hasattr(_values, name) else _types, name)
+        return next(getattr(module, name) for module in (_values, _types, _edit, _foreign, _into) if hasattr(module, name))
 
 
 _native.use(_Parts())
@@ -219,6 +224,7 @@ def decode_all(
     data: Source,
     codec_options: None = None,
     *,
+    type: Any = None,
     pairs: bool = False,
     types: Types = None,
     tz_aware: Optional[bool] = None,
@@ -232,7 +238,8 @@ def decode_all(
 ) -> List[Any]:
     """All documents of a dump, each as `decode` gives it.
 
-    The dump is an open file, or bytes. Raises BsonError at the first document
+    The dump is an open file, or bytes. With type= each is made an object of that
+    type, as by `decode`; a MismatchError ends the call. Raises BsonError at the first document
     with a fault, with the offset in the dump. With errors="skip" such a
     document is left out, and the next one follows; a call for errors is given
     the BsonError of each, and goes on. Where no document can be cut, it ends.
@@ -243,6 +250,7 @@ def decode_all(
     return _native.decode_all(
         documents(data, resync=resync),
         codec_options=codec_options,
+        type=type,
         pairs=pairs,
         types=types,
         tz_aware=tz_aware,

@@ -22,7 +22,8 @@ class Column(Sequence):  # type: ignore[type-arg]
 
     numpy.asarray and pandas take one; so does a library that reads Arrow's
     PyCapsule interface, as pyarrow.array does, without a copy of the values.
-    It can be pickled.
+    It can be pickled. An array of dates that have a time zone has objects,
+    since numpy has no zones: pandas makes a column of dates in UTC of it.
     """
 
     __slots__ = ("_parts",)
@@ -108,7 +109,12 @@ class Column(Sequence):  # type: ignore[type-arg]
         return array
 
     def __array__(self, dtype: Any = None, copy: Optional[bool] = None) -> numpy.ndarray[Any, Any]:
-        array = self.to_numpy()
+        if dtype is None and self.kind == "datetime" and not self._parts[4]:
+            import numpy
+
+            array: numpy.ndarray[Any, Any] = numpy.array(self.to_list(), dtype=object)
+        else:
+            array = self.to_numpy()
         if dtype is not None:
             array = array.astype(dtype, copy=copy is not False)
         if copy is False and array.base is None:

@@ -9,8 +9,9 @@ from datetime import datetime, timedelta, timezone
 from functools import lru_cache
 from typing import Any, Callable, Dict, List, Mapping, Tuple
 
+from ._edit import RawDocument
 from ._native import Int64
-from ._types import BsonError, ElementType
+from ._types import BsonError, DamagedError, ElementType, LimitError
 from ._values import (
     Binary,
     Code,
@@ -33,15 +34,11 @@ def _regex(pattern: Any, flags: int) -> Regex:
     return Regex(pattern.decode() if isinstance(pattern, bytes) else pattern, flags)
 
 
-def _millis(value: datetime) -> DatetimeMS:
+def _millis(value: datetime) -> Any:
+    if value != value:  # pandas.NaT is over datetime, and is none
+        return NotImplemented
     aware = value if value.utcoffset() is not None else value.replace(tzinfo=timezone.utc)
     return DatetimeMS((aware - _EPOCH) // timedelta(milliseconds=1))
-
-
-def _raw_document(value: Any) -> Pairs:
-    from ._native import decode
-
-    return decode(value.raw, pairs=True)  # type: ignore[no-any-return]
 
 
 # Classes of MongoDB's package, by the marks that they have for one another.
@@ -55,7 +52,7 @@ _MARKED: Dict[int, Callable[[Any], Any]] = {
     18: lambda value: Int64(int(value)),
     19: lambda value: Decimal128(value.bid),
     100: lambda value: Pairs(value.as_doc().items()),
-    101: _raw_document,
+    101: lambda value: RawDocument(value.raw),
     127: lambda value: MaxKey(),
     255: lambda value: MinKey(),
 }
@@ -118,14 +115,22 @@ def convert(value: Any) -> Any:
 
 
 def placed(error: BaseException, path: List[int], keys: List[str]) -> BaseException:
-    """An error of encode that says where the value is; one that isn't of encode itself as it is."""
+    """An error of encode that says where the value is; one of other code as it is, with the place as a note where Python has notes."""
     made: BaseException
-    if type(error) is BsonError:
+    place = f"at key {'.'.join(keys)!r}"
+    if type(error) in (BsonError, DamagedError, LimitError):
+        assert isinstance(error, BsonError)
         places = (*path, *error.path), (*keys, *error.keys)
         made = BsonError(error.kind, error.reason, error.key, None, *places, *error._numbers)
-    elif type(error) in (TypeError, OverflowError) and keys:
-        made = type(error)(f"at key {'.'.join(keys)!r}: {error}")
+    elif not keys:
+        return error
+    elif type(error) in (TypeError, OverflowError):
+        made = type(error)(f"{place}: {error}")
+    elif type(error) is UnicodeEncodeError:
+        made = UnicodeEncodeError(error.encoding, error.object, error.start, error.end, f"{place}: {error.reason}")
     else:
+        if hasattr(error, "add_note"):
+            error.add_note(place)
         return error
     made.__cause__ = error.__cause__
     return made.with_traceback(error.__traceback__)
@@ -158,7 +163,7 @@ def _makers() -> Dict[int, Callable[[Any], Any]]:
         return dbref.DBRef(value.namespace, objectid.ObjectId(value.id.binary))
 
     def reference_of(value: Dict[str, Any]) -> Any:
-        if not isinstance(value["$ref"], str) or "$id" not in value:
+        if not isinstance(value["$ref"], str) or "$id" not in value or not isinstance(value.get("$db", ""), (str, type(None))):
             return value
         rest = {key: of for key, of in value.items() if key not in ("$ref", "$id", "$db")}
         return dbref.DBRef(value["$ref"], value["$id"], value.get("$db"), rest)
@@ -182,9 +187,13 @@ def _makers() -> Dict[int, Callable[[Any], Any]]:
     }
 
 
+def types_of(name: Any) -> Tuple[Any, ...]:
+    """What makes another package's values of ours, by the tags of BSON; None where ours are its own. A tuple of 256 is it already."""
+    return name if type(name) is tuple and len(name) == 256 else _types_of(name)
+
+
 @lru_cache(maxsize=None)
-def types_of(name: str) -> Tuple[Any, ...]:
-    """What makes another package's values of ours, by the tags of BSON; None where ours are its own."""
+def _types_of(name: str) -> Tuple[Any, ...]:
     if name != "bson":
         raise ValueError(f"types is {name!r}, not None or 'bson'")
     try:

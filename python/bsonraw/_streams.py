@@ -34,7 +34,7 @@ async def documents_async(reader: AsyncReader, *, max_bytes: int = 16_777_216) -
     while True:
         size = int.from_bytes(left[at : at + 4], "little", signed=True) if len(left) - at >= 4 else 0
         if size > max_bytes:
-            raise BsonError(ErrorKind.REFUSED, Reason.TOO_MANY_BYTES, offset=before + at)
+            raise BsonError(ErrorKind.REFUSED, Reason.TOO_MANY_BYTES, offset=before + at, number=max_bytes)
         if 5 <= size <= len(left) - at:
             yield before + at, bytes(left[at : at + size])
             at += size

@@ -108,13 +108,17 @@ class Cause(IntEnum):
 
 _REFUSALS = {
     Reason.INTERIOR_NUL: "a 0 in a key, a pattern or options",
-    Reason.TOO_LONG: "document too long",
-    Reason.TOO_MANY_BYTES: "more bytes than allowed",
-    Reason.TOO_DEEP: "deeper than allowed",
+    Reason.TOO_LONG: "document too long: over {} bytes",
+    Reason.TOO_MANY_BYTES: "more bytes than allowed: max_bytes is {}",
+    Reason.TOO_DEEP: "deeper than allowed: max_depth is {}",
 }
 
 
-class BsonError(ValueError):
+class BSONError(Exception):
+    """What MongoDB's package has its errors under, and ours are, too."""
+
+
+class BsonError(BSONError, ValueError):
     """Why bytes couldn't be read, or a document not be written.
 
     kind: what kind of fault it is.
@@ -126,6 +130,9 @@ class BsonError(ValueError):
     from 0; where no element could be read, how many are before.
     keys: the same path by keys, and by numbers in arrays, for find; of a
     repeated key find goes to the first.
+
+    Damaged bytes raise a DamagedError, and a document with more bytes or levels
+    than allowed a LimitError, which says the limit.
     """
 
     kind: ErrorKind
@@ -134,6 +141,11 @@ class BsonError(ValueError):
     offset: Optional[int]
     path: Tuple[int, ...]
     keys: Tuple[str, ...]
+
+    def __new__(cls, kind: int, reason: Optional[int] = None, *parts: Any, **named: Any) -> BsonError:
+        if cls is BsonError:
+            cls = DamagedError if kind != ErrorKind.REFUSED else LimitError if reason != Reason.INTERIOR_NUL else BsonError
+        return super().__new__(cls, kind, reason, *parts)  # type: ignore[call-arg]
 
     def __init__(
         self,
@@ -154,7 +166,7 @@ class BsonError(ValueError):
         self.keys = keys
         self._numbers = (number, left)
         if self.reason in _REFUSALS:
-            text = _REFUSALS[self.reason]
+            text = _REFUSALS[self.reason].format(number)
         else:
             text = fault_text(self.reason or 0, number, left)
         if keys or key is not None:
@@ -163,10 +175,23 @@ class BsonError(ValueError):
             text = f"at offset {offset}: {text}"
         super().__init__(text)
 
+    def behind(self, offset: int) -> BsonError:
+        """The same error in a dump, in which the document begins there."""
+        at = offset + (self.offset or 0)
+        return type(self)(self.kind, self.reason, self.key, at, self.path, self.keys, *self._numbers)
+
     def __reduce__(self) -> Tuple[Any, ...]:
         beside = {name: of for name, of in vars(self).items() if name != "_numbers" and name not in BsonError.__annotations__}
         parts = (self.kind, self.reason, self.key, self.offset, self.path, self.keys, *self._numbers)
         return type(self), parts, beside or None
+
+
+class DamagedError(BsonError):
+    """Why bytes are no document, or where a document is damaged."""
+
+
+class LimitError(BsonError):
+    """Why a document is refused that has more bytes or levels than allowed: its text says the limit."""
 
 
 class Breach(NamedTuple):

@@ -7,14 +7,15 @@ import operator
 import os
 import re
 import struct
-import threading
 import time as clock
 import uuid as uuids
 from datetime import datetime, timedelta, timezone
 from decimal import ROUND_HALF_EVEN, Context, Decimal, Inexact, InvalidOperation, Overflow
-from typing import Any, Callable, List, Mapping, Optional, Sequence, Tuple, Union
+from itertools import count
+from typing import Any, Callable, Iterator, List, Mapping, Optional, Sequence, Tuple, Union
 
 from ._native import Pair, Raw
+from ._types import BSONError
 
 _EPOCH = datetime(1970, 1, 1, tzinfo=timezone.utc)
 _PARTS = ("_subtype", "_scope")  # attributes that are made of what a class is called with
@@ -79,21 +80,22 @@ class Symbol(str):
 
 
 class _Counter:
-    """What new ids have behind their time: five bytes of a process, and a number that each raises by one."""
+    """What new ids have behind their time: five bytes of a process, and a number that each raises by one.
+
+    It has no lock: a fork while another thread holds one would leave it locked in the child. next() of a count is one step.
+    """
 
     def __init__(self) -> None:
-        self.lock = threading.Lock()
-        self.pid = -1
-        self.of_process = b""
-        self.number = 0
+        self.begun = self.begin()
+
+    def begin(self) -> Tuple[int, bytes, Iterator[int]]:
+        self.begun = begun = os.getpid(), os.urandom(5), count(int.from_bytes(os.urandom(3), "big"))
+        return begun
 
     def next(self) -> bytes:
-        with self.lock:
-            if self.pid != os.getpid():
-                self.pid, self.of_process = os.getpid(), os.urandom(5)
-                self.number = int.from_bytes(os.urandom(3), "big")
-            self.number = (self.number + 1) % (1 << 24)
-            return self.of_process + self.number.to_bytes(3, "big")
+        begun = self.begun
+        _, of_process, numbers = begun if begun[0] == os.getpid() else self.begin()
+        return of_process + (next(numbers) % (1 << 24)).to_bytes(3, "big")
 
 
 _counter = _Counter()
@@ -125,6 +127,10 @@ class _Ordered(Raw):
         return self._ordered(other, operator.ge)
 
 
+class InvalidId(BSONError, ValueError):
+    """A text or bytes that no id is made of."""
+
+
 class ObjectId(_Ordered):
     """An id of twelve bytes: a new one, or from the bytes or their 24 digits in hex. In order by the bytes."""
 
@@ -138,9 +144,12 @@ class ObjectId(_Ordered):
         parts = _parts_of(oid, 7, ["binary"])
         if parts is not None:
             (oid,) = parts
-        raw = bytes.fromhex(oid) if isinstance(oid, str) else _bytes_of(oid, "an ObjectId")
+        try:
+            raw = bytes.fromhex(oid) if isinstance(oid, str) else _bytes_of(oid, "an ObjectId")
+        except ValueError:
+            raw = b""
         if len(raw) != 12 or (isinstance(oid, str) and len(oid) != 24):
-            raise ValueError(f"an ObjectId has 12 bytes, or 24 digits in hex, not {oid!r}")
+            raise InvalidId(f"an ObjectId has 12 bytes, or 24 digits in hex, not {oid!r}")
         return super().__new__(cls, raw)
 
     @classmethod
@@ -484,9 +493,8 @@ class DBPointer(Pair):
 
 
 class _Only:
-    """A value of which there is one."""
+    """A value of which there is one. It has a dict, so that the collector sees that it and its class keep each other."""
 
-    __slots__ = ()
     _only: Any = None
 
     def __new__(cls) -> Any:
@@ -504,13 +512,10 @@ class _Only:
 class Undefined(_Only):
     """The value undefined, of old."""
 
-    __slots__ = ()
-
 
 class _End(_Only):
     """One end of the order of all values."""
 
-    __slots__ = ()
     _type_marker = 0
 
     def __eq__(self, other: object) -> bool:
@@ -523,7 +528,6 @@ class _End(_Only):
 class MinKey(_End):
     """The value below all others."""
 
-    __slots__ = ()
     _type_marker = 255
 
     def __lt__(self, other: object) -> bool:
@@ -542,7 +546,6 @@ class MinKey(_End):
 class MaxKey(_End):
     """The value above all others."""
 
-    __slots__ = ()
     _type_marker = 127
 
     def __lt__(self, other: object) -> bool:

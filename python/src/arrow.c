@@ -133,9 +133,8 @@ static int parts_read(struct parts *parts, PyObject *args) {
 /* listed(.., first, behind): the values of these places. */
 PyObject *py_listed(PyObject *module, PyObject *args) {
     struct parts parts;
-    (void)module;
     if (parts_read(&parts, args) < 0) return NULL;
-    return typed_list(&parts.typed, (size_t)parts.first, (size_t)parts.behind, parts.is_naive);
+    return typed_list(state_of(module), &parts.typed, (size_t)parts.first, (size_t)parts.behind, parts.is_naive);
 }
 
 /* A bit for each bool, the lowest first, as Arrow has them. */

@@ -6,36 +6,34 @@
 static const uint8_t nothing[1] = {0}; /* where no bytes are */
 
 /* Whether an object's bytes are those of a bytes object, which nobody writes. */
-static int is_of_bytes(PyObject *data) {
-    static PyObject *name;
+static int is_of_bytes(const struct state *state, PyObject *data) {
     PyObject *owner;
     int is_bytes;
     if (Py_TYPE(data) != &PyMemoryView_Type) return 0;
-    if (name == NULL && (name = PyUnicode_InternFromString("obj")) == NULL) return 0;
-    owner = PyObject_GetAttr(data, name);
+    owner = PyObject_GetAttr(data, state->names.obj);
     if (owner == NULL) return 0;
     is_bytes = PyBytes_CheckExact(owner);
     Py_DECREF(owner);
     return is_bytes;
 }
 
-int bytes_open_as_they_are(struct bytes *bytes, PyObject *data) {
-    if (PyBytes_CheckExact(data)) return bytes_open(bytes, data);
+int bytes_open_as_they_are(const struct state *state, struct bytes *bytes, PyObject *data) {
+    if (PyBytes_CheckExact(data)) return bytes_open(state, bytes, data);
     bytes->copy = NULL;
     bytes->has_view = 0;
     if (PyObject_GetBuffer(data, &bytes->view, PyBUF_SIMPLE) < 0) return -1;
     bytes->has_view = 1;
     bytes->len = (size_t)bytes->view.len;
     bytes->at = bytes->len == 0 ? nothing : bytes->view.buf;
-    bytes->is_fixed = is_of_bytes(data);
+    bytes->is_fixed = is_of_bytes(state, data);
     if (bytes->is_fixed || !PyErr_Occurred()) return 0;
     bytes_close(bytes);
     return -1;
 }
 
-int bytes_open_view(struct bytes *bytes, PyObject *data) {
+int bytes_open_view(const struct state *state, struct bytes *bytes, PyObject *data) {
     PyObject *copy;
-    if (bytes_open_as_they_are(bytes, data) < 0) return -1;
+    if (bytes_open_as_they_are(state, bytes, data) < 0) return -1;
     if (bytes->is_fixed) return 0;
     copy = PyBytes_FromStringAndSize((const char *)bytes->at, (Py_ssize_t)bytes->len);
     bytes_close(bytes);
@@ -61,27 +59,25 @@ static void let_others_run(struct breath *breath) {
     Py_END_ALLOW_THREADS
 }
 
-int breathe(struct breath *breath, size_t len) {
+int breathe(struct state *state, struct breath *breath, size_t len) {
     int was_held, status;
     breath->unheard += len;
     if (breath->unheard <= LET_GO_OVER) return 0;
     breath->unheard = 0;
-    was_held = collector_pause();
+    was_held = collector_pause(state);
     let_others_run(breath);
     status = PyErr_CheckSignals();
-    collector_resume(was_held);
+    collector_resume(state, was_held);
     return status;
 }
 
-PyTypeObject *type_not_called(PyType_Spec *spec) {
-    PyTypeObject *type = (PyTypeObject *)PyType_FromSpec(spec);
+PyTypeObject *type_not_called(PyObject *module, PyType_Spec *spec) {
+    PyTypeObject *type = type_new(module, spec, NULL);
 #if PY_VERSION_HEX < 0x030A0000
     if (type != NULL) type->tp_new = NULL;
 #endif
     return type;
 }
-
-static PyTypeObject *source_type;
 
 static void source_dealloc(PyObject *self) {
     Source *source = (Source *)self;
@@ -107,14 +103,18 @@ static int source_traverse(PyObject *self, visitproc visit, void *arg) {
 static PyType_Slot source_slots[] = {{Py_tp_dealloc, source_dealloc}, {Py_tp_traverse, source_traverse}, {0, NULL}};
 static PyType_Spec source_spec = {"bsonraw._native.Source", sizeof(Source), 0, NOT_CALLED | Py_TPFLAGS_HAVE_GC, source_slots};
 
-static Source *source_new(PyObject *data, int open_it(struct bytes *, PyObject *)) {
-    Source *source;
-    if (source_type == NULL && (source_type = type_not_called(&source_spec)) == NULL) return NULL;
-    source = PyObject_GC_New(Source, source_type);
+int sources_add(PyObject *module) {
+    struct state *state = state_of(module);
+    return (state->classes.source = type_not_called(module, &source_spec)) == NULL ? -1 : 0;
+}
+
+static Source *source_new(struct state *state, PyObject *data, int open_it(const struct state *, struct bytes *, PyObject *)) {
+    Source *source = PyObject_GC_New(Source, state->classes.source);
     if (source == NULL) return NULL;
+    source->state = state;
     source->view = NULL;
     source->data = NULL;
-    if (open_it(&source->bytes, data) < 0) {
+    if (open_it(state, &source->bytes, data) < 0) {
         source->bytes.has_view = 0;
         source->bytes.copy = NULL;
         Py_DECREF(source);
@@ -125,11 +125,11 @@ static Source *source_new(PyObject *data, int open_it(struct bytes *, PyObject *
     return source;
 }
 
-Source *source_of(PyObject *data) { return source_new(data, bytes_open_view); }
+Source *source_of(struct state *state, PyObject *data) { return source_new(state, data, bytes_open_view); }
 
 /* Bytes objects, and views of them, are in no cycle, so the collector hears of other objects alone. */
-Source *source_as_it_is(PyObject *data) {
-    Source *source = source_new(data, bytes_open_as_they_are);
+Source *source_as_it_is(struct state *state, PyObject *data) {
+    Source *source = source_new(state, data, bytes_open_as_they_are);
     if (source != NULL && !source->bytes.is_fixed) PyObject_GC_Track((PyObject *)source);
     return source;
 }

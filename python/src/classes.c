@@ -1,9 +1,6 @@
 /* The classes of values: two plain ones in C, over which the package defines the rest in Python. */
 #include "native.h"
 
-struct classes classes;
-static PyTypeObject *raw_type, *pair_type;
-
 /* ---- Raw: up to sixteen bytes ---- */
 
 PyObject *raw_new(PyTypeObject *type, const uint8_t *bytes, uint8_t len) {
@@ -29,8 +26,7 @@ static PyObject *raw_tp_new(PyTypeObject *type, PyObject *args, PyObject *names)
     return raw_new(type, (const uint8_t *)bytes, (uint8_t)len);
 }
 
-/* Frees an object, whose class may be one over ours with a dict of its own. */
-static void free_object(PyObject *self) {
+void free_object(PyObject *self) {
     PyTypeObject *type = Py_TYPE(self);
     freefunc free_it;
     void *slot = PyType_GetSlot(type, Py_tp_free);
@@ -59,14 +55,12 @@ static int has_mark_of(PyObject *self, PyObject *other, PyObject *name) {
 
 /* The comparison with a value of another class: that with what the package makes of it, where it has the same of MongoDB's marks. */
 static PyObject *compare_marked(PyObject *self, PyObject *other, int how, richcmpfunc compare) {
-    static PyObject *name;
+    struct state *state = state_of_object(self);
     PyObject *made, *result;
-    int is_same;
-    if (name == NULL && (name = PyUnicode_InternFromString("_type_marker")) == NULL) return NULL;
-    is_same = classes.convert == NULL ? 0 : has_mark_of(self, other, name);
+    int is_same = state == NULL || state->classes.convert == NULL ? 0 : has_mark_of(self, other, state->names.marker);
     if (is_same < 0) return NULL;
     if (is_same == 0) Py_RETURN_NOTIMPLEMENTED;
-    made = PyObject_CallFunctionObjArgs(classes.convert, other, NULL);
+    made = PyObject_CallFunctionObjArgs(state->classes.convert, other, NULL);
     if (made == NULL && clear_unread() < 0) return NULL; /* it lacks a part, or has one such as a pattern that isn't UTF-8 */
     if (made == NULL) Py_RETURN_NOTIMPLEMENTED;
     if (Py_TYPE(made) == Py_TYPE(self)) result = compare(self, made, how);
@@ -179,14 +173,16 @@ static PyType_Spec pair_spec = {"bsonraw._native.Pair", sizeof(Pair), 0,
 
 /* ---- Int64: an int ---- */
 
-/* How many bytes an int has without its digits, and a digit. */
+/* How many bytes an int has without its digits, and a digit: the same in each interpreter of a process. */
 static size_t int_size, digit_size;
 
 static int size_of(const char *name, size_t *size) {
     PyObject *number = PyObject_GetAttrString((PyObject *)&PyLong_Type, name);
-    *size = number == NULL ? 0 : PyLong_AsSize_t(number);
+    size_t found = number == NULL ? 0 : PyLong_AsSize_t(number);
     Py_XDECREF(number);
-    return PyErr_Occurred() ? -1 : 0;
+    if (PyErr_Occurred()) return -1;
+    if (*size != found) *size = found;
+    return 0;
 }
 
 /* What int's own allocation does, for a class that the collector has no part in. */
@@ -198,7 +194,7 @@ static PyObject *int64_alloc(PyTypeObject *type, Py_ssize_t digits) {
 
 static void int64_dealloc(PyObject *self) {
     PyTypeObject *type = Py_TYPE(self);
-    if (type != classes.int64) {
+    if (PyType_HasFeature(type, Py_TPFLAGS_HAVE_GC)) { /* of a class over it that has a dict */
         free_object(self);
         return;
     }
@@ -215,10 +211,12 @@ static PyObject *int64_repr(PyObject *self) {
 }
 
 static PyObject *int64_reduce(PyObject *self, PyObject *unused) {
+    struct state *state = state_of_object(self);
     PyObject *number = PyNumber_Long(self), *reduced = NULL;
     (void)unused;
-    if (number != NULL && Py_TYPE(self) == classes.int64) reduced = Py_BuildValue("O(O)", (PyObject *)classes.int64, number);
-    else if (number != NULL) reduced = PyObject_CallFunctionObjArgs(classes.again, self, (PyObject *)classes.int64, number, NULL);
+    if (state == NULL) PyErr_SetString(PyExc_TypeError, "this class hides what Int64 keeps in _native");
+    else if (number != NULL && Py_TYPE(self) == state->classes.int64) reduced = Py_BuildValue("O(O)", (PyObject *)Py_TYPE(self), number);
+    else if (number != NULL) reduced = PyObject_CallFunctionObjArgs(state->classes.again, self, (PyObject *)state->classes.int64, number, NULL);
     Py_XDECREF(number);
     return reduced;
 }
@@ -239,79 +237,101 @@ static PyType_Slot int64_slots[] = {{Py_tp_alloc, int64_alloc},     {Py_tp_deall
                                     {0, NULL}};
 static PyType_Spec int64_spec = {"bsonraw.Int64", 0, 0, Py_TPFLAGS_DEFAULT | Py_TPFLAGS_BASETYPE, int64_slots};
 
-static PyTypeObject *int64_class(void) {
+static PyTypeObject *int64_class(PyObject *module) {
     PyObject *bases = size_of("__basicsize__", &int_size) < 0 || size_of("__itemsize__", &digit_size) < 0
                           ? NULL
                           : PyTuple_Pack(1, (PyObject *)&PyLong_Type);
-    PyTypeObject *type = bases == NULL ? NULL : (PyTypeObject *)PyType_FromSpecWithBases(&int64_spec, bases);
+    PyTypeObject *type = bases == NULL ? NULL : type_new(module, &int64_spec, bases);
     Py_XDECREF(bases);
     return type;
 }
 
-static int add_class(PyObject *module, const char *name, PyTypeObject *type) {
-    if (type == NULL) return -1;
-    Py_INCREF((PyObject *)type);
-    return PyModule_AddObject(module, name, (PyObject *)type);
+/* tp_new of int, or of bytes, which makes one of a class over it, too. */
+static newfunc new_of(PyTypeObject *type) {
+#ifdef Py_LIMITED_API
+    newfunc make;
+    void *slot = PyType_GetSlot(type, Py_tp_new);
+    memcpy(&make, &slot, sizeof slot);
+    return make;
+#else
+    return type->tp_new;
+#endif
 }
 
 int classes_add(PyObject *module) {
-    if (over_init() < 0) return -1;
-    if (raw_type == NULL) raw_type = (PyTypeObject *)PyType_FromSpec(&raw_spec);
-    if (pair_type == NULL) pair_type = (PyTypeObject *)PyType_FromSpec(&pair_spec);
-    if (classes.int64 == NULL) classes.int64 = int64_class();
-    if (add_class(module, "Raw", raw_type) < 0 || add_class(module, "Pair", pair_type) < 0) return -1;
-    return add_class(module, "Int64", classes.int64);
+    struct state *state = state_of(module);
+    state->new_int = new_of(&PyLong_Type);
+    state->new_bytes = new_of(&PyBytes_Type);
+    if (add_type(module, "Raw", state->classes.raw = type_new(module, &raw_spec, NULL)) < 0) return -1;
+    if (add_type(module, "Pair", state->classes.pair = type_new(module, &pair_spec, NULL)) < 0) return -1;
+    return add_type(module, "Int64", state->classes.int64 = int64_class(module));
 }
 
 /* ---- what the package hands in ---- */
 
+enum base { OF_ANY, OVER_RAW, OVER_PAIR, OVER_LAZY, OVER_INT, OVER_STR, OVER_LIST, OVER_BYTES };
+
 struct named {
     const char *name;
-    void *slot;
-    PyTypeObject **base; /* what it has to be a subclass of; NULL for any object */
+    size_t slot; /* of the classes */
+    enum base base;
 };
 
-static PyTypeObject *const int_type = &PyLong_Type;
-static PyTypeObject *const str_type = &PyUnicode_Type;
-static PyTypeObject *const list_type = &PyList_Type;
-static PyTypeObject *const bytes_type = &PyBytes_Type;
-
-#define BASE(type) ((PyTypeObject **)&(type))
+#define SLOT(member) offsetof(struct classes, member)
 
 static const struct named names[] = {
-    {"ObjectId", &classes.object_id, &raw_type},
-    {"Decimal128", &classes.decimal128, &raw_type},
-    {"Timestamp", &classes.timestamp, &raw_type},
-    {"Regex", &classes.regex, &pair_type},
-    {"Binary", &classes.binary, BASE(bytes_type)},
-    {"Code", &classes.code, BASE(str_type)},
-    {"DBPointer", &classes.db_pointer, &pair_type},
-    {"DatetimeMS", &classes.datetime_ms, BASE(int_type)},
-    {"Symbol", &classes.symbol, BASE(str_type)},
-    {"Pairs", &classes.pairs, BASE(list_type)},
-    {"Undefined", &classes.undefined_type, NULL},
-    {"MinKey", &classes.min_key_type, NULL},
-    {"MaxKey", &classes.max_key_type, NULL},
-    {"BsonError", &classes.error, NULL},
-    {"breach", &classes.breach, NULL},
-    {"again", &classes.again, NULL},
-    {"convert", &classes.convert, NULL},
-    {"placed", &classes.placed, NULL},
+    {"ObjectId", SLOT(object_id), OVER_RAW},
+    {"Decimal128", SLOT(decimal128), OVER_RAW},
+    {"Timestamp", SLOT(timestamp), OVER_RAW},
+    {"Regex", SLOT(regex), OVER_PAIR},
+    {"Binary", SLOT(binary), OVER_BYTES},
+    {"Code", SLOT(code), OVER_STR},
+    {"DBPointer", SLOT(db_pointer), OVER_PAIR},
+    {"DatetimeMS", SLOT(datetime_ms), OVER_INT},
+    {"Symbol", SLOT(symbol), OVER_STR},
+    {"Pairs", SLOT(pairs), OVER_LIST},
+    {"RawDocument", SLOT(raw_document), OVER_LAZY},
+    {"Undefined", SLOT(undefined_type), OF_ANY},
+    {"MinKey", SLOT(min_key_type), OF_ANY},
+    {"MaxKey", SLOT(max_key_type), OF_ANY},
+    {"BsonError", SLOT(error), OF_ANY},
+    {"breach", SLOT(breach), OF_ANY},
+    {"again", SLOT(again), OF_ANY},
+    {"placed", SLOT(placed), OF_ANY},
+    {"types_of", SLOT(types_of), OF_ANY},
+    {"into_of", SLOT(into_of), OF_ANY},
+    {"steps_of", SLOT(steps), OF_ANY},
+    {"REMOVE", SLOT(remove), OF_ANY},
+    {"convert", SLOT(convert), OF_ANY},
 };
 
-static int take(PyObject *namespace, const struct named *named) {
-    PyObject *found = PyObject_GetAttrString(namespace, named->name);
+/* What a class has to be over; NULL for any object. */
+static PyObject *base_of(const struct classes *classes, enum base base) {
+    switch (base) {
+    case OVER_RAW: return (PyObject *)classes->raw;
+    case OVER_PAIR: return (PyObject *)classes->pair;
+    case OVER_LAZY: return (PyObject *)classes->lazy;
+    case OVER_INT: return (PyObject *)&PyLong_Type;
+    case OVER_STR: return (PyObject *)&PyUnicode_Type;
+    case OVER_LIST: return (PyObject *)&PyList_Type;
+    case OVER_BYTES: return (PyObject *)&PyBytes_Type;
+    default: return NULL;
+    }
+}
+
+static int take(struct classes *classes, PyObject *namespace, const struct named *named) {
+    PyObject *found = PyObject_GetAttrString(namespace, named->name), *base = base_of(classes, named->base);
     if (found == NULL) return -1;
-    if (named->base != NULL && !PyObject_IsSubclass(found, (PyObject *)*named->base)) {
-        PyErr_Format(PyExc_TypeError, "%s is no class that the module can make", named->name);
+    if (base != NULL && PyObject_IsSubclass(found, base) != 1) {
+        if (!PyErr_Occurred()) PyErr_Format(PyExc_TypeError, "%s is no class that the module can make", named->name);
         Py_DECREF(found);
         return -1;
     }
-    memcpy(named->slot, &found, sizeof found); /* kept for as long as the process runs */
+    memcpy((char *)classes + named->slot, &found, sizeof found);
     return 0;
 }
 
-static int take_element_types(PyObject *namespace) {
+static int take_element_types(struct classes *classes, PyObject *namespace) {
     PyObject *types = PyObject_GetAttrString(namespace, "ElementType");
     PyObject *all = types == NULL ? NULL : PySequence_List(types);
     Py_ssize_t number, count = all == NULL ? -1 : PyList_Size(all);
@@ -321,7 +341,7 @@ static int take_element_types(PyObject *namespace) {
         long tag = PyLong_AsLong(type);
         if (tag < 0 || tag > 255) break;
         Py_INCREF(type);
-        classes.element_type[tag] = type;
+        classes->element_type[tag] = type;
     }
     Py_XDECREF(all);
     return count < 0 || number < count ? -1 : 0;
@@ -330,15 +350,15 @@ static int take_element_types(PyObject *namespace) {
 static PyObject *only(PyTypeObject *type) { return PyObject_CallObject((PyObject *)type, NULL); }
 
 PyObject *classes_use(PyObject *module, PyObject *namespace) {
+    struct classes *classes = &state_of(module)->classes;
     size_t number;
-    (void)module;
-    if (classes.convert != NULL) Py_RETURN_NONE;
+    if (classes->convert != NULL) Py_RETURN_NONE;
     for (number = 0; number < sizeof names / sizeof *names; number++)
-        if (take(namespace, &names[number]) < 0) return NULL;
-    if (take_element_types(namespace) < 0) return NULL;
-    classes.undefined = only(classes.undefined_type);
-    classes.min_key = only(classes.min_key_type);
-    classes.max_key = only(classes.max_key_type);
-    if (classes.undefined == NULL || classes.min_key == NULL || classes.max_key == NULL) return NULL;
+        if (take(classes, namespace, &names[number]) < 0) return NULL;
+    if (take_element_types(classes, namespace) < 0) return NULL;
+    classes->undefined = only(classes->undefined_type);
+    classes->min_key = only(classes->min_key_type);
+    classes->max_key = only(classes->max_key_type);
+    if (classes->undefined == NULL || classes->min_key == NULL || classes->max_key == NULL) return NULL;
     Py_RETURN_NONE;
 }

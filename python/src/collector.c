@@ -3,39 +3,39 @@
  * other threads, or code of others, may run. */
 #include "native.h"
 
-static int is_held; /* it was on, and is off */
-
 /* Not where hooks are: what they made may run code of its own when it is freed. */
 int collector_hold(const struct options *options) {
-    if (is_held || !options->is_of_dump || options->hook != NULL || options->pairs_hook != NULL) return 0;
-    collector_resume(1);
-    return is_held;
+    struct state *state = options->state;
+    if (state->is_held || !options->is_of_dump || options->hook != NULL || options->pairs_hook != NULL) return 0;
+    collector_resume(state, 1);
+    return state->is_held;
 }
 
-void collector_free(int was_held) {
+void collector_free(struct state *state, int was_held) {
 #if PY_VERSION_HEX >= 0x030A0000
-    if (was_held && is_held) PyGC_Enable();
+    if (was_held && state->is_held) PyGC_Enable();
 #endif
-    if (was_held) is_held = 0;
+    if (was_held) state->is_held = 0;
 }
 
-int collector_pause(void) {
-    int was_held = is_held;
-    collector_free(was_held);
+int collector_pause(struct state *state) {
+    int was_held = state->is_held;
+    collector_free(state, was_held);
     return was_held;
 }
 
-void collector_resume(int was_held) {
+void collector_resume(struct state *state, int was_held) {
 #if PY_VERSION_HEX >= 0x030A0000
-    if (was_held) is_held = PyGC_Disable();
+    if (was_held) state->is_held = PyGC_Disable();
 #else
+    (void)state;
     (void)was_held;
 #endif
 }
 
-PyObject *call_out(PyObject *call, PyObject *first, PyObject *second) {
-    int was_held = collector_pause();
+PyObject *call_out(struct state *state, PyObject *call, PyObject *first, PyObject *second) {
+    int was_held = collector_pause(state);
     PyObject *made = PyObject_CallFunctionObjArgs(call, first, second, NULL);
-    collector_resume(was_held);
+    collector_resume(state, was_held);
     return made;
 }

@@ -111,7 +111,7 @@ static int put_typed(const struct reading *reading, struct column *column, const
     status = typed_put(&column->typed, reading->bytes->at, token);
     if (status > 0) column->count++;
     if (status != 0) return status;
-    column->values = typed_list(&column->typed, 0, column->typed.count, reading->options->is_naive);
+    column->values = typed_list(reading->options->state, &column->typed, 0, column->typed.count, reading->options->is_naive);
     typed_free(&column->typed);
     return column->values == NULL ? -1 : 0;
 }
@@ -218,7 +218,7 @@ static int take_paths(const struct reading *reading, uint64_t before) {
     int status;
     if (tokens_read(&tokens, reading->bytes, reading->options, before) < 0) return -1;
     status = take_level(reading, &reading->to->first, tokens.at, tokens.at + tokens.count, 0);
-    tokens_free(&tokens);
+    tokens_free(reading->options->state, &tokens);
     return status;
 }
 
@@ -235,10 +235,10 @@ static int take_into_columns(void *to, const struct bytes *document, const struc
 }
 
 /* What a column is in the end: its list, or the parts of a Column; where it has no value, a list. */
-static PyObject *column_end(struct column *column) {
+static PyObject *column_end(const struct state *state, struct column *column) {
     struct typed *typed = &column->typed;
     if (column->values != NULL) return itself(column->values);
-    return typed->kind == OF_NOTHING ? typed_list(typed, 0, typed->count, 0) : typed_parts(typed);
+    return typed->kind == OF_NOTHING ? typed_list(state, typed, 0, typed->count, 0) : typed_parts(typed);
 }
 
 /* The columns by their keys. */
@@ -247,7 +247,7 @@ static PyObject *columns_end(struct columns *columns) {
     size_t number;
     for (number = 0; ended != NULL && number < columns->count; number++) {
         struct column *column = &columns->at[number];
-        PyObject *values = pad(column, columns->document, columns->options->missing) < 0 ? NULL : column_end(column);
+        PyObject *values = pad(column, columns->document, columns->options->missing) < 0 ? NULL : column_end(columns->options->state, column);
         typed_free(&column->typed);
         if (values == NULL || PyDict_SetItem(ended, column->key, values) < 0) Py_CLEAR(ended);
         Py_XDECREF(values);
@@ -278,7 +278,6 @@ static PyObject *columns_of(Documents *all, const struct options *options) {
 CALL(py_columns) {
     struct options options;
     PyObject *documents;
-    (void)module;
-    if (options_read(&OF_COLUMNS, &options, &documents, args, count, names) < 0) return NULL;
+    if (options_read(module, &OF_COLUMNS, &options, &documents, args, count, names) < 0) return NULL;
     return made_of(documents, &options, columns_of);
 }

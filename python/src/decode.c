@@ -1,6 +1,31 @@
 /* Python values of tokens. */
 #include "native.h"
 
+/* ---- what is kept of keys ---- */
+
+/* The texts of keys of up to 255 bytes are kept, in sets of two slots: the last two keys that were put there, the last one
+ * first. Each slot is a line of the processor's cache. */
+#define SETS 1024
+#define MIDDLE 36
+#define MOST_IN_SLOT (8 + MIDDLE + 8)
+#define MOST 255
+#define SELDOM 8 /* into a set that is full, one of so many new keys is put, so that keys that never come again cost little */
+#define MANY_NEW 64     /* behind so many keys in a row that aren't kept */
+#define LOOKED_UP 16    /* one of so many is looked up, until one is kept */
+
+struct slot {
+    PyObject *text;
+    uint64_t front; /* the first eight bytes; of a shorter key its bytes come last, behind 0 */
+    uint64_t end;   /* the last eight bytes of a key of over eight */
+    uint32_t len;   /* 0 where no key is here */
+    uint8_t middle[MIDDLE]; /* of a key of 17 to 52 the bytes from the ninth on; of a longer one the address of all, in its text */
+};
+
+struct tables {
+    struct slot slots[SETS][2];
+    struct letters letters;
+};
+
 /* ---- texts ---- */
 
 static int is_ascii(const uint8_t *at, size_t len) {
@@ -16,10 +41,9 @@ static int is_ascii(const uint8_t *at, size_t len) {
 
 #define COPIED 64
 
-/* The copy of a text of eight to so many bytes, which begins at a multiple of eight; NULL where it isn't ASCII. Python's decoder would go one by
+/* Makes a copy of a text of eight to so many bytes, which begins at a multiple of eight. Whether it is ASCII. Python's decoder would go one by
  * one through those in front of one. */
-INLINE const uint8_t *ascii_copy(const uint8_t *at, size_t len) {
-    static uint64_t copy[COPIED / 8];
+INLINE int ascii_copy(uint64_t copy[COPIED / 8], const uint8_t *at, size_t len) {
     uint64_t eight = (uint64_t)le_i64(at + len - 8), all = eight;
     size_t done;
     memcpy((uint8_t *)copy + len - 8, &eight, 8);
@@ -27,55 +51,40 @@ INLINE const uint8_t *ascii_copy(const uint8_t *at, size_t len) {
         all |= eight = (uint64_t)le_i64(at + done);
         memcpy((uint8_t *)copy + done, &eight, 8);
     }
-    return (all & HIGHS) == 0 ? (const uint8_t *)copy : NULL;
+    return (all & HIGHS) == 0;
 }
 
 INLINE PyObject *ascii_text(const void *at, size_t len) { return PyUnicode_DecodeUTF8(at, (Py_ssize_t)len, "strict"); }
 
 /* Raises UnicodeDecodeError where the bytes aren't UTF-8. */
-static PyObject *utf8(const uint8_t *at, size_t len) {
-    const uint8_t *ascii = len >= 8 && len <= COPIED ? ascii_copy(at, len) : is_ascii(at, len) ? at : NULL;
-    return ascii == NULL ? letters_text(at, len) : ascii_text(ascii, len);
+static PyObject *utf8(const struct state *state, const uint8_t *at, size_t len) {
+    if (len >= 8 && len <= COPIED) {
+        uint64_t copy[COPIED / 8];
+        if (ascii_copy(copy, at, len)) return ascii_text(copy, len);
+    } else if (is_ascii(at, len)) {
+        return ascii_text(at, len);
+    }
+    return letters_text(&state->tables->letters, at, len);
 }
 
 /* ---- keys ---- */
 
-/* The texts of keys of up to 255 bytes are kept, in sets of two slots: the last two keys that were put there, the last one
- * first. Each slot is a line of the processor's cache. */
-#define SETS 1024
-#define MIDDLE 36
-#define MOST_IN_SLOT (8 + MIDDLE + 8)
-#define MOST 255
-#define SELDOM 8 /* into a set that is full, one of so many new keys is put, so that keys that never come again cost little */
-#define MANY_NEW 64     /* behind so many keys in a row that aren't kept */
-#define LOOKED_UP 16    /* one of so many is looked up, until one is kept */
-
-static struct slot {
-    PyObject *text;
-    uint64_t front; /* the first eight bytes; of a shorter key its bytes come last, behind 0 */
-    uint64_t end;   /* the last eight bytes of a key of over eight */
-    uint32_t len;   /* 0 where no key is here */
-    uint8_t middle[MIDDLE]; /* of a key of 17 to 52 the bytes from the ninth on; of a longer one the address of all, in its text */
-} slots[SETS][2] IN_LINES;
-
-static unsigned in_a_row; /* how many keys, up to the last one, weren't kept */
-
 /* Whether the next key isn't looked up. */
-static inline int is_passed_over(void) { return in_a_row >= MANY_NEW && ++in_a_row % LOOKED_UP != 0; }
+static inline int is_passed_over(struct state *state) { return state->in_a_row >= MANY_NEW && ++state->in_a_row % LOOKED_UP != 0; }
 
 #define ODD 0x9E3779B97F4A7C15u
 
 /* What is behind a key of one to eight bytes goes out of its front. */
 static inline uint64_t front_of(uint64_t eight, size_t len) { return eight << (64 - 8 * len); }
 
-static inline struct slot *set_of_short(uint64_t front) { return slots[front * ODD >> 54]; }
+static inline struct slot *set_of_short(const struct state *state, uint64_t front) { return state->tables->slots[front * ODD >> 54]; }
 
-static inline struct slot *set_of_long(uint64_t front, uint64_t end, const uint8_t *at, size_t len) {
+static inline struct slot *set_of_long(const struct state *state, uint64_t front, uint64_t end, const uint8_t *at, size_t len) {
     uint64_t hash = front * ODD;
     size_t done;
     for (done = 8; done + 8 < len; done += 8) hash = (hash ^ hash >> 32 ^ (uint64_t)le_i64(at + done)) * ODD;
     hash = (hash ^ hash >> 32 ^ end) * ODD;
-    return slots[hash >> 54];
+    return state->tables->slots[hash >> 54];
 }
 
 static inline int is_in(const struct slot *slot, uint64_t front, uint64_t end, const uint8_t *at, size_t len) {
@@ -103,12 +112,11 @@ static int slot_fill(struct slot *slot, PyObject *text, uint64_t front, uint64_t
 }
 
 /* The text of a key that isn't kept, which may be put into its set. */
-NOT_INLINE PyObject *new_key(struct slot *set, const uint8_t *at, size_t len, uint64_t front, uint64_t end) {
-    static unsigned seldom;
+NOT_INLINE PyObject *new_key(struct state *state, struct slot *set, const uint8_t *at, size_t len, uint64_t front, uint64_t end) {
     struct slot new = {0};
-    PyObject *old, *text = utf8(at, len);
-    in_a_row++;
-    if (text == NULL || (set[1].text != NULL && ++seldom % SELDOM != 0)) return text;
+    PyObject *old, *text = utf8(state, at, len);
+    state->in_a_row++;
+    if (text == NULL || (set[1].text != NULL && ++state->seldom % SELDOM != 0)) return text;
     if (slot_fill(&new, text, front, end, at, len) < 0) {
         Py_DECREF(text);
         return NULL;
@@ -121,152 +129,162 @@ NOT_INLINE PyObject *new_key(struct slot *set, const uint8_t *at, size_t len, ui
     return text;
 }
 
-INLINE PyObject *short_key(const uint8_t *at, size_t len) {
+INLINE PyObject *short_key(struct state *state, const uint8_t *at, size_t len) {
     uint64_t front = front_of((uint64_t)le_i64(at), len);
-    struct slot *set = set_of_short(front), *slot = set;
+    struct slot *set = set_of_short(state, front), *slot = set;
     if ((slot->front != front || slot->len != len) && ((++slot)->front != front || slot->len != len))
-        return new_key(set, at, len, front, 0);
-    in_a_row = 0;
+        return new_key(state, set, at, len, front, 0);
+    state->in_a_row = 0;
     Py_INCREF(slot->text);
     return slot->text;
 }
 
-INLINE PyObject *long_key(const uint8_t *at, size_t len) {
+INLINE PyObject *long_key(struct state *state, const uint8_t *at, size_t len) {
     uint64_t front = (uint64_t)le_i64(at), end = (uint64_t)le_i64(at + len - 8);
-    struct slot *set = set_of_long(front, end, at, len), *slot = set;
-    if (!is_in(slot, front, end, at, len) && !is_in(++slot, front, end, at, len)) return new_key(set, at, len, front, end);
-    in_a_row = 0;
+    struct slot *set = set_of_long(state, front, end, at, len), *slot = set;
+    if (!is_in(slot, front, end, at, len) && !is_in(++slot, front, end, at, len)) return new_key(state, set, at, len, front, end);
+    state->in_a_row = 0;
     Py_INCREF(slot->text);
     return slot->text;
 }
 
 /* A key of one to seven bytes near the end of all bytes. */
-NOT_INLINE PyObject *last_key(const uint8_t *at, size_t len) {
+NOT_INLINE PyObject *last_key(struct state *state, const uint8_t *at, size_t len) {
     uint8_t bytes[8] = {0};
     memcpy(bytes, at, len);
-    return short_key(bytes, len);
+    return short_key(state, bytes, len);
 }
 
 /* The text of a key, from whose first byte on so many are left, to the end of all bytes. */
-INLINE PyObject *key_at(const uint8_t *at, size_t len, size_t left) {
-    if (len - 1 >= MOST || is_passed_over()) return utf8(at, len);
-    if (len > 8) return long_key(at, len);
-    return left >= 8 ? short_key(at, len) : last_key(at, len);
+INLINE PyObject *key_at(struct state *state, const uint8_t *at, size_t len, size_t left) {
+    if (len - 1 >= MOST || is_passed_over(state)) return utf8(state, at, len);
+    if (len > 8) return long_key(state, at, len);
+    return left >= 8 ? short_key(state, at, len) : last_key(state, at, len);
 }
 
-PyObject *key_of(const uint8_t *at, size_t len) { return key_at(at, len, 0); }
+PyObject *key_of(struct state *state, const uint8_t *at, size_t len) { return key_at(state, at, len, 0); }
+
+#define LINE 64
+
+int tables_init(struct state *state) {
+    state->tables_memory = PyMem_Calloc(1, sizeof *state->tables + LINE);
+    if (state->tables_memory == NULL) {
+        PyErr_NoMemory();
+        return -1;
+    }
+    state->tables = (struct tables *)(((uintptr_t)state->tables_memory + LINE - 1) / LINE * LINE);
+    letters_init(&state->tables->letters);
+    return 0;
+}
+
+void tables_clear(struct state *state) {
+    size_t set, slot;
+    for (set = 0; state->tables != NULL && set < SETS; set++)
+        for (slot = 0; slot < 2; slot++) {
+            PyObject *text = state->tables->slots[set][slot].text;
+            memset(&state->tables->slots[set][slot], 0, sizeof(struct slot));
+            Py_XDECREF(text);
+        }
+}
 
 /* ---- values without others inside ---- */
 
 /* The text of a string: its length in 4, the text and a 0. */
-INLINE PyObject *string_of(const uint8_t *at, size_t len) { return utf8(at + 4, len - 5); }
+INLINE PyObject *string_of(const struct state *state, const uint8_t *at, size_t len) { return utf8(state, at + 4, len - 5); }
 
-/* int's tp_new, which makes one of a class over int, too. */
-static newfunc int_new(void) {
-#ifdef Py_LIMITED_API
-    newfunc make;
-    void *slot = PyType_GetSlot(&PyLong_Type, Py_tp_new);
-    memcpy(&make, &slot, sizeof slot);
-    return make;
-#else
-    return PyLong_Type.tp_new;
-#endif
-}
-
-/* One tuple for the argument is kept for the next call. It is taken where nobody else has it. */
-static PyObject *int64_of(int64_t number) {
-    static newfunc make;
-    static PyObject *kept;
-    PyObject *value, *plain = PyLong_FromLongLong(number), *args = kept;
+/* An Int64, by int's tp_new. One tuple for the argument is kept for the next call. It is taken where nobody else has it. */
+static PyObject *int64_of(struct state *state, int64_t number) {
+    PyObject *value, *plain = PyLong_FromLongLong(number), *args = state->classes.int64_args;
     if (plain == NULL) return NULL;
     if (args == NULL || Py_REFCNT(args) > 1) args = PyTuple_New(1);
-    else kept = NULL;
+    else state->classes.int64_args = NULL;
     if (args == NULL) Py_DECREF(plain);
     if (args == NULL || PyTuple_SetItem(args, 0, plain) < 0) {
         Py_XDECREF(args);
         return NULL;
     }
-    if (make == NULL) make = int_new();
-    value = make(classes.int64, args, NULL);
-    if (kept == NULL) kept = args;
+    value = state->new_int(state->classes.int64, args, NULL);
+    if (state->classes.int64_args == NULL) state->classes.int64_args = args;
     else Py_DECREF(args);
     return value;
 }
 
-static PyObject *binary_of(const uint8_t *at, size_t len) {
+static PyObject *binary_of(struct state *state, const uint8_t *at, size_t len) {
     size_t head = at[4] == 2 ? 9 : 5;
-    if (at[4] != 0) return binary_new(at + head, len - head, at[4]);
+    if (at[4] != 0) return binary_new(state, at + head, len - head, at[4]);
     return PyBytes_FromStringAndSize((const char *)at + 5, (Py_ssize_t)(len - 5));
 }
 
-static PyObject *regex_of(const uint8_t *at, size_t len) {
+static PyObject *regex_of(struct state *state, const uint8_t *at, size_t len) {
     size_t end = strlen((const char *)at);
-    PyObject *pattern = utf8(at, end), *options = pattern == NULL ? NULL : utf8(at + end + 1, len - end - 2);
-    return pair_new(classes.regex, pattern, options);
+    PyObject *pattern = utf8(state, at, end), *options = pattern == NULL ? NULL : utf8(state, at + end + 1, len - end - 2);
+    return pair_new(state->classes.regex, pattern, options);
 }
 
-static PyObject *pointer_of(const uint8_t *at, size_t len) {
-    PyObject *name = string_of(at, len - 12), *id = name == NULL ? NULL : raw_new(classes.object_id, at + len - 12, 12);
-    return pair_new(classes.db_pointer, name, id);
+static PyObject *pointer_of(struct state *state, const uint8_t *at, size_t len) {
+    PyObject *name = string_of(state, at, len - 12), *id = name == NULL ? NULL : raw_new(state->classes.object_id, at + len - 12, 12);
+    return pair_new(state->classes.db_pointer, name, id);
 }
 
-static PyObject *code_of(const uint8_t *at, size_t len) {
+static PyObject *code_of(struct state *state, const uint8_t *at, size_t len) {
     Py_INCREF(Py_None);
-    return code_new(string_of(at, len), Py_None);
+    return code_new(state, string_of(state, at, len), Py_None);
 }
 
-static PyObject *symbol_of(const uint8_t *at, size_t len) {
-    PyObject *text = string_of(at, len);
-    PyObject *symbol = text == NULL ? NULL : PyObject_CallFunctionObjArgs((PyObject *)classes.symbol, text, NULL);
+static PyObject *symbol_of(struct state *state, const uint8_t *at, size_t len) {
+    PyObject *text = string_of(state, at, len);
+    PyObject *symbol = text == NULL ? NULL : PyObject_CallFunctionObjArgs((PyObject *)state->classes.symbol, text, NULL);
     Py_XDECREF(text);
     return symbol;
 }
 
 /* A value of one of the kinds that are rare. */
-NOT_INLINE PyObject *rare_of(uint32_t tag, const uint8_t *at, size_t len) {
+NOT_INLINE PyObject *rare_of(struct state *state, uint32_t tag, const uint8_t *at, size_t len) {
     switch (tag) {
-    case BSONRAW_TAG_UNDEFINED: return itself(classes.undefined);
-    case BSONRAW_TAG_REGEX: return regex_of(at, len);
-    case BSONRAW_TAG_DB_POINTER: return pointer_of(at, len);
-    case BSONRAW_TAG_JAVASCRIPT: return code_of(at, len);
-    case BSONRAW_TAG_SYMBOL: return symbol_of(at, len);
-    case BSONRAW_TAG_TIMESTAMP: return raw_new(classes.timestamp, at, 8);
-    case BSONRAW_TAG_DECIMAL128: return raw_new(classes.decimal128, at, 16);
-    case BSONRAW_TAG_MIN_KEY: return itself(classes.min_key);
-    case BSONRAW_TAG_MAX_KEY: return itself(classes.max_key);
+    case BSONRAW_TAG_UNDEFINED: return itself(state->classes.undefined);
+    case BSONRAW_TAG_REGEX: return regex_of(state, at, len);
+    case BSONRAW_TAG_DB_POINTER: return pointer_of(state, at, len);
+    case BSONRAW_TAG_JAVASCRIPT: return code_of(state, at, len);
+    case BSONRAW_TAG_SYMBOL: return symbol_of(state, at, len);
+    case BSONRAW_TAG_TIMESTAMP: return raw_new(state->classes.timestamp, at, 8);
+    case BSONRAW_TAG_DECIMAL128: return raw_new(state->classes.decimal128, at, 16);
+    case BSONRAW_TAG_MIN_KEY: return itself(state->classes.min_key);
+    case BSONRAW_TAG_MAX_KEY: return itself(state->classes.max_key);
     default: PyErr_Format(PyExc_SystemError, "an element of no kind: %u", (unsigned)tag); return NULL;
     }
 }
 
-INLINE PyObject *leaf_of(uint32_t tag, const uint8_t *at, size_t len) {
+INLINE PyObject *leaf_of(struct state *state, uint32_t tag, const uint8_t *at, size_t len) {
     switch (tag) {
     case BSONRAW_TAG_DOUBLE: return PyFloat_FromDouble(le_double(at));
-    case BSONRAW_TAG_STRING: return string_of(at, len);
-    case BSONRAW_TAG_BINARY: return binary_of(at, len);
-    case BSONRAW_TAG_OBJECT_ID: return raw_new(classes.object_id, at, 12);
+    case BSONRAW_TAG_STRING: return string_of(state, at, len);
+    case BSONRAW_TAG_BINARY: return binary_of(state, at, len);
+    case BSONRAW_TAG_OBJECT_ID: return raw_new(state->classes.object_id, at, 12);
     case BSONRAW_TAG_BOOLEAN: return itself(*at != 0 ? Py_True : Py_False);
-    case BSONRAW_TAG_DATETIME: return time_of(le_i64(at), 0);
+    case BSONRAW_TAG_DATETIME: return time_of(state, le_i64(at), 0);
     case BSONRAW_TAG_NULL: return itself(Py_None);
     case BSONRAW_TAG_INT32: return PyLong_FromLong(le_i32(at));
-    case BSONRAW_TAG_INT64: return int64_of(le_i64(at));
-    default: return rare_of(tag, at, len);
+    case BSONRAW_TAG_INT64: return int64_of(state, le_i64(at));
+    default: return rare_of(state, tag, at, len);
     }
 }
 
 /* The same, where naive times, UUIDs or classes of others were asked for. */
 NOT_INLINE PyObject *asked_leaf(const struct options *options, uint32_t tag, const uint8_t *at, size_t len) {
+    struct state *state = options->state;
     PyObject *value;
-    if (tag == BSONRAW_TAG_BINARY && options->uuids && at[4] == 4 && len == 21) return uuid_of(at + 5);
-    if (options->types != NULL && (value = foreign_leaf(options->types, tag, at, len)) != NULL) return value;
+    if (tag == BSONRAW_TAG_BINARY && options->uuids && at[4] == 4 && len == 21) return uuid_of(state, at + 5);
+    if (options->types != NULL && (value = foreign_leaf(state, options->types, tag, at, len)) != NULL) return value;
     if (PyErr_Occurred()) return NULL;
-    value = tag == BSONRAW_TAG_DATETIME ? time_of(le_i64(at), options->is_naive) : leaf_of(tag, at, len);
-    return options->types == NULL ? value : in_types(options->types, tag, value);
+    value = tag == BSONRAW_TAG_DATETIME ? time_of(state, le_i64(at), options->is_naive) : leaf_of(state, tag, at, len);
+    return options->types == NULL ? value : in_types(state, options->types, tag, value);
 }
 
 /* ---- all levels ---- */
 
 /* What values are made of. */
 struct maker {
+    struct state *state;
     const uint8_t *bytes;
     size_t len;
     const struct options *options;
@@ -318,7 +336,7 @@ INLINE int put_pair(const struct level *level, PyObject *key, PyObject *value) {
 /* Puts the value of a token into a level. Takes it. */
 INLINE int put(const struct maker *maker, const struct level *level, const struct bsonraw_token *token, PyObject *value) {
     if (level->kind == LIST) return put_item(level, value);
-    return put_pair(level, key_at(maker->bytes + token->key_at, token->key_len, maker->len - token->key_at), value);
+    return put_pair(level, key_at(maker->state, maker->bytes + token->key_at, token->key_len, maker->len - token->key_at), value);
 }
 
 static int more_levels(struct levels *levels) {
@@ -347,11 +365,11 @@ static int begin(const struct maker *maker, struct levels *levels, const struct 
     level->code = NULL;
     if (tag == BSONRAW_TAG_JAVASCRIPT_WITH_SCOPE) {
         const uint8_t *at = maker->bytes + of->payload_at;
-        level->code = utf8(at + 8, (uint32_t)le_i32(at + 4) - 1);
+        level->code = utf8(maker->state, at + 8, (uint32_t)le_i32(at + 4) - 1);
         if (level->code == NULL) return -1;
     }
     if (level->kind == DICT) level->object = PyDict_New();
-    else level->object = level->kind == LIST ? PyList_New(0) : PyObject_CallObject((PyObject *)classes.pairs, NULL);
+    else level->object = level->kind == LIST ? PyList_New(0) : PyObject_CallObject((PyObject *)maker->state->classes.pairs, NULL);
     if (level->object == NULL) Py_CLEAR(level->code);
     if (level->object == NULL) return -1;
     levels->count++;
@@ -365,7 +383,7 @@ static int has_levels(uint32_t tag) {
 /* What the caller's hook makes of a document, and other classes of a document in another. Takes it. */
 NOT_INLINE PyObject *asked_document(const struct options *options, PyObject *object, int is_inside) {
     PyObject *hook = options->pairs_hook != NULL ? options->pairs_hook : options->hook, *made;
-    if (hook == NULL && options->types != NULL && is_inside && PyDict_CheckExact(object)) return foreign_document(options->types, object);
+    if (hook == NULL && options->types != NULL && is_inside && PyDict_CheckExact(object)) return foreign_document(options->state, options->types, object);
     if (hook == NULL) return object;
     made = PyObject_CallFunctionObjArgs(hook, object, NULL);
     Py_DECREF(object);
@@ -378,8 +396,8 @@ static PyObject *finished(const struct maker *maker, const struct level *level) 
     PyObject *object = level->object;
     if (!maker->is_plain && level->kind != LIST) object = asked_document(maker->options, object, is_inside);
     if (level->code == NULL) return object;
-    object = code_new(level->code, object);
-    return maker->options->types == NULL ? object : in_types(maker->options->types, BSONRAW_TAG_JAVASCRIPT_WITH_SCOPE, object);
+    object = code_new(maker->state, level->code, object);
+    return maker->options->types == NULL ? object : in_types(maker->state, maker->options->types, BSONRAW_TAG_JAVASCRIPT_WITH_SCOPE, object);
 }
 
 /* Ends the last level: 1, and its value is in the level before; 0, and it is the value of the first; -1 with an error set. */
@@ -392,7 +410,7 @@ INLINE int end(const struct maker *maker, struct levels *levels, PyObject **valu
 }
 
 INLINE PyObject *leaf_in(const struct maker *maker, uint32_t tag, uint32_t at, uint32_t len) {
-    return maker->is_plain ? leaf_of(tag, maker->bytes + at, len)
+    return maker->is_plain ? leaf_of(maker->state, tag, maker->bytes + at, len)
                                     : asked_leaf(maker->options, tag, maker->bytes + at, len);
 }
 
@@ -444,7 +462,7 @@ static PyObject *nested_of(const struct maker *maker, const struct bsonraw_token
     levels_open(&levels);
     if (begin(maker, &levels, of, end) == 0) value = fill(maker, &levels, first);
     levels_close(&levels);
-    collector_free(is_held);
+    collector_free(maker->state, is_held);
     return value;
 }
 
@@ -476,7 +494,7 @@ struct cursors {
 static int read_entries(const struct maker *maker, struct cursors *cursors, struct cursor *cursor) {
     cursor->done = 0;
     cursor->status = bsonraw_iter_next_many(&cursor->iter, maker->bytes, maker->len, cursor->entries, ENTRIES, &cursor->count);
-    return breathe(&cursors->breath, ENTRIES * sizeof *cursor->entries);
+    return breathe(maker->state, &cursors->breath, ENTRIES * sizeof *cursor->entries);
 }
 
 /* Goes into the document, the array or the scope that lies there, and reads its first elements: 1; 0 where there is none. */
@@ -548,16 +566,16 @@ INLINE PyObject *entry_leaf(const struct maker *maker, const struct bsonraw_entr
 /* Takes a document or an array by its tokens: 1; 0 where something is wrong. */
 static int take_by_tokens(const struct maker *maker, const struct levels *levels, struct cursors *cursors, const struct bsonraw_token *of) {
     struct bytes part = bytes_part(maker->bytes + of->payload_at, of->payload_len);
-    struct maker inner = {part.at, part.len, maker->options, maker->is_plain};
+    struct maker inner = {maker->state, part.at, part.len, maker->options, maker->is_plain};
     struct tokens tokens;
     PyObject *value;
     cursors->inside.max_depth = maker->options->max_depth - levels->count;
     if (tokens_read(&tokens, &part, &cursors->inside, 0) < 0) {
-        clear_fault(classes.error);
+        clear_fault(maker->state->classes.error);
         return 0;
     }
     value = nested_of(&inner, of, tokens.at, tokens.at + tokens.count);
-    tokens_free(&tokens);
+    tokens_free(maker->state, &tokens);
     return value != NULL && put(maker, &levels->at[levels->count - 1], of, value) == 0;
 }
 
@@ -645,7 +663,7 @@ INLINE int take_row_of(const struct maker *maker, const struct level *level, str
         if (value == NULL) return -1;
         if (level->kind == LIST) status = put_item(level, value);
         else if (is_new && key_len < COPIED && key_len + 8 <= (size_t)(end - key)) status = put_pair(level, ascii_text(copy, key_len), value);
-        else status = put_pair(level, key_at(key, key_len, maker->len - (size_t)(key - bytes)), value);
+        else status = put_pair(level, key_at(maker->state, key, key_len, maker->len - (size_t)(key - bytes)), value);
         if (status < 0) return -1;
         at = payload + len;
     }
@@ -696,7 +714,7 @@ static int take_leaves(const struct maker *maker, PyObject *list, struct cursor 
 /* Reads on in a level whose entries are taken: 0, or -1 with an error set. */
 static int read_on(const struct maker *maker, const struct level *level, struct cursors *cursors, struct cursor *cursor) {
     uint32_t before = cursor->iter.next;
-    if (take_row(maker, level, cursor) < 0 || breathe(&cursors->breath, cursor->iter.next - before) < 0) return -1;
+    if (take_row(maker, level, cursor) < 0 || breathe(maker->state, &cursors->breath, cursor->iter.next - before) < 0) return -1;
     return read_entries(maker, cursors, cursor);
 }
 
@@ -734,24 +752,37 @@ static PyObject *by_cursors(const struct maker *maker, const struct bsonraw_toke
         value = fill_by_cursors(maker, &levels, &cursors);
     levels_close(&levels);
     PyMem_Free(cursors.at);
-    collector_free(is_held);
+    collector_free(maker->state, is_held);
     return value;
 }
 
 /* ---- documents ---- */
 
+static int has_hooks(const struct options *options) { return options->hook != NULL || options->pairs_hook != NULL; }
+
+/* Hooks are called for parts of a document that has no fault: 0, or -1 with the error set. */
+NOT_INLINE int check_first(const struct bytes *bytes, const struct options *options, uint64_t before) {
+    struct told told;
+    told_begin(&told, options);
+    told.before = before;
+    WITHOUT_LOCK(bytes, told.status = bsonraw_first_fault(bytes->at, bytes->len, told.max_bytes, told.max_depth, &told.report, told.path, PATH_ROOM));
+    if (told.status != BSONRAW_OK) set_error_of(bytes, &told);
+    return told.status == BSONRAW_OK ? 0 : -1;
+}
+
 INLINE PyObject *decoded_as(const struct bytes *bytes, const struct options *options, uint64_t before, uint32_t tag) {
     struct bsonraw_token of = {tag, NO_ELEMENT, 0, 0, 0, (uint32_t)bytes->len, 0};
     struct tokens tokens;
-    struct maker maker = {bytes->at, bytes->len, options, options->is_plain};
+    struct maker maker = {options->state, bytes->at, bytes->len, options, options->is_plain};
     PyObject *object;
     if (bytes->len > FEW_BYTES && bytes->len <= INT32_MAX) {
+        if (has_hooks(options) && check_first(bytes, options, before) < 0) return NULL;
         object = by_cursors(&maker, &of);
         if (object != NULL || PyErr_Occurred()) return object;
     }
     if (tokens_read(&tokens, bytes, options, before) < 0) return NULL;
     object = nested_of(&maker, &of, tokens.at, tokens.at + tokens.count);
-    tokens_free(&tokens);
+    tokens_free(options->state, &tokens);
     return object;
 }
 
@@ -766,7 +797,7 @@ static PyObject *value_of(const struct maker *maker, const struct bsonraw_token 
 }
 
 PyObject *value_of_token(const struct bytes *bytes, const struct options *options, const struct bsonraw_token *token) {
-    struct maker maker = {bytes->at, bytes->len, options, options->is_plain};
+    struct maker maker = {options->state, bytes->at, bytes->len, options, options->is_plain};
     return value_of(&maker, token);
 }
 
@@ -777,23 +808,30 @@ int take_keys(const struct bytes *bytes, const struct options *options, uint64_t
     if (status < 0) return -1;
     while (status == 0 && at < tokens.count) {
         const struct bsonraw_token *token = &tokens.at[at];
-        PyObject *key = key_at(bytes->at + token->key_at, token->key_len, bytes->len - token->key_at);
+        PyObject *key = key_at(options->state, bytes->at + token->key_at, token->key_len, bytes->len - token->key_at);
         status = key == NULL ? -1 : take(to, key, token);
         Py_XDECREF(key);
         at += 1 + token->inside;
     }
-    tokens_free(&tokens);
+    tokens_free(options->state, &tokens);
     return status;
+}
+
+PyObject *in_type(const struct options *options, PyObject *document) {
+    PyObject *made;
+    if (document == NULL || options->into == NULL) return document;
+    made = PyObject_CallFunctionObjArgs(options->into, document, NULL);
+    Py_DECREF(document);
+    return made;
 }
 
 CALL(py_decode) {
     struct options options;
     struct bytes bytes;
     PyObject *data, *object = NULL;
-    (void)module;
-    if (options_read(&OF_DECODE, &options, &data, args, count, names) < 0) return NULL;
-    if (bytes_open(&bytes, data) == 0) {
-        object = decoded_as(&bytes, &options, 0, BSONRAW_TAG_DOCUMENT);
+    if (options_read(module, &OF_DECODE, &options, &data, args, count, names) < 0) return NULL;
+    if (bytes_open(options.state, &bytes, data) == 0) {
+        object = in_type(&options, decoded_as(&bytes, &options, 0, BSONRAW_TAG_DOCUMENT));
         bytes_close(&bytes);
     }
     options_end(&options);
@@ -816,9 +854,9 @@ static PyObject *inside_of(const struct bytes *bytes, const struct bsonraw_iter 
 static PyObject *scoped_at(const struct bytes *bytes, const struct bsonraw_iter *iter, const struct bsonraw_value *value,
                            const struct options *options) {
     PyObject *scope = inside_of(bytes, iter, value->more_at, value->more_len, options, BSONRAW_TAG_DOCUMENT);
-    PyObject *text = scope == NULL ? NULL : utf8(bytes->at + value->text_at, value->text_len);
-    PyObject *code = code_new(text, scope);
-    return options->types == NULL ? code : in_types(options->types, BSONRAW_TAG_JAVASCRIPT_WITH_SCOPE, code);
+    PyObject *text = scope == NULL ? NULL : utf8(options->state, bytes->at + value->text_at, value->text_len);
+    PyObject *code = code_new(options->state, text, scope);
+    return options->types == NULL ? code : in_types(options->state, options->types, BSONRAW_TAG_JAVASCRIPT_WITH_SCOPE, code);
 }
 
 PyObject *value_at(const struct bytes *bytes, const struct bsonraw_iter *iter, const struct options *options) {
@@ -830,15 +868,16 @@ PyObject *value_at(const struct bytes *bytes, const struct bsonraw_iter *iter, c
     status = bsonraw_iter_value(&here, bytes->at, bytes->len, &value);
     here.error = value.error;
     if (status != BSONRAW_OK) {
-        set_cursor_error(bytes, status, &here);
+        set_cursor_error(options->state, bytes, status, &here);
         return NULL;
     }
     if (value.tag == BSONRAW_TAG_DOCUMENT || value.tag == BSONRAW_TAG_ARRAY) {
         PyObject *object = inside_of(bytes, iter, value.text_at, value.text_len, options, value.tag);
         int is_asked = options->types != NULL && options->hook == NULL && options->pairs_hook == NULL;
-        return object != NULL && is_asked && PyDict_CheckExact(object) ? foreign_document(options->types, object) : object;
+        return object != NULL && is_asked && PyDict_CheckExact(object) ? foreign_document(options->state, options->types, object) : object;
     }
     if (value.tag == BSONRAW_TAG_JAVASCRIPT_WITH_SCOPE) return scoped_at(bytes, iter, &value, options);
+    maker.state = options->state;
     maker.bytes = bytes->at;
     maker.len = bytes->len;
     maker.options = options;

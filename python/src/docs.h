@@ -1,7 +1,7 @@
 /* What help() says of the calls. */
 
 PyDoc_STRVAR(decode_doc,
-"decode($module, data, codec_options=None, *, pairs=False, types=None, tz_aware=None, uuid=False, object_hook=None, object_pairs_hook=None, "
+"decode($module, data, codec_options=None, *, type=None, pairs=False, types=None, tz_aware=None, uuid=False, object_hook=None, object_pairs_hook=None, "
 "max_bytes=16777216, max_depth=500)\n--\n\n"
 "The document as a dict, in the order of the bytes.\n"
 "\n"
@@ -14,7 +14,11 @@ PyDoc_STRVAR(decode_doc,
 "\n"
 "A call for object_hook, given the dict of a document that is read, makes\n"
 "what comes in its place, the innermost first; one for object_pairs_hook is\n"
-"given the Pairs.\n"
+"given the Pairs. Neither is called for a document that is refused.\n"
+"\n"
+"With type=Person an object of that class comes, for a dataclass, a TypedDict,\n"
+"or a class of attrs or pydantic, with those in its fields. Keys that have no\n"
+"field are passed over. What doesn't fit raises MismatchError, with the path.\n"
 "\n"
 "codec_options, of MongoDB's decode, raises TypeError unless it is None.\n"
 "\n"
@@ -63,6 +67,25 @@ PyDoc_STRVAR(find_doc, "find($module, data, path)\n--\n\n"
 "step is a key, in a document or in the scope of a code, and in an array a\n"
 "number from 0. Raises BsonError where the elements of a level stop before\n"
 "the step.");
+
+PyDoc_STRVAR(edit_doc, "edit($module, data, changes, *, default=None)\n--\n\n"
+"The document with some values changed, and all other bytes as they are.\n"
+"\n"
+"    >>> import bsonraw\n"
+"    >>> data = bsonraw.encode({\"a\": {\"b\": 1}, \"c\": 2})\n"
+"    >>> bsonraw.decode(bsonraw.edit(data, {\"a.b\": \"new\", \"c\": bsonraw.REMOVE, \"d\": True}))\n"
+"    {'a': {'b': 'new'}, 'd': True}\n"
+"\n"
+"By each path, as find takes it, changes has the value that is to be there,\n"
+"or REMOVE. What isn't there is added behind the others, with documents for\n"
+"the steps before; in an array it is the number behind the last one. Of a\n"
+"repeated key the last element is changed, whose value decode gives, and all\n"
+"are removed. Levels that no path goes through aren't looked at.\n"
+"\n"
+"Raises BsonError where the elements of a level stop and for a 0 in a step,\n"
+"and ValueError for a path of over 500 steps, for one through a value that has\n"
+"no elements or through another one that is changed, for a place that an array\n"
+"hasn't, and for a removal from an array.");
 
 PyDoc_STRVAR(canonical_doc, "canonical($module, data, *, max_bytes=16777216, max_depth=500)\n--\n\n"
 "The canonical form of a document.\n"

@@ -1,8 +1,6 @@
 /* Documents one behind the other, cut out of a buffer or out of the blocks of a file. */
 #include "dumps.h"
 
-static PyTypeObject *documents_type;
-
 void documents_end(Documents *all) {
     Source *source = all->source;
     PyObject *read = all->read;
@@ -69,7 +67,7 @@ static int read_block(Documents *all) {
     int status = -1;
     PyObject *block = PyObject_CallFunction(all->read, "n", (Py_ssize_t)BLOCK);
     if (block == NULL) return -1;
-    if (bytes_open(&read, block) == 0) {
+    if (bytes_open(all->state, &read, block) == 0) {
         size_t dropped = read.len < all->to_drop ? read.len : all->to_drop, len = read.len - dropped;
         all->before += dropped;
         all->to_drop -= dropped;
@@ -147,7 +145,7 @@ int documents_resync(Documents *all, size_t at, size_t max_depth) {
 
 PyObject *cut_error(const Documents *all, enum cut cut) {
     uint64_t offset = all->before + all->next;
-    return cut == CUT_TOO_LARGE ? error_refused(TOO_MANY_BYTES, offset) : error_no_document(cut_reason(cut), offset);
+    return cut == CUT_TOO_LARGE ? error_refused(all->state, TOO_MANY_BYTES, all->max_bytes, offset) : error_no_document(all->state, cut_reason(cut), offset);
 }
 
 /* ---- the iterator ---- */
@@ -180,7 +178,7 @@ static enum cut next_sound(Documents *all, size_t *at, size_t *len) {
         if (status == BSONRAW_OK) return cut;
         if (status == BSONRAW_NO_MEMORY) PyErr_NoMemory();
         if (status == BSONRAW_NO_MEMORY || documents_resync(all, *at, MAX_DEPTH) < 0) return CUT_FAILED;
-        if (breathe(&all->breath, all->next - *at) < 0) return CUT_FAILED;
+        if (breathe(all->state, &all->breath, all->next - *at) < 0) return CUT_FAILED;
     }
 }
 
@@ -220,19 +218,20 @@ static PyType_Spec documents_spec = {"bsonraw.Documents", sizeof(Documents), 0, 
 /* documents(read, data, max_bytes[, resync]): of a file's read, or where that is None of a buffer, which nobody writes with resync. */
 PyObject *py_documents(PyObject *module, PyObject *const *args, Py_ssize_t count) {
     Documents *all;
+    struct state *state = state_of(module);
     size_t max_bytes;
-    (void)module;
     if (count != 3 && count != 4) PyErr_SetString(PyExc_TypeError, "documents() takes a file's read, data, max_bytes and resync");
     if ((count != 3 && count != 4) || limit_of(args[2], "max_bytes", &max_bytes) < 0) return NULL;
-    all = PyObject_GC_New(Documents, documents_type);
+    all = PyObject_GC_New(Documents, state->classes.documents);
     if (all == NULL) return NULL;
-    memset((char *)all + offsetof(Documents, source), 0, sizeof *all - offsetof(Documents, source));
+    memset((char *)all + offsetof(Documents, state), 0, sizeof *all - offsetof(Documents, state));
+    all->state = state;
     all->max_bytes = max_bytes;
     all->block = bytes_part((const uint8_t *)"", 0);
     if (args[0] != Py_None) {
         Py_INCREF(args[0]);
         all->read = args[0];
-    } else if ((all->source = source_as_it_is(args[1])) == NULL) {
+    } else if ((all->source = source_as_it_is(state, args[1])) == NULL) {
         Py_CLEAR(all);
         return NULL;
     } else {
@@ -245,15 +244,14 @@ PyObject *py_documents(PyObject *module, PyObject *const *args, Py_ssize_t count
     return (PyObject *)all;
 }
 
-Documents *documents_of(PyObject *documents) {
-    if (Py_TYPE(documents) == documents_type) return (Documents *)documents;
+Documents *documents_of(const struct state *state, PyObject *documents) {
+    if (Py_TYPE(documents) == state->classes.documents) return (Documents *)documents;
     PyErr_SetString(PyExc_TypeError, "this takes what documents() gave");
     return NULL;
 }
 
 int documents_add(PyObject *module) {
-    if (documents_type == NULL) documents_type = type_not_called(&documents_spec);
-    if (documents_type == NULL) return -1;
-    Py_INCREF((PyObject *)documents_type);
-    return PyModule_AddObject(module, "Documents", (PyObject *)documents_type);
+    struct state *state = state_of(module);
+    state->classes.documents = type_not_called(module, &documents_spec);
+    return add_type(module, "Documents", state->classes.documents);
 }

@@ -23,7 +23,7 @@ static int to_read(Documents *all, size_t at, size_t len, struct bytes *document
 /* With errors="skip", or a call for errors, a document that raised BsonError is passed over: 0; else -1 with the error set. */
 static int passed_over(const struct options *options) {
     PyObject *type, *error, *trace, *result;
-    if (options->errors == NULL || !PyErr_ExceptionMatches(classes.error)) return -1;
+    if (options->errors == NULL || !PyErr_ExceptionMatches(options->state->classes.error)) return -1;
     PyErr_Fetch(&type, &error, &trace);
     PyErr_NormalizeException(&type, &error, &trace);
     if (options->errors != Py_None) result = PyObject_CallFunctionObjArgs(options->errors, error, NULL);
@@ -61,12 +61,12 @@ int take_each(Documents *all, const struct options *options, document_taker *tak
         int status = cut == CUT_ONE ? 1 : without_document(all, options, cut, at, len);
         if (status <= 0) return status;
         if (cut == CUT_ONE && take_one(all, at, len, options, take, to) < 0) return -1;
-        if (breathe(&all->breath, len) < 0) return -1;
+        if (breathe(all->state, &all->breath, len) < 0) return -1;
     }
 }
 
 PyObject *made_of(PyObject *documents, struct options *options, PyObject *make(Documents *, const struct options *)) {
-    Documents *all = documents_of(documents);
+    Documents *all = documents_of(options->state, documents);
     PyObject *made = NULL;
     if (all != NULL && documents_begin(all) == 0) {
         all->is_busy = 1;
@@ -83,7 +83,7 @@ PyObject *made_of(PyObject *documents, struct options *options, PyObject *make(D
 /* ---- a list ---- */
 
 static int take_into_list(void *to, const struct bytes *document, const struct options *options, uint64_t before) {
-    PyObject *object = decoded(document, options, before);
+    PyObject *object = in_type(options, decoded(document, options, before));
     int status = object == NULL ? -1 : PyList_Append(to, object);
     Py_XDECREF(object);
     return status;
@@ -99,7 +99,6 @@ static PyObject *decode_rest(Documents *all, const struct options *options) {
 CALL(py_decode_all) {
     struct options options;
     PyObject *documents;
-    (void)module;
-    if (options_read(&OF_DECODE_ALL, &options, &documents, args, count, names) < 0) return NULL;
+    if (options_read(module, &OF_DECODE_ALL, &options, &documents, args, count, names) < 0) return NULL;
     return made_of(documents, &options, decode_rest);
 }

@@ -8,6 +8,7 @@
 
 typedef struct {
     PyObject_HEAD
+    struct state *state;
     Source *source; /* of a buffer; NULL for a file */
     PyObject *read; /* the file's read */
     struct bytes block;
@@ -45,7 +46,7 @@ PyObject *cut_error(const Documents *all, enum cut cut);
 /* Goes on where documents do behind damage at this place of a buffer: 0, or -1 with an error set. */
 int documents_resync(Documents *all, size_t at, size_t max_depth);
 
-Documents *documents_of(PyObject *documents); /* NULL with an error set */
+Documents *documents_of(const struct state *state, PyObject *documents); /* NULL with an error set */
 int documents_begin(Documents *all);
 void documents_end(Documents *all);
 

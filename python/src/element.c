@@ -11,11 +11,9 @@ typedef struct {
     size_t max_depth; /* how many levels its value may have */
 } Element;
 
-static PyTypeObject *element_type, *elements_type;
-
 PyObject *element_new(Source *source, const struct bsonraw_iter *iter, size_t max_depth) {
-    PyObject *key = key_of(source->bytes.at + iter->key_at, iter->key_len);
-    Element *element = key == NULL ? NULL : PyObject_New(Element, element_type);
+    PyObject *key = key_of(source->state, source->bytes.at + iter->key_at, iter->key_len);
+    Element *element = key == NULL ? NULL : PyObject_New(Element, source->state->classes.element);
     if (element == NULL) {
         Py_XDECREF(key);
         return NULL;
@@ -46,7 +44,7 @@ static void element_dealloc(PyObject *self) {
 }
 
 static PyObject *element_kind(PyObject *self, void *unused) {
-    PyObject *kind = classes.element_type[((Element *)self)->tag & 255];
+    PyObject *kind = ((Element *)self)->source->state->classes.element_type[((Element *)self)->tag & 255];
     (void)unused;
     if (kind == NULL) return PyLong_FromUnsignedLong(((Element *)self)->tag);
     Py_INCREF(kind);
@@ -74,7 +72,7 @@ static PyObject *value_of(Element *element, const struct options *options) {
 }
 
 static void options_begin_of(struct options *options, const Element *element) {
-    options_begin(options);
+    options_begin(options, element->source->state);
     options->max_bytes = SIZE_MAX;
     options->max_depth = element->max_depth;
 }
@@ -116,7 +114,7 @@ static PyObject *element_reduce(PyObject *self, PyObject *unused) {
 
 static PyObject *element_compare(PyObject *self, PyObject *other, int how) {
     PyObject *one, *two, *result;
-    if ((how != Py_EQ && how != Py_NE) || Py_TYPE(other) != element_type) Py_RETURN_NOTIMPLEMENTED;
+    if ((how != Py_EQ && how != Py_NE) || Py_TYPE(other) != Py_TYPE(self)) Py_RETURN_NOTIMPLEMENTED;
     one = element_parts((Element *)self);
     two = element_parts((Element *)other);
     result = one == NULL || two == NULL ? NULL : PyObject_RichCompare(one, two, how);
@@ -212,7 +210,7 @@ static PyObject *elements_on(Elements *all, Source *source) {
     }
     if (all->done < all->count) return element_at(all, source, &all->entries[all->done++]);
     Py_CLEAR(all->source);
-    if (all->status != BSONRAW_NONE) set_cursor_error(bytes, all->status, &all->iter);
+    if (all->status != BSONRAW_NONE) set_cursor_error(source->state, bytes, all->status, &all->iter);
     return NULL;
 }
 
@@ -244,9 +242,9 @@ static PyType_Slot elements_slots[] = {{Py_tp_dealloc, elements_dealloc}, {Py_tp
 static PyType_Spec elements_spec = {"bsonraw.Elements", sizeof(Elements), 0, NOT_CALLED, elements_slots};
 
 /* The elements of some bytes. */
-static PyObject *elements_of(PyObject *data) {
-    Source *source = source_of(data);
-    Elements *all = source == NULL ? NULL : PyObject_New(Elements, elements_type);
+static PyObject *elements_of(struct state *state, PyObject *data) {
+    Source *source = source_of(state, data);
+    Elements *all = source == NULL ? NULL : PyObject_New(Elements, state->classes.elements);
     int32_t status;
     if (all == NULL) {
         Py_XDECREF((PyObject *)source);
@@ -257,7 +255,7 @@ static PyObject *elements_of(PyObject *data) {
     all->status = BSONRAW_OK;
     status = bsonraw_iter_init(&all->iter, source->bytes.at, source->bytes.len);
     if (status != BSONRAW_OK) {
-        set_cursor_error(&source->bytes, status, &all->iter);
+        set_cursor_error(state, &source->bytes, status, &all->iter);
         Py_CLEAR(all);
     }
     return (PyObject *)all;
@@ -266,14 +264,13 @@ static PyObject *elements_of(PyObject *data) {
 CALL(py_elements) {
     struct options options;
     PyObject *data;
-    (void)module;
-    return options_read(&OF_ELEMENTS, &options, &data, args, count, names) < 0 ? NULL : elements_of(data);
+    return options_read(module, &OF_ELEMENTS, &options, &data, args, count, names) < 0 ? NULL : elements_of(options.state, data);
 }
 
 /* ---- an element by itself ---- */
 
 /* The document that holds this element alone. */
-static PyObject *framed(PyObject *key, unsigned tag, const struct bytes *payload) {
+static PyObject *framed(struct state *state, PyObject *key, unsigned tag, const struct bytes *payload) {
     size_t key_len, size;
     const uint8_t *name = utf8_of(key, "key", &key_len);
     PyObject *document;
@@ -281,7 +278,7 @@ static PyObject *framed(PyObject *key, unsigned tag, const struct bytes *payload
     char *out;
     if (name == NULL) return NULL;
     if (memchr(name, 0, key_len) != NULL) {
-        set_refused(INTERIOR_NUL, key, NULL, NULL);
+        set_refused(state, INTERIOR_NUL, 0, key);
         return NULL;
     }
     size = 4 + 1 + key_len + 1 + payload->len + 1;
@@ -302,15 +299,15 @@ static PyObject *framed(PyObject *key, unsigned tag, const struct bytes *payload
 PyObject *py_element(PyObject *module, PyObject *const *args, Py_ssize_t count) {
     PyObject *all = NULL, *element = NULL, *document = NULL, *more = NULL;
     struct bytes payload;
+    struct state *state = state_of(module);
     unsigned long tag;
-    (void)module;
     if (count != 3) PyErr_SetString(PyExc_TypeError, "element() takes a key, a kind and a payload");
     if (count != 3 || ((tag = PyLong_AsUnsignedLong(args[1])) == (unsigned long)-1 && PyErr_Occurred())) return NULL;
-    if (bytes_open(&payload, args[2]) < 0) return NULL;
-    if (tag < 256 && payload.len < INT32_MAX) document = framed(args[0], (unsigned)tag, &payload);
+    if (bytes_open(state, &payload, args[2]) < 0) return NULL;
+    if (tag < 256 && payload.len < INT32_MAX) document = framed(state, args[0], (unsigned)tag, &payload);
     else PyErr_SetString(PyExc_ValueError, "no element has this kind, or so long a payload");
     bytes_close(&payload);
-    if (document != NULL) all = elements_of(document);
+    if (document != NULL) all = elements_of(state, document);
     if (all != NULL) element = elements_next(all);
     if (element != NULL) more = elements_next(all);
     if (more != NULL || PyErr_Occurred()) Py_CLEAR(element);
@@ -322,12 +319,8 @@ PyObject *py_element(PyObject *module, PyObject *const *args, Py_ssize_t count) 
 }
 
 int elements_add(PyObject *module) {
-    if (element_type == NULL) element_type = type_not_called(&element_spec);
-    if (elements_type == NULL) elements_type = type_not_called(&elements_spec);
-    if (element_type == NULL || elements_type == NULL) return -1;
-    Py_INCREF((PyObject *)element_type);
-    Py_INCREF((PyObject *)elements_type);
-    return PyModule_AddObject(module, "Element", (PyObject *)element_type) < 0
-               ? -1
-               : PyModule_AddObject(module, "Elements", (PyObject *)elements_type);
+    struct state *state = state_of(module);
+    state->classes.element = type_not_called(module, &element_spec);
+    if (add_type(module, "Element", state->classes.element) < 0) return -1;
+    return add_type(module, "Elements", state->classes.elements = type_not_called(module, &elements_spec));
 }

@@ -1,80 +1,5 @@
 /* Documents of Python values. */
-#include "native.h"
-
-/* ---- what is written ---- */
-
-struct out {
-    uint8_t *at;
-    size_t len, room;
-    size_t size; /* how many bytes there are at all, of which the room is what the limit leaves */
-    size_t max;  /* the limit */
-};
-
-static struct out kept; /* one is kept for the next call; who takes it owns it until it is given back */
-
-#define KEPT_ROOM (1 << 20)
-
-NOT_INLINE int grow(struct out *out, size_t more) {
-    size_t size = out->size * 2 > out->len + more ? out->size * 2 : out->len + more + 1024;
-    uint8_t *at;
-    if (more > out->max - out->len) {
-        set_refused(TOO_MANY_BYTES, NULL, NULL, NULL);
-        return -1;
-    }
-    at = PyMem_Realloc(out->at, size);
-    if (at == NULL) {
-        PyErr_NoMemory();
-        return -1;
-    }
-    out->at = at;
-    out->size = size;
-    out->room = size < out->max ? size : out->max;
-    return 0;
-}
-
-/* The room that is kept, or none; and back. */
-static void out_open(struct out *out, size_t max) {
-    *out = kept;
-    memset(&kept, 0, sizeof kept);
-    out->len = 0;
-    out->max = max;
-    out->room = out->size < max ? out->size : max;
-}
-
-static void out_close(struct out *out) {
-    if (kept.at == NULL && out->size <= KEPT_ROOM) kept = *out;
-    else PyMem_Free(out->at);
-}
-
-static inline int need(struct out *out, size_t more) { return out->room - out->len < more ? grow(out, more) : 0; }
-
-INLINE int put(struct out *out, const void *bytes, size_t len) {
-    if (need(out, len) < 0) return -1;
-    memcpy(out->at + out->len, bytes, len);
-    out->len += len;
-    return 0;
-}
-
-static int put_i32(struct out *out, int32_t number) { return put(out, &number, 4); }
-static int put_i64(struct out *out, int64_t number) { return put(out, &number, 8); }
-
-static int put_length(struct out *out, size_t len) {
-    if (len <= INT32_MAX) return put_i32(out, (int32_t)len);
-    set_refused(TOO_LONG, NULL, NULL, NULL);
-    return -1;
-}
-
-/* The length of what was written from here on, into its first four bytes. */
-static int end_length(struct out *out, size_t from) {
-    size_t len = out->len - from;
-    int32_t number = (int32_t)len;
-    if (len > INT32_MAX) {
-        set_refused(TOO_LONG, NULL, NULL, NULL);
-        return -1;
-    }
-    memcpy(out->at + from, &number, 4);
-    return 0;
-}
+#include "out.h"
 
 /* ---- texts ---- */
 
@@ -96,7 +21,7 @@ static int put_cstring(struct out *out, PyObject *text) {
     at = PyUnicode_AsUTF8AndSize(text, &len);
     if (at == NULL) return -1;
     if (memchr(at, 0, (size_t)len) != NULL) {
-        set_refused(INTERIOR_NUL, text, NULL, NULL);
+        set_refused(out->state, INTERIOR_NUL, 0, text);
         return -1;
     }
     return put(out, at, (size_t)len + 1);
@@ -114,15 +39,6 @@ static int put_options(struct out *out, PyObject *text) {
     Py_XDECREF(none);
     Py_XDECREF(all);
     return status;
-}
-
-/* The decimal of an element's number in its array. */
-static int put_number(struct out *out, size_t number) {
-    uint8_t digits[24], *at = digits + sizeof digits;
-    *--at = 0;
-    do *--at = (uint8_t)('0' + number % 10);
-    while ((number /= 10) > 0);
-    return put(out, at, (size_t)(digits + sizeof digits - at));
 }
 
 /* ---- values without others inside ---- */
@@ -154,8 +70,8 @@ static int put_bool(struct out *out, PyObject *value) {
 /* Of a datetime or a DatetimeMS. */
 static int put_time(struct out *out, PyObject *value) {
     int64_t millis;
-    if (!is_datetime(value)) return put_wide(out, value);
-    return millis_of(value, &millis) < 0 ? -1 : put_i64(out, millis);
+    if (!is_datetime(out->state, value)) return put_wide(out, value);
+    return millis_of(out->state, value, &millis) < 0 ? -1 : put_i64(out, millis);
 }
 
 static int put_bytes(struct out *out, PyObject *data, long subtype) {
@@ -163,7 +79,7 @@ static int put_bytes(struct out *out, PyObject *data, long subtype) {
     uint8_t byte = (uint8_t)subtype;
     size_t inner = subtype == 2 ? 4 : 0;
     int status;
-    if (bytes_open(&bytes, data) < 0) return -1;
+    if (bytes_open(out->state, &bytes, data) < 0) return -1;
     status = put_length(out, bytes.len + inner) < 0 || put(out, &byte, 1) < 0 ? -1 : 0;
     if (status == 0 && inner > 0) status = put_length(out, bytes.len);
     if (status == 0) status = put(out, bytes.at, bytes.len);
@@ -176,7 +92,7 @@ static int put_binary(struct out *out, PyObject *value) {
     PyObject *number;
     long subtype;
     if (PyBytes_CheckExact(value)) return put_bytes(out, value, 0);
-    number = binary_subtype(value);
+    number = binary_subtype(out->state, value);
     subtype = number == NULL ? -1 : PyLong_AsLong(number);
     Py_XDECREF(number);
     if (subtype >= 0 && subtype <= 255) return put_bytes(out, value, subtype);
@@ -200,7 +116,7 @@ static int put_regex(struct out *out, PyObject *value) {
 
 static int put_pointer(struct out *out, PyObject *value) {
     const Pair *pair = (const Pair *)value;
-    if (!PyUnicode_Check(pair->first) || !PyObject_TypeCheck(pair->second, classes.object_id)) {
+    if (!PyUnicode_Check(pair->first) || !PyObject_TypeCheck(pair->second, out->state->classes.object_id)) {
         PyErr_SetString(PyExc_TypeError, "a DBPointer has a str and an ObjectId");
         return -1;
     }
@@ -209,7 +125,7 @@ static int put_pointer(struct out *out, PyObject *value) {
 
 /* ---- levels ---- */
 
-enum { OF_DICT, OF_ITEMS, OF_ARRAY };
+enum { OF_DICT, OF_ITEMS, OF_ARRAY, OF_RAW };
 
 /* A document or an array that is being written. */
 struct level {
@@ -225,6 +141,7 @@ struct level {
 struct levels {
     struct level *at;
     size_t count, room, max_depth;
+    size_t before;   /* how many levels are around it */
     PyObject *other; /* makes a value of one of another class; or NULL */
     struct level first[LEVELS];
 };
@@ -232,7 +149,7 @@ struct levels {
 static int push(struct out *out, struct levels *levels, PyObject *object, int kind, size_t code_from) {
     struct level *level;
     if (levels->count >= levels->max_depth) {
-        set_refused(TOO_DEEP, NULL, NULL, NULL);
+        set_refused(out->state, TOO_DEEP, levels->max_depth + levels->before, NULL);
         return -1;
     }
     if (levels->count == levels->room) {
@@ -259,7 +176,7 @@ static int push(struct out *out, struct levels *levels, PyObject *object, int ki
 }
 
 /* The next element's tag, for now 0, and key; gives its value: 1; 0 where there is no more; -1 with an error set. */
-static int next_element(struct out *out, struct level *level, PyObject **value) {
+INLINE int next_element(struct out *out, struct level *level, PyObject **value) {
     PyObject *key, *pair;
     uint8_t tag = 0;
     level->element_at = out->len;
@@ -300,12 +217,12 @@ static int end_level(struct out *out, struct levels *levels) {
 
 /* The code's tag is that of one without a scope. */
 static int put_code(struct out *out, struct levels *levels, size_t tag_at, PyObject *value) {
-    PyObject *scope = code_scope(value);
+    PyObject *scope = code_scope(out->state, value);
     size_t from = out->len;
     int status = -1;
     if (scope == Py_None) {
         status = put_string(out, value);
-    } else if (scope != NULL && !PyDict_Check(scope) && !PyObject_TypeCheck(scope, classes.pairs)) {
+    } else if (scope != NULL && !PyDict_Check(scope) && !PyObject_TypeCheck(scope, out->state->classes.pairs)) {
         PyErr_SetString(PyExc_TypeError, "a Code has for a scope a dict, Pairs or None");
     } else if (scope != NULL) {
         out->at[tag_at] = BSONRAW_TAG_JAVASCRIPT_WITH_SCOPE;
@@ -316,27 +233,38 @@ static int put_code(struct out *out, struct levels *levels, size_t tag_at, PyObj
     return status;
 }
 
+/* Copies the bytes of a RawDocument, once it was found without a fault. */
+static int put_raw_document(struct out *out, const struct levels *levels, PyObject *value) {
+    struct bytes bytes;
+    if (lazy_check(value, levels->max_depth + levels->before, levels->before + levels->count) < 0 || lazy_bytes(value, &bytes) < 0) return -1;
+    return put(out, bytes.at, bytes.len);
+}
+
+/* Of a RawDocument, which is written as one, but isn't gone into. */
+#define RAW_DOCUMENT (0x100 | BSONRAW_TAG_DOCUMENT)
+
 /* The tag of values of one of the package's own classes; 0 of another class. */
-static int own_tag_of(const PyTypeObject *type) {
-    if (type == classes.int64) return BSONRAW_TAG_INT64;
-    if (type == classes.object_id) return BSONRAW_TAG_OBJECT_ID;
-    if (type == classes.decimal128) return BSONRAW_TAG_DECIMAL128;
-    if (type == classes.timestamp) return BSONRAW_TAG_TIMESTAMP;
-    if (type == classes.datetime_ms) return BSONRAW_TAG_DATETIME;
-    if (type == classes.symbol) return BSONRAW_TAG_SYMBOL;
-    if (type == classes.pairs) return BSONRAW_TAG_DOCUMENT;
-    if (type == classes.binary) return BSONRAW_TAG_BINARY;
-    if (type == classes.regex) return BSONRAW_TAG_REGEX;
-    if (type == classes.code) return BSONRAW_TAG_JAVASCRIPT;
-    if (type == classes.db_pointer) return BSONRAW_TAG_DB_POINTER;
-    if (type == classes.undefined_type) return BSONRAW_TAG_UNDEFINED;
-    if (type == classes.min_key_type) return BSONRAW_TAG_MIN_KEY;
-    if (type == classes.max_key_type) return BSONRAW_TAG_MAX_KEY;
+static int own_tag_of(const struct classes *classes, const PyTypeObject *type) {
+    if (type == classes->int64) return BSONRAW_TAG_INT64;
+    if (type == classes->object_id) return BSONRAW_TAG_OBJECT_ID;
+    if (type == classes->decimal128) return BSONRAW_TAG_DECIMAL128;
+    if (type == classes->timestamp) return BSONRAW_TAG_TIMESTAMP;
+    if (type == classes->datetime_ms) return BSONRAW_TAG_DATETIME;
+    if (type == classes->symbol) return BSONRAW_TAG_SYMBOL;
+    if (type == classes->pairs) return BSONRAW_TAG_DOCUMENT;
+    if (type == classes->binary) return BSONRAW_TAG_BINARY;
+    if (type == classes->regex) return BSONRAW_TAG_REGEX;
+    if (type == classes->code) return BSONRAW_TAG_JAVASCRIPT;
+    if (type == classes->db_pointer) return BSONRAW_TAG_DB_POINTER;
+    if (type == classes->raw_document) return RAW_DOCUMENT;
+    if (type == classes->undefined_type) return BSONRAW_TAG_UNDEFINED;
+    if (type == classes->min_key_type) return BSONRAW_TAG_MIN_KEY;
+    if (type == classes->max_key_type) return BSONRAW_TAG_MAX_KEY;
     return 0;
 }
 
 /* The tag of a value, for an int that of 32 bits; 0 of a value of another class. */
-static int tag_of(PyObject *value) {
+INLINE int tag_of(const struct state *state, PyObject *value) {
     const PyTypeObject *type = Py_TYPE(value);
     if (type == &PyUnicode_Type) return BSONRAW_TAG_STRING;
     if (type == &PyLong_Type) return BSONRAW_TAG_INT32;
@@ -345,14 +273,14 @@ static int tag_of(PyObject *value) {
     if (type == &PyBool_Type) return BSONRAW_TAG_BOOLEAN;
     if (type == &PyDict_Type) return BSONRAW_TAG_DOCUMENT;
     if (type == &PyList_Type || type == &PyTuple_Type) return BSONRAW_TAG_ARRAY;
-    if (is_datetime(value)) return BSONRAW_TAG_DATETIME;
+    if (is_datetime(state, value)) return BSONRAW_TAG_DATETIME;
     if (type == &PyBytes_Type) return BSONRAW_TAG_BINARY;
-    return own_tag_of(type);
+    return own_tag_of(&state->classes, type);
 }
 
 /* Writes a value of one of the classes that have a tag: 0; 1 where it is of another class; -1 with an error set. */
 INLINE int put_known(struct out *out, struct levels *levels, size_t tag_at, PyObject *value) {
-    int tag = tag_of(value);
+    int tag = tag_of(out->state, value);
     out->at[tag_at] = (uint8_t)tag;
     switch (tag) {
     case BSONRAW_TAG_DOUBLE: return put_float(out, value);
@@ -371,6 +299,7 @@ INLINE int put_known(struct out *out, struct levels *levels, size_t tag_at, PyOb
     case BSONRAW_TAG_TIMESTAMP: return put_raw(out, value, 8);
     case BSONRAW_TAG_INT64: return put_wide(out, value);
     case BSONRAW_TAG_DECIMAL128: return put_raw(out, value, 16);
+    case RAW_DOCUMENT: return put_raw_document(out, levels, value);
     case BSONRAW_TAG_UNDEFINED:
     case BSONRAW_TAG_NULL:
     case BSONRAW_TAG_MIN_KEY:
@@ -397,7 +326,7 @@ NOT_INLINE int put_made(struct out *out, struct levels *levels, size_t tag_at, P
 
 /* The same, of a value of another class: what the package makes of it. */
 static int put_converted(struct out *out, struct levels *levels, size_t tag_at, PyObject *value) {
-    PyObject *made = PyObject_CallFunctionObjArgs(classes.convert, value, NULL);
+    PyObject *made = PyObject_CallFunctionObjArgs(out->state->classes.convert, value, NULL);
     int status = put_made(out, levels, tag_at, made);
     Py_XDECREF(made);
     return status;
@@ -454,16 +383,18 @@ static int add_step(const struct out *out, const struct level *level, PyObject *
     return status;
 }
 
-/* Has an error say where the value is that wasn't written. */
-static void set_place(const struct out *out, const struct levels *levels) {
-    PyObject *type, *error, *trace, *path = PyList_New(0), *keys = PyList_New(0), *placed = NULL;
+/* Has an error say where the value is that wasn't written: behind the steps of a path, which may be NULL. */
+static void set_place(const struct out *out, const struct levels *levels, PyObject *front) {
+    PyObject *type, *error, *trace, *path, *keys, *placed = NULL;
     size_t level;
     PyErr_Fetch(&type, &error, &trace);
     PyErr_NormalizeException(&type, &error, &trace);
+    path = PyList_New(0);
+    keys = front == NULL ? PyList_New(0) : PyObject_CallFunctionObjArgs(out->state->classes.steps, front, NULL);
     for (level = 0; path != NULL && keys != NULL && level < levels->count && levels->at[level].at > 0; level++)
         if (add_step(out, &levels->at[level], path, keys) < 0) break;
-    if (path != NULL && keys != NULL && PyList_Size(path) > 0)
-        placed = PyObject_CallFunctionObjArgs(classes.placed, error, path, keys, NULL);
+    if (path != NULL && keys != NULL && PyList_Size(path) + PyList_Size(keys) > 0)
+        placed = PyObject_CallFunctionObjArgs(out->state->classes.placed, error, path, keys, NULL);
     PyErr_Clear();
     if (placed != NULL && placed != error) PyErr_SetObject((PyObject *)Py_TYPE(placed), placed);
     else PyErr_Restore(itself(type), itself(error), trace == NULL ? NULL : itself(trace));
@@ -477,7 +408,7 @@ static void set_place(const struct out *out, const struct levels *levels) {
 
 /* ---- documents ---- */
 
-static int put_levels(struct out *out, struct levels *levels) {
+INLINE int put_levels(struct out *out, struct levels *levels) {
     while (levels->count > 0) {
         size_t tag_at = out->len;
         PyObject *value;
@@ -494,47 +425,84 @@ static int put_levels(struct out *out, struct levels *levels) {
     return 0;
 }
 
+static void levels_open(struct levels *levels, size_t max_depth, size_t before, PyObject *other) {
+    levels->at = levels->first;
+    levels->count = 0;
+    levels->room = LEVELS;
+    levels->max_depth = max_depth - before;
+    levels->before = before;
+    levels->other = other;
+}
+
+static void levels_close(struct levels *levels) {
+    while (levels->count > 0) Py_DECREF(levels->at[--levels->count].object);
+    if (levels->at != levels->first) PyMem_Free(levels->at);
+}
+
+int put_tagged(struct out *out, PyObject *value, PyObject *other, PyObject *path) {
+    struct levels levels;
+    size_t tag_at = out->len;
+    uint8_t tag = 0;
+    int status = put(out, &tag, 1);
+    levels_open(&levels, MAX_DEPTH, 1, other);
+    Py_INCREF(value);
+    if (status == 0) status = put_value(out, &levels, tag_at, value);
+    if (status == 0) status = put_levels(out, &levels);
+    if (status < 0) set_place(out, &levels, path);
+    levels_close(&levels);
+    Py_DECREF(value);
+    return status;
+}
+
 static PyObject *encoded(PyObject *document, int kind, const struct options *options) {
     struct out out;
     struct levels levels;
     PyObject *bytes = NULL;
-    out_open(&out, options->max_bytes);
-    levels.at = levels.first;
-    levels.count = 0;
-    levels.room = LEVELS;
-    levels.max_depth = options->max_depth;
-    levels.other = options->other;
+    out_open(options->state, &out, options->max_bytes);
+    levels_open(&levels, options->max_depth, 0, options->other);
     if (push(&out, &levels, document, kind, SIZE_MAX) == 0 && put_levels(&out, &levels) == 0)
         bytes = PyBytes_FromStringAndSize((const char *)out.at, (Py_ssize_t)out.len);
-    else set_place(&out, &levels);
-    while (levels.count > 0) Py_DECREF(levels.at[--levels.count].object);
-    if (levels.at != levels.first) PyMem_Free(levels.at);
+    else set_place(&out, &levels, NULL);
+    levels_close(&levels);
     out_close(&out);
     return bytes;
 }
 
-/* What kind of level a dict or Pairs are; -1 for another value. */
-static int document_kind(PyObject *document) {
-    return PyDict_CheckExact(document) ? OF_DICT : Py_TYPE(document) == classes.pairs ? OF_ITEMS : -1;
+/* The bytes of a RawDocument itself. */
+static PyObject *encoded_raw(PyObject *document, const struct options *options) {
+    struct bytes bytes;
+    if (lazy_bytes(document, &bytes) < 0) return NULL;
+    if (bytes.len > options->max_bytes) {
+        set_refused(options->state, TOO_MANY_BYTES, options->max_bytes, NULL);
+        return NULL;
+    }
+    return lazy_check(document, options->max_depth, 0) < 0 ? NULL : lazy_raw(document, NULL);
+}
+
+/* What kind of level a dict or Pairs are, or OF_RAW; -1 for another value. */
+static int document_kind(const struct state *state, PyObject *document) {
+    const PyTypeObject *type = Py_TYPE(document);
+    if (type == &PyDict_Type) return OF_DICT;
+    return type == state->classes.pairs ? OF_ITEMS : type == state->classes.raw_document ? OF_RAW : -1;
 }
 
 /* The level for a document, and its kind, which is -1 where it is none; NULL with an error set. */
-static PyObject *as_document(PyObject *document, PyObject *other, int *kind) {
+static PyObject *as_document(const struct state *state, PyObject *document, PyObject *other, int *kind) {
     PyObject *known;
-    *kind = document_kind(document);
+    *kind = document_kind(state, document);
     if (*kind >= 0) return itself(document);
     if (PyDict_Check(document)) {
         *kind = OF_ITEMS;
         return PyMapping_Items(document);
     }
-    known = PyObject_CallFunctionObjArgs(classes.convert, document, NULL);
+    known = PyObject_CallFunctionObjArgs(state->classes.convert, document, NULL);
     if (known == Py_NotImplemented && other != NULL) {
         PyObject *made = PyObject_CallFunctionObjArgs(other, document, NULL);
         Py_DECREF(known);
-        known = made == NULL ? NULL : as_document(made, NULL, kind);
+        known = made == NULL ? NULL : as_document(state, made, NULL, kind);
         Py_XDECREF(made);
     } else if (known != NULL) {
-        *kind = document_kind(known);
+        *kind = document_kind(state, known);
     }
     return known;
 }
@@ -543,14 +511,14 @@ CALL(py_encode) {
     struct options options;
     PyObject *given, *document, *bytes = NULL;
     int kind;
-    (void)module;
-    options_begin(&options);
+    options_begin(&options, state_of(module));
     options.max_bytes = SIZE_MAX;
     if (count == 1 && names == NULL) given = args[0];
     else if (options_given(&OF_ENCODE, &options, &given, args, count, names) < 0) return NULL;
-    document = as_document(given, options.other, &kind);
+    document = as_document(options.state, given, options.other, &kind);
     if (document == NULL) return NULL;
-    if (kind >= 0) bytes = encoded(document, kind, &options);
+    if (kind == OF_RAW) bytes = encoded_raw(document, &options);
+    else if (kind >= 0) bytes = encoded(document, kind, &options);
     else PyErr_Format(PyExc_TypeError, "a document is a mapping or Pairs, not %R", Py_TYPE(given));
     Py_DECREF(document);
     return bytes;

@@ -14,18 +14,18 @@ struct fault {
 static PyObject *or_none(PyObject *object) { return object == NULL ? Py_None : object; }
 
 /* Makes the error, and lets go of what it is made of. */
-static PyObject *error_new(struct fault *fault) {
+static PyObject *error_new(struct state *state, struct fault *fault) {
     PyObject *error = NULL, *reason = fault->reason == 0 ? NULL : PyLong_FromUnsignedLong(fault->reason);
     if (!PyErr_Occurred()) {
-        int was_held = collector_pause();
+        int was_held = collector_pause(state);
         PyObject *empty = PyTuple_New(0);
         if (empty != NULL)
-            error = PyObject_CallFunction(classes.error, "IOOOOOKK", (unsigned)fault->kind, or_none(reason),
+            error = PyObject_CallFunction(state->classes.error, "IOOOOOKK", (unsigned)fault->kind, or_none(reason),
                                           or_none(fault->key), or_none(fault->offset), fault->path ? fault->path : empty,
                                           fault->keys ? fault->keys : empty, (unsigned long long)fault->number,
                                           (unsigned long long)fault->left);
         Py_XDECREF(empty);
-        collector_resume(was_held);
+        collector_resume(state, was_held);
     }
     Py_XDECREF(reason);
     Py_XDECREF(fault->key);
@@ -51,13 +51,15 @@ PyObject *py_fault_text(PyObject *module, PyObject *args) {
     return PyUnicode_FromString(text);
 }
 
-static void refuse(struct fault *fault, uint32_t reason) {
+static void refuse(struct fault *fault, uint32_t reason, uint64_t limit) {
     fault->kind = KIND_REFUSED;
     fault->reason = reason;
+    fault->number = limit;
+    fault->left = 0;
 }
 
 void set_error(PyObject *error) {
-    if (error != NULL) PyErr_SetObject(classes.error, error);
+    if (error != NULL) PyErr_SetObject((PyObject *)Py_TYPE(error), error);
     Py_XDECREF(error);
 }
 
@@ -213,9 +215,9 @@ PyObject *error_of(const struct bytes *bytes, const struct told *told) {
     int has_place = told->status == BSONRAW_FAULT || told->status == BSONRAW_TOO_DEEP;
     switch (told->status) {
     case BSONRAW_FAULT: break;
-    case BSONRAW_TOO_DEEP: refuse(&fault, TOO_DEEP); break;
-    case BSONRAW_TOO_MANY_BYTES: refuse(&fault, TOO_MANY_BYTES); break;
-    case BSONRAW_TOO_LONG: refuse(&fault, TOO_LONG); break;
+    case BSONRAW_TOO_DEEP: refuse(&fault, TOO_DEEP, told->max_depth + told->levels_before); break;
+    case BSONRAW_TOO_MANY_BYTES: refuse(&fault, TOO_MANY_BYTES, told->max_bytes); break;
+    case BSONRAW_TOO_LONG: refuse(&fault, TOO_LONG, INT32_MAX); break;
     case BSONRAW_NO_DOCUMENT: fault.kind = KIND_NO_DOCUMENT; break;
     default: PyErr_SetString(PyExc_MemoryError, "out of memory for a document"); return NULL;
     }
@@ -224,7 +226,7 @@ PyObject *error_of(const struct bytes *bytes, const struct told *told) {
         if (told->report.has_key) fault.key = text_of(bytes->at, told->report.key_at, told->report.key_len);
     }
     if (has_place || told->is_of_dump) fault.offset = PyLong_FromUnsignedLongLong(told->before + (has_place ? why->offset : 0));
-    return error_new(&fault);
+    return error_new(told->state, &fault);
 }
 
 void set_error_of(const struct bytes *bytes, const struct told *told) { set_error(error_of(bytes, told)); }
@@ -233,7 +235,7 @@ PyObject *breach_of(const struct bytes *bytes, const struct told *told) {
     PyObject *path, *keys, *breach = NULL;
     place_of(bytes, told, &path, &keys);
     if (keys != NULL)
-        breach = PyObject_CallFunction(classes.breach, "IOOK", (unsigned)told->report.cause, path, keys,
+        breach = PyObject_CallFunction(told->state->classes.breach, "IOOK", (unsigned)told->report.cause, path, keys,
                                        (unsigned long long)told->report.error.offset);
     Py_XDECREF(path);
     Py_XDECREF(keys);
@@ -242,7 +244,7 @@ PyObject *breach_of(const struct bytes *bytes, const struct told *told) {
 
 /* ---- other errors ---- */
 
-void set_cursor_error(const struct bytes *bytes, int32_t status, const struct bsonraw_iter *iter) {
+void set_cursor_error(struct state *state, const struct bytes *bytes, int32_t status, const struct bsonraw_iter *iter) {
     const struct bsonraw_error *why = &iter->error;
     struct fault fault = {why->kind, why->reason, NULL, NULL, NULL, NULL, why->number, why->left};
     if (status == BSONRAW_NONE || status == BSONRAW_BAD_OFFSET) {
@@ -262,23 +264,21 @@ void set_cursor_error(const struct bytes *bytes, int32_t status, const struct bs
         Py_XDECREF(numbers);
         Py_XDECREF(keys);
     }
-    set_error(error_new(&fault));
+    set_error(error_new(state, &fault));
 }
 
-PyObject *error_no_document(uint32_t reason, uint64_t offset) {
+PyObject *error_no_document(struct state *state, uint32_t reason, uint64_t offset) {
     struct fault fault = {KIND_NO_DOCUMENT, reason, NULL, PyLong_FromUnsignedLongLong(offset), NULL, NULL, 0, 0};
-    return error_new(&fault);
+    return error_new(state, &fault);
 }
 
-PyObject *error_refused(int reason, uint64_t offset) {
-    struct fault fault = {KIND_REFUSED, (uint32_t)reason, NULL, PyLong_FromUnsignedLongLong(offset), NULL, NULL, 0, 0};
-    return error_new(&fault);
+PyObject *error_refused(struct state *state, int reason, size_t limit, uint64_t offset) {
+    struct fault fault = {KIND_REFUSED, (uint32_t)reason, NULL, PyLong_FromUnsignedLongLong(offset), NULL, NULL, limit, 0};
+    return error_new(state, &fault);
 }
 
-void set_refused(int reason, PyObject *key, PyObject *path, PyObject *keys) {
-    struct fault fault = {KIND_REFUSED, (uint32_t)reason, key, NULL, path, keys, 0, 0};
+void set_refused(struct state *state, int reason, size_t limit, PyObject *key) {
+    struct fault fault = {KIND_REFUSED, (uint32_t)reason, key, NULL, NULL, NULL, limit, 0};
     Py_XINCREF(key);
-    Py_XINCREF(path);
-    Py_XINCREF(keys);
-    set_error(error_new(&fault));
+    set_error(error_new(state, &fault));
 }

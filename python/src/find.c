@@ -4,7 +4,7 @@
 static PyObject *found(Source *source, int32_t status, const struct bsonraw_iter *iter) {
     PyObject *element = NULL;
     if (status == BSONRAW_OK) element = element_new(source, iter, MAX_DEPTH);
-    else if (status != BSONRAW_NONE) set_cursor_error(&source->bytes, status, iter);
+    else if (status != BSONRAW_NONE) set_cursor_error(source->state, &source->bytes, status, iter);
     else Py_INCREF(element = Py_None);
     Py_DECREF((PyObject *)source);
     return element;
@@ -33,9 +33,8 @@ CALL(py_get) {
     const struct bytes *bytes;
     Source *source;
     PyObject *data[MOST_PLACES];
-    (void)module;
-    if (places_read(&OF_GET, data, args, count, names) < 0 || (key = utf8_of(data[1], "key", &len)) == NULL) return NULL;
-    if ((source = source_of(data[0])) == NULL) return NULL;
+    if (places_read(module, &OF_GET, data, args, count, names) < 0 || (key = utf8_of(data[1], "key", &len)) == NULL) return NULL;
+    if ((source = source_of(state_of(module), data[0])) == NULL) return NULL;
     bytes = &source->bytes;
     WITHOUT_LOCK(bytes, status = bsonraw_iter_init_find(&iter, bytes->at, bytes->len, key, len));
     return found(source, status, &iter);
@@ -150,9 +149,8 @@ CALL(py_find) {
     int32_t status;
     PyObject *data[MOST_PLACES], *result = NULL;
     Source *source;
-    (void)module;
-    if (places_read(&OF_FIND, data, args, count, names) < 0 || path_open(&path, data[1]) < 0) return NULL;
-    source = source_of(data[0]);
+    if (places_read(module, &OF_FIND, data, args, count, names) < 0 || path_open(&path, data[1]) < 0) return NULL;
+    source = source_of(state_of(module), data[0]);
     if (source != NULL) {
         const struct bytes *bytes = &source->bytes;
         WITHOUT_LOCK(bytes, status = go_along(&iter, bytes, &path));

@@ -10,22 +10,18 @@ static PyObject *with_slot(PyTypeObject *type, PyObject *name, PyObject *value) 
 
 /* ---- UUIDs ---- */
 
-static PyObject *uuid_type, *int_name, *safe_name, *unknown, *sixty_four;
-
-static int uuid_init(void) {
-    int was_held = collector_pause();
+static int uuid_init(struct state *state) {
+    struct classes *classes = &state->classes;
+    int was_held = collector_pause(state);
     PyObject *module = PyImport_ImportModule("uuid"), *safe = NULL;
-    collector_resume(was_held);
+    collector_resume(state, was_held);
     if (module != NULL) safe = PyObject_GetAttrString(module, "SafeUUID");
-    if (safe != NULL) unknown = PyObject_GetAttrString(safe, "unknown");
-    int_name = PyUnicode_InternFromString("int");
-    safe_name = PyUnicode_InternFromString("is_safe");
-    sixty_four = PyLong_FromLong(64);
-    if (unknown != NULL && int_name != NULL && safe_name != NULL && sixty_four != NULL)
-        uuid_type = PyObject_GetAttrString(module, "UUID");
+    if (safe != NULL && classes->unknown == NULL) classes->unknown = PyObject_GetAttrString(safe, "unknown");
+    if (classes->sixty_four == NULL) classes->sixty_four = PyLong_FromLong(64);
+    if (classes->unknown != NULL && classes->sixty_four != NULL) classes->uuid = PyObject_GetAttrString(module, "UUID");
     Py_XDECREF(safe);
     Py_XDECREF(module);
-    return uuid_type == NULL ? -1 : 0;
+    return classes->uuid == NULL ? -1 : 0;
 }
 
 static uint64_t big_u64(const uint8_t *at) {
@@ -35,9 +31,9 @@ static uint64_t big_u64(const uint8_t *at) {
     return number;
 }
 
-static PyObject *number_of(const uint8_t *at) {
+static PyObject *number_of(const struct state *state, const uint8_t *at) {
     PyObject *high = PyLong_FromUnsignedLongLong(big_u64(at)), *low = PyLong_FromUnsignedLongLong(big_u64(at + 8));
-    PyObject *shifted = high == NULL || low == NULL ? NULL : PyNumber_Lshift(high, sixty_four);
+    PyObject *shifted = high == NULL || low == NULL ? NULL : PyNumber_Lshift(high, state->classes.sixty_four);
     PyObject *number = shifted == NULL ? NULL : PyNumber_Or(shifted, low);
     Py_XDECREF(shifted);
     Py_XDECREF(high);
@@ -45,12 +41,12 @@ static PyObject *number_of(const uint8_t *at) {
     return number;
 }
 
-PyObject *uuid_of(const uint8_t *at) {
+PyObject *uuid_of(struct state *state, const uint8_t *at) {
     PyObject *number, *made;
-    if (uuid_type == NULL && uuid_init() < 0) return NULL;
-    number = number_of(at);
-    made = with_slot((PyTypeObject *)uuid_type, int_name, number);
-    if (made != NULL && PyObject_GenericSetAttr(made, safe_name, unknown) < 0) Py_CLEAR(made);
+    if (state->classes.uuid == NULL && uuid_init(state) < 0) return NULL;
+    number = number_of(state, at);
+    made = with_slot((PyTypeObject *)state->classes.uuid, state->names.integer, number);
+    if (made != NULL && PyObject_GenericSetAttr(made, state->names.is_safe, state->classes.unknown) < 0) Py_CLEAR(made);
     Py_XDECREF(number);
     return made;
 }
@@ -63,19 +59,15 @@ static PyObject *maker_of(PyObject *types, uint32_t tag) {
 }
 
 /* An ObjectId of theirs of its bytes; types has the class where it keeps these in this slot. */
-static PyObject *foreign_id(PyObject *make, const uint8_t *at) {
-    static PyObject *name;
-    PyObject *bytes, *id;
-    if (name == NULL && (name = PyUnicode_InternFromString("_ObjectId__id")) == NULL) return NULL;
-    bytes = PyBytes_FromStringAndSize((const char *)at, 12);
-    id = with_slot((PyTypeObject *)make, name, bytes);
+static PyObject *foreign_id(const struct state *state, PyObject *make, const uint8_t *at) {
+    PyObject *bytes = PyBytes_FromStringAndSize((const char *)at, 12), *id = with_slot((PyTypeObject *)make, state->names.id, bytes);
     Py_XDECREF(bytes);
     return id;
 }
 
 /* What a call makes of one or two parts. Takes these; the second may be NULL. */
-static PyObject *made_of_parts(PyObject *make, PyObject *first, PyObject *second) {
-    PyObject *made = first == NULL || PyErr_Occurred() ? NULL : call_out(make, first, second);
+static PyObject *made_of_parts(struct state *state, PyObject *make, PyObject *first, PyObject *second) {
+    PyObject *made = first == NULL || PyErr_Occurred() ? NULL : call_out(state, make, first, second);
     Py_XDECREF(first);
     Py_XDECREF(second);
     return made;
@@ -83,40 +75,38 @@ static PyObject *made_of_parts(PyObject *make, PyObject *first, PyObject *second
 
 static PyObject *part_of(const uint8_t *at, size_t len) { return PyBytes_FromStringAndSize((const char *)at, (Py_ssize_t)len); }
 
-static PyObject *foreign_binary(PyObject *make, const uint8_t *at, size_t len) {
+static PyObject *foreign_binary(struct state *state, PyObject *make, const uint8_t *at, size_t len) {
     size_t head = at[4] == 2 ? 9 : 5;
-    return at[4] == 0 ? part_of(at + 5, len - 5) : made_of_parts(make, part_of(at + head, len - head), PyLong_FromLong(at[4]));
+    return at[4] == 0 ? part_of(at + 5, len - 5) : made_of_parts(state, make, part_of(at + head, len - head), PyLong_FromLong(at[4]));
 }
 
-PyObject *foreign_leaf(PyObject *types, uint32_t tag, const uint8_t *at, size_t len) {
+PyObject *foreign_leaf(struct state *state, PyObject *types, uint32_t tag, const uint8_t *at, size_t len) {
     PyObject *make = maker_of(types, tag);
     if (make == NULL) return NULL;
     switch (tag) {
-    case BSONRAW_TAG_OBJECT_ID: return PyType_Check(make) ? foreign_id(make, at) : NULL;
-    case BSONRAW_TAG_INT64: return made_of_parts(make, PyLong_FromLongLong(le_i64(at)), NULL);
-    case BSONRAW_TAG_DECIMAL128: return made_of_parts(make, part_of(at, 16), NULL);
-    case BSONRAW_TAG_BINARY: return foreign_binary(make, at, len);
+    case BSONRAW_TAG_OBJECT_ID: return PyType_Check(make) ? foreign_id(state, make, at) : NULL;
+    case BSONRAW_TAG_INT64: return made_of_parts(state, make, PyLong_FromLongLong(le_i64(at)), NULL);
+    case BSONRAW_TAG_DECIMAL128: return made_of_parts(state, make, part_of(at, 16), NULL);
+    case BSONRAW_TAG_BINARY: return foreign_binary(state, make, at, len);
     case BSONRAW_TAG_TIMESTAMP:
-        return made_of_parts(make, PyLong_FromUnsignedLong((uint32_t)le_i32(at + 4)), PyLong_FromUnsignedLong((uint32_t)le_i32(at)));
+        return made_of_parts(state, make, PyLong_FromUnsignedLong((uint32_t)le_i32(at + 4)), PyLong_FromUnsignedLong((uint32_t)le_i32(at)));
     default: return NULL;
     }
 }
 
-PyObject *in_types(PyObject *types, uint32_t tag, PyObject *value) {
+PyObject *in_types(struct state *state, PyObject *types, uint32_t tag, PyObject *value) {
     PyObject *make = value == NULL ? NULL : maker_of(types, tag), *made;
     if (make == NULL) return value;
-    made = call_out(make, value, NULL);
+    made = call_out(state, make, value, NULL);
     Py_DECREF(value);
     return made;
 }
 
-PyObject *foreign_document(PyObject *types, PyObject *document) {
-    static PyObject *name;
-    if (name == NULL && (name = PyUnicode_InternFromString("$ref")) == NULL) Py_CLEAR(document);
+PyObject *foreign_document(struct state *state, PyObject *types, PyObject *document) {
     if (document == NULL) return NULL;
-    switch (PyDict_Contains(document, name)) {
+    switch (PyDict_Contains(document, state->names.ref)) {
     case 0: return document;
-    case 1: return in_types(types, BSONRAW_TAG_DOCUMENT, document);
+    case 1: return in_types(state, types, BSONRAW_TAG_DOCUMENT, document);
     default: Py_DECREF(document); return NULL;
     }
 }

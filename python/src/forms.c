@@ -16,6 +16,7 @@ struct without {
 };
 
 struct forms {
+    struct state *state;
     struct bytes bytes;
     size_t max_bytes, max_depth, before;
     struct bsonraw_reader reader;
@@ -147,8 +148,9 @@ static PyObject *formed(struct forms *all) {
 static PyObject *why_without(const struct forms *all, const struct without *without) {
     struct bytes document = bytes_part(all->bytes.at + without->at, without->len);
     struct told told;
-    if (without->status == BSONRAW_NONE) return error_no_document(all->reader.error.reason, all->before + without->at);
+    if (without->status == BSONRAW_NONE) return error_no_document(all->state, all->reader.error.reason, all->before + without->at);
     memset(&told, 0, sizeof told);
+    told.state = all->state;
     told.status = without->status;
     told.max_bytes = all->max_bytes;
     told.max_depth = all->max_depth;
@@ -232,13 +234,13 @@ CALL(py_canonical_all) {
     struct options options;
     struct forms all;
     PyObject *data, *parts;
-    (void)module;
-    if (options_read(&OF_CANONICAL_ALL, &options, &data, args, count, names) < 0) return NULL;
+    if (options_read(module, &OF_CANONICAL_ALL, &options, &data, args, count, names) < 0) return NULL;
     memset(&all, 0, sizeof all);
+    all.state = options.state;
     all.max_bytes = options.max_bytes;
     all.max_depth = options.max_depth;
     all.before = options.before;
-    if (bytes_open(&all.bytes, data) < 0) return NULL;
+    if (bytes_open(all.state, &all.bytes, data) < 0) return NULL;
     parts = parts_of(&all, formed(&all));
     free(all.each);
     free(all.without);
@@ -293,15 +295,14 @@ PyObject *py_partitions(PyObject *module, PyObject *const *args, Py_ssize_t coun
     PyObject *offsets, *result = NULL;
     size_t size;
     int outcome;
-    (void)module;
     if (count != 2) PyErr_SetString(PyExc_TypeError, "partitions() takes data and a size");
     if (count != 2 || ((size = PyLong_AsSize_t(args[1])) == (size_t)-1 && PyErr_Occurred())) return NULL;
-    if (bytes_open_as_they_are(&bytes, args[0]) < 0) return NULL;
+    if (bytes_open_as_they_are(state_of(module), &bytes, args[0]) < 0) return NULL;
     WITHOUT_LOCK(&bytes, outcome = cut_all(&cuts, &bytes, size, &last));
     if (outcome == NO_MEMORY) PyErr_NoMemory();
     offsets = outcome == NO_MEMORY ? NULL : offsets_of(&cuts);
     if (offsets != NULL) {
-        PyObject *error = last == CUT_NONE ? Py_None : error_no_document(cut_reason(last), cuts.at[cuts.count - 1]);
+        PyObject *error = last == CUT_NONE ? Py_None : error_no_document(state_of(module), cut_reason(last), cuts.at[cuts.count - 1]);
         if (error == Py_None) Py_INCREF(error);
         if (error != NULL) result = Py_BuildValue("ON", offsets, error);
         Py_DECREF(offsets);

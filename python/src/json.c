@@ -1,16 +1,10 @@
 /* Documents as Extended JSON. */
 #include "native.h"
 
-/* One room for a text is kept for the next call. Who takes it owns it until it is given back. */
-static struct room {
-    uint8_t *at;
-    size_t len;
-} kept;
-
 #define LEAST_ROOM 65536
 #define KEPT_ROOM (1 << 20) /* a larger one is freed */
 
-static int make_room(struct room *room, size_t len) {
+static int make_room(struct text_room *room, size_t len) {
     PyMem_Free(room->at);
     room->at = PyMem_Malloc(len);
     room->len = room->at == NULL ? 0 : len;
@@ -18,8 +12,8 @@ static int make_room(struct room *room, size_t len) {
     return room->at == NULL ? -1 : 0;
 }
 
-static void give_back(struct room *room) {
-    if (kept.at == NULL && room->len <= KEPT_ROOM) kept = *room;
+static void give_back(struct state *state, struct text_room *room) {
+    if (state->text.at == NULL && room->len <= KEPT_ROOM) state->text = *room;
     else PyMem_Free(room->at);
 }
 
@@ -30,7 +24,7 @@ static size_t room_for(const struct bytes *bytes, size_t max_bytes) {
 }
 
 /* Has the text written into a room that is large enough: 0, or -1 with an error set. */
-static int write_text(const struct bytes *bytes, struct told *told, const struct options *options, struct room *room) {
+static int write_text(const struct bytes *bytes, struct told *told, const struct options *options, struct text_room *room) {
     size_t wanted = room_for(bytes, told->max_bytes);
     do {
         if (room->len < wanted && make_room(room, wanted) < 0) return -1;
@@ -75,18 +69,19 @@ static PyObject *with_indent(const uint8_t *text, size_t len, int width) {
 }
 
 static PyObject *json_of(const struct bytes *bytes, const struct options *options) {
+    struct state *state = options->state;
     struct told told;
-    struct room room = kept;
+    struct text_room room = state->text;
     PyObject *text = NULL;
-    kept.at = NULL;
-    kept.len = 0;
+    state->text.at = NULL;
+    state->text.len = 0;
     told_begin(&told, options);
     if (write_text(bytes, &told, options, &room) == 0) {
         size_t len = (size_t)told.report.count;
         if (options->indent < 0 || options->indent == 2) text = PyUnicode_DecodeUTF8((const char *)room.at, (Py_ssize_t)len, "strict");
         else text = with_indent(room.at, len, options->indent);
     }
-    give_back(&room);
+    give_back(state, &room);
     return text;
 }
 
@@ -94,8 +89,7 @@ CALL(py_to_json) {
     struct options options;
     struct bytes bytes;
     PyObject *data, *text;
-    (void)module;
-    if (options_read(&OF_TO_JSON, &options, &data, args, count, names) < 0 || bytes_open(&bytes, data) < 0) return NULL;
+    if (options_read(module, &OF_TO_JSON, &options, &data, args, count, names) < 0 || bytes_open(options.state, &bytes, data) < 0) return NULL;
     text = json_of(&bytes, &options);
     bytes_close(&bytes);
     return text;

@@ -7,9 +7,7 @@
 #if WCHAR_MAX >= 0x10ffff
 
 #define ROOM 4096
-#define BLOCK 16
-
-static wchar_t wide[ROOM + 2 * BLOCK];
+#define BLOCK BLOCK_OF_LETTERS
 
 /* ---- by runs ---- */
 
@@ -49,22 +47,17 @@ static wchar_t *by_runs(wchar_t *to, const uint8_t *at, const uint8_t *end) {
 #include <tmmintrin.h>
 #define WITH_BLOCKS __attribute__((target("ssse3")))
 
-/* Of eight letters, those whose bits are set: where the bytes of each are, one behind the other; and how many they are. */
-static uint8_t places[256][BLOCK] __attribute__((aligned(BLOCK)));
-static uint8_t counts[256];
-static int has_blocks;
-
-void letters_init(void) {
+void letters_init(struct letters *letters) {
     unsigned set, bit;
-    has_blocks = __builtin_cpu_supports("ssse3") != 0;
+    letters->has_blocks = __builtin_cpu_supports("ssse3") != 0;
     for (set = 0; set < 256; set++) {
         unsigned count = 0;
         for (bit = 0; bit < 8; bit++) {
             if ((set >> bit & 1) == 0) continue;
-            places[set][2 * count] = (uint8_t)(2 * bit);
-            places[set][2 * count++ + 1] = (uint8_t)(2 * bit + 1);
+            letters->places[set][2 * count] = (uint8_t)(2 * bit);
+            letters->places[set][2 * count++ + 1] = (uint8_t)(2 * bit + 1);
         }
-        counts[set] = (uint8_t)count;
+        letters->counts[set] = (uint8_t)count;
     }
 }
 
@@ -107,28 +100,29 @@ WITH_BLOCKS static inline __m128i letters_of(__m128i first, __m128i second, __m1
 }
 
 /* Puts those of eight letters whose bits are set. */
-WITH_BLOCKS static inline wchar_t *put_letters(wchar_t *to, __m128i letters, unsigned set) {
-    const __m128i zero = _mm_setzero_si128(), kept = _mm_shuffle_epi8(letters, *(const __m128i *)places[set]);
+WITH_BLOCKS static inline wchar_t *put_letters(const struct letters *how, wchar_t *to, __m128i letters, unsigned set) {
+    const __m128i zero = _mm_setzero_si128(), kept = _mm_shuffle_epi8(letters, block_at(how->places[set]));
     _mm_storeu_si128((__m128i *)to, _mm_unpacklo_epi16(kept, zero));
     _mm_storeu_si128((__m128i *)(to + 4), _mm_unpackhi_epi16(kept, zero));
-    return to + counts[set];
+    return to + how->counts[set];
 }
 
 /* Puts the letters of a text: the place behind them. Done is how many bytes they are: all, or those in front of the first block with a
  * letter of four bytes or something that isn't UTF-8, and of the letter that ends in it. */
-WITH_BLOCKS static wchar_t *by_blocks(const uint8_t *text, size_t len, size_t *done) {
-    static uint8_t copy[BLOCK + ROOM + 3 * BLOCK]; /* zeros are before and behind the text */
+WITH_BLOCKS static wchar_t *by_blocks(const struct letters *how, wchar_t *wide, const uint8_t *text, size_t len, size_t *done) {
+    uint8_t copy[BLOCK + ROOM + 3 * BLOCK]; /* zeros are before and behind the text */
     const __m128i zero = _mm_setzero_si128();
     const uint8_t *at = copy + BLOCK, *begin = at, *end = at + len;
     wchar_t *to = wide;
+    memset(copy, 0, BLOCK);
     memcpy(copy + BLOCK, text, len);
     memset(copy + BLOCK + len, 0, 2 * BLOCK);
     for (; at <= end; at += BLOCK) {
         const __m128i first = block_at(at), second = block_at(at + 1), third = block_at(at + 2);
         const unsigned set = ~(unsigned)_mm_movemask_epi8(is_inner(first));
         if (_mm_movemask_epi8(is_wrong(at)) != 0) break;
-        to = put_letters(to, letters_of(_mm_unpacklo_epi8(first, zero), _mm_unpacklo_epi8(second, zero), _mm_unpacklo_epi8(third, zero)), set & 0xff);
-        to = put_letters(to, letters_of(_mm_unpackhi_epi8(first, zero), _mm_unpackhi_epi8(second, zero), _mm_unpackhi_epi8(third, zero)), set >> 8 & 0xff);
+        to = put_letters(how, to, letters_of(_mm_unpacklo_epi8(first, zero), _mm_unpacklo_epi8(second, zero), _mm_unpacklo_epi8(third, zero)), set & 0xff);
+        to = put_letters(how, to, letters_of(_mm_unpackhi_epi8(first, zero), _mm_unpackhi_epi8(second, zero), _mm_unpackhi_epi8(third, zero)), set >> 8 & 0xff);
     }
     if (at > end) {
         *done = len;
@@ -143,9 +137,8 @@ WITH_BLOCKS static wchar_t *by_blocks(const uint8_t *text, size_t len, size_t *d
     return to;
 }
 #else
-#define has_blocks 0
-#define by_blocks(at, len, done) wide
-void letters_init(void) {}
+#define by_blocks(how, wide, at, len, done) (wide)
+void letters_init(struct letters *letters) { letters->has_blocks = 0; }
 #endif
 
 /* ---- which way ---- */
@@ -162,26 +155,32 @@ static unsigned beyond_ascii(const uint8_t *at) {
 
 /* Whether a text takes less time by its letters: a short one, and a longer one which doesn't begin with few that aren't ASCII; nor, by runs,
  * behind what is ASCII, with three letters of three bytes, as Chinese does: of a run of either Python's decoder is the faster one. */
-static int is_for_letters(const uint8_t *at, size_t len) {
+static int is_for_letters(const struct letters *letters, const uint8_t *at, size_t len) {
     const uint8_t *end = at + len;
     if (len <= SHORT || len > ROOM) return len <= SHORT;
-    if (has_blocks) return beyond_ascii(at) >= SHORT / 8;
+    if (letters->has_blocks) return beyond_ascii(at) >= SHORT / 8;
     if (beyond_ascii(at) < SHORT / 4) return 0;
     while (*at < 0x80) at++;
     return end - at < 9 || at[0] >> 4 != 14 || at[3] >> 4 != 14 || at[6] >> 4 != 14;
 }
 
-PyObject *letters_text(const uint8_t *at, size_t len) {
-    wchar_t *to = NULL;
-    if (is_for_letters(at, len)) {
-        size_t done = 0;
-        to = has_blocks ? by_blocks(at, len, &done) : wide;
-        if (done < len) to = by_runs(to, at + done, at + len);
-    }
+NOT_INLINE PyObject *by_letters(const struct letters *letters, const uint8_t *at, size_t len) {
+    wchar_t wide[ROOM + 2 * BLOCK], *to;
+    size_t done = 0;
+    to = letters->has_blocks ? by_blocks(letters, wide, at, len, &done) : wide;
+    if (done < len) to = by_runs(to, at + done, at + len);
     return to == NULL ? PyUnicode_DecodeUTF8((const char *)at, (Py_ssize_t)len, "strict") : PyUnicode_FromWideChar(wide, to - wide);
 }
-#else
-void letters_init(void) {}
 
-PyObject *letters_text(const uint8_t *at, size_t len) { return PyUnicode_DecodeUTF8((const char *)at, (Py_ssize_t)len, "strict"); }
+PyObject *letters_text(const struct letters *letters, const uint8_t *at, size_t len) {
+    if (is_for_letters(letters, at, len)) return by_letters(letters, at, len);
+    return PyUnicode_DecodeUTF8((const char *)at, (Py_ssize_t)len, "strict");
+}
+#else
+void letters_init(struct letters *letters) { letters->has_blocks = 0; }
+
+PyObject *letters_text(const struct letters *letters, const uint8_t *at, size_t len) {
+    (void)letters;
+    return PyUnicode_DecodeUTF8((const char *)at, (Py_ssize_t)len, "strict");
+}
 #endif

@@ -7,12 +7,12 @@ struct call {
     struct told told;
 };
 
-static int call_begin(struct call *call, const struct signature *of, PyObject **data, PyObject *const *args, Py_ssize_t count,
+static int call_begin(PyObject *module, struct call *call, const struct signature *of, PyObject **data, PyObject *const *args, Py_ssize_t count,
                       PyObject *names) {
     struct options options;
-    if (options_read(of, &options, data, args, count, names) < 0) return -1;
+    if (options_read(module, of, &options, data, args, count, names) < 0) return -1;
     told_begin(&call->told, &options);
-    return bytes_open(&call->bytes, *data);
+    return bytes_open(options.state, &call->bytes, *data);
 }
 
 static CALL(py_check) {
@@ -20,8 +20,7 @@ static CALL(py_check) {
     struct told *told = &call.told;
     const struct bytes *bytes = &call.bytes;
     PyObject *data, *result = NULL;
-    (void)module;
-    if (call_begin(&call, &OF_CHECK, &data, args, count, names) < 0) return NULL;
+    if (call_begin(module, &call, &OF_CHECK, &data, args, count, names) < 0) return NULL;
     WITHOUT_LOCK(bytes, told->status = bsonraw_check(bytes->at, bytes->len, told->max_bytes, told->max_depth, &told->report,
                                                      told->path, PATH_ROOM));
     if (told->status == BSONRAW_BREACH) result = breach_of(bytes, told);
@@ -36,8 +35,7 @@ static CALL(py_first_fault) {
     struct told *told = &call.told;
     const struct bytes *bytes = &call.bytes;
     PyObject *data, *result;
-    (void)module;
-    if (call_begin(&call, &OF_FIRST_FAULT, &data, args, count, names) < 0) return NULL;
+    if (call_begin(module, &call, &OF_FIRST_FAULT, &data, args, count, names) < 0) return NULL;
     WITHOUT_LOCK(bytes, told->status = bsonraw_first_fault(bytes->at, bytes->len, told->max_bytes, told->max_depth,
                                                            &told->report, told->path, PATH_ROOM));
     if (told->status != BSONRAW_OK) result = error_of(bytes, told);
@@ -77,8 +75,7 @@ static PyObject *form_of(const struct call *call, PyObject *data, PyObject *room
 static CALL(py_canonical) {
     struct call call;
     PyObject *data, *form;
-    (void)module;
-    if (call_begin(&call, &OF_CANONICAL, &data, args, count, names) < 0) return NULL;
+    if (call_begin(module, &call, &OF_CANONICAL, &data, args, count, names) < 0) return NULL;
     form = form_in(&call, call.bytes.len > call.told.max_bytes ? 0 : call.bytes.len);
     if (form != NULL && call.told.status == BSONRAW_SMALL_BUFFER) {
         Py_DECREF(form);
@@ -103,6 +100,7 @@ static PyMethodDef calls[] = {
     {"walk", FASTCALL(py_walk), METH_FASTCALL | METH_KEYWORDS, walk_doc},
     {"get", FASTCALL(py_get), METH_FASTCALL | METH_KEYWORDS, get_doc},
     {"find", FASTCALL(py_find), METH_FASTCALL | METH_KEYWORDS, find_doc},
+    {"edit", FASTCALL(py_edit), METH_FASTCALL | METH_KEYWORDS, edit_doc},
     {"canonical", FASTCALL(py_canonical), METH_FASTCALL | METH_KEYWORDS, canonical_doc},
     {"check", FASTCALL(py_check), METH_FASTCALL | METH_KEYWORDS, check_doc},
     {"first_fault", FASTCALL(py_first_fault), METH_FASTCALL | METH_KEYWORDS, first_fault_doc},
@@ -120,38 +118,49 @@ static PyMethodDef calls[] = {
     {"use", classes_use, METH_O, NULL},
     {NULL, NULL, 0, NULL}};
 
-/* What the module keeps is of one interpreter: 0 in it, or -1 with an error set. */
-static int is_first_interpreter(void) {
-    static int64_t first = -1;
-#if PY_VERSION_HEX >= 0x03090000
-    int64_t here = PyInterpreterState_GetID(PyInterpreterState_Get());
-#else
-    int64_t here = PyInterpreterState_GetID(_PyInterpreterState_Get());
-#endif
-    if (first < 0) first = here;
-    if (here == first) return 0;
-    PyErr_SetString(PyExc_ImportError, "bsonraw is loaded by another interpreter of this process, and can't be by a second one");
-    return -1;
-}
-
 static int fill(PyObject *module) {
-    letters_init();
-    if (is_first_interpreter() < 0 || times_init() < 0 || classes_add(module) < 0 || elements_add(module) < 0 ||
-        walks_add(module) < 0 || documents_add(module) < 0)
+    if (state_init(module) < 0 || sources_add(module) < 0 || classes_add(module) < 0 || elements_add(module) < 0 ||
+        lazy_add(module) < 0 || walks_add(module) < 0 || documents_add(module) < 0)
         return -1;
     return PyModule_AddIntConstant(module, "VERSION", BSONRAW_VERSION);
 }
 
-static PyModuleDef_Slot slots[] = {{Py_mod_exec, (void *)fill}, {0, NULL}};
-static struct PyModuleDef definition = {
-    PyModuleDef_HEAD_INIT, "bsonraw._native", "What bsonraw does in C.", 0, calls, slots, NULL, NULL, NULL};
+static struct PyModuleDef definition = {PyModuleDef_HEAD_INIT, "bsonraw._native", "What bsonraw does in C.", sizeof(struct state), calls,
+                                        NULL, state_traverse, state_clear, state_free};
+
+struct PyModuleDef *module_definition(void) { return &definition; }
+
+/* What later versions are told: 3.12 that each interpreter has its own module, with a lock of its own, and 3.13 that one
+ * interpreter has a lock, without which what the module keeps for the next call would be shared. The stable interface has the numbers
+ * of these slots; the headers of earlier versions don't have their names. */
+#define SLOT_OF_INTERPRETERS 3
+#define OWN_LOCKS ((void *)2)
+
+static PyModuleDef_Slot plain_slots[] = {{Py_mod_exec, (void *)fill}, {0, NULL}};
+static PyModuleDef_Slot later_slots[] = {{Py_mod_exec, (void *)fill},
+                                         {SLOT_OF_INTERPRETERS, OWN_LOCKS},
+#ifdef Py_mod_gil
+                                         {Py_mod_gil, Py_MOD_GIL_USED},
+#endif
+                                         {0, NULL}};
+
+static int is_later(void) {
+#if defined(Py_LIMITED_API)
+    return Py_Version >= 0x030C0000;
+#else
+    return PY_VERSION_HEX >= 0x030C0000;
+#endif
+}
 
 #ifdef __GNUC__
 __attribute__((visibility("default"))) /* which headers before 3.9 leave out */
 #endif
 PyMODINIT_FUNC PyInit__native(void) {
     uint32_t version = bsonraw_version(); /* a later one has all that the header's has, if the first digits are the same */
-    if (version >= BSONRAW_VERSION && version / 10000 == BSONRAW_VERSION / 10000) return PyModuleDef_Init(&definition);
+    if (version >= BSONRAW_VERSION && version / 10000 == BSONRAW_VERSION / 10000) {
+        definition.m_slots = is_later() ? later_slots : plain_slots;
+        return PyModuleDef_Init(&definition);
+    }
     PyErr_SetString(PyExc_ImportError,
                     "bsonraw was built with the header of another version of the library: build the package again");
     return NULL;

@@ -12,6 +12,8 @@
 #include <stdint.h>
 #include <string.h>
 
+#include "state.h"
+
 #if defined(__BYTE_ORDER__) && __BYTE_ORDER__ != __ORDER_LITTLE_ENDIAN__
 #error "numbers are read as BSON stores them: this module is for little-endian machines"
 #endif
@@ -22,7 +24,7 @@
 #else
 #define NOT_CALLED Py_TPFLAGS_DEFAULT
 #endif
-PyTypeObject *type_not_called(PyType_Spec *spec);
+PyTypeObject *type_not_called(PyObject *module, PyType_Spec *spec);
 
 #if PY_VERSION_HEX >= 0x03090000
 #define VISIT_TYPE(self) Py_VISIT(Py_TYPE(self))
@@ -53,11 +55,11 @@ struct bytes {
     Py_buffer view;
 };
 
-int bytes_open_view(struct bytes *bytes, PyObject *data);
+int bytes_open_view(const struct state *state, struct bytes *bytes, PyObject *data);
 
 /* 0, or -1 with an error set. Each opened one has to be closed. */
-static inline int bytes_open(struct bytes *bytes, PyObject *data) {
-    if (!PyBytes_CheckExact(data)) return bytes_open_view(bytes, data);
+static inline int bytes_open(const struct state *state, struct bytes *bytes, PyObject *data) {
+    if (!PyBytes_CheckExact(data)) return bytes_open_view(state, bytes, data);
     bytes->at = (const uint8_t *)PyBytes_AsString(data);
     bytes->len = (size_t)PyBytes_Size(data);
     bytes->copy = NULL;
@@ -67,7 +69,7 @@ static inline int bytes_open(struct bytes *bytes, PyObject *data) {
 }
 
 /* The same, but no copy is made. Where they aren't fixed, each byte may be read once. */
-int bytes_open_as_they_are(struct bytes *bytes, PyObject *data);
+int bytes_open_as_they_are(const struct state *state, struct bytes *bytes, PyObject *data);
 
 static inline void bytes_close(struct bytes *bytes) {
     if (bytes->has_view) PyBuffer_Release(&bytes->view);
@@ -110,18 +112,19 @@ struct breath {
 /* Lets signals be heard once in LET_GO_OVER bytes, and other threads run once in ten milliseconds: 0, or -1 with an error set. A thread
  * asks for the interpreter's lock once nobody has let go of it for sys.getswitchinterval(), five milliseconds; who lets go more often,
  * each time for a moment, may never be asked. */
-int breathe(struct breath *breath, size_t len);
+int breathe(struct state *state, struct breath *breath, size_t len);
 
 /* Bytes that elements and iterators keep open. */
 typedef struct {
     PyObject_HEAD
+    struct state *state;
     struct bytes bytes;
     PyObject *data; /* the caller's object, or the copy */
     PyObject *view; /* a read-only memoryview of it, made when first asked for */
 } Source;
 
-Source *source_of(PyObject *data);
-Source *source_as_it_is(PyObject *data); /* without a copy */
+Source *source_of(struct state *state, PyObject *data);
+Source *source_as_it_is(struct state *state, PyObject *data); /* without a copy */
 PyObject *source_slice(Source *source, size_t at, size_t len);
 
 static inline int32_t le_i32(const uint8_t *at) {
@@ -159,60 +162,31 @@ static inline double le_double(const uint8_t *at) {
 
 /* ---- classes.c: the classes of values ---- */
 
-/* Up to 16 bytes: ids, decimals, timestamps. */
-typedef struct {
-    PyObject_HEAD
-    uint8_t len;
-    uint8_t bytes[16];
-} Raw;
-
-/* Two values: regular expressions, pointers. */
-typedef struct {
-    PyObject_HEAD
-    PyObject *first;
-    PyObject *second;
-} Pair;
-
-/* The classes that the package defines in Python over these, and what else the module makes or calls. */
-struct classes {
-    PyTypeObject *object_id, *decimal128, *timestamp;     /* over Raw */
-    PyTypeObject *regex, *db_pointer;                     /* over Pair */
-    PyTypeObject *binary, *code;                          /* over bytes, str */
-    PyTypeObject *int64, *datetime_ms, *symbol, *pairs;   /* over int, int, str, list */
-    PyTypeObject *undefined_type, *min_key_type, *max_key_type;
-    PyObject *undefined, *min_key, *max_key;
-    PyObject *error, *breach;
-    PyObject *again;            /* what a pickle has of a value of a class over ours */
-    PyObject *convert;          /* a value of another class to one of these, for encoding; or NotImplemented */
-    PyObject *placed;           /* an error of encoding with the place */
-    PyObject *element_type[256]; /* by tag; NULL where there is none */
-};
-extern struct classes classes;
-
 int classes_add(PyObject *module);
 PyObject *classes_use(PyObject *module, PyObject *namespace);
+void free_object(PyObject *self); /* of a class, over which one may be that has a dict of its own */
 PyObject *raw_new(PyTypeObject *type, const uint8_t *bytes, uint8_t len);
 PyObject *pair_new(PyTypeObject *type, PyObject *first, PyObject *second); /* steals both; NULL where one is NULL */
 
 /* ---- over.c ---- */
 
-int over_init(void);
-PyObject *binary_new(const uint8_t *at, size_t len, uint8_t subtype);
-PyObject *binary_subtype(PyObject *binary);
-PyObject *code_new(PyObject *code, PyObject *scope); /* steals both; NULL where one is NULL */
-PyObject *code_scope(PyObject *code);
+PyObject *binary_new(const struct state *state, const uint8_t *at, size_t len, uint8_t subtype);
+PyObject *binary_subtype(const struct state *state, PyObject *binary);
+PyObject *code_new(struct state *state, PyObject *code, PyObject *scope); /* steals both; NULL where one is NULL */
+PyObject *code_scope(const struct state *state, PyObject *code);
 
 /* ---- times.c ---- */
 
-int times_init(void);
-PyObject *time_of(int64_t millis, int is_naive); /* a datetime, or a DatetimeMS where no datetime has this time */
-int is_datetime(PyObject *value);
-int millis_of(PyObject *datetime, int64_t *millis);
+int times_init(struct state *state);
+PyObject *time_of(const struct state *state, int64_t millis, int is_naive); /* a datetime, or a DatetimeMS where no datetime has this time */
+static inline int is_datetime(const struct state *state, PyObject *value) { return Py_TYPE(value) == state->classes.datetime; }
+int millis_of(const struct state *state, PyObject *datetime, int64_t *millis);
 
 /* ---- what a call was asked ---- */
 
-/* Limits and what to make of values. Objects are the caller's, but for types. */
+/* Limits and what to make of values. Objects are the caller's, but for the last two. */
 struct options {
+    struct state *state;
     size_t max_bytes;
     size_t max_depth;
     size_t before; /* how many bytes of a dump are before those that are given */
@@ -230,28 +204,29 @@ struct options {
     PyObject *errors;  /* what a fault is told; None to pass over it; NULL to raise it */
     PyObject *other;   /* makes a value that is written of one of another class; or NULL */
     PyObject *hook, *pairs_hook; /* make a value of each document; or NULL */
+    PyObject *into; /* makes an object of a type of what was decoded; NULL for none */
     PyObject *types; /* a tuple, by tag, of what makes another class of a value; NULL for the package's own classes */
 };
 
 /* ---- foreign.c: values of the classes of others ---- */
 
-PyObject *uuid_of(const uint8_t *at);
+PyObject *uuid_of(struct state *state, const uint8_t *at);
 /* Types is a tuple, by tag, of what makes a value; None where ours is one. Of a leaf that is made without one of ours; NULL
  * with no error set where it isn't. */
-PyObject *foreign_leaf(PyObject *types, uint32_t tag, const uint8_t *at, size_t len);
-PyObject *foreign_document(PyObject *types, PyObject *document); /* takes it */
-PyObject *in_types(PyObject *types, uint32_t tag, PyObject *value); /* in place of ours, which it takes */
+PyObject *foreign_leaf(struct state *state, PyObject *types, uint32_t tag, const uint8_t *at, size_t len);
+PyObject *foreign_document(struct state *state, PyObject *types, PyObject *document); /* takes it */
+PyObject *in_types(struct state *state, PyObject *types, uint32_t tag, PyObject *value); /* in place of ours, which it takes */
 
 /* ---- collector.c ---- */
 
 /* While containers of a dump's document are made: whether this call has the collector off, which ends with it. */
 int collector_hold(const struct options *options);
-void collector_free(int was_held);
+void collector_free(struct state *state, int was_held);
 /* Around what lets go of the interpreter's lock, or runs code of others, in between. */
-int collector_pause(void);
-void collector_resume(int was_held);
+int collector_pause(struct state *state);
+void collector_resume(struct state *state, int was_held);
 /* Calls what may be, or run, code of others; the second argument may be NULL. */
-PyObject *call_out(PyObject *call, PyObject *first, PyObject *second);
+PyObject *call_out(struct state *state, PyObject *call, PyObject *first, PyObject *second);
 
 /* ---- errors.c ---- */
 
@@ -261,10 +236,12 @@ enum { INTERIOR_NUL = 21, TOO_LONG = 22, TOO_MANY_BYTES = 23, TOO_DEEP = 24 }; /
 
 /* What a call over a whole document told. */
 struct told {
+    struct state *state;
     int32_t status;
     struct bsonraw_report report;
     uint64_t path[PATH_ROOM];
     size_t max_bytes, max_depth; /* what the call was given */
+    size_t levels_before;        /* of what is written: how many levels are around it */
     int is_of_dump;              /* so that its offset is told in any case */
     uint64_t before;             /* how many bytes are before the document */
     const struct bytes *outer;   /* of a document in an element's value: the document with the element, which begins there; or NULL */
@@ -273,8 +250,10 @@ struct told {
 };
 
 static inline void told_begin(struct told *told, const struct options *options) {
+    told->state = options->state;
     told->max_bytes = options->max_bytes;
     told->max_depth = options->max_depth;
+    told->levels_before = 0;
     told->is_of_dump = options->is_of_dump;
     told->before = 0;
     told->outer = options->outer;
@@ -288,39 +267,37 @@ void set_error_of(const struct bytes *bytes, const struct told *told);
 /* The Breach that bsonraw_check told. */
 PyObject *breach_of(const struct bytes *bytes, const struct told *told);
 /* Sets the error of a cursor over one level. */
-void set_cursor_error(const struct bytes *bytes, int32_t status, const struct bsonraw_iter *iter);
+void set_cursor_error(struct state *state, const struct bytes *bytes, int32_t status, const struct bsonraw_iter *iter);
 /* Goes into the document, the array or the scope that a cursor is at. Whether there is one; if not, its error may say why. */
 int go_into(struct bsonraw_iter *iter, const struct bytes *bytes);
 /* Of bytes that no document is cut from. */
-PyObject *error_no_document(uint32_t reason, uint64_t offset);
+PyObject *error_no_document(struct state *state, uint32_t reason, uint64_t offset);
 /* Of a document of a dump that is more than allowed. */
-PyObject *error_refused(int reason, uint64_t offset);
-/* Of what isn't written; each object may be NULL. */
-void set_refused(int reason, PyObject *key, PyObject *path, PyObject *keys);
+PyObject *error_refused(struct state *state, int reason, size_t limit, uint64_t offset);
+/* Of what isn't written; the key may be NULL. */
+void set_refused(struct state *state, int reason, size_t limit, PyObject *key);
 void set_error(PyObject *error); /* takes it; NULL where an error is set */
 PyObject *py_fault_text(PyObject *module, PyObject *args);
 
 /* ---- tokens.c ---- */
 
-struct tokens {
-    struct bsonraw_token *at;
-    size_t count;
-    size_t room;
-};
-
 /* The tokens of all levels: 0, or -1 with an error set. */
 int tokens_read(struct tokens *tokens, const struct bytes *bytes, const struct options *options, uint64_t before);
-void tokens_free(struct tokens *tokens);
+void tokens_free(struct state *state, struct tokens *tokens);
 
 /* ---- letters.c ---- */
 
-void letters_init(void);
-PyObject *letters_text(const uint8_t *at, size_t len); /* of UTF-8 that isn't ASCII; raises UnicodeDecodeError where it isn't UTF-8 */
+void letters_init(struct letters *letters);
+PyObject *letters_text(const struct letters *letters, const uint8_t *at, size_t len); /* of UTF-8 that isn't ASCII; raises UnicodeDecodeError where it isn't UTF-8 */
 
 /* ---- decode.c ---- */
 
-PyObject *key_of(const uint8_t *at, size_t len);
+int tables_init(struct state *state);
+void tables_clear(struct state *state);
+PyObject *key_of(struct state *state, const uint8_t *at, size_t len);
 PyObject *decoded(const struct bytes *bytes, const struct options *options, uint64_t before);
+/* In place of a decoded document, which it takes: the object of the type that was asked for. */
+PyObject *in_type(const struct options *options, PyObject *document);
 /* Has each key of the first level taken, with its token: 0, or -1 with an error set. */
 typedef int taker(void *to, PyObject *key, const struct bsonraw_token *token);
 int take_keys(const struct bytes *bytes, const struct options *options, uint64_t before, taker *take, void *to);
@@ -334,7 +311,7 @@ PyObject *value_at(const struct bytes *bytes, const struct bsonraw_iter *iter, c
 #define MAX_DEPTH 500
 
 #define MOST_PLACES 2
-#define MOST_OPTIONS 13
+#define MOST_OPTIONS 14
 #define MOST_INDENT 16
 
 /* The arguments of a call: those that may be given by their places, and those that are given by their names alone. */
@@ -346,14 +323,15 @@ struct signature {
     int placed; /* how many of them may be given by their places, too */
 };
 extern const struct signature OF_DECODE, OF_ENCODE, OF_VALUE, OF_ELEMENTS, OF_GET, OF_FIND, OF_WALK, OF_CANONICAL, OF_CHECK,
-    OF_FIRST_FAULT, OF_TO_JSON, OF_DECODE_ALL, OF_COLUMNS, OF_CANONICAL_ALL;
+    OF_FIRST_FAULT, OF_TO_JSON, OF_EDIT, OF_DECODE_ALL, OF_COLUMNS, OF_CANONICAL_ALL;
 
 int limit_of(PyObject *given, const char *name, size_t *limit);
 int options_given(const struct signature *of, struct options *options, PyObject **data, PyObject *const *args, Py_ssize_t count,
                   PyObject *names);
 
-static inline void options_begin(struct options *options) {
+static inline void options_begin(struct options *options, struct state *state) {
     memset(options, 0, sizeof *options);
+    options->state = state;
     options->max_bytes = MAX_BYTES;
     options->max_depth = MAX_DEPTH;
     options->tz_aware = options->indent = -1;
@@ -361,12 +339,15 @@ static inline void options_begin(struct options *options) {
     options->missing = Py_None;
 }
 
-static inline void options_end(const struct options *options) { Py_XDECREF(options->types); }
+static inline void options_end(const struct options *options) {
+    Py_XDECREF(options->types);
+    Py_XDECREF(options->into);
+}
 
 /* Reads the arguments of a call: 0, and they have to be ended; or -1 with an error set. Data has those that have places. */
-static inline int options_read(const struct signature *of, struct options *options, PyObject **data, PyObject *const *args,
-                               Py_ssize_t count, PyObject *names) {
-    options_begin(options);
+static inline int options_read(PyObject *module, const struct signature *of, struct options *options, PyObject **data,
+                               PyObject *const *args, Py_ssize_t count, PyObject *names) {
+    options_begin(options, state_of(module));
     data[0] = count > 0 ? args[0] : NULL;
     return count == 1 && names == NULL && of->places[0] != NULL && of->places[1] == NULL
                ? 0
@@ -374,14 +355,14 @@ static inline int options_read(const struct signature *of, struct options *optio
 }
 
 /* The same, of a call of two arguments and no options. */
-static inline int places_read(const struct signature *of, PyObject **data, PyObject *const *args, Py_ssize_t count, PyObject *names) {
+static inline int places_read(PyObject *module, const struct signature *of, PyObject **data, PyObject *const *args, Py_ssize_t count, PyObject *names) {
     struct options none;
     if (count == 2 && names == NULL) {
         data[0] = args[0];
         data[1] = args[1];
         return 0;
     }
-    options_begin(&none);
+    options_begin(&none, state_of(module));
     return options_given(of, &none, data, args, count, names);
 }
 
@@ -391,6 +372,13 @@ PyObject *element_new(Source *source, const struct bsonraw_iter *iter, size_t ma
 PyObject *element_key(PyObject *element);
 uint64_t number_of_step(const uint8_t *at, size_t len); /* that it writes without a 0 too many; or UINT64_MAX */
 const uint8_t *utf8_of(PyObject *text, const char *name, size_t *len); /* as long as it lives; NULL with an error set */
+
+/* ---- lazy.c: what RawDocument is over ---- */
+
+int lazy_bytes(PyObject *lazy, struct bytes *part); /* 0, or -1 with an error set */
+/* Whether it has no fault and, with so many before, no more levels: 0, or -1 with an error set. */
+int lazy_check(PyObject *lazy, size_t max_depth, size_t before);
+PyObject *lazy_raw(PyObject *lazy, void *unused); /* its bytes as an object */
 
 /* What iterators do. */
 static inline PyObject *itself(PyObject *self) {
@@ -405,7 +393,9 @@ static inline PyObject *itself_entered(PyObject *self, PyObject *unused) {
 
 /* ---- the calls ---- */
 
+int sources_add(PyObject *module);
 int elements_add(PyObject *module);
+int lazy_add(PyObject *module);
 int walks_add(PyObject *module);
 int documents_add(PyObject *module);
 
@@ -416,6 +406,7 @@ CALL(py_elements);
 CALL(py_walk);
 CALL(py_get);
 CALL(py_find);
+CALL(py_edit);
 CALL(py_decode_all);
 CALL(py_columns);
 CALL(py_canonical_all);

@@ -103,13 +103,17 @@ static int read_tz_aware(struct options *options, PyObject *given) {
 }
 
 static int read_types(struct options *options, PyObject *given) {
-    PyObject *module;
     Py_CLEAR(options->types);
     if (given == Py_None) return 0;
-    module = PyImport_ImportModule("bsonraw._foreign");
-    options->types = module == NULL ? NULL : PyObject_CallMethod(module, "types_of", "O", given);
-    Py_XDECREF(module);
+    options->types = PyObject_CallFunctionObjArgs(options->state->classes.types_of, given, NULL);
     return options->types == NULL ? -1 : 0;
+}
+
+static int read_type(struct options *options, PyObject *given) {
+    Py_CLEAR(options->into);
+    if (given == Py_None) return 0;
+    options->into = PyObject_CallFunctionObjArgs(options->state->classes.into_of, given, NULL);
+    return options->into == NULL ? -1 : 0;
 }
 
 /* A call, or None for none. */
@@ -142,7 +146,7 @@ static const struct option {
 } MAX_BYTES_OPTION = {"max_bytes", read_max_bytes}, MAX_WRITTEN = {"max_bytes", read_max_written},
   MAX_DEPTH_OPTION = {"max_depth", read_max_depth}, BEFORE = {"before", read_before}, STYLE = {"style", read_style},
   INDENT = {"indent", read_indent}, MISSING = {"missing", read_missing}, PAIRS = {"pairs", read_pairs}, UUID = {"uuid", read_uuid},
-  TZ_AWARE = {"tz_aware", read_tz_aware}, TYPES = {"types", read_types}, DEFAULT = {"default", read_default},
+  TZ_AWARE = {"tz_aware", read_tz_aware}, TYPES = {"types", read_types}, TYPE = {"type", read_type}, DEFAULT = {"default", read_default},
   HOOK = {"object_hook", read_hook}, PAIRS_HOOK = {"object_pairs_hook", read_pairs_hook}, ERRORS = {"errors", read_errors},
   PATHS = {"paths", read_paths}, TYPED = {"typed", read_typed}, CHECK_KEYS = {"check_keys", read_check_keys},
   DECODE_OPTIONS = {"codec_options", read_decode_options}, ENCODE_OPTIONS = {"codec_options", read_encode_options};
@@ -152,19 +156,20 @@ static const struct option {
 
 /* ---- calls ---- */
 
-const struct signature OF_DECODE = {"decode", {"data"}, {&DECODE_OPTIONS, OF_VALUES, LIMITS}, 1};
+const struct signature OF_DECODE = {"decode", {"data"}, {&DECODE_OPTIONS, &TYPE, OF_VALUES, LIMITS}, 1};
 const struct signature OF_ENCODE = {
     "encode", {"document"}, {&CHECK_KEYS, &ENCODE_OPTIONS, &DEFAULT, &MAX_WRITTEN, &MAX_DEPTH_OPTION}, 2};
 const struct signature OF_VALUE = {"decode", {NULL}, {OF_VALUES, LIMITS}};
 const struct signature OF_ELEMENTS = {"elements", {"data"}, {NULL}};
 const struct signature OF_GET = {"get", {"data", "key"}, {NULL}};
 const struct signature OF_FIND = {"find", {"data", "path"}, {NULL}};
+const struct signature OF_EDIT = {"edit", {"data", "changes"}, {&DEFAULT}};
 const struct signature OF_WALK = {"walk", {"data"}, {LIMITS}};
 const struct signature OF_CANONICAL = {"canonical", {"data"}, {LIMITS}};
 const struct signature OF_CHECK = {"check", {"data"}, {LIMITS}};
 const struct signature OF_FIRST_FAULT = {"first_fault", {"data"}, {LIMITS}};
 const struct signature OF_TO_JSON = {"to_json", {"data"}, {&STYLE, &INDENT, LIMITS}};
-const struct signature OF_DECODE_ALL = {"decode_all", {"data"}, {&DECODE_OPTIONS, &ERRORS, OF_VALUES, LIMITS}};
+const struct signature OF_DECODE_ALL = {"decode_all", {"data"}, {&DECODE_OPTIONS, &TYPE, &ERRORS, OF_VALUES, LIMITS}};
 const struct signature OF_COLUMNS = {"columns", {"source"}, {&ERRORS, &MISSING, &PATHS, &TYPED, OF_VALUES, LIMITS}};
 const struct signature OF_CANONICAL_ALL = {"canonical_all", {"data"}, {&BEFORE, LIMITS}};
 

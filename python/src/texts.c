@@ -75,13 +75,12 @@ PyObject *py_from_json(PyObject *module, PyObject *const *args, Py_ssize_t count
     struct bytes text;
     size_t max_bytes, max_depth;
     PyObject *made;
-    (void)module;
     if (count != 3) {
         PyErr_SetString(PyExc_TypeError, "from_json() takes a text, max_bytes and max_depth");
         return NULL;
     }
     if (limit_of(args[1], "max_bytes", &max_bytes) < 0 || limit_of(args[2], "max_depth", &max_depth) < 0) return NULL;
-    if (bytes_open(&text, args[0]) < 0) return NULL;
+    if (bytes_open(state_of(module), &text, args[0]) < 0) return NULL;
     made = document_of(&text, max_bytes, max_depth);
     bytes_close(&text);
     return made;

@@ -1,26 +1,52 @@
 /* Times: milliseconds from 1970 on, and aware datetimes. */
 #include "native.h"
 
-/* The front of the table that the module datetime gives by its capsule, the same since 3.7: datetime.h keeps it from users of
- * the limited API. */
+/* The front of the table that the module datetime gives by its capsule, which isn't in the stable interface. It is the same in each
+ * CPython from 3.7 on, and it is tried before it is used: where it isn't there, or isn't this one, the class is called. */
 struct datetime_table {
     PyTypeObject *date, *datetime, *time, *delta, *zone;
     PyObject *utc;
     PyObject *(*new_date)(int, int, int, PyTypeObject *);
-    PyObject *(*new_datetime)(int, int, int, int, int, int, int, PyObject *, PyTypeObject *);
+    new_datetime *new_datetime;
 };
 
-static struct datetime_table *table;
-static PyObject *names[8], *utcoffset_name;
+/* Whether the table makes a datetime that the class makes, too: 1 or 0, or -1 with an error set. */
+static int is_right(const struct state *state, const struct datetime_table *table) {
+    PyObject *wanted, *made;
+    int is_same;
+    if (table->datetime != state->classes.datetime || table->utc != state->classes.utc) return 0;
+    wanted = PyObject_CallFunction((PyObject *)table->datetime, "iiiiiiiO", 2001, 2, 3, 4, 5, 6, 789000, state->classes.utc);
+    made = wanted == NULL ? NULL : table->new_datetime(2001, 2, 3, 4, 5, 6, 789000, state->classes.utc, table->datetime);
+    is_same = made == NULL ? -1 : PyObject_RichCompareBool(wanted, made, Py_EQ);
+    Py_XDECREF(wanted);
+    Py_XDECREF(made);
+    return is_same;
+}
 
-int times_init(void) {
-    static const char *const texts[8] = {"year", "month", "day", "hour", "minute", "second", "microsecond", "tzinfo"};
-    int number;
-    table = PyCapsule_Import("datetime.datetime_CAPI", 0);
-    if (table == NULL) return -1;
-    for (number = 0; number < 8; number++)
-        if ((names[number] = PyUnicode_InternFromString(texts[number])) == NULL) return -1;
-    return (utcoffset_name = PyUnicode_InternFromString("utcoffset")) == NULL ? -1 : 0;
+/* Looks for the table: 0, or -1 with an error set. */
+static int find_table(struct state *state, PyObject *module) {
+    static const char name[] = "datetime.datetime_CAPI";
+    PyObject *capsule = PyObject_GetAttrString(module, "datetime_CAPI");
+    const struct datetime_table *table = NULL;
+    int is_it = 0;
+    if (capsule != NULL && PyCapsule_IsValid(capsule, name)) table = PyCapsule_GetPointer(capsule, name);
+    PyErr_Clear();
+    if (table != NULL) is_it = is_right(state, table);
+    if (is_it > 0) state->make_datetime = table->new_datetime;
+    Py_XDECREF(capsule);
+    return is_it < 0 ? -1 : 0;
+}
+
+int times_init(struct state *state) {
+    PyObject *module = PyImport_ImportModule("datetime"), *zone = NULL;
+    int status = -1;
+    if (module != NULL) state->classes.datetime = (PyTypeObject *)PyObject_GetAttrString(module, "datetime");
+    if (state->classes.datetime != NULL) zone = PyObject_GetAttrString(module, "timezone");
+    if (zone != NULL) state->classes.utc = PyObject_GetAttrString(zone, "utc");
+    if (state->classes.utc != NULL) status = find_table(state, module);
+    Py_XDECREF(zone);
+    Py_XDECREF(module);
+    return status;
 }
 
 #define DAY 86400000
@@ -44,23 +70,24 @@ static int64_t days_of(long year, long month, long day) {
     return era * 146097 + year_of_era * 365 + year_of_era / 4 - year_of_era / 100 + of_year - 719468;
 }
 
-PyObject *time_of(int64_t millis, int is_naive) {
+PyObject *time_of(const struct state *state, int64_t millis, int is_naive) {
     int64_t days = millis / DAY, rest = millis % DAY;
     int year, month, day, seconds, micros;
+    PyObject *zone = is_naive ? Py_None : state->classes.utc;
     if (rest < 0) {
         rest += DAY;
         days--;
     }
     if (days < FIRST_DAY || days > LAST_DAY)
-        return PyObject_CallFunction((PyObject *)classes.datetime_ms, "L", (long long)millis);
+        return PyObject_CallFunction((PyObject *)state->classes.datetime_ms, "L", (long long)millis);
     date_of(days, &year, &month, &day);
     seconds = (int)(rest / 1000);
     micros = (int)(rest % 1000) * 1000;
-    return table->new_datetime(year, month, day, seconds / 3600, seconds / 60 % 60, seconds % 60, micros,
-                               is_naive ? Py_None : table->utc, table->datetime);
+    if (state->make_datetime != NULL)
+        return state->make_datetime(year, month, day, seconds / 3600, seconds / 60 % 60, seconds % 60, micros, zone, state->classes.datetime);
+    return PyObject_CallFunction((PyObject *)state->classes.datetime, "iiiiiiiO", year, month, day, seconds / 3600, seconds / 60 % 60,
+                                 seconds % 60, micros, zone);
 }
-
-int is_datetime(PyObject *value) { return Py_TYPE(value) == table->datetime; }
 
 static int number_of(PyObject *object, PyObject *name, long *number) {
     PyObject *found = PyObject_GetAttr(object, name);
@@ -71,11 +98,11 @@ static int number_of(PyObject *object, PyObject *name, long *number) {
 }
 
 /* How many microseconds a datetime's zone is before UTC. */
-static int offset_of(PyObject *datetime, int64_t *micros) {
+static int offset_of(const struct state *state, PyObject *datetime, int64_t *micros) {
     static const char *const parts[3] = {"days", "seconds", "microseconds"};
     long number[3];
     int part;
-    PyObject *offset = PyObject_CallMethodObjArgs(datetime, utcoffset_name, NULL);
+    PyObject *offset = PyObject_CallMethodObjArgs(datetime, state->names.utcoffset, NULL);
     *micros = 0;
     if (offset == NULL) return -1;
     for (part = 0; offset != Py_None && part < 3; part++) {
@@ -89,17 +116,17 @@ static int offset_of(PyObject *datetime, int64_t *micros) {
     return PyErr_Occurred() ? -1 : 0;
 }
 
-int millis_of(PyObject *datetime, int64_t *millis) {
+int millis_of(const struct state *state, PyObject *datetime, int64_t *millis) {
     long part[7];
     int number;
     int64_t micros, offset = 0;
-    PyObject *zone = PyObject_GetAttr(datetime, names[7]);
+    PyObject *zone = PyObject_GetAttr(datetime, state->names.of_time[7]);
     if (zone == NULL) return -1;
-    number = zone != Py_None && zone != table->utc ? offset_of(datetime, &offset) : 0;
+    number = zone != Py_None && zone != state->classes.utc ? offset_of(state, datetime, &offset) : 0;
     Py_DECREF(zone);
     if (number < 0) return -1;
     for (number = 0; number < 7; number++)
-        if (number_of(datetime, names[number], &part[number]) < 0) return -1;
+        if (number_of(datetime, state->names.of_time[number], &part[number]) < 0) return -1;
     micros = (((days_of(part[0], part[1], part[2]) * 24 + part[3]) * 60 + part[4]) * 60 + part[5]) * 1000000 + part[6] - offset;
     *millis = micros / 1000 - (micros % 1000 < 0);
     return 0;

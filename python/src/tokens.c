@@ -1,9 +1,6 @@
 /* The tokens of a document: the one place where this module asks the library for all levels at once. */
 #include "native.h"
 
-/* One room is kept for the next call. Who takes it owns it until it is given back. */
-static struct tokens kept;
-
 #define KEPT_ROOM 65536 /* a larger one is freed */
 
 static int make_room(struct tokens *tokens, size_t room) {
@@ -14,8 +11,8 @@ static int make_room(struct tokens *tokens, size_t room) {
     return tokens->at == NULL ? -1 : 0;
 }
 
-void tokens_free(struct tokens *tokens) {
-    if (kept.at == NULL && tokens->room <= KEPT_ROOM) kept = *tokens;
+void tokens_free(struct state *state, struct tokens *tokens) {
+    if (state->tokens.at == NULL && tokens->room <= KEPT_ROOM) state->tokens = *tokens;
     else PyMem_Free(tokens->at);
     tokens->at = NULL;
     tokens->room = 0;
@@ -28,12 +25,12 @@ static inline int32_t flatten(const struct tokens *tokens, const struct bytes *b
 
 /* Without the interpreter's lock. */
 NOT_INLINE int32_t flatten_alone(const struct tokens *tokens, const struct bytes *bytes, struct told *told) {
-    int was_held = collector_pause();
+    int was_held = collector_pause(told->state);
     int32_t status;
     Py_BEGIN_ALLOW_THREADS
     status = flatten(tokens, bytes, told);
     Py_END_ALLOW_THREADS
-    collector_resume(was_held);
+    collector_resume(told->state, was_held);
     return status;
 }
 
@@ -45,9 +42,9 @@ int tokens_read(struct tokens *tokens, const struct bytes *bytes, const struct o
     size_t wanted = bytes->len / 8 + 64;
     int is_sound = bytes->len >= 5 && (size_t)le_i32(bytes->at) == bytes->len && bytes->len <= options->max_bytes;
     struct told told;
-    *tokens = kept;
-    kept.at = NULL;
-    kept.room = 0;
+    *tokens = options->state->tokens;
+    options->state->tokens.at = NULL;
+    options->state->tokens.room = 0;
     told_begin(&told, options);
     told.before = before;
     if (tokens->room < wanted && is_sound && make_room(tokens, wanted) < 0) return -1;
@@ -58,7 +55,7 @@ int tokens_read(struct tokens *tokens, const struct bytes *bytes, const struct o
     }
     if (told.status != BSONRAW_OK) {
         set_error_of(bytes, &told);
-        tokens_free(tokens);
+        tokens_free(options->state, tokens);
         return -1;
     }
     tokens->count = (size_t)told.report.count;

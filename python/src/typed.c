@@ -173,23 +173,23 @@ static PyObject *text_of(const struct typed *typed, size_t number) {
     return PyUnicode_DecodeUTF8((const char *)typed->values.at + from, (Py_ssize_t)len, "strict");
 }
 
-static PyObject *value_of(const struct typed *typed, size_t number, int is_naive) {
+static PyObject *value_of(const struct state *state, const struct typed *typed, size_t number, int is_naive) {
     const uint8_t *at = typed->values.at + number * typed_size(typed->kind);
     if (!is_there(typed, number)) return itself(Py_None);
     switch (typed->kind) {
     case OF_INT64: return PyLong_FromLongLong(le_i64(at));
     case OF_DOUBLE: return PyFloat_FromDouble(le_double(at));
     case OF_BOOL: return itself(*at != 0 ? Py_True : Py_False);
-    case OF_DATETIME: return time_of(le_i64(at), is_naive);
+    case OF_DATETIME: return time_of(state, le_i64(at), is_naive);
     default: return text_of(typed, number);
     }
 }
 
-PyObject *typed_list(const struct typed *typed, size_t first, size_t behind, int is_naive) {
+PyObject *typed_list(const struct state *state, const struct typed *typed, size_t first, size_t behind, int is_naive) {
     PyObject *list = PyList_New((Py_ssize_t)(behind - first));
     size_t number;
     for (number = first; list != NULL && number < behind; number++) {
-        PyObject *value = value_of(typed, number, is_naive);
+        PyObject *value = value_of(state, typed, number, is_naive);
         if (value == NULL) Py_CLEAR(list);
         else if (PyList_SetItem(list, (Py_ssize_t)(number - first), value) < 0) Py_CLEAR(list);
     }

@@ -28,7 +28,7 @@ void typed_drop(struct typed *typed); /* Takes the last place away. */
  * error set. */
 int typed_put(struct typed *typed, const uint8_t *bytes, const struct bsonraw_token *token);
 size_t typed_size(enum typed_kind kind); /* of a value; 0 of a text */
-PyObject *typed_list(const struct typed *typed, size_t first, size_t behind, int is_naive); /* values, and None where none is */
+PyObject *typed_list(const struct state *state, const struct typed *typed, size_t first, size_t behind, int is_naive); /* values, and None where none is */
 /* What a Column is made of: its kind's number, how many places there are, how many of them without a value, the values, and of
  * texts the ends; and the bits. Each of the last two is None where it isn't needed. */
 PyObject *typed_parts(const struct typed *typed);

@@ -1,8 +1,6 @@
 /* The elements of all levels, with their paths. */
 #include "native.h"
 
-static PyTypeObject *walk_type;
-
 struct step {
     uint32_t document_at, document_len;
     size_t end; /* the number of the token behind the level */
@@ -27,7 +25,7 @@ static void walk_end(Walk *walk) {
     walk->source = NULL;
     while (walk->depth > 0) Py_DECREF(walk->steps[--walk->depth].path);
     PyMem_Free(walk->steps);
-    tokens_free(&walk->tokens);
+    tokens_free(source->state, &walk->tokens);
     Py_DECREF((PyObject *)source);
 }
 
@@ -151,13 +149,12 @@ CALL(py_walk) {
     struct options options;
     PyObject *data, *empty = NULL;
     Walk *walk;
-    (void)module;
-    if (options_read(&OF_WALK, &options, &data, args, count, names) < 0) return NULL;
-    walk = PyObject_New(Walk, walk_type);
+    if (options_read(module, &OF_WALK, &options, &data, args, count, names) < 0) return NULL;
+    walk = PyObject_New(Walk, options.state->classes.walk);
     if (walk == NULL) return NULL;
     memset((char *)walk + offsetof(Walk, source), 0, sizeof *walk - offsetof(Walk, source));
     walk->max_depth = options.max_depth;
-    walk->source = source_of(data);
+    walk->source = source_of(options.state, data);
     if (walk->source == NULL || tokens_read(&walk->tokens, &walk->source->bytes, &options, 0) < 0 ||
         (empty = PyTuple_New(0)) == NULL || go_in(walk, 0, (uint32_t)walk->source->bytes.len, SIZE_MAX, empty, 0) < 0)
         Py_CLEAR(walk);
@@ -166,8 +163,6 @@ CALL(py_walk) {
 }
 
 int walks_add(PyObject *module) {
-    if (walk_type == NULL) walk_type = type_not_called(&walk_spec);
-    if (walk_type == NULL) return -1;
-    Py_INCREF((PyObject *)walk_type);
-    return PyModule_AddObject(module, "Walk", (PyObject *)walk_type);
+    struct state *state = state_of(module);
+    return add_type(module, "Walk", state->classes.walk = type_not_called(module, &walk_spec));
 }

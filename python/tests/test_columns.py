@@ -240,10 +240,13 @@ class Numpy(unittest.TestCase):
         table = bsonraw.columns(DUMP, paths=list(WANTED), typed=True)
         arrays = {key: numpy.asarray(column) for key, column in table.items() if isinstance(column, Column)}
         self.assertEqual({key: array.dtype.str for key, array in arrays.items()},
-                         {"i": "|O", "d": "<f8", "b": "|O", "t": "<M8[ms]", "s": "|O", "u.v": "<f8"})
+                         {"i": "|O", "d": "<f8", "b": "|O", "t": "|O", "s": "|O", "u.v": "<f8"})
         self.assertEqual((arrays["i"].tolist(), arrays["b"].tolist()), ([1, -(1 << 62), None], [True, None, False]))
         self.assertEqual((arrays["s"].tolist(), arrays["d"].tolist()), (WANTED["s"][1], WANTED["d"][1]))
-        self.assertEqual(arrays["t"].astype(str).tolist(), ["2009-02-13T23:31:30.123", "1970-01-01T00:00:00.000", "NaT"])
+        self.assertEqual(arrays["t"].tolist(), WANTED["t"][1])
+        naive = bsonraw.columns(DUMP, paths=["t"], typed=True, tz_aware=False)["t"]
+        for array in (table["t"].to_numpy(), numpy.asarray(naive), numpy.asarray(table["t"], "<M8[ms]")):
+            self.assertEqual((array.dtype.str, array.astype(str).tolist()), ("<M8[ms]", ["2009-02-13T23:31:30.123", "1970-01-01T00:00:00.000", "NaT"]))
         self.assertEqual(numpy.isnan(arrays["u.v"]).tolist(), [False, False, True])
         whole = bsonraw.columns(b"".join(bsonraw.encode({"i": n, "b": n > 1, "h": n} if n else {"i": n, "b": True}) for n in range(3)), typed=True)
         self.assertEqual([numpy.asarray(whole[key]).dtype.str for key in "ibh"], ["<i8", "|b1", "<f8"])
@@ -265,7 +268,10 @@ class Numpy(unittest.TestCase):
         self.assertEqual(list(frame.columns), list(WANTED))
         self.assertEqual((frame["s"].tolist(), frame["d"].dtype, frame["t"].dtype.kind), (WANTED["s"][1], "float64", "M"))
         self.assertEqual((frame["d"].sum(), frame["t"].isna().tolist(), frame["u.v"].mean()), (float("inf"), [False, False, True], 1.625))
-        self.assertEqual(frame["t"][0], pandas.Timestamp(WHEN).tz_localize(None))
+        self.assertEqual(frame["t"][0], pandas.Timestamp(WHEN))
+        for options in ({}, {"tz_aware": False}):
+            lists, typed = (pandas.DataFrame(bsonraw.columns(DUMP, paths=["t"], typed=typed, **options)) for typed in (False, True))
+            self.assertTrue(lists["t"].dtype.kind == "M" and lists.equals(typed), (lists.dtypes, typed.dtypes))
         made = [{"n": number, "s": str(number), "b": number % 2 == 0} for number in range(100)]
         frame = pandas.DataFrame(bsonraw.columns(b"".join(map(bsonraw.encode, made)), typed=True))
         self.assertTrue(frame.equals(pandas.DataFrame(made)))

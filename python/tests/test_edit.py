@@ -3,11 +3,13 @@
 import copy
 import pickle
 import random
+import struct
+import time
 import unittest
-from typing import Any, List
+from typing import Any, Callable, List
 
 import bsonraw
-from bsonraw import REMOVE, BsonError, Code, Int64, Pairs, RawDocument, Reason
+from bsonraw import REMOVE, BsonError, Code, Int64, LimitError, Pairs, RawDocument, Reason, Regex
 from made import all_made, framed
 
 
@@ -72,6 +74,80 @@ class Edit(unittest.TestCase):
         self.assertRaises(BsonError, bsonraw.edit, data, {"x\0": 1})
 
 
+    def test_many_changes_at_once(self) -> None:
+        """They are found by a dict, and those of an array in its order."""
+        rng = random.Random(5)
+        value: Any = {f"k{number}": number for number in range(300)}
+        value["list"] = list(range(200))
+        data = bsonraw.encode(value)
+        for count in (1, 8, 9, 10, 100):
+            changes: Any = {}
+            wanted = copy.deepcopy(value)
+            for number in rng.sample(range(300), count):
+                changes[f"k{number}"] = wanted[f"k{number}"] = str(number)
+            for number in rng.sample(range(200), count):
+                changes["list", number] = wanted["list"][number] = [number]
+            for number in range(count):
+                changes[f"list.{200 + number}"] = -number
+                wanted["list"].append(-number)
+            for number in range(count):
+                changes[f"new{number}.a.b"] = number
+                wanted[f"new{number}"] = {"a": {"b": number}}
+            self.assertEqual(bsonraw.decode(bsonraw.edit(data, changes)), wanted)
+
+    def test_places_of_errors(self) -> None:
+        data = bsonraw.encode({"a": {"b": [1]}})
+        with self.assertRaisesRegex(TypeError, "at key 'a.b.0.c': "):
+            bsonraw.edit(data, {"a.b.0": {"c": object()}})
+        with self.assertRaises(BsonError) as caught:
+            bsonraw.edit(data, {("a", "x"): {"y": {"z\0": 1}}})
+        self.assertEqual((caught.exception.keys, caught.exception.key), (("a", "x", "y"), "z\0"))
+        stop = framed(b"\x0ay\0" + b"\x03a\0" + framed(b"\x10b\0\1\0\0\0" + b"\x14d\0"))
+        with self.assertRaises(BsonError) as caught:
+            bsonraw.edit(stop, {"a.b": 1})
+        self.assertEqual(caught.exception.__reduce__(), bsonraw.first_fault(stop).__reduce__())
+        self.assertEqual(bsonraw.edit(stop, {"y": 1})[:11], struct.pack("<i", len(stop) + 4) + b"\x10y\0\1\0\0\0")
+        self.assertRaises(ValueError, bsonraw.edit, data, {".".join("a" * 501): 1})
+        self.assertRaises(ValueError, bsonraw.edit, data, {tuple("a" * 501): 1})
+        deep = bsonraw.edit(data, {".".join("d" * 500): 1})
+        self.assertEqual(bsonraw.find(deep, ["d"] * 500).value, 1)
+
+    def test_it_takes_no_longer_than_decoding_and_encoding(self) -> None:
+        small = {"_id": bsonraw.ObjectId(), "name": "Ada Lovelace", "born": 1815, "tags": ["maths", "poetry"], "address": {"city": "London", "zip": "W1"},
+                 "score": 2.5, "ok": True, "note": "x" * 40}
+        large = {f"key{number}": [number, str(number)] for number in range(1000)}
+        array = {"a": list(range(20_000)), "b": 1}
+        many = {f"key{number}": number for number in range(1000)}
+
+        def whole(data: bytes, changes: Any) -> bytes:
+            document = bsonraw.decode(data)
+            for path, value in changes.items():
+                *front, last = path.split(".")
+                inner = document
+                for step in front:
+                    inner = inner[int(step) if isinstance(inner, list) else step]
+                inner[int(last) if isinstance(inner, list) else last] = value
+            return bsonraw.encode(document)
+
+        for value, changes in ((small, {"born": 1816}), (small, {"address.city": "Paris", "tags.0": "logic"}), (large, {"key999.1": None}),
+                               (array, {"a.19999": 1}), (array, {"b": 2}), (many, {f"key{number}": str(number) for number in range(0, 1000, 3)})):
+            data = bsonraw.encode(value)
+            self.assertEqual(bsonraw.edit(data, changes), whole(data, changes))
+            ours, theirs = (least(lambda call=call: call(data, changes)) for call in (bsonraw.edit, whole))
+            self.assertLess(ours, theirs, (len(data), changes if len(changes) < 9 else len(changes)))
+
+
+def least(call: Callable[[], Any], rounds: int = 15) -> float:
+    """The least time of a processor of some rounds."""
+    spent = []
+    for _ in range(rounds):
+        start = time.process_time()
+        for _ in range(20):
+            call()
+        spent.append(time.process_time() - start)
+    return min(spent)
+
+
 class Named(RawDocument):
     __slots__ = ("note",)
 
@@ -96,6 +172,45 @@ class Raw(unittest.TestCase):
             self.assertEqual(bsonraw.encode(document), data)
             self.assertEqual(bsonraw.encode({"k": [document]}), bsonraw.encode({"k": [value]}))
         self.assertRaises(BsonError, RawDocument, data[:-1])
+
+    def test_time_grows_with_the_size_alone(self) -> None:
+        """A stranger's document of many keys takes no more than some times the time of decode."""
+        data = bsonraw.encode({f"k{number}": None for number in range(40_000)})
+        whole = least(lambda: bsonraw.decode(data), 3)
+        for read in (lambda: list(RawDocument(data).items()), lambda: dict(RawDocument(data)), lambda: RawDocument(data) == RawDocument(data),
+                     lambda: [RawDocument(data).get("none"), RawDocument(data).get("k39999")], lambda: list(RawDocument(data).values())):
+            start = time.process_time()
+            read()
+            self.assertLess(time.process_time() - start, max(10 * whole, 2.0))
+
+    def test_it_is_written_as_it_is(self) -> None:
+        loose = framed(b"\x0br\0a\0mi\0" + b"\x04l\0" + framed(b"\x10" + b"5\0\1\0\0\0") + b"\x10c\0\1\0\0\0\x10c\0\2\0\0\0")
+        for document in (RawDocument(loose), RawDocument(bsonraw.encode({"in": Pairs([("x", RawDocument(loose))])}))["in"]["x"], Named(loose)):
+            self.assertEqual(bsonraw.encode({"x": document}), framed(b"\x03x\0" + loose))
+            self.assertEqual(bsonraw.encode({"x": [1, document]})[14 + 4 :], b"\x031\0" + loose + b"\0\0")
+            self.assertEqual(bsonraw.encode(document), loose)
+        self.assertEqual(bsonraw.decode(loose)["r"], Regex("a", "mi"))
+        deep: Any = RawDocument(bsonraw.encode({"a": {"b": {}}}))
+        self.assertEqual(bsonraw.decode(bsonraw.encode({"x": deep}, max_depth=4)), {"x": {"a": {"b": {}}}})
+        for document, depth in (({"x": deep}, 3), (deep, 2), ({"x": [deep]}, 4)):
+            with self.assertRaisesRegex(LimitError, f"max_depth is {depth}"):
+                bsonraw.encode(document, max_depth=depth)
+        self.assertRaises(LimitError, bsonraw.encode, deep, max_bytes=len(deep.raw) - 1)
+        self.assertRaises(LimitError, bsonraw.encode, {"x": deep}, max_bytes=len(deep.raw) + 7)
+        self.assertEqual(len(bsonraw.encode({"x": deep}, max_bytes=len(deep.raw) + 8)), len(deep.raw) + 8)
+
+    def test_keys_and_odd_calls(self) -> None:
+        document = RawDocument(bsonraw.encode({"a": 1, "b": {"c": 2}}))
+        for _ in range(3):
+            self.assertEqual((document.get("\ud800", 7), "\ud800" in document, document.get(Named.__name__)), (7, False, None))
+            self.assertRaises(TypeError, document.__getitem__, 5)
+            self.assertEqual(document[type("Key", (str,), {})("a")], 1)
+        self.assertRaises(TypeError, document.__init__, document.raw)
+        empty = RawDocument.__new__(RawDocument)
+        for call in (lambda: empty["a"], lambda: empty.raw, lambda: len(empty), lambda: list(empty), lambda: "a" in empty, lambda: bsonraw.encode({"x": empty})):
+            self.assertRaises(ValueError, call)
+        self.assertRaises(TypeError, hash, document)
+        self.assertEqual((list(document.keys()), list(document.values()), document.items() >= {("a", 1)}), (["a", "b"], [1, {"c": 2}], True))
 
     def test_repeated_keys(self) -> None:
         document = RawDocument(framed(b"\x10c\0\1\0\0\0" + b"\x10c\0\2\0\0\0"))

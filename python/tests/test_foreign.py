@@ -22,6 +22,10 @@ try:
 except ImportError:
     numpy = None
 try:
+    import pandas
+except ImportError:
+    pandas = None
+try:
     import bson
     from bson import codec_options, dbref, objectid, raw_bson
 except ImportError:
@@ -338,6 +342,30 @@ class Classes(unittest.TestCase):
         error = caught.exception
         self.assertEqual((error.reason, error.key, error.path), (Reason.INTERIOR_NUL, "c\0d", (1, 1, 1)))
 
+    def test_places_of_other_errors(self) -> None:
+        """A text that isn't UTF-8 has its place in the error, and an error of other code has it as a note."""
+        with self.assertRaises(UnicodeEncodeError) as caught:
+            bsonraw.encode({"a": [{"b": "\ud800"}]})
+        self.assertEqual(caught.exception.reason, "at key 'a.0.b': surrogates not allowed")
+        self.assertRaisesRegex(UnicodeEncodeError, "at key 'a'", bsonraw.encode, {"a": {"\ud800": 1}})
+
+        class Zone(times.tzinfo):
+            def utcoffset(self, when: Any) -> Any:
+                raise ZeroDivisionError("no offset")
+
+        when = times.datetime(2020, 1, 1, tzinfo=Zone())
+        for call in (lambda: bsonraw.encode({"a": {"t": when}}), lambda: bsonraw.edit(bsonraw.encode({}), {"a.t": when})):
+            with self.assertRaises(ZeroDivisionError) as zero:
+                call()
+            self.assertEqual(getattr(zero.exception, "__notes__", ["at key 'a.t'"]), ["at key 'a.t'"])
+
+    @unittest.skipIf(pandas is None, "pandas isn't there")
+    def test_no_time(self) -> None:
+        with self.assertRaisesRegex(TypeError, "at key 'a.0': a value of class NaTType can't be encoded"):
+            bsonraw.encode({"a": [pandas.NaT]})
+        codec = bsonraw.Codec({type(pandas.NaT): lambda value: None})
+        self.assertEqual(bsonraw.decode(bsonraw.encode({"a": pandas.NaT, "t": pandas.Timestamp(0, tz="UTC")}, default=codec)), {"a": None, "t": times.datetime(1970, 1, 1, tzinfo=times.timezone.utc)})
+
     def test_damage_in_a_value_of_another_class(self) -> None:
         damaged = RawDocument(framed(b"\x10a\0\0\0\0\0" + b"\x03b\0" + framed(b"\x08c\0\2")))
         with self.assertRaises(BsonError) as caught:
@@ -379,6 +407,35 @@ class Classes(unittest.TestCase):
             self.assertFalse(make.is_valid(type("Other", (), {"_type_marker": 7})()))
         half = type("Half", (bytes,), {"_type_marker": 5, "subtype": 1}), type("Half", (str,), {"_type_marker": 13, "scope": None})
         self.assertEqual((Binary(b"a", 1) == half[0](b"a"), Binary(b"a", 1) == half[0](b"b"), Code("f") == half[1]("f")), (True, False, True))
+
+
+class Hooks(unittest.TestCase):
+    def test_none_is_called_for_a_document_that_is_refused(self) -> None:
+        called: List[Any] = []
+        for count in (1, 1000):
+            parts = framed(b"\x0aa\0") * 1
+            body = b"".join(b"\x03%d\0" % number + parts for number in range(count))
+            for data in (framed(body + b"\x08z\0\7"), framed(body + b"\x14z\0")):
+                self.assertRaises(BsonError, bsonraw.decode, data, object_hook=called.append)
+                self.assertRaises(BsonError, bsonraw.decode, data, object_pairs_hook=called.append)
+                self.assertEqual(bsonraw.decode_all(data, errors="skip", object_hook=called.append), [])
+            self.assertEqual(called, [])
+            self.assertEqual(len(bsonraw.decode(framed(body), object_hook=lambda document: document)), count)
+
+
+class References(unittest.TestCase):
+    @unittest.skipIf(bson is None, "MongoDB's package isn't there (Debian: python3-bson)")
+    def test_documents_that_are_nearly_references(self) -> None:
+        """No document ends a dump: one that no DBRef can be made of is a dict."""
+        for document in ({"$ref": "c", "$id": 1, "$db": 5}, {"$ref": "c", "$id": 1, "$db": [1]}, {"$ref": 5, "$id": 1}, {"$ref": "c", "$db": "d"}, {"$ref": None}):
+            data = bsonraw.encode({"a": document})
+            self.assertEqual(bsonraw.decode(data, types="bson"), {"a": document})
+            self.assertEqual(bsonraw.columns(data, types="bson"), {"a": [document]})
+            self.assertEqual(bsonraw.loads(bsonraw.to_json(data), types="bson"), {"a": document})
+            self.assertEqual(bsonraw.decode_all(data * 2, types="bson", errors="skip"), [{"a": document}] * 2)
+        for document in ({"$ref": "c", "$id": 1}, {"$ref": "c", "$id": 1, "$db": None}, {"$ref": "c", "$id": 1, "$db": "d", "x": 1}):
+            found = bsonraw.decode(bsonraw.encode({"a": document}), types="bson")["a"]
+            self.assertEqual((type(found), found.collection, found.database), (dbref.DBRef, "c", document.get("$db")))
 
 
 class Scopes(unittest.TestCase):

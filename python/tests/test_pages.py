@@ -73,7 +73,7 @@ class Pages(unittest.TestCase):
         numbered = framed(b"".join(b"\5%x\0\0\0\0\0\x80" % number for number in range(most // 12)))
         good = bsonraw.encode({"a": 1, "b": 2})
         rows = [
-            (good * 3, [{"keys": 2}] * 3, ""), (good + b"\xff\xff\xff\x7f" + bytes(50 << 20), [{"keys": 2}], "more bytes than allowed"),
+            (good * 3, [{"keys": 2}] * 3, ""), (good + b"\xff\xff\xff\x7f" + bytes(50 << 20), [{"keys": 2}], "more bytes than allowed: max_bytes is 1048576"),
             (b"".join(largest) + good[:-3], [{"keys": 1}] * 5, "a document's length is wrong"), (numbered, [{"keys": most // 12}], ""), (bsonraw.encode({"a": 1})[:-1] + b"\1", [], "no final 0"),
         ]
         tracemalloc.start()

@@ -417,46 +417,5 @@ class Held(unittest.TestCase):
                 self.assertIsNone(gone())
 
 
-SECOND = """
-try:
-    import _interpreters as interpreters
-except ImportError:
-    import _xxsubinterpreters as interpreters
-import sys
-import bsonraw
-code = '''
-import sys
-sys.path[:] = %r
-try:
-    import bsonraw
-except ImportError as error:
-    print("refused:", error, flush=True)
-'''
-one = interpreters.create()
-getattr(interpreters, "run_string")(one, code % (sys.path,))
-interpreters.destroy(one)
-print(bsonraw.decode(bsonraw.encode({"a": 1})))
-"""
-
-
-class Interpreters(unittest.TestCase):
-    def test_a_second_one_is_refused(self) -> None:
-        done = subprocess.run([sys.executable, "-c", SECOND], stdout=subprocess.PIPE, stderr=subprocess.PIPE, timeout=60)
-        if b"No module named '_xxsubinterpreters'" in done.stderr:
-            self.skipTest("this Python makes no second interpreter")
-        lines = done.stdout.decode().splitlines()
-        self.assertEqual((done.returncode, lines[-1:], len(lines)), (0, ["{'a': 1}"], 2), done.stderr)
-        self.assertTrue(lines[0].startswith("refused: "), lines)
-
-    def test_imported_again(self) -> None:
-        code = (
-            "import bsonraw, sys\n"
-            "for name in [name for name in sys.modules if name.startswith('bsonraw')]: del sys.modules[name]\n"
-            "import bsonraw as again\n"
-            "assert again.decode(again.encode({'a': again.Int64(5)})) == {'a': 5}\n"
-        )
-        self.assertEqual(subprocess.run([sys.executable, "-c", code], timeout=60).returncode, 0)
-
-
 if __name__ == "__main__":
     unittest.main()

@@ -24,7 +24,7 @@ def named(body: List[ast.stmt]) -> Dict[str, Any]:
 
 def own(kind: type) -> Set[str]:
     """The names of a class that its base hasn't."""
-    return {name for name in vars(kind) if not hasattr(kind.__base__, name) and name not in ("__module__", "__weakref__")}
+    return {name for name in vars(kind) if not hasattr(kind.__base__, name) and name not in ("__module__", "__weakref__", "_native", "__static_attributes__", "__firstlineno__")}
 
 
 def arguments_of(one: ast.FunctionDef) -> Dict[str, Any]:
@@ -62,7 +62,7 @@ class Stub(unittest.TestCase):
             if call.__text_signature__ is not None:
                 self.assertEqual(arguments_of(one), arguments_there(call), one.name)
                 count += 1
-        self.assertEqual(count, 11)
+        self.assertGreaterEqual(count, 12)
 
     def test_options_of_calls_without_a_signature(self) -> None:
         """Such a call misses its argument where it knows the option, and else the option."""

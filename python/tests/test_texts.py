@@ -1,8 +1,11 @@
 """Documents from Extended JSON: bytes that the published format gives, errors with their places as json has them, and what comes back."""
 
+import io
 import json
+import subprocess
+import sys
 import unittest
-from typing import List, Tuple
+from typing import Any, List, Tuple
 
 import bsonraw
 from bsonraw import Code, DatetimeMS, Decimal128, Int64, MaxKey, MinKey, ObjectId, Regex, Timestamp
@@ -58,9 +61,9 @@ class FromJson(unittest.TestCase):
             self.assertEqual(ours.exception.pos, theirs.exception.pos, text)
 
     def test_limits(self) -> None:
-        with self.assertRaisesRegex(json.JSONDecodeError, "^more bytes than allowed"):
+        with self.assertRaisesRegex(json.JSONDecodeError, "^more bytes than allowed: max_bytes is 11:"):
             bsonraw.from_json('{"a": 1}', max_bytes=11)
-        with self.assertRaisesRegex(json.JSONDecodeError, "^deeper than allowed"):
+        with self.assertRaisesRegex(json.JSONDecodeError, "^deeper than allowed: max_depth is 1:"):
             bsonraw.from_json('{"a": {}}', max_depth=1)
         self.assertEqual(len(bsonraw.from_json('{"a": 1}', max_bytes=12, max_depth=1)), 12)
         items = ",".join("0" * 70_000)
@@ -83,6 +86,45 @@ class FromJson(unittest.TestCase):
         self.assertEqual(bsonraw.from_json(bsonraw.to_json(data, style="canonical")), data)
         self.assertEqual(bsonraw.loads(bsonraw.to_json(data, style="canonical")), bsonraw.decode(data))
         self.assertEqual(bsonraw.loads('{"a": 1, "a": 2}', pairs=True), [("a", 1), ("a", 2)])
+
+    def test_arrays(self) -> None:
+        """Arrays of documents, as mongoexport --jsonArray writes them."""
+        values: List[Any] = [{"a": 1, "o": ObjectId(bytes(12))}, {}, {"b": [{"c": "é"}], "n": Int64(1 << 40)}]
+        dump = b"".join(map(bsonraw.encode, values))
+        text = bsonraw.to_json_array(dump)
+        self.assertEqual(text, '[{"a":1,"o":{"$oid":"000000000000000000000000"}},\n{},\n{"b":[{"c":"é"}],"n":1099511627776}]')
+        self.assertEqual((bsonraw.from_json_array(text), bsonraw.loads(text), bsonraw.to_json_array(b"")), (dump, values, "[]"))
+        self.assertEqual((bsonraw.loads(f" \n{text}\t".encode(), pairs=True)[1], bsonraw.loads("[]"), bsonraw.from_json_array(" [ ] ")), ([], [], b""))
+        self.assertEqual(bsonraw.from_json_array(bsonraw.to_json_array(io.BytesIO(dump), style="canonical")), dump)
+        for text, place in (('[{"a": 1}, {"b": tru}]', 17), ('[{}] x', 5), ('[{}', 3), ('[{}], "b": [{}]', 4), ('[{}]}', 4), ("{}", 0), ('[{} {}]', 4), ("é", 0)):
+            with self.assertRaises(json.JSONDecodeError) as caught:
+                bsonraw.from_json_array(text)
+            self.assertEqual((caught.exception.pos, caught.exception.doc), (place, text), text)
+        for text in ("[1]", '[{}, {"$oid": "000000000000000000000000"}]', "[[]]"):
+            self.assertRaisesRegex(ValueError, "of the array is no document", bsonraw.from_json_array, text)
+        self.assertRaisesRegex(bsonraw.LimitError, "max_bytes is 11", bsonraw.from_json_array, '[{}, {"a": 1}]', max_bytes=11)
+        self.assertRaisesRegex(json.JSONDecodeError, "max_depth is 1", bsonraw.from_json_array, '[{"a": {}}]', max_depth=1)
+        with self.assertRaises(bsonraw.DamagedError) as damaged:
+            bsonraw.to_json_array(dump + bytes.fromhex("09000000 086100 02 00"))
+        self.assertEqual(damaged.exception.offset, len(dump) + 4)
+
+    def test_the_module_as_a_program(self) -> None:
+        good, bad = bsonraw.encode({"a": 1, "t": "é"}), bytes.fromhex("09000000 086100 02 00")
+
+        def run(*arguments: str, data: bytes = b"") -> Any:
+            done = subprocess.run([sys.executable, "-m", "bsonraw", *arguments], input=data, stdout=subprocess.PIPE, stderr=subprocess.PIPE, timeout=60)
+            return done.returncode, done.stdout.decode(), done.stderr.decode()
+
+        fault = "-:22: at offset 4: at key 'a': a boolean is neither 0 nor 1: 2\n"
+        self.assertEqual(run("check", "-", data=good + bad), (1, fault, "2 documents, 1 faults\n"))
+        self.assertEqual(run("check", "-", data=good * 2), (0, "", "2 documents, 0 faults\n"))
+        self.assertEqual(run("json", "-", data=good + bad + good), (1, '{"a":1,"t":"é"}\n' * 2, fault))
+        self.assertEqual(run("json", "--array", "-", data=good * 2), (0, '[{"a":1,"t":"é"},\n{"a":1,"t":"é"}]\n', ""))
+        self.assertEqual(run("json", "--canonical", "-", data=good), (0, '{"a":{"$numberInt":"1"},"t":"é"}\n', ""))
+        self.assertEqual(run("json", "--array", "-"), (0, "[]\n", ""))
+        self.assertTrue(run("check", "-", data=good + b"\3")[1].startswith("-:22: at offset 22: "))
+        self.assertEqual(run("check", "--max-bytes", "5", "-", data=good)[:2], (1, "-:0: at offset 0: more bytes than allowed: max_bytes is 5\n"))
+        self.assertEqual((run("check", "/nowhere")[0], run()[0]), (2, 2))
 
     def test_made_documents_come_back(self) -> None:
         count = 0

@@ -1,0 +1,5 @@
+"""JavaScript."""
+
+from .._values import Code
+
+__all__ = ["Code"]

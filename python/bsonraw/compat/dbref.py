@@ -1,0 +1,5 @@
+"""References."""
+
+from ._classes import DBRef
+
+__all__ = ["DBRef"]

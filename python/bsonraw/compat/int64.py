@@ -1,0 +1,5 @@
+"""Ints of 64 bits."""
+
+from .._native import Int64
+
+__all__ = ["Int64"]

@@ -1,0 +1,5 @@
+"""The greatest value."""
+
+from .._values import MaxKey
+
+__all__ = ["MaxKey"]

@@ -1,0 +1,5 @@
+"""The least value."""
+
+from .._values import MinKey
+
+__all__ = ["MinKey"]

@@ -1,0 +1,5 @@
+"""Ids."""
+
+from .._values import InvalidId, ObjectId
+
+__all__ = ["InvalidId", "ObjectId"]

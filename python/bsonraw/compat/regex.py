@@ -1,0 +1,5 @@
+"""Regular expressions."""
+
+from .._values import Regex
+
+__all__ = ["Regex"]

@@ -1,0 +1,5 @@
+"""Dicts in order."""
+
+from ._classes import SON
+
+__all__ = ["SON"]

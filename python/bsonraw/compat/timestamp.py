@@ -1,0 +1,5 @@
+"""Times of replication."""
+
+from .._values import Timestamp
+
+__all__ = ["Timestamp"]
