@@ -13,6 +13,8 @@ mod list;
 mod printed;
 mod run;
 mod status;
+#[cfg(test)]
+mod tests;
 
 use run::run;
 use status::Status;

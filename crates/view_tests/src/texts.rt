@@ -34,6 +34,78 @@ const LOOK_UPS: &[Row] = &[
         "Error { kind: MalformedValue { reason: Overflowed }, key: None }",
     ),
     (
+        TAG_ZERO,
+        "a",
+        "error at key \"\": malformed value: \"invalid tag: 0\"",
+        "Error { kind: MalformedValue { reason: InvalidTag(0) }, key: Some(\"\") }",
+    ),
+    // a code with scope that declares three bytes, and with `true` appended
+    (
+        b"\x0B\0\0\0\x0Fa\0\x03\0\0\0",
+        "a",
+        "error at key \"a\": malformed value: \"code with scope length too small\"",
+        "Error { kind: MalformedValue { reason: CodeTooSmall }, key: Some(\"a\") }",
+    ),
+    (
+        b"\x0F\0\0\0\x0Fa\0\x03\0\0\x08b\0\x01\0",
+        "a",
+        "error at key \"a\": malformed value: \"length exceeds remaining length of buffer: 134217731 vs 8\"",
+        "Error { kind: MalformedValue { reason: PastEnd(134217731, 8) }, key: Some(\"a\") }",
+    ),
+    (
+        NEGATIVE_DOCUMENT_LENGTH,
+        "a",
+        "error at key \"a\": malformed value: \"lengths can't be negative\"",
+        "Error { kind: MalformedValue { reason: NegativeLength }, key: Some(\"a\") }",
+    ),
+    // an old binary with inner length -1
+    (
+        b"\x11\0\0\0\x05b\0\x04\0\0\0\x02\xFF\xFF\xFF\xFF\0",
+        "b",
+        "malformed value: \"attempted to add with overflow\"",
+        "Error { kind: MalformedValue { reason: AddOverflow }, key: None }",
+    ),
+    // a scope with a wrong header
+    (
+        b"\x17\0\0\0\x0Fc\0\x0F\0\0\0\x01\0\0\0\0\x05\0\0\0\0\0\0",
+        "c",
+        "malformed value: \"document length incorrect\"",
+        "Error { kind: MalformedValue { reason: LengthIncorrect }, key: None }",
+    ),
+    // a truncated string
+    (
+        b"\x0C\0\0\0\x02a\0\x06\0\0\0\0",
+        "a",
+        "error at key \"a\": malformed value: \"expected buffer to contain at least 10 bytes, but it only has 5\"",
+        "Error { kind: MalformedValue { reason: StringPastEnd(10, 5) }, key: Some(\"a\") }",
+    ),
+    // the greeting, whose text declares fourteen bytes, and less than none
+    (
+        b"\x13\0\0\0\x02hi\0\x0E\0\0\0y'all\0\0",
+        "hi",
+        "error at key \"hi\": malformed value: \"expected buffer to contain at least 18 bytes, but it only has 11\"",
+        "Error { kind: MalformedValue { reason: StringPastEnd(18, 11) }, key: Some(\"hi\") }",
+    ),
+    (
+        b"\x13\0\0\0\x02hi\0\x06\0\0\x80y'all\0\0",
+        "hi",
+        "error at key \"hi\": malformed value: \"lengths can't be negative\"",
+        "Error { kind: MalformedValue { reason: NegativeLength }, key: Some(\"hi\") }",
+    ),
+    // a pattern, and options, without their 0
+    (
+        b"\x07\0\0\0\x0Br\0",
+        "r",
+        "error at key \"r\": malformed value: \"expected null terminator\"",
+        "Error { kind: MalformedValue { reason: NoTerminator }, key: Some(\"r\") }",
+    ),
+    (
+        b"\x08\0\0\0\x0Br\0\0",
+        "r",
+        "error at key \"r\": malformed value: \"expected null terminator\"",
+        "Error { kind: MalformedValue { reason: NoTerminator }, key: Some(\"r\") }",
+    ),
+    (
         KEY_NOT_UTF8,
         "a",
         "utf-8 encoding error: invalid utf-8 sequence of 1 bytes from index 0",
@@ -93,6 +165,12 @@ const ACCESSES: &[Row] = &[
         "bool",
         "error at key: \"bool\":  unexpected element type: Boolean, expected: Int32",
         "ValueAccessError { kind: UnexpectedType { expected: Int32, actual: Boolean }, key: \"bool\" }",
+    ),
+    (
+        BOOL_AND_INT32,
+        "unknown",
+        "error at key: \"unknown\": value not present",
+        "ValueAccessError { kind: NotPresent, key: \"unknown\" }",
     ),
     (
         EMPTY,
@@ -184,7 +262,14 @@ const DIGITS: &[u8] = b"\x0C\0\0\0\x03a\0\xFF\xFE\xAB\xCD\0";
 #[test]
 fn bytes_have_hexadecimal_digits(rt: HostRuntime) {
     let text = "RawArray { data: \"0c000000036100fffeabcd00\" }";
-    assert!(rt; has_debug_text(rt.alloc(), &view_of_array(&rt, DIGITS), text));
+    assert!(rt;
+        has_debug_text(rt.alloc(), &view_of_array(&rt, DIGITS), text)
+            && has_debug_text(
+                rt.alloc(),
+                &view(&rt, EMPTY),
+                "RawDocument { data: \"0500000000\" }"
+            )
+    );
 }
 
 const POINTER: &str =

@@ -1,6 +1,6 @@
 //! Look-ups and iteration.
 use crate::fixtures::*;
-use crate::required::view;
+use crate::required::{view, view_of_array};
 use crate::tables::{rows_of_getters, rows_to_a_key};
 use raw_view::{
     RawArray, RawBsonRef, RawDocument, Result, ValueAccessErrorKind, ValueAccessResult,
@@ -54,18 +54,25 @@ fn is_out_of_memory_alone(alloc: Global, document: RawDocument<'_>) -> bool {
     is_first && let_go!(made = iter.next(); made.is_none())
 }
 
-/// Whether a look-up of the boolean of the byte 2 is out of memory.
-fn is_one_out_of_memory(alloc: Global, two: RawDocument<'_>) -> bool {
-    let array = RawArray::from_doc(two);
-    let_go!(made = array.get_bool(alloc, 0); is_getter_out_of_memory(alloc, &made))
-        || let_go!(made = array.get(alloc, 0); is_look_up_out_of_memory(alloc, &made))
+/// Whether a look-up is out of memory: a getter of a boolean of the byte 2, an item of an array that stops there, or iteration over a
+/// boolean of the byte 2.
+fn is_one_out_of_memory(
+    alloc: Global,
+    faulty: RawArray<'_>,
+    stopped: RawArray<'_>,
+    two: RawDocument<'_>,
+) -> bool {
+    let_go!(made = faulty.get_bool(alloc, 0); is_getter_out_of_memory(alloc, &made))
+        || let_go!(made = stopped.get(alloc, 0); is_look_up_out_of_memory(alloc, &made))
         || is_out_of_memory_alone(alloc, two)
 }
 
 /// `bin/test` expects the line in each run in which a request failed, and in no other.
 #[test]
 fn a_refused_look_up_is_out_of_memory(rt: HostRuntime) -> std::result::Result<(), Fail> {
-    if is_one_out_of_memory(rt.alloc(), view(&rt, BOOLEAN_TWO)) {
+    let faulty = view_of_array(&rt, FAULT_BEFORE_A_NUMBER);
+    let stopped = view_of_array(&rt, NEGATIVE_DOCUMENT_LENGTH);
+    if is_one_out_of_memory(rt.alloc(), faulty, stopped, view(&rt, BOOLEAN_TWO)) {
         println!(rt; "out of memory")?;
     }
     Ok(())

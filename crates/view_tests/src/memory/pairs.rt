@@ -57,9 +57,37 @@ fn are_inserted(alloc: Global, document: &mut Document) -> bool {
     are_right && document.len() == PAIRS.len()
 }
 
+/// Whether the first key, which is there, takes a new value.
+fn is_replaced(alloc: Global, document: &mut Document) -> bool {
+    let_go!(made = insert(alloc, document, ("a", 19)); matches!(made, Ok(false)))
+}
+
+/// Whether it does, at once or, where a request was refused and the old value stayed, when it is inserted again; and keeps its place.
+fn is_kept(alloc: Global, document: &mut Document) -> bool {
+    let is_right = is_replaced(alloc, document)
+        || (is_under(document, ("a", 1)) && is_replaced(alloc, document));
+    is_right
+        && is_under(document, ("a", 19))
+        && is_first(document, "a")
+        && document.len() == PAIRS.len()
+}
+
+/// Whether this key is the first.
+fn is_first(document: &Document, wanted: &str) -> bool {
+    match document.pair_at(0) {
+        Some((key, _)) => key == wanted,
+        None => false,
+    }
+}
+
 #[test]
 fn insert_or_out_of_memory(rt: HostRuntime) {
-    assert!(rt; let_go!(mut made = Document::new(rt.alloc()); are_inserted(rt.alloc(), &mut made)));
+    assert!(rt;
+        let_go!(
+            mut made = Document::new(rt.alloc());
+            are_inserted(rt.alloc(), &mut made) && is_kept(rt.alloc(), &mut made)
+        )
+    );
 }
 
 /// Whether the regular expression has these texts, or memory ran out.
