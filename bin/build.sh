@@ -124,6 +124,7 @@ link_program() {
 # runs CRATE: whether its program prints what the file stdout beside src/ has, given the files args and stdin
 runs() {
     folder=$root/crates/$1
+    export given="$folder/stdin"
     printed=$(xargs -d '\n' sh -c 'exec "$0" "$@" <"$given"' "$folder/out/$1" <"$folder/args") && [ "$printed" = "$(cat "$folder/stdout")" ] && return
     echo "$1 prints something else than its file stdout has: $printed"
     return 1
@@ -133,7 +134,7 @@ runs() {
 prove_alone() {
     folder=$root/crates/$1
     if [ -e "$folder/src/main.rt" ]; then
-        build_over "$1" "$folder" src/main.rt --jobs "$2" --incremental out/incremental -o "out/$1.o" && link_program "$1" && given=$folder/stdin runs "$1"
+        build_over "$1" "$folder" src/main.rt --jobs "$2" --incremental out/incremental -o "out/$1.o" && link_program "$1" && runs "$1"
     elif grep -q "^$1 staticlib" "$root/crates.txt"; then
         build_over "$1" "$folder" src/lib.rt --jobs "$2" --incremental out/incremental --crate-type staticlib -o "out/lib$1.a"
     else
@@ -195,7 +196,7 @@ show_left() {
     said_at=$now
     # shellcheck disable=SC2046 # words
     set -- $(plan left "$work" "$slots")
-    text="$me: $1 of $2 steps are through after $(((now - began) / 60)) min; about $3 min left"
+    text="$me: $1 of $2 done in $(((now - began) / 60)) min, about $3 min left"
     shift 3
     if [ -t 2 ]; then
         printf '\r%s\033[K' "$(echo "$text${1+; now: $*}" | cut -c "1-$(($(columns) - 1))")" >&2

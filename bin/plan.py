@@ -23,7 +23,7 @@ import sys
 import time
 from functools import lru_cache
 from pathlib import Path
-from typing import Dict, Iterator, List, NamedTuple
+from typing import Dict, Iterator, List, NamedTuple, Tuple
 
 ROOT = Path(__file__).resolve().parent.parent
 MINUTES = 35
@@ -102,6 +102,12 @@ def below(goals: List[str]) -> List[str]:
     return found
 
 
+def read(kit: str, name: str) -> str:
+    """A file of the kit; a kit that has none of this name is told by the others."""
+    file = Path(kit, name)
+    return file.read_text() if file.exists() else ""
+
+
 @lru_cache(maxsize=None)
 def stamp(kit: str, name: str) -> str:
     """A sum of the kit, of a crate's line in crates.txt, of the names and content of its files, and of the same of the crates below it."""
@@ -110,7 +116,7 @@ def stamp(kit: str, name: str) -> str:
     if crate.kind == "staticlib":
         said["crate_type"] = "staticlib"
     found = hashlib.sha256(repr((said, False)).encode())
-    found.update(Path(kit, "WHAT").read_bytes())
+    found.update(read(kit, "WHAT").encode())
     for file in crate.files():
         found.update(repr((f"/{file.relative_to(crate.folder)}", file.read_bytes())).encode())
     found.update(repr([stamp(kit, it) for it in crate.uses if it in crates()]).encode())
@@ -122,7 +128,7 @@ def key(kit: str, name: str) -> str:
     crate = crates()[name]
     if crate.kind == "library":
         return stamp(kit, name)
-    whole = [stamp(kit, name), FLAGS[crate.kind], Path(kit, "KIT-ID").read_text()]
+    whole = [stamp(kit, name), FLAGS[crate.kind], read(kit, "KIT-ID")]
     return hashlib.sha256(repr(whole).encode()).hexdigest()
 
 
@@ -182,7 +188,8 @@ def planned(goals: List[str], slots: int, is_first: bool = False) -> List[Step]:
 
 def finish(steps: List[Step], spans: Dict[str, float], slots: int) -> float:
     """When the last of these steps is through, if make begins them in this order."""
-    left, running, now = list(steps), [], 0.0
+    left, now = list(steps), 0.0
+    running: List[Tuple[float, str]] = []
     through = {it for step in steps for it in step.waits}.difference(it.goal for it in steps)
     while left or running:
         for step in [it for it in left if through.issuperset(it.waits)][: slots - len(running)]:

@@ -70,7 +70,7 @@ class Unproved:
         """Puts standard input into a file, since `rt try` takes a pipe that is silent for two seconds for one that has ended; returns its length."""
         with open(self.folder / "stdin", "wb") as file:
             while file.tell() <= MOST_READ:
-                block = sys.stdin.buffer.read1(MIB)
+                block = os.read(sys.stdin.fileno(), MIB)
                 if not block:
                     break
                 file.write(block)
@@ -128,7 +128,7 @@ class Unproved:
 
     def why(self, text: str) -> str:
         """Why a run has no result, by what `rt try` says."""
-        last = re.findall(r"(?m)^checked: (?:no-answer: )?(.*)", text)
+        last: List[str] = re.findall(r"(?m)^checked: (?:no-answer: )?(.*)", text)
         if last and "wrote more than" in last[-1]:
             return f"the program wrote more than the {MOST_WRITTEN // MIB} MiB that it may without a proof, so nothing of it is shown; leave out --unproved"
         if last and "second" in last[-1]:

@@ -99,7 +99,8 @@ class Program:
 
     def required(self, command: str) -> int:
         """How many words a command has to have that are no FILE."""
-        return len(re.findall(r" <\w+>", re.search(r"(?m)^Usage: .*", self.texts[f"{command} --help"].text)[0]))
+        (usage,) = re.findall(r"(?m)^Usage: .*", self.texts[f"{command} --help"].text)
+        return len(re.findall(r" <\w+>", usage))
 
     def look(self, words: List[str]) -> Asked:
         """Answers these words, or returns what they ask for."""
