@@ -65,7 +65,7 @@ look_at() {
         skip "cargo fmt"
     fi
     if cargo clippy --version >/dev/null 2>&1; then
-        in_crate sh -c "cd $1 && cargo clippy --all-targets -- -D warnings" || fails "cargo clippy has something against the crate in $1"
+        in_crate sh -c "cd $1 && cargo clippy --all-targets --all-features -- -D warnings" || fails "cargo clippy has something against the crate in $1"
     else
         skip "cargo clippy"
     fi
@@ -190,10 +190,10 @@ if ls -d $registry/serde-1* $registry/serde_derive-1* $registry/serde_json-1* >/
     mkdir "$work/rust/with-serde/.cargo" && printf '[source.crates-io]\nreplace-with = "debian"\n\n[source.debian]\ndirectory = "%s"\n' $registry \
         >"$work/rust/with-serde/.cargo/config.toml" || exit 1
     look_at with-serde
-    in_crate sh -c 'cd with-serde && cargo doc --no-deps' || fails "the pages of the crate with serde aren't made without a warning"
-    BSONRAW_COUNT=2000 in_crate sh -c 'cd with-serde && cargo test' || fails "the tests of the crate with serde fail"
+    in_crate sh -c 'cd with-serde && cargo doc --no-deps --all-features' || fails "the pages of the crate with serde aren't made without a warning"
+    BSONRAW_COUNT=2000 in_crate sh -c 'cd with-serde && cargo test --all-features' || fails "the tests of the crate with serde fail"
     echo "rust: $(passed) tests and examples with serde"
-    in_crate sh -c 'cd with-serde && cargo build --examples' || fails "the example with serde isn't built"
+    in_crate sh -c 'cd with-serde && cargo build --lib --examples' || fails "the example with serde isn't built"
     tells inventory "$work/with_serde/debug/examples/inventory"
     if [ -n "$raw" ]; then
         rustdoc --edition 2021 --test "$work/raw.md" --extern "bsonraw=$work/with_serde/debug/libbsonraw.rlib" \

@@ -4,6 +4,8 @@
 //! Extended JSON has them, and read from there.
 
 mod deserializer;
+#[cfg(feature = "serde_json")]
+mod json;
 mod lane;
 mod serializer;
 mod types;

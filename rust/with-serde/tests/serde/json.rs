@@ -128,3 +128,47 @@ fn made_documents_come_back_from_json() {
     }
     assert!(count > 500, "{count}");
 }
+
+#[cfg(feature = "serde_json")]
+#[test]
+fn values_of_json_are_extended_json() {
+    for (value, relaxed, canonical) in [
+        (bson!(1.5), json!(1.5), json!({ "$numberDouble": "1.5" })),
+        (bson!(-2.0), json!(-2.0), json!({ "$numberDouble": "-2.0" })),
+        (bson!(f64::NEG_INFINITY), json!({ "$numberDouble": "-Infinity" }), json!({ "$numberDouble": "-Infinity" })),
+        (bson!(7), json!(7), json!({ "$numberInt": "7" })),
+        (bson!(1_i64 << 40), json!(1_i64 << 40), json!({ "$numberLong": "1099511627776" })),
+        (
+            DateTime::from_millis(5).into(),
+            json!({ "$date": "1970-01-01T00:00:00.005Z" }),
+            json!({ "$date": { "$numberLong": "5" } }),
+        ),
+        (
+            DateTime::from_millis(-5).into(),
+            json!({ "$date": { "$numberLong": "-5" } }),
+            json!({ "$date": { "$numberLong": "-5" } }),
+        ),
+        (bson!([{ "a": 7 }]), json!([{ "a": 7 }]), json!([{ "a": { "$numberInt": "7" } }])),
+        (
+            JavaScriptCodeWithScope { code: "f".into(), scope: doc! { "x": 1 } }.into(),
+            json!({ "$code": "f", "$scope": { "x": 1 } }),
+            json!({ "$code": "f", "$scope": { "x": { "$numberInt": "1" } } }),
+        ),
+        (Bson::MinKey, json!({ "$minKey": 1 }), json!({ "$minKey": 1 })),
+    ] {
+        assert_eq!(value.clone().into_relaxed_extjson(), relaxed);
+        assert_eq!(Value::from(value.clone()), relaxed);
+        assert_eq!(value.clone().into_canonical_extjson(), canonical);
+        assert_eq!(Bson::try_from(canonical.clone()).unwrap(), value);
+        assert_eq!(Bson::try_from(relaxed).unwrap(), value);
+        // as the library writes it
+        let text = rawdoc! { "k": RawBson::try_from(value).unwrap() }.to_json_with(
+            bsonraw::whole::Limits::default(),
+            bsonraw::whole::JsonStyle { canonical: true, indented: false },
+        );
+        assert_eq!(from_str::<Value>(&text.unwrap()).unwrap(), json!({ "k": canonical }));
+    }
+    let Value::Object(members) = json!({ "a": { "$numberInt": "7" } }) else { unreachable!() };
+    assert_eq!(Document::try_from(members).unwrap(), doc! { "a": 7 });
+    assert!(Bson::try_from(json!(u64::MAX)).is_err());
+}

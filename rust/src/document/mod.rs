@@ -24,6 +24,10 @@ use crate::spec::BinarySubtype;
 use crate::{de, ser};
 use crate::{Array, Bson, DateTime, Decimal128, Timestamp};
 
+mod iter;
+
+pub use iter::{IntoIter, Iter, IterMut};
+
 /// How many levels a document has at most that comes into memory from bytes: each takes some of the stack, also of what prints, compares
 /// or drops it. MongoDB has 100.
 pub(crate) const LEVELS: usize = 200;
@@ -102,12 +106,12 @@ impl Document {
 
     /// The keys and values in order.
     pub fn iter(&self) -> Iter<'_> {
-        Iter { inner: self.entries.list().iter() }
+        Iter::new(self.entries.list().iter())
     }
 
     /// The keys and values in order; the values can be changed.
     pub fn iter_mut(&mut self) -> IterMut<'_> {
-        IterMut { inner: self.entries.iter_mut() }
+        IterMut::new(self.entries.iter_mut())
     }
 
     /// The keys in order.
@@ -269,75 +273,6 @@ impl<'a> Entry<'a> {
         let entries = &mut self.document.entries;
         let place = self.place.unwrap_or_else(|| entries.push(self.key, value()));
         entries.at_mut(place)
-    }
-}
-
-/// Declares an iterator over elements.
-macro_rules! iterators {
-    ($($(#[$what:meta])* $name:ident $(<$life:lifetime>)? -> $item:ty, $inner:ty, $element:pat => $given:expr;)*) => {
-        $(
-            $(#[$what])*
-            #[derive(Debug)]
-            pub struct $name $(<$life>)? {
-                inner: $inner,
-            }
-
-            impl $(<$life>)? Iterator for $name $(<$life>)? {
-                type Item = $item;
-
-                fn next(&mut self) -> Option<$item> {
-                    self.inner.next().map(|$element| $given)
-                }
-
-                fn size_hint(&self) -> (usize, Option<usize>) {
-                    self.inner.size_hint()
-                }
-            }
-
-            impl $(<$life>)? DoubleEndedIterator for $name $(<$life>)? {
-                fn next_back(&mut self) -> Option<$item> {
-                    self.inner.next_back().map(|$element| $given)
-                }
-            }
-
-            impl $(<$life>)? ExactSizeIterator for $name $(<$life>)? {}
-        )*
-    };
-}
-
-iterators! {
-    /// The keys and values of a document.
-    Iter<'a> -> (&'a String, &'a Bson), std::slice::Iter<'a, (String, Bson)>, (key, value) => (key, value);
-    /// The keys and values of a document; the values can be changed.
-    IterMut<'a> -> (&'a String, &'a mut Bson), std::slice::IterMut<'a, (String, Bson)>, (key, value) => (&*key, value);
-    /// The keys and values of a document that is taken apart.
-    IntoIter -> (String, Bson), std::vec::IntoIter<(String, Bson)>, element => element;
-}
-
-impl IntoIterator for Document {
-    type IntoIter = IntoIter;
-    type Item = (String, Bson);
-
-    fn into_iter(self) -> IntoIter {
-        IntoIter { inner: self.entries.into_list().into_iter() }
-    }
-}
-
-impl<'a> IntoIterator for &'a Document {
-    type IntoIter = Iter<'a>;
-    type Item = (&'a String, &'a Bson);
-
-    fn into_iter(self) -> Iter<'a> {
-        self.iter()
-    }
-}
-
-impl<'a> IntoIterator for &'a mut Document {
-    type IntoIter = IterMut<'a>;
-    type Item = (&'a String, &'a mut Bson);
-
-    fn into_iter(self) -> IterMut<'a> {
-        self.iter_mut()
     }
 }
 
