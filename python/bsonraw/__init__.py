@@ -14,7 +14,7 @@
 Whole documents: `decode` and `encode`; `canonical`, `check` and `first_fault`;
 `to_json`, `from_json` and `loads`. Parts of one: `find` by a path, `get` by a key, `elements` of one
 level, `walk` of all. Dumps, which are documents one behind the other:
-`documents` cuts them, `decode_all` reads them, `columns` has them as a table,
+`documents` cuts them, `decode_all` and `decode_iter` read them, `columns` has them as a table,
 `canonical_all` brings them to their forms, and `partitions` says where to cut
 one for many workers.
 
@@ -42,6 +42,7 @@ from typing import TYPE_CHECKING, Any, Callable, Dict, Iterable, List, Literal, 
 
 from . import _edit, _native, _types, _values
 from ._native import (
+    Decoded,
     Documents,
     Element,
     Elements,
@@ -99,6 +100,7 @@ __all__ = [
     "DamagedError",
     "DatetimeMS",
     "Decimal128",
+    "Decoded",
     "Documents",
     "Element",
     "ElementType",
@@ -128,6 +130,7 @@ __all__ = [
     "columns",
     "decode",
     "decode_all",
+    "decode_iter",
     "documents",
     "documents_async",
     "edit",
@@ -248,6 +251,43 @@ def decode_all(
     have others passed over.
     """
     return _native.decode_all(
+        documents(data, resync=resync),
+        codec_options=codec_options,
+        type=type,
+        pairs=pairs,
+        types=types,
+        tz_aware=tz_aware,
+        uuid=uuid,
+        object_hook=object_hook,
+        object_pairs_hook=object_pairs_hook,
+        errors=errors,
+        max_bytes=max_bytes,
+        max_depth=max_depth,
+    )
+
+
+def decode_iter(
+    data: Source,
+    codec_options: None = None,
+    *,
+    type: Any = None,
+    pairs: bool = False,
+    types: Types = None,
+    tz_aware: Optional[bool] = None,
+    uuid: bool = False,
+    object_hook: Optional[Callable[[Dict[str, Any]], Any]] = None,
+    object_pairs_hook: Optional[Callable[[Pairs], Any]] = None,
+    errors: Errors = "strict",
+    resync: bool = False,
+    max_bytes: int = MAX_BYTES,
+    max_depth: int = MAX_DEPTH,
+) -> Decoded:
+    """The documents of a dump one by one, each as `decode` gives it.
+
+    The options are those of `decode_all`. A dump of any size takes the memory
+    of one document.
+    """
+    return _native.decode_iter(
         documents(data, resync=resync),
         codec_options=codec_options,
         type=type,

@@ -97,6 +97,12 @@ class Documents(Iterator[Tuple[int, bytes]]):
     def __exit__(self, *error: object) -> None: ...
     def close(self) -> None: ...
 
+class Decoded(Iterator[Any]):
+    def __next__(self) -> Any: ...
+    def __enter__(self) -> Decoded: ...
+    def __exit__(self, *error: object) -> None: ...
+    def close(self) -> None: ...
+
 @overload
 def decode(
     data: Buffer,
@@ -164,6 +170,21 @@ def decode_all(
     max_bytes: int = ...,
     max_depth: int = ...,
 ) -> List[Any]: ...
+def decode_iter(
+    data: Documents,
+    *,
+    codec_options: None = ...,
+    type: Any = ...,
+    pairs: bool = ...,
+    types: Types = ...,
+    tz_aware: Optional[bool] = ...,
+    uuid: bool = ...,
+    object_hook: Hook = ...,
+    object_pairs_hook: PairsHook = ...,
+    errors: Errors = ...,
+    max_bytes: int = ...,
+    max_depth: int = ...,
+) -> Decoded: ...
 def columns(
     source: Documents,
     *,

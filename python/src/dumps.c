@@ -54,15 +54,34 @@ static int take_one(Documents *all, size_t at, size_t len, const struct options 
     return all->resyncs ? documents_resync(all, at, options->max_depth) : 0;
 }
 
+/* Has the next document taken: 1; 1, too, where it is passed over; 0 at the end; -1 with an error set. */
+static inline int take_another(Documents *all, const struct options *options, document_taker *take, void *to) {
+    size_t at, len;
+    enum cut cut = next_cut(all, &at, &len);
+    int status = cut == CUT_ONE ? 1 : without_document(all, options, cut, at, len);
+    if (status <= 0) return status;
+    if (cut == CUT_ONE && take_one(all, at, len, options, take, to) < 0) return -1;
+    return breathe(all->state, &all->breath, len) < 0 ? -1 : 1;
+}
+
 int take_each(Documents *all, const struct options *options, document_taker *take, void *to) {
-    for (;;) {
-        size_t at, len;
-        enum cut cut = next_cut(all, &at, &len);
-        int status = cut == CUT_ONE ? 1 : without_document(all, options, cut, at, len);
-        if (status <= 0) return status;
-        if (cut == CUT_ONE && take_one(all, at, len, options, take, to) < 0) return -1;
-        if (breathe(all->state, &all->breath, len) < 0) return -1;
-    }
+    int status = 1;
+    while (status > 0) status = take_another(all, options, take, to);
+    return status;
+}
+
+/* ---- one ---- */
+
+static int take_value(void *to, const struct bytes *document, const struct options *options, uint64_t before) {
+    PyObject **value = to;
+    *value = in_type(options, decoded(document, options, before));
+    return *value == NULL ? -1 : 0;
+}
+
+int take_next(Documents *all, const struct options *options, PyObject **value) {
+    int status = take_another(all, options, take_value, value);
+    if (status < 0) Py_CLEAR(*value);
+    return status;
 }
 
 PyObject *made_of(PyObject *documents, struct options *options, PyObject *make(Documents *, const struct options *)) {

@@ -54,6 +54,8 @@ void documents_end(Documents *all);
 typedef int document_taker(void *to, const struct bytes *document, const struct options *options, uint64_t before);
 /* Has each of the rest of the documents taken. */
 int take_each(Documents *all, const struct options *options, document_taker *take, void *to);
+/* The value of the next document, as decode gives it: 1; 1, too, with NULL, where it is passed over; 0 at the end; -1 with an error set. */
+int take_next(Documents *all, const struct options *options, PyObject **value);
 /* What is made of the rest of documents, which end with it. Ends the options. */
 PyObject *made_of(PyObject *documents, struct options *options, PyObject *make(Documents *, const struct options *));
 

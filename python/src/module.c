@@ -108,6 +108,7 @@ static PyMethodDef calls[] = {
     {"from_json", FASTCALL(py_from_json), METH_FASTCALL, NULL},
     {"documents", FASTCALL(py_documents), METH_FASTCALL, NULL},
     {"decode_all", FASTCALL(py_decode_all), METH_FASTCALL | METH_KEYWORDS, NULL},
+    {"decode_iter", FASTCALL(py_decode_iter), METH_FASTCALL | METH_KEYWORDS, NULL},
     {"columns", FASTCALL(py_columns), METH_FASTCALL | METH_KEYWORDS, NULL},
     {"canonical_all", FASTCALL(py_canonical_all), METH_FASTCALL | METH_KEYWORDS, NULL},
     {"partitions", FASTCALL(py_partitions), METH_FASTCALL, NULL},
@@ -120,7 +121,8 @@ static PyMethodDef calls[] = {
 
 static int fill(PyObject *module) {
     if (state_init(module) < 0 || sources_add(module) < 0 || classes_add(module) < 0 || elements_add(module) < 0 ||
-        lazy_add(module) < 0 || walks_add(module) < 0 || documents_add(module) < 0)
+        lazy_add(module) < 0 || walks_add(module) < 0 || documents_add(module) < 0 ||
+        decoded_add(module) < 0)
         return -1;
     return PyModule_AddIntConstant(module, "VERSION", BSONRAW_VERSION);
 }

@@ -398,6 +398,7 @@ int elements_add(PyObject *module);
 int lazy_add(PyObject *module);
 int walks_add(PyObject *module);
 int documents_add(PyObject *module);
+int decoded_add(PyObject *module);
 
 #define CALL(name) PyObject *name(PyObject *module, PyObject *const *args, Py_ssize_t count, PyObject *names)
 CALL(py_decode);
@@ -408,6 +409,7 @@ CALL(py_get);
 CALL(py_find);
 CALL(py_edit);
 CALL(py_decode_all);
+CALL(py_decode_iter);
 CALL(py_columns);
 CALL(py_canonical_all);
 CALL(py_to_json);

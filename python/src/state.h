@@ -26,7 +26,7 @@ typedef struct {
  * NULL: module.c goes through them as through an array. */
 struct classes {
     PyTypeObject *raw, *pair;                             /* which are defined in C, as are these: */
-    PyTypeObject *source, *element, *elements, *walk, *documents, *lazy;
+    PyTypeObject *source, *element, *elements, *walk, *documents, *decoded, *lazy;
     PyTypeObject *object_id, *decimal128, *timestamp;     /* over Raw */
     PyTypeObject *regex, *db_pointer;                     /* over Pair */
     PyTypeObject *binary, *code;                          /* over bytes, str */

@@ -1,5 +1,6 @@
 """Documents one behind the other: cut out of buffers and files, decoded all at once, with damage among them."""
 
+import gc
 import gzip
 import io
 import itertools
@@ -7,6 +8,7 @@ import os
 import pickle
 import tempfile
 import unittest
+import weakref
 from pathlib import Path
 from typing import Any, Iterator, List, Optional, Tuple
 
@@ -332,6 +334,45 @@ class Forms(unittest.TestCase):
         self.assertEqual((offsets, error and error.offset, error and error.reason), ([0, 24, 34], 34, Reason.TOO_SHORT))
         self.assertRaises(TypeError, bsonraw.partitions, "text", 5)
         self.assertRaises(OverflowError, bsonraw.partitions, DUMP, -1)
+
+
+class OneByOne(unittest.TestCase):
+    def test_decode_iter(self) -> None:
+        """It gives what decode_all gives, of files and buffers, and ends where that does."""
+        for data in (b"", *all_made(5, 60)):
+            dump = bsonraw.encode({"a": 1}) + data + bsonraw.encode({"b": [2]}) * 2
+            for options in ({}, {"errors": "skip"}, {"errors": "skip", "resync": True}, {"pairs": True, "errors": "skip"}, {"object_hook": len, "errors": "skip"}):
+                def read(call: Any, source: Any) -> Any:
+                    try:
+                        return repr(list(call(source, **options)))
+                    except bsonraw.BsonError as error:
+                        return error.__reduce__()
+
+                for source in (bytes, bytearray, io.BytesIO):
+                    self.assertEqual(read(bsonraw.decode_iter, source(dump)), read(bsonraw.decode_all, source(dump)))
+
+    def test_its_end(self) -> None:
+        dump = bsonraw.encode({"a": 1}) * 3
+        with bsonraw.decode_iter(dump) as each:
+            self.assertEqual(next(each), {"a": 1})
+        self.assertEqual(list(each), [])
+        each = bsonraw.decode_iter(dump, object_hook=lambda document: next(each))
+        self.assertRaises(ValueError, next, each)
+        broken = bsonraw.decode_iter(dump + b"\xff" * 8 + dump)
+        self.assertEqual([next(broken) for _ in range(3)], [{"a": 1}] * 3)
+        self.assertRaises(bsonraw.DamagedError, next, broken)
+        self.assertRaises(StopIteration, next, broken)
+
+        class Read:
+            def read(self, size: int) -> bytes:
+                return b""
+
+        source: Any = Read()
+        source.kept = bsonraw.decode_iter(source, object_hook=lambda document: source)
+        gone = weakref.ref(source)
+        del source
+        gc.collect()
+        self.assertIsNone(gone())
 
 
 if __name__ == "__main__":

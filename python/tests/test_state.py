@@ -149,6 +149,7 @@ class State(unittest.TestCase):
         lines = output_of(INTERPRETERS)
         self.assertEqual(lines, ["right 1970-01-01T00:00:00.010000+00:00"] * 4 + ["{'a': 1}"])
 
+    @unittest.skipUnless(sys.version_info[:2] == (3, 11) or sys.version_info >= (3, 13), "imports in interpreters of several threads hang or crash")
     def test_interpreters_in_threads(self) -> None:
         lines = output_of(INTERPRETERS, "threads")
         self.assertEqual(lines, ["right 1970-01-01T00:00:00.010000+00:00"] * 4 + ["{'a': 1}"])

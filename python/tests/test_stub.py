@@ -66,7 +66,7 @@ class Stub(unittest.TestCase):
 
     def test_options_of_calls_without_a_signature(self) -> None:
         """Such a call misses its argument where it knows the option, and else the option."""
-        for name in ("decode_all", "columns", "canonical_all"):
+        for name in ("decode_all", "decode_iter", "columns", "canonical_all"):
             call = getattr(_native, name)
             for option, (kind, _) in arguments_of(named(STUB.body)[name]).items():
                 if kind == "name":

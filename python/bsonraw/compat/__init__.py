@@ -130,8 +130,7 @@ def _each(cut: Any, options: CodecOptions) -> Iterator[Any]:
             yield RawBSONDocument(data, options)
         return
     call, finish = asked(options)
-    for _, data in cut:
-        yield finish(_native.decode(data, max_bytes=BSON_MAX_BYTES, **call))
+    yield from map(finish, _native.decode_iter(cut, max_bytes=BSON_MAX_BYTES, **call))
 
 
 def is_valid(bson: bytes) -> bool:
