@@ -199,10 +199,10 @@ def beside_plain(data: bytes) -> Iterator[Row]:
 
 
 def damaged_rows(rows: List[Row]) -> Iterator[Row]:
-    """Each document that a row of `check` has, cut off, and with a bit flipped in each byte: python/tests/test_made.py flips each bit."""
+    """Each document that a row of `check` has, cut off, and with each bit flipped; of one of more than 24 bytes every seventh."""
     for text in [row.text for row in rows if row.command == "check" and row.status < 2]:
         data = bytes.fromhex(text.decode())
-        for damaged in (*cut_off(data), *islice(flipped(data), 0, None, 7)):
+        for damaged in (*cut_off(data), *islice(flipped(data), 0, None, 1 if len(data) <= 24 else 7)):
             yield from beside_plain(damaged)
 
 
