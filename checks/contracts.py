@@ -19,10 +19,10 @@ PROGRAMS = {
     "bsonraw/src/answer.rt": ["answer"],
     "bsonraw/src/run.rt": ["run"],
     "dump_commands/src/reporting.rt": ["put_summary"],
-    "dump_runs/src/batch.rt": ["run_all"],
-    "dump_runs/src/run.rt": ["run"],
-    "text_runs/src/texts.rt": ["read_texts"],
-    "text_runs/src/texts_batch.rt": ["run_texts"],
+    "dump_runs/src/dumps/batch.rt": ["run_all"],
+    "dump_runs/src/dumps/run.rt": ["run"],
+    "dump_runs/src/texts/texts.rt": ["read_texts"],
+    "dump_runs/src/texts/batch.rt": ["run_texts"],
 }
 KINDS = "fn|struct|enum|type|const|trait"
 

@@ -56,7 +56,7 @@ if ! cmp -s "$work/page" "$page"; then
 fi
 # There is a row for a file that a clause cites, one of the library for C, one that only a definition cites, and one that only
 # definitions of each other do.
-for file in raw_view/specs/Errors/Answers bsonraw_c/specs/Json dump_kept/specs/Forms values_from_json/specs/Wrapped; do
+for file in raw_view/specs/Errors/Answers bsonraw_c/specs/Json dump_commands/specs/state/Forms values_from_json/specs/Wrapped; do
     if ! grep -qF "](../crates/$file.antt)" "$work/page"; then
         echo "contracts: a public clause needs words of crates/$file.antt, and the page doesn't list it" >&2
         failed=1

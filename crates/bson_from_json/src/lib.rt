@@ -5,7 +5,7 @@
 //! `specs/Lib.antt` passes on the definitions of the crates below: `IsWritten` and `SaysNone` say what a text
 //! means.
 //!
-//! `bsonraw_c`, `text_runs` and `json_round_trip` rest on this crate.
+//! `bsonraw_c`, `dump_runs` and `json_round_trip` rest on this crate.
 #![tactic(auto)]
 
 mod reading;

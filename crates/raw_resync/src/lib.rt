@@ -8,7 +8,7 @@
 //! lengths aren't believed, `Charge.antt` says what finding out costs, and `Seeking.antt` what a search returns
 //! for part of an input.
 //!
-//! `dump_input`, `dump_runs` and `bsonraw_c` rest on this crate. How a search goes on may change, as long as the
+//! `dump_io`, `dump_runs` and `bsonraw_c` rest on this crate. How a search goes on may change, as long as the
 //! contracts of `seek` and `check_behind` stay; `proofs/Face.antt` has the lemmas that crates above may cite.
 #![tactic(auto)]
 
