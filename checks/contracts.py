@@ -21,7 +21,7 @@ PROGRAMS = {
     "dump_commands/src/reporting.rt": ["put_summary"],
     "dump_runs/src/dumps/batch.rt": ["run_all"],
     "dump_runs/src/dumps/run.rt": ["run"],
-    "dump_runs/src/texts/texts.rt": ["read_texts"],
+    "dump_runs/src/texts/reading.rt": ["read_texts"],
     "dump_runs/src/texts/batch.rt": ["run_texts"],
 }
 KINDS = "fn|struct|enum|type|const|trait"
