@@ -48,7 +48,7 @@ def blocks_of(page: Path) -> list:
 class Pages(unittest.TestCase):
     def test_the_page_for_python(self) -> None:
         blocks = blocks_of(PAGE)
-        self.assertEqual(len(blocks), 14)
+        self.assertEqual(len(blocks), 17)
         names: dict = {}
         before = os.getcwd()
         with tempfile.TemporaryDirectory() as folder, redirect_stdout(StringIO()) as said:
