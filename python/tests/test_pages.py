@@ -34,10 +34,12 @@ me ['logic', 'poetry']
 {'maths': 2, 'poetry': 1}
 {'price': {'amount': Decimal128('9.90'), 'tags': ['new']}} ['price']
 2.5
+at key 'tags.0': int in place of str ('tags', '0')
 1 documents repeat another
 bad.bson 5: at offset 4: at key 'a': a boolean is neither 0 nor 1: 2
 2 documents kept
 2 forms, 1 canonical before, [5]
+[{"$numberLong": "1"}, {"_id": {"$oid": "5f2b00000000000000000001"}, "user": {"$ref": "users", "$id": {"$numberInt": "1"}}, "tags": ["a"]}]
 """
 
 
