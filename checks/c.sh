@@ -485,7 +485,7 @@ warns_of_slips() {
     for compiler in gcc clang g++ clang++; do
         command -v $compiler >/dev/null || continue
         case $compiler in *++) language=c++ ;; *) language=c ;; esac
-        for line in 'BSONRAW_FROM_JSON("{}", pointer, \&told)' 'bsonraw_iter_find(\&it, bytes, len, BSONRAW_KEY("ab" + 1))'; do
+        for line in 'BSONRAW_FROM_JSON("{}", pointer, \&told)' 'bsonraw_reason_text(told.reason)' 'bsonraw_iter_find(\&it, bytes, len, BSONRAW_KEY("ab" + 1))'; do
             sed "s/LINE/return (void)($line);/" c/tests/warned.c >"$work/slip.c"
             $compiler -x $language "-I$prefix/include" -fsyntax-only "$work/slip.c" 2>/dev/null && fails "$compiler compiles this: $line"
         done

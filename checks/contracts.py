@@ -3,6 +3,9 @@ row for each file of specs/ with words that clauses of these items, of the progr
 or the definitions of such words.
 
     contracts.py FOLDER           prints the page for the crates below FOLDER/crates
+    contracts.py --uncalled FOLDER
+                                  prints each public function, and each `clone` and `from`, that no line of crates/calls/stdin, no
+                                  test and no example calls
 
 It relies on the layout that `rt fmt` gives. An item that a crate passes on and that is nowhere is an error.
 """
@@ -238,6 +241,84 @@ class Crates:
         return item.kind != "hidden" and (item.owner or item.name) in self.named
 
 
+class Calls:
+    """The calls of the lines of the program `calls`, of the tests, and of the examples in doc comments."""
+
+    # what `calls` writes a value of this type as, for a `From` of it
+    VARIANTS = {
+        "i32": "Int32", "i64": "Int64", "bool": "Boolean", "String": "String", "&str": "String", "DoubleBits": "Double",
+        "RawDocumentBuf": "Document", "RawDocument": "Document", "RawArrayBuf": "Array", "RawArray": "Array",
+        "RawBinaryRef": "Binary", "RawRegexRef": "RegularExpression", "Regex": "RegularExpression",
+        "RawJavaScriptCodeWithScopeRef": "JavaScriptCodeWithScope", "RawJavaScriptCodeWithScope": "JavaScriptCodeWithScope",
+    }  # fmt: skip
+
+    def __init__(self, crates: Path, items: List[Item]) -> None:
+        lines = [line.split() for line in (crates / "calls/stdin").read_text(encoding="utf-8").splitlines()]
+        made = [line[2:] if line[1:2] == ["="] else line for line in lines if line and line[0] != "#"]
+        self.lines = {line[0] for line in made} | {" ".join(line[:2]) for line in made}
+        folders = [*crates.glob("*_tests"), crates / "view_fixtures", crates / "calls"]
+        tests = [path.read_text(encoding="utf-8") for folder in folders for path in sorted((folder / "src").rglob("*.rt"))]
+        self.tests = "\n".join(re.sub(r"//.*", "", text) for text in tests)
+        self.examples = {crate: "\n".join(self.examples_of(crates / crate)) for crate in [*CRATES, "bson_uses"]}
+        self.owners: Dict[str, Set[str]] = {}
+        for item in items:
+            if item.kind in ("fn", "call"):
+                self.owners.setdefault(item.name, set()).add(item.owner)
+                self.owners.setdefault(f"{item.file.split('/')[0]} {item.name}", set()).add(item.owner)
+
+    @staticmethod
+    def examples_of(crate: Path) -> Iterator[str]:
+        """The examples in the comments of a crate."""
+        for path in sorted((crate / "src").rglob("*.rt")):
+            comments = re.findall(r"(?:^ *///.*\n)+", path.read_text(encoding="utf-8"), re.M)
+            yield from (block for comment in comments for block in comment.split("```")[1::2])
+
+    def has(self, item: Item) -> bool:
+        """Whether a function is called: by a line, by its path, in its own example; or by its name, where no other type has one
+        of this name, and in an example of its crate, where no other type of that has."""
+        crate = item.file.split("/")[0]
+        path = f"{item.owner}::{item.name}" if item.owner else item.name
+        called = re.compile(rf"\b{item.name}\(")
+        everywhere = "\n".join([self.tests, *self.examples.values()])
+        return (
+            path in self.lines
+            or bool(item.owner) and f"{path}(" in everywhere
+            or any(called.search(block) for block in item.comment.split("```")[1::2])
+            or len(self.owners[item.name]) == 1 and bool(called.search(everywhere))
+            or len(self.owners[f"{crate} {item.name}"]) == 1 and bool(called.search(self.examples[crate]))
+        )
+
+    def has_impl(self, item: Item) -> bool:
+        """Whether a line calls the `clone` or the `from` of an impl; of another trait it isn't asked."""
+        if item.name == "Clone":
+            return f"{item.owner}::clone" in self.lines
+        source = re.sub(r"'a ?|<[^<>]*>$", "", item.name[len("From<") : -1])
+        if not item.name.startswith("From<") or item.owner == "JsonReason":  # (which is made where memory is refused)
+            return True
+        owner_from = f"{item.owner}::from"
+        if item.owner == "RawBsonRef" and source in ("&Binary", "&RawDocumentBuf", "&RawArrayBuf"):
+            owner_from, source = "RawBsonRef::from_owner", source[1:]
+        variants = {} if "Cow" in item.owner or "Error" in item.owner else self.VARIANTS
+        return f"{owner_from} {variants.get(source, source)}" in self.lines
+
+
+def is_hidden(crates: Path, item: Item) -> bool:
+    """Whether a function is for crates of this repository alone."""
+    text = (crates / item.file).read_text(encoding="utf-8")
+    return bool(re.search(rf"#\[doc\(hidden\)\]\n *pub fn {item.name}\(", text))
+
+
+def uncalled(crates: Crates) -> Iterator[str]:
+    """The public functions that nothing calls."""
+    shown = [item for item in crates.all() if crates.is_shown(item)]
+    calls = Calls(crates.crates, shown)
+    for item in shown:
+        if item.kind in ("fn", "call") and not calls.has(item) and not is_hidden(crates.crates, item):
+            yield f"{item.owner}::{item.name}" if item.owner else item.name
+        if item.kind == "impl" and not calls.has_impl(item):
+            yield f"{item.name} for {item.owner}"
+
+
 def link(item: Item, text: Optional[str] = None) -> str:
     return f"[`{text or item.name}`](../crates/{item.file})"
 
@@ -313,7 +394,12 @@ def page(crates: Crates) -> Iterator[str]:
 
 
 def main(arguments: List[str]) -> int:
-    print("\n".join(page(Crates(Path(arguments[-1])))))
+    crates = Crates(Path(arguments[-1]))
+    if arguments[0] == "--uncalled":
+        for name in uncalled(crates):
+            print(name)
+    else:
+        print("\n".join(page(crates)))
     return 0
 
 

@@ -3,6 +3,8 @@
 # their clauses cite, or those of the programs and of the library for C, or the definition of such a word. contracts.py
 # takes both from the sources.
 #
+# Each public function is called: by a line of crates/calls/stdin, a test or an example.
+#
 #   checks/contracts.sh           compares the page with the sources
 #   checks/contracts.sh --write   writes CONTRACTS.md anew
 set -u
@@ -61,6 +63,20 @@ for file in raw_view/specs/Errors/Answers bsonraw_c/specs/Json dump_commands/spe
         echo "contracts: a public clause needs words of crates/$file.antt, and the page doesn't list it" >&2
         failed=1
     fi
+done
+# A function that nothing calls any more is seen: one that a line called, one that a conversion was, one that an example called.
+rm -rf "$work/changed" && mkdir "$work/changed" && cp -r "$work/crates" "$work/changed" || exit 1
+cp --parents crates/calls/stdin "$work/changed" || exit 1
+sed -i '/AnyError::clone/d; /RawBson::from Int64/d' "$work/changed/crates/calls/stdin"
+sed -i '/JsonReason::EndOfText.words()/d' "$work/changed/crates/values_from_json/src/error.rt"
+lost=$(contracts --uncalled "$work/changed" | sort | tr '\n' ' ')
+if [ "$lost" != "Clone for AnyError From<i64> for RawBson JsonReason::words " ]; then
+    echo "contracts: these calls are lost, and it isn't seen that each is: $lost" >&2
+    failed=1
+fi
+for name in $(contracts --uncalled . | tr ' ' '_'); do
+    echo "contracts: no line of crates/calls/stdin, no test and no example calls $name" >&2
+    failed=1
 done
 echo "$(grep -c '^| \[' "$work/page") rows are in $page"
 exit "$failed"

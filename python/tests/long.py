@@ -10,9 +10,10 @@ import io
 import random
 import resource
 import sys
-from typing import Any, Callable, List
+from typing import Any, Callable, Dict, List
 
 import bsonraw
+import bsonraw.compat as compat
 from made import all_made
 
 REPEATED = bytes.fromhex("13000000 106100 01000000 106100 02000000 00")
@@ -73,6 +74,18 @@ STEPS: List[Callable[[Any], Any]] = [
     lambda data: bsonraw.encode({"k": {1}, "d": bsonraw.RawDocument(data)}, default=bsonraw.Codec(), max_bytes=300),
     lambda data: bsonraw.encode(collections.OrderedDict(a=[1, {2}])),
     lambda data: bsonraw.edit(data, {"a": 1, "b.c": bsonraw.REMOVE}),
+    lambda data: [bsonraw.edit(data, {path: 1, ("x", *path): [data], "new": {}}) for path, _ in list(bsonraw.walk(data))[:5]],
+    lambda data: bsonraw.edit(data, {f"k{number}.a": number for number in range(20)}),
+    lambda data: bsonraw.edit(data, {"a": 1, "b": object()}),
+    lambda data: dict(bsonraw.RawDocument(data)),
+    lambda data: [bsonraw.RawDocument(bytearray(data)).get(key) for key in "aba"],
+    lambda data: [raw[key] for raw in [bsonraw.RawDocument(data)] for key in [*raw, *raw]],
+    lambda data: bsonraw.encode({"a": [bsonraw.RawDocument(data)]}, max_depth=4),
+    lambda data: list(bsonraw.decode_iter(data * 3, errors="skip", object_hook=dict)),
+    lambda data: next(bsonraw.decode_iter(io.BytesIO(data * 2), types=None)),
+    lambda data: bsonraw.decode(data, type=Dict[str, int]),
+    lambda data: bsonraw.loads(bsonraw.to_json_array(data * 2)),
+    lambda data: compat.decode(data, compat.CodecOptions(document_class=compat.SON)),
     lambda data: bsonraw.to_json(data, indent=4),
     lambda data: bsonraw.ObjectId(data[:12]) == bsonraw.MinKey(),
     lambda data: bsonraw.canonical_all(data * 3 + b"x", max_depth=3),

@@ -34,10 +34,12 @@ me ['logic', 'poetry']
 {'maths': 2, 'poetry': 1}
 {'price': {'amount': Decimal128('9.90'), 'tags': ['new']}} ['price']
 2.5
+at key 'tags.0': int in place of str ('tags', '0')
 1 documents repeat another
 bad.bson 5: at offset 4: at key 'a': a boolean is neither 0 nor 1: 2
 2 documents kept
 2 forms, 1 canonical before, [5]
+[{"$numberLong": "1"}, {"_id": {"$oid": "5f2b00000000000000000001"}, "user": {"$ref": "users", "$id": {"$numberInt": "1"}}, "tags": ["a"]}]
 """
 
 
@@ -48,7 +50,7 @@ def blocks_of(page: Path) -> list:
 class Pages(unittest.TestCase):
     def test_the_page_for_python(self) -> None:
         blocks = blocks_of(PAGE)
-        self.assertEqual(len(blocks), 14)
+        self.assertEqual(len(blocks), 17)
         names: dict = {}
         before = os.getcwd()
         with tempfile.TemporaryDirectory() as folder, redirect_stdout(StringIO()) as said:

@@ -39,8 +39,8 @@ impl Place {
     fn fits(&self) -> Result<(), String> {
         let text = fs::read_to_string(&self.header).map_err(|error| format!("{}: {error}", self.header.display()))?;
         let wanted =
-            number_behind(DECLARED, "pub const BSONRAW_VERSION: u32 = ").expect("the declarations have a version");
-        match number_behind(&text, "#define BSONRAW_VERSION ") {
+            number_after(DECLARED, "pub const BSONRAW_VERSION: u32 = ").expect("the declarations have a version");
+        match number_after(&text, "#define BSONRAW_VERSION ") {
             Some(number) if number / 10000 == wanted / 10000 && number >= wanted => Ok(()),
             Some(number) => Err(format!(
                 "{} is of version {}, and this crate needs {}, or a later one of {}",
@@ -55,7 +55,7 @@ impl Place {
 }
 
 /// The number after these words at the front of a line.
-fn number_behind(text: &str, words: &str) -> Option<u32> {
+fn number_after(text: &str, words: &str) -> Option<u32> {
     let rest = text.lines().find_map(|line| line.strip_prefix(words))?;
     rest.split([' ', ';']).next()?.parse().ok()
 }

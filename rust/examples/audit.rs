@@ -6,7 +6,7 @@ use bsonraw::raw::{RawArrayBuf, RawDocument, RawDocumentBuf, ValueAccessErrorKin
 use bsonraw::spec::BinarySubtype;
 use bsonraw::{doc, rawdoc, Binary, Bson, DateTime, Document};
 
-/// An entry behind another one.
+/// An entry after another one.
 fn entry(
     number: u8,
     before: Option<&RawDocument>,
@@ -35,16 +35,16 @@ fn sum(entry: &RawDocument) -> [u8; 8] {
 
 /// What is wrong with an entry, given the one before it.
 fn audited(entry: &RawDocument, before: Option<&RawDocument>) -> Result<(), String> {
-    let told = match entry.get_document("before") {
-        Ok(told) => told,
+    let stated = match entry.get_document("before") {
+        Ok(stated) => stated,
         Err(error) if matches!(error.kind, ValueAccessErrorKind::NotPresent) && before.is_none() => return Ok(()),
         Err(error) => return Err(error.to_string()),
     };
     let before = before.ok_or("the entry before it is missing")?;
-    if told.get_object_id("id").ok() != before.get_object_id("_id").ok() {
+    if stated.get_object_id("id").ok() != before.get_object_id("_id").ok() {
         return Err("another entry is before it".to_string());
     }
-    if told.get_i32("len").map_err(|error| error.to_string())? as usize != before.as_bytes().len() {
+    if stated.get_i32("len").map_err(|error| error.to_string())? as usize != before.as_bytes().len() {
         return Err("the entry before it has another length".to_string());
     }
     if entry.get_binary("sum").map_err(|error| error.to_string())?.bytes != sum(before) {

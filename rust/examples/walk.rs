@@ -1,4 +1,4 @@
-//! Prints each value of the documents of standard input, one behind the other, with the path of keys to it; and each error with the path to
+//! Prints each value of the documents of standard input, one after the other, with the path of keys to it; and each error with the path to
 //! where it is. Written for the crate `bson`: only its lines `use` name another one.
 
 use bsonraw::raw::{Error, ErrorKind, RawArray, RawBsonRef, RawDocument};
@@ -14,7 +14,7 @@ fn joined(path: &str, key: &str) -> String {
 }
 
 /// What an error says, with the path to it.
-fn told(path: &str, error: &Error) -> String {
+fn described(path: &str, error: &Error) -> String {
     let place = joined(path, error.key().unwrap_or("?"));
     match &error.kind {
         ErrorKind::MalformedValue { message, .. } => format!("{place}: damaged: {message}"),
@@ -49,7 +49,7 @@ fn walk(path: &str, document: &RawDocument) -> usize {
         match element.and_then(|element| Ok((element.key(), element.value()?))) {
             Ok((key, value)) => errors += print(&joined(path, key), value),
             Err(error) => {
-                println!("{}", told(path, &error));
+                println!("{}", described(path, &error));
                 errors += 1;
             }
         }
@@ -63,7 +63,7 @@ fn walk_array(path: &str, array: &RawArray) -> usize {
         match value {
             Ok(value) => errors += print(&joined(path, &number.to_string()), value),
             Err(error) => {
-                println!("{}", told(path, &error));
+                println!("{}", described(path, &error));
                 errors += 1;
             }
         }
@@ -76,9 +76,9 @@ fn main() -> Result<(), Box<dyn std::error::Error>> {
     std::io::stdin().read_to_end(&mut bytes)?;
     let mut rest = &bytes[..];
     while let Some(head) = rest.first_chunk() {
-        let (document, behind) = rest.split_at(u32::from_le_bytes(*head) as usize);
+        let (document, after) = rest.split_at(u32::from_le_bytes(*head) as usize);
         println!("{} errors", walk("", RawDocument::from_bytes(document)?));
-        rest = behind;
+        rest = after;
     }
     Ok(())
 }

@@ -63,7 +63,7 @@ impl DateTime {
         DateTime::from_system_time(SystemTime::now())
     }
 
-    /// The time of so many milliseconds.
+    /// The time of this many milliseconds.
     #[inline]
     pub const fn from_millis(millis: i64) -> DateTime {
         DateTime(millis)
@@ -108,7 +108,7 @@ impl DateTime {
         (self >= earlier).then(|| Duration::from_millis(self.0.abs_diff(earlier.0)))
     }
 
-    /// The time as RFC 3339 has it, in UTC, with as many digits behind the seconds as are needed. It fails before the year 0 and from
+    /// The time as RFC 3339 has it, in UTC, with as many digits after the seconds as are needed. It fails before the year 0 and from
     /// 10000 on.
     pub fn try_to_rfc3339_string(self) -> Result<String> {
         let text = ffi::date_time_to_text(self.0)
@@ -126,7 +126,7 @@ impl DateTime {
     }
 }
 
-/// A text as the library reads it: with capital letters, and three digits behind the seconds at most.
+/// A text as the library reads it: with capital letters, and three digits after the seconds at most.
 fn as_read(text: &str) -> String {
     let mut text = text.to_ascii_uppercase();
     if let Some(point) = text.find('.') {

@@ -66,7 +66,7 @@ impl std::error::Error for ReadError {
     }
 }
 
-/// Documents one behind the other, as in a dump, each with the offset where it begins, from a reader: as
+/// Documents one after the other, as in a dump, each with the offset where it begins, from a reader: as
 /// [`Documents`](crate::whole::Documents) of the bytes, but one at a time. One has 16 MiB at most, if nothing else is said. A reader that
 /// has no buffer of its own is put into a [`BufReader`](std::io::BufReader).
 ///
@@ -99,7 +99,7 @@ impl<R: Read> DocumentReader<R> {
         DocumentReader { reader, max_bytes, offset: 0, is_done: false }
     }
 
-    /// The reader, which is behind the last document that came.
+    /// The reader, which is after the last document that came.
     pub fn into_inner(self) -> R {
         self.reader
     }

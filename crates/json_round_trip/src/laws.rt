@@ -7,6 +7,9 @@ use raw_bson::RawDocument;
 
 /// A canonical document whose tree comes back is the only one that its text in the canonical format writes, in
 /// either layout. Programs never need it; proofs do.
+/// ```
+/// json_round_trip::laws::attest_round_trip(RawDocument::from_bytes(b"\x05\0\0\0\0")?);
+/// ```
 pub fn attest_round_trip(document: RawDocument<'_>)
     ensures { ClosesCircle (bytes_of document.entry) }
 {

@@ -182,6 +182,9 @@ fn instant(days: i64, millis: i64, ahead: i64) -> i64
 }
 
 /// The milliseconds since 1970 of the time that a text writes, as `2012-12-24T12:15:30.501Z`.
+/// ```
+/// assert_eq!(rt; millis_of(b"2012-12-24T12:15:30.501Z"), Some(1356351330501));
+/// ```
 pub fn millis_of(text: &[u8]) -> Option<i64>
     ensures some { IfSome result (λ millis. WritesTime text.now millis) }
     ensures none { result ≡ None → (z : ℤ) → ¬ WritesTime text.now z }

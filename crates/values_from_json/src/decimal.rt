@@ -49,6 +49,10 @@ pub(crate) fn decimal_of(text: &[u8]) -> Result<[u8; 16], JsonReason>
 }
 
 /// The sixteen bytes of the Decimal128 that a text writes exactly, as `1.50`, `1.5E+20`, `NaN` or `-Infinity`.
+/// ```
+/// let one = [1, 0, 0, 0, 0, 0, 0, 0, 0, 0, 0, 0, 0, 0, 0x40, 0x30];
+/// assert_eq!(rt; decimal128_of(b"1"), Some(one));
+/// ```
 pub fn decimal128_of(text: &[u8]) -> Option<[u8; 16]>
     ensures some { IfSome result (λ bytes. WritesDecimal text.now bytes) }
     ensures none { result ≡ None → (bytes : List ℕ) → ¬ WritesDecimal text.now bytes }

@@ -77,6 +77,9 @@ impl fmt::Display for JsonReason {
 
 impl JsonReason {
     /// The reason in words.
+    /// ```
+    /// assert_eq!(rt; JsonReason::EndOfText.words(), "the text ends too early");
+    /// ```
     pub fn words(self) -> &'static str
         ensures { result.now ≡ reason_words self }
     {

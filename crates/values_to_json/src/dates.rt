@@ -108,6 +108,11 @@ fn put_instant<W: Write>(out: &mut W, millis: i64) -> io::Result<()>
 /// Writes a time, given in milliseconds since 1970, in ISO 8601, as `2012-12-24T12:15:30.501Z`, without a fraction
 /// if that is 0. Returns whether the time is in the years 0 to 9999. If it isn't, nothing is written, and that is
 /// no error.
+/// ```
+/// let mut text = Vec::new(alloc);
+/// assert!(rt; write_time(&mut text, 1356351330501).ok() == Some(true));
+/// assert_eq!(rt; text.as_slice(), b"2012-12-24T12:15:30.501Z".as_slice());
+/// ```
 pub fn write_time<W: Write>(out: &mut W, millis: i64) -> io::Result<bool>
     ensures has_text { IfOk result (λ has_text. IsTrue has_text ↔ HasInstantText millis) }
     ensures text { result ≡ Ok true → (text : List ℕ) × IsInstantText millis text

@@ -150,6 +150,12 @@ fn put_parts<W: Write>(out: &mut W, parts: Decimal) -> io::Result<()>
 }
 
 /// Writes a Decimal128 as text, as `1.50`, `1.5E+20`, `NaN` or `-Infinity`, of at most 42 bytes.
+/// ```
+/// let mut text = Vec::new(alloc);
+/// let one = Decimal128::from_bytes([1, 0, 0, 0, 0, 0, 0, 0, 0, 0, 0, 0, 0, 0, 0x40, 0x30]);
+/// assert!(rt; write_decimal128(&mut text, one).is_ok());
+/// assert_eq!(rt; text.as_slice(), b"1".as_slice());
+/// ```
 pub fn write_decimal128<W: Write>(out: &mut W, number: Decimal128) -> io::Result<()>
     ensures written { OnOk result
         (Appends (W.contents out.old) (W.contents out.new) (decimal128_text (bytes_of_decimal128 number))) }

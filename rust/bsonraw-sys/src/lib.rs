@@ -250,7 +250,7 @@ layout! {
 }
 
 layout! {
-    /// A reader of documents one behind the other.
+    /// A reader of documents one after the other.
     struct bsonraw_reader of 56 {
         document_at: u64,
         document_len: u64,
@@ -260,7 +260,7 @@ layout! {
 }
 
 layout! {
-    /// What the searches behind damage cost so far, and what the last one found.
+    /// What the searches after damage cost so far, and what the last one found.
     struct bsonraw_resync of 24 {
         spent: u64,
         reach: u64,

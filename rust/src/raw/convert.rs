@@ -5,12 +5,12 @@ use super::{RawDocumentBuf, RawElement, RawJavaScriptCodeWithScope, RawRegexRef,
 use crate::document::LEVELS;
 use crate::{Array, Bson, Document, JavaScriptCodeWithScope};
 
-/// How many levels may be inside, where this many are allowed; the error is that there are too many.
+/// How many levels may be inside, where this many are allowed; it fails where none is.
 fn inside(levels: usize) -> Result<usize> {
     levels.checked_sub(1).ok_or_else(|| Error::new(ErrorKind::malformed("more levels than allowed")))
 }
 
-/// The document of a view, with so many levels at most. This is a loop, so that a level takes little of the stack.
+/// The document of a view of at most `levels` levels. This is a loop, so that a level takes little of the stack.
 fn document_of(view: &RawDocument, levels: usize) -> Result<Document> {
     let levels = inside(levels)?;
     let mut made = Document::new();
@@ -30,7 +30,7 @@ fn array_of(view: &RawArray, levels: usize) -> Result<Array> {
     Ok(made)
 }
 
-/// The value of a borrowed one, whose documents have so many levels at most.
+/// The value of a borrowed one, whose documents have at most `levels` levels.
 fn value_of(value: RawBsonRef<'_>, levels: usize) -> Result<Bson> {
     Ok(match value {
         RawBsonRef::Document(document) => Bson::Document(document_of(document, levels)?),

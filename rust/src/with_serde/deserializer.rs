@@ -9,7 +9,7 @@ use crate::document::LEVELS;
 use crate::raw::{Iter, RawArrayIter, RawBsonRef};
 use crate::spec::BinarySubtype;
 
-/// A value that is read, in so many levels at most.
+/// A value that is read, of at most `levels` levels.
 #[derive(Clone, Copy)]
 pub(crate) struct Deserializer<'de> {
     value: RawBsonRef<'de>,

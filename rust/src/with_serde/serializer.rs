@@ -9,7 +9,7 @@ use crate::ser::{Error, Result};
 use crate::spec::BinarySubtype;
 use crate::Binary;
 
-/// Makes a value, in so many levels at most.
+/// Makes a value of at most `levels` levels.
 #[derive(Clone, Copy)]
 pub(crate) struct Serializer {
     levels: usize,

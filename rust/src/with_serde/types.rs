@@ -26,14 +26,14 @@ impl Serialize for Bytes<'_> {
     }
 }
 
-/// A value, whose documents may have so many levels where a format that people read has each value of its own.
+/// A value of at most `levels` levels, which are counted in formats that people read: others have a document as its bytes.
 pub(super) struct Within<'a> {
     pub(super) value: RawBsonRef<'a>,
     pub(super) levels: usize,
 }
 
 impl<'a> Within<'a> {
-    /// A value inside of one with so many levels.
+    /// A value inside of one of at most `levels` levels.
     fn inside<S: Serializer>(value: RawBsonRef<'a>, levels: usize) -> Result<Within<'a>, S::Error> {
         match levels.checked_sub(1) {
             Some(levels) => Ok(Within { value, levels }),
@@ -73,7 +73,7 @@ impl Serialize for Within<'_> {
     }
 }
 
-/// The elements of a document, which may have so many levels.
+/// The elements of a document of at most this many levels.
 struct Elements<'a>(&'a RawDocument, usize);
 
 impl Serialize for Elements<'_> {

@@ -48,7 +48,7 @@ pub(super) fn has(value: RawBsonRef<'_>) -> bool {
 }
 
 /// The wrapper of a value that has one: in a format that people read as Extended JSON has it, and else with bytes and numbers. A scope may
-/// have so many levels.
+/// have `levels` levels.
 pub(super) fn of(value: RawBsonRef<'_>, is_human_readable: bool, levels: usize) -> Tree<'_> {
     match value {
         RawBsonRef::ObjectId(id) if is_human_readable => one("$oid", text(id.to_hex())),
@@ -129,7 +129,7 @@ impl<'de> de::Deserializer<'de> for Tree<'de> {
     }
 }
 
-/// A wrapper is a struct with the name of its first key. So it is told from a document with such a key.
+/// A wrapper is a struct with the name of its first key. So it differs from a document with such a key.
 impl Serialize for Tree<'_> {
     fn serialize<S: Serializer>(&self, serializer: S) -> Result<S::Ok, S::Error> {
         match self {

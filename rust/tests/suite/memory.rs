@@ -67,7 +67,7 @@ fn a_document_in_memory_has_200_levels_at_most() {
     assert!(matches!(nested.to_document().unwrap_err().kind, ErrorKind::MalformedValue { .. }));
 }
 
-/// So many levels under the empty key, quickly made.
+/// This many levels under the empty key, quickly made.
 fn nested(count: usize) -> Vec<u8> {
     let mut made = Vec::new();
     for level in 0..count {

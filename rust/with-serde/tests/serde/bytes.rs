@@ -241,7 +241,7 @@ struct Chain {
     next: Option<Box<Chain>>,
 }
 
-/// So many levels under the key next.
+/// This many levels under the key next.
 fn levels(count: usize) -> RawDocumentBuf {
     (1..count).fold(RawDocumentBuf::new(), |inner, _| rawdoc! { "next": inner })
 }

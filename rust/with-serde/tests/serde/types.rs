@@ -1,4 +1,4 @@
-//! The types of the crate: each is its own kind in BSON, in a struct, behind flatten, and in an enum without tags.
+//! The types of the crate: each is its own kind in BSON, in a struct, in a flattened one, and in an enum without tags.
 
 use std::collections::BTreeMap;
 
