@@ -7,9 +7,9 @@ use Rattle.raw_view.specs.Frame.Number.{le32}
 use Rattle.raw_view.proofs.Face.{document_framed}
 use Rattle.values_to_json.specs.declared.style.Style as json
 use Rattle.dump_commands.specs.Binary.{MakesBson, MakesNoBson}
-use Rattle.dump_elements.specs.Pick.{IsPicked}
+use Rattle.dump_commands.specs.elements.Pick.{IsPicked}
 use Rattle.dump_commands.specs.Making.{IsPrinted}
-use Rattle.dump_kept.specs.Forms.{Made, plain}
+use Rattle.dump_commands.specs.state.Forms.{Made, plain}
 use Rattle.dump_commands.specs.declared.command.Command.{Command}
 use Rattle.dump_commands.specs.declared.command.Command.TheVariants as command
 use Rattle.dump_commands.specs.declared.command.Spelling.{Spelling}

@@ -5,3 +5,5 @@ mod Reported
 mod Counted
 mod Endings
 pub mod Face
+mod elements
+mod state

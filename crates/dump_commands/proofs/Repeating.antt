@@ -1,6 +1,6 @@
 -- That nothing repeats where nothing is made.
 use Rattle.std.proofs.Common.{◌≡◌, [], refl}
-use Rattle.dump_kept.specs.Forms.{Firsts}
+use Rattle.dump_commands.specs.state.Forms.{Firsts}
 use Rattle.dump_commands.specs.Unique.{firsts_behind, repeats_of}
 use Rattle.dump_commands.specs.declared.command.Command.{Command}
 use Rattle.dump_commands.specs.declared.command.Command.TheVariants as command

@@ -1,13 +1,13 @@
 -- A front of what a command reports.
 use Rattle.std.proofs.Common.{ℕ, List, Option}
 use Rattle.std.specs.Io.KnownBytes.{Appends}
-use Rattle.dump_lines.specs.Find.{Account}
-use Rattle.dump_lines.specs.Fronts.{AppendsFront}
+use Rattle.dump_io.specs.lines.Find.{Account}
+use Rattle.dump_io.specs.lines.Fronts.{AppendsFront}
 use Rattle.dump_commands.specs.Reporting.{ReportsFront, Reports}
 use Rattle.dump_commands.specs.declared.command.Command.{Command}
 use Rattle.dump_commands.specs.declared.command.Command.TheVariants as command
-use Rattle.dump_lines.specs.declared.find.Finding.{Finding}
-use Rattle.dump_lines.specs.declared.style.Style.{Style}
+use Rattle.dump_io.specs.declared.lines.find.Finding.{Finding}
+use Rattle.dump_io.specs.declared.lines.style.Style.{Style}
 
 -- a command but list
 abbrev pub IsOther : Command → Type 0

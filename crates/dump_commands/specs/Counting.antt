@@ -1,8 +1,8 @@
 -- What is counted of documents, and of bytes of which none is made.
 use Rattle.std.specs.Prelude.{ℕ, ◌+◌, ◌<◌, ◌^◌}
 use Rattle.dump_commands.specs.declared.counts.Counts.{Counts}
-use Rattle.dump_lines.specs.declared.find.Finding.{Finding}
-use Rattle.dump_lines.specs.declared.find.Finding.TheVariants as finding
+use Rattle.dump_io.specs.declared.lines.find.Finding.{Finding}
+use Rattle.dump_io.specs.declared.lines.find.Finding.TheVariants as finding
 
 -- nothing was read
 abbrev pub no_counts : Counts

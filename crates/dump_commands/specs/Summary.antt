@@ -1,14 +1,14 @@
 -- How what was counted is told: in words, as an object of JSON, or not at all.
 use Rattle.std.specs.Prelude.{ℕ, List, [], ◌∷◌, ◌++◌, ◌-◌, Option, None, Some, codes, decimal, flat_map}
-use Rattle.dump_lines.specs.Quoting.{quoted}
+use Rattle.dump_io.specs.lines.Quoting.{quoted}
 use Rattle.json.specs.Token.{Token, key, string, number}
 use Rattle.dump_commands.specs.declared.command.Command.{Command}
 use Rattle.dump_commands.specs.declared.command.Command.TheVariants as command
 use Rattle.dump_commands.specs.declared.counts.Counts.{Counts}
 use Rattle.dump_commands.specs.declared.summary.Count as summary
-use Rattle.dump_lines.specs.declared.style.Style.{Style}
-use Rattle.dump_lines.specs.declared.style.Style.TheVariants as style
-use Rattle.dump_lines.specs.Told.{object_line}
+use Rattle.dump_io.specs.declared.lines.style.Style.{Style}
+use Rattle.dump_io.specs.declared.lines.style.Style.TheVariants as style
+use Rattle.dump_io.specs.lines.Told.{object_line}
 
 -- a number that is counted
 abbrev pub Count : Type 0

@@ -1,7 +1,7 @@
 -- What a command writes of the documents that it makes: unique one of each form.
 use Rattle.std.specs.Prelude.{ℕ, List, [], Bool, flat_map, fold}
-use Rattle.dump_lines.specs.Origins.{Repeat}
-use Rattle.dump_kept.specs.Forms.{Firsts, Made, Placed, first_made, repeats, with_first, with_made}
+use Rattle.dump_io.specs.lines.Origins.{Repeat}
+use Rattle.dump_commands.specs.state.Forms.{Firsts, Made, Placed, first_made, repeats, with_first, with_made}
 use Rattle.dump_commands.specs.declared.command.Command.{Command}
 use Rattle.dump_commands.specs.declared.command.Command.TheVariants as command
 

@@ -1,7 +1,7 @@
 ghost use Rattle.std.specs.Prelude.{◌≡◌, IfSome, IsNone};
 ghost use Rattle.dump_commands.specs.Counting.{AreInRange, count_document, count_gap, count_left, count_rest, no_counts, plus};
 
-use dump_lines::find::Finding;
+use dump_io::lines::find::Finding;
 
 /// What was read so far.
 #[derive(Clone, Copy)]

@@ -3,11 +3,11 @@
 
 ghost use Rattle.std.specs.Prelude.{◌≤◌, IfOk, length};
 ghost use Rattle.std.specs.Option.{option_map};
-ghost use Rattle.dump_lines.specs.Find.{account_of};
+ghost use Rattle.dump_io.specs.lines.Find.{account_of};
 ghost use Rattle.dump_commands.specs.Findings.{FindsFor};
 
 use crate::command::Command;
-use dump_lines::find::{Finding, Found, find};
+use dump_io::lines::find::{Finding, Found, find};
 use raw_tree::Limits;
 use std::alloc::{AllocError, Global};
 

@@ -2,8 +2,8 @@
 #![tactic(auto)]
 
 use crate::command::Command;
-use dump_input::portion::Portion;
-use dump_lines::style::Style;
+use dump_io::input::portion::Portion;
+use dump_io::lines::style::Style;
 use raw_tree::Limits;
 
 /// What is asked of inputs.

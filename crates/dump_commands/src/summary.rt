@@ -3,15 +3,15 @@
 
 ghost use Rattle.std.specs.Prelude.{◌≡◌, ◌++◌, ◌∷◌, [], IfOk, OnOk, flat_map, map};
 ghost use Rattle.std.specs.Option.{option_copied};
-ghost use Rattle.dump_lines.specs.Told.{Grows};
+ghost use Rattle.dump_io.specs.lines.Told.{Grows};
 ghost use Rattle.dump_commands.specs.Summary.{breached_counts, count_members, count_of, count_text, counts_of, damaged_counts, hidden_counts, kept_counts, left_counts, name_members, name_text, next_text, summary_line};
-ghost use Rattle.dump_lines.specs.declared.style.Style.TheVariants.{Json, Words};
+ghost use Rattle.dump_io.specs.declared.lines.style.Style.TheVariants.{Json, Words};
 
 use crate::command::Command;
 use crate::counts::Counts;
-use dump_lines::object::{begun, ended, put_number, put_text};
-use dump_lines::quote::push_quoted;
-use dump_lines::text::{push_number, push_words};
+use dump_io::lines::object::{begun, ended, put_number, put_text};
+use dump_io::lines::quote::push_quoted;
+use dump_io::lines::text::{push_number, push_words};
 use json::Writer;
 use std::alloc::{AllocError, Global};
 

@@ -1,8 +1,2 @@
-mod Findings
-mod Repeating
-mod Writing
-mod Passing
-mod Stopping
-mod Halting
-mod Choosing
-mod Summing
+mod dumps
+mod texts

@@ -1,11 +1,11 @@
 use Rattle.std.proofs.Common.{rules, ℕ, List, sym, subst}
 use Rattle.std.specs.Io.KnownBytes.{Appends}
 use Rattle.std.specs.Option.{option_map}
-use Rattle.dump_lines.specs.Fronts.{AppendsFront}
-use Rattle.dump_lines.specs.Find.{account_of}
+use Rattle.dump_io.specs.lines.Fronts.{AppendsFront}
+use Rattle.dump_io.specs.lines.Find.{account_of}
 use Rattle.dump_commands.specs.Reporting.{ListsFront, ReportsFront, Reports, told_line}
 use Rattle.dump_commands.specs.declared.command.Command.{Command}
-use Rattle.dump_lines.proofs.Face.{on_err}
+use Rattle.dump_io.proofs.Face.{on_err}
 use Rattle.dump_commands.proofs.Reported.{IsOther, reports_front}
 use Rattle.dump_commands.proofs.reporting.report_found.Goals as goal
 use Rattle.dump_commands.proofs.reporting.report_found.Goals.{in_default-Damaged-via-in-Check+in-Damaged-1, in_default-Damaged-via-in-Check+in-Breached-1, in_default-Damaged-via-in-Canon+in-Damaged-1}

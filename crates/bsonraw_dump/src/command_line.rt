@@ -1,0 +1,12 @@
+//! The command line: its words, the names of files in them, and what they ask for.
+#![tactic(auto)]
+
+mod args;
+mod builder;
+mod names;
+mod reading;
+mod task;
+
+pub use names::{Words, copied, expanded, given_words};
+pub use reading::Reading;
+pub use task::{Task, parsed};

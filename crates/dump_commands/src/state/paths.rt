@@ -1,0 +1,365 @@
+//! What was counted of the values under each path.
+#![tactic(auto)]
+
+ghost use Rattle.std.specs.Prelude.{◌≡◌, ◌<◌, ◌+◌, ◌++◌, ◌^◌, ◌≤◌, None, Some, false, true, bytes_eq, cond, IfErr, IfOk, IfSome, IsNone, OnOk, get_or, length, min, nat_eq, position, set};
+ghost use Rattle.indexmap.specs.IndexSet.{contains_by};
+ghost use Rattle.dump_commands.specs.state.Fields.{count_value, first_text, kind_place, kind_words, kinds_text, leave_out, next_document, no_row, no_table, numbers_text, row_line, rows_text, table_of, table_text, with_field, with_path, with_value};
+ghost use Rattle.dump_io.specs.lines.Failing.{IsReading};
+ghost use Rattle.dump_io.specs.lines.Origins.{origin_of};
+
+use dump_io::lines::failure::{Failure, in_range};
+use dump_io::lines::origin::Origin;
+use dump_io::lines::quote::push_quoted;
+use dump_io::lines::text::{push_number, push_words};
+use dump_io::lines::value::push_kind;
+use indexmap::IndexSet;
+use raw_view::ElementType;
+use std::alloc::{AllocError, Global};
+
+/// A path of more than so many bytes is left out.
+const LONGEST: usize = 4096;
+
+/// What was counted of the values under a path.
+#[derive(Clone, Copy)]
+pub struct Row {
+    /// how many there are of each kind, at the place of the kind
+    pub kinds: [u64; 22],
+    /// how many documents they are in
+    pub documents: u64,
+    /// the number of the last of these, counted from 1
+    pub last: u64,
+    /// how many bytes the longest of them has
+    pub longest: u32,
+}
+
+/// The paths of elements, in the order of their first ones, and what was counted of each.
+#[derive(Drop)]
+pub struct Paths<'a> {
+    /// so many paths at most
+    most: usize,
+    /// how many documents were counted
+    documents: u64,
+    texts: IndexSet<Vec<u8>>,
+    /// the first document that has each
+    firsts: Vec<Origin<'a>>,
+    rows: Vec<Row>,
+    /// how many elements have other paths
+    left_out: u64,
+    /// the number of the path that comes next, if elements come as in the document before
+    guess: usize,
+}
+
+/// The place of a kind with this tag in a row.
+fn place_of(tag: u32) -> usize
+    ensures place { result ≡ kind_place tag }
+    ensures within { result < 22 }
+{
+    if tag < 20 {
+        tag as usize
+    } else if tag == 127 {
+        20
+    } else {
+        21
+    }
+}
+
+impl Row {
+    /// Nothing was counted.
+    fn new() -> Row
+        ensures { result ≡ no_row }
+    {
+        Row {
+            kinds: [0; 22],
+            documents: 0,
+            last: 0,
+            longest: 0,
+        }
+    }
+
+    /// How many documents there are with the one with this number; `None` where they would be over the range of a count.
+    fn documents_with(&self, document: u64) -> Option<u64>
+        ensures with { IfSome result (λ n. n ≡ cond (nat_eq self.now.last document) self.now.documents (self.now.documents + 1)) }
+        ensures none { IsNone result → (2 ^ 64 ≤ self.now.documents + 1) × (nat_eq self.now.last document ≡ false) }
+    {
+        if self.last == document {
+            Some(self.documents)
+        } else {
+            self.documents.checked_add(1)
+        }
+    }
+
+    /// Counts a value more of the document with this number, with this tag and of so many bytes. Fails if a count would be over its range.
+    fn count(&mut self, document: u64, tag: u32, size: u32) -> Result<(), Failure>
+        ensures counted { OnOk result (self.new ≡ count_value document tag size self.old) }
+        ensures failed { IfErr result (λ failure. ¬ IsReading failure) }
+    {
+        let place = place_of(tag);
+        self.kinds[place] = in_range(self.kinds[place].checked_add(1))?;
+        self.documents = in_range(self.documents_with(document))?;
+        self.last = document;
+        self.longest = self.longest.max(size);
+        Ok(())
+    }
+}
+
+impl<'a> Paths<'a> {
+    /// Nothing was counted. At most so many paths will be.
+    pub fn new(alloc: Global, most: usize) -> Paths<'a>
+        ensures { table_of result ≡ no_table most }
+    {
+        Paths {
+            most,
+            documents: 0,
+            texts: IndexSet::new(alloc),
+            firsts: Vec::new(alloc),
+            rows: Vec::new(alloc),
+            left_out: 0,
+            guess: 0,
+        }
+    }
+
+    /// A document more, whose elements come next.
+    pub fn begin(&mut self) -> Result<(), Failure>
+        ensures begun { OnOk result (table_of self.new ≡ next_document (table_of self.old)) }
+        ensures failed { IfErr result (λ failure. ¬ IsReading failure) }
+    {
+        self.documents = in_range(self.documents.checked_add(1))?;
+        self.guess = 0;
+        Ok(())
+    }
+
+    /// An element more of a document that begins there, with this path, of this kind, and of so many bytes.
+    pub fn add(
+        &mut self,
+        alloc: Global,
+        origin: Origin<'a>,
+        path: &[u8],
+        tag: u32,
+        size: u32,
+    ) -> Result<(), Failure>
+        ensures added { OnOk result (table_of self.new
+            ≡ with_field (origin_of origin.entry) (table_of self.old) (record { path = path.now; tag = tag; size = size })) }
+        ensures failed { IfErr result (λ failure. ¬ IsReading failure) }
+    {
+        if path.len() > LONGEST {
+            return self.leave_out();
+        }
+        match self.find(path) {
+            Some(number) => {
+                self.guess = number.saturating_add(1);
+                count_at(&mut self.rows, number, self.documents, tag, size)
+            }
+            None => self.add_path(alloc, origin, path, tag, size),
+        }
+    }
+
+    /// The number of a path, if it is there.
+    fn find(&self, path: &[u8]) -> Option<usize>
+        ensures number { result ≡ position (λ text. bytes_eq path.now text.items) self.now.texts.keys }
+        ensures absent { IsNone result → contains_by (λ text. bytes_eq path.now text.items) self.now.texts ≡ false }
+    {
+        if self.is_at(path, self.guess) {
+            return Some(self.guess);
+        }
+        self.texts.get_index_of(path)
+    }
+
+    /// Whether a path has this number.
+    fn is_at(&self, path: &[u8], number: usize) -> bool
+        ensures { result ≡ true → position (λ text. bytes_eq path.now text.items) self.now.texts.keys ≡ Some number }
+    {
+        let texts = self.texts.as_slice();
+        number < texts.len() && texts[number].as_slice() == path
+    }
+
+    /// An element more with this path, which isn't there.
+    fn add_path(
+        &mut self,
+        alloc: Global,
+        origin: Origin<'a>,
+        path: &[u8],
+        tag: u32,
+        size: u32,
+    ) -> Result<(), Failure>
+        requires { contains_by (λ text. bytes_eq path.now text.items) self.old.texts ≡ false }
+        ensures added { OnOk result (table_of self.new
+            ≡ with_value (origin_of origin.entry) (table_of self.old) (record { path = path.now; tag = tag; size = size }) None) }
+        ensures failed { IfErr result (λ failure. ¬ IsReading failure) }
+    {
+        if self.texts.len() >= self.most {
+            return self.leave_out();
+        }
+        let mut row = Row::new();
+        row.count(self.documents, tag, size)?;
+        self.push_path(alloc, origin, path, row)?;
+        Ok(())
+    }
+
+    /// Puts a path that isn't there behind the others, with what was counted of it.
+    fn push_path(
+        &mut self,
+        alloc: Global,
+        origin: Origin<'a>,
+        path: &[u8],
+        row: Row,
+    ) -> Result<(), AllocError>
+        requires { contains_by (λ text. bytes_eq path.now text.items) self.old.texts ≡ false }
+        ensures { OnOk result (table_of self.new ≡ with_path (origin_of origin.entry) (table_of self.old) path.now row) }
+    {
+        let text = Vec::from_slice(alloc, path)?;
+        self.texts.insert(text)?;
+        self.firsts.push(origin)?;
+        self.rows.push(row)?;
+        Ok(())
+    }
+
+    /// An element more that is left out.
+    fn leave_out(&mut self) -> Result<(), Failure>
+        ensures counted { OnOk result (table_of self.new ≡ leave_out (table_of self.old)) }
+        ensures failed { IfErr result (λ failure. ¬ IsReading failure) }
+    {
+        self.left_out = in_range(self.left_out.checked_add(1))?;
+        Ok(())
+    }
+
+    /// A line for each path, and how many elements were left out.
+    pub fn lines(&self, alloc: Global) -> Result<Vec<u8>, Failure>
+        ensures lines { IfOk result (λ text. text.items ≡ table_text (table_of self.now)) }
+        ensures failed { IfErr result (λ failure. ¬ IsReading failure) }
+    {
+        let mut text = Vec::new(alloc);
+        self.push_rows(&mut text)?;
+        push_words(&mut text, "paths: ")?;
+        push_number(&mut text, self.texts.len() as u64)?;
+        push_words(&mut text, ", elements left out: ")?;
+        push_number(&mut text, self.left_out)?;
+        push_words(&mut text, "\n")?;
+        Ok(text)
+    }
+
+    /// How many paths there are with what was counted of them.
+    fn count(&self) -> usize
+        ensures { result ≡ min (min (length (table_of self.now).paths) (length (table_of self.now).firsts)) (length (table_of self.now).rows) }
+    {
+        self.texts.len().min(self.firsts.len()).min(self.rows.len())
+    }
+
+    fn push_rows(&self, text: &mut Vec<u8>) -> Result<(), Failure>
+        ensures lines { OnOk result (text.new.items ≡ text.old.items
+            ++ rows_text (table_of self.now).paths (table_of self.now).firsts (table_of self.now).rows) }
+        ensures failed { IfErr result (λ failure. ¬ IsReading failure) }
+    {
+        let paths = self.texts.as_slice();
+        let count = self.count();
+        for number in 0..count {
+            let first = self.firsts[number];
+            let row = self.rows[number];
+            push_row(text, &paths[number], first, &row)?;
+        }
+        Ok(())
+    }
+}
+
+/// A value more in the row with this number.
+fn count_at(
+    rows: &mut Vec<Row>,
+    number: usize,
+    document: u64,
+    tag: u32,
+    size: u32,
+) -> Result<(), Failure>
+    ensures counted { OnOk result (rows.new.items
+        ≡ set rows.old.items number (count_value document tag size (get_or rows.old.items number no_row))) }
+    ensures failed { IfErr result (λ failure. ¬ IsReading failure) }
+{
+    if number < rows.len() {
+        rows[number].count(document, tag, size)?;
+    }
+    Ok(())
+}
+
+/// Behind the text, how many values there are of each kind.
+fn push_kinds(text: &mut Vec<u8>, row: &Row) -> Result<(), AllocError>
+    ensures { OnOk result (text.new.items ≡ text.old.items ++ kinds_text row.now) }
+{
+    let kinds: &[ElementType] = &[
+        ElementType::Double,
+        ElementType::String,
+        ElementType::EmbeddedDocument,
+        ElementType::Array,
+        ElementType::Binary,
+        ElementType::Undefined,
+        ElementType::ObjectId,
+        ElementType::Boolean,
+        ElementType::DateTime,
+        ElementType::Null,
+        ElementType::RegularExpression,
+        ElementType::DbPointer,
+        ElementType::JavaScriptCode,
+        ElementType::Symbol,
+        ElementType::JavaScriptCodeWithScope,
+        ElementType::Int32,
+        ElementType::Timestamp,
+        ElementType::Int64,
+        ElementType::Decimal128,
+        ElementType::MaxKey,
+        ElementType::MinKey,
+    ];
+    for kind in kinds {
+        push_kind_count(text, row, *kind)?;
+    }
+    Ok(())
+}
+
+/// Behind the text, how many values there are of this kind, if there are any.
+fn push_kind_count(text: &mut Vec<u8>, row: &Row, kind: ElementType) -> Result<(), AllocError>
+    ensures { OnOk result (text.new.items ≡ text.old.items ++ kind_words row.now kind) }
+{
+    let count = row.kinds[place_of(u32::from(kind.to_tag()))];
+    if count > 0 {
+        push_kind(text, kind)?;
+        push_words(text, ": ")?;
+        push_number(text, count)?;
+        push_words(text, ", ")?;
+    }
+    Ok(())
+}
+
+/// Behind the text, the line of a path. One that isn't UTF-8, which no element of a sound document has, counts as out of memory.
+fn push_row(text: &mut Vec<u8>, path: &[u8], first: Origin<'_>, row: &Row) -> Result<(), Failure>
+    ensures line { OnOk result (text.new.items ≡ text.old.items ++ row_line path.now (origin_of first.entry) row.now) }
+    ensures failed { IfErr result (λ failure. ¬ IsReading failure) }
+{
+    let Ok(path) = str::from_utf8(path) else {
+        return Err(Failure::Memory);
+    };
+    push_quoted(text, path)?;
+    push_words(text, ": ")?;
+    push_kinds(text, row)?;
+    push_numbers(text, row)?;
+    push_first(text, first)?;
+    Ok(())
+}
+
+/// Behind the text, in how many documents the values are, and how many bytes the longest of them has.
+#[tactic(auto, unfolding(crate::specs::state::Fields::numbers_text))]
+fn push_numbers(text: &mut Vec<u8>, row: &Row) -> Result<(), AllocError>
+    ensures { OnOk result (text.new.items ≡ text.old.items ++ numbers_text row.now) }
+{
+    push_words(text, "documents: ")?;
+    push_number(text, row.documents)?;
+    push_words(text, ", longest: ")?;
+    push_number(text, row.longest as u64)
+}
+
+/// Behind the text, where the first document begins that has a path.
+#[tactic(auto, unfolding(crate::specs::state::Fields::first_text))]
+fn push_first(text: &mut Vec<u8>, first: Origin<'_>) -> Result<(), AllocError>
+    ensures { OnOk result (text.new.items ≡ text.old.items ++ first_text (origin_of first.entry)) }
+{
+    push_words(text, ", first: ")?;
+    push_quoted(text, first.name)?;
+    push_words(text, ":")?;
+    push_number(text, first.offset)?;
+    push_words(text, "\n")
+}

@@ -1,0 +1,3 @@
+pub mod Face
+mod input
+mod lines
