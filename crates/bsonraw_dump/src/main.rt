@@ -1,4 +1,4 @@
-//! Checks dumps, files of BSON documents one behind the other, and writes their documents anew.
+//! Checks dumps, files of BSON documents one after the other, and writes their documents anew.
 //!
 //! - `command_line`: the words of the command line, the names of files in them, and what they ask for (`parsed`).
 //! - `files`: inputs and how far they are read, the output, which takes the place of another file, and lines on standard error.

@@ -18,7 +18,7 @@ use Rattle.dump_io.specs.lines.Told.{head_text, line}
 abbrev pub IsWritten : ℕ → ℕ → List ℕ → (old new : Option (List ℕ)) → Type 0
 IsWritten inside depth d old new = (text : List ℕ) × Lists inside depth d text × Appends old new text
 
--- behind the line of the document its listing is written
+-- after the line of the document its listing is written
 pub listed_behind : (b head : List ℕ) (old mid new : Option (List ℕ)) → IsEnvelope b → Appends old mid head → IsWritten 500 1 b mid new
     → (listing : List ℕ) × ListsDocument b listing × Appends old new (head ++ listing)
 listed_behind b head old mid new is first (text, lists, put) = (text, inl (is, lists), Appends-trans old mid new head text first put)

@@ -41,21 +41,21 @@ damaged_counts _ n = (codes "damaged", n.damaged) ∷ (codes "too deep", n.too_d
 abbrev pub left_counts : Counts → List Count
 left_counts n = (codes "bytes passed over", n.passed_over) ∷ (codes "bytes not read", n.not_read) ∷ (codes "files not read to the end", n.files) ∷ []
 
--- the findings that aren't printed, where at most so many are
+-- the findings that aren't printed, where there is a most
 abbrev pub hidden_counts : Option ℕ → Counts → List Count
 hidden_counts None n = []
 hidden_counts (Some most) n = (codes "findings not printed", n.findings - most) ∷ []
 
--- all that is counted beside the documents, where at most so many findings are printed
+-- all that is counted beside the documents, where how many findings are printed at most
 abbrev pub counts_of : Option ℕ → Command → Counts → ℕ → List Count
 counts_of limit c n kept =
     (codes "bytes", n.bytes) ∷ kept_counts c n kept ++ breached_counts c n ++ damaged_counts c n ++ left_counts n ++ hidden_counts limit n
 
--- a number behind its name, in words
+-- a number after its name, in words
 abbrev pub count_text : Count → List ℕ
 count_text count = count.0 ++ codes ": " ++ decimal count.1
 
--- the same behind another one
+-- the same after another one
 abbrev pub next_text : Count → List ℕ
 next_text count = codes ", " ++ count_text count
 
@@ -63,7 +63,7 @@ next_text count = codes ", " ++ count_text count
 abbrev pub counts_text : ℕ → List Count → List ℕ
 counts_text documents counts = count_text (codes "documents", documents) ++ flat_map next_text counts
 
--- a number behind its name, as a member of an object
+-- a number after its name, as a member of an object
 abbrev pub count_members : Count → List Token
 count_members count = key count.0 ∷ number (decimal count.1) ∷ []
 

@@ -41,7 +41,7 @@ pub enum Command<'a> {
     Unique(Spelling),
     /// what the elements of all have under each path
     Fields,
-    /// each without damage as Extended JSON, with a line feed behind it
+    /// each without damage as Extended JSON, with a line feed after it
     Json(Style),
     /// a document of some elements of each without damage
     Pick(Picking<'a>),

@@ -23,6 +23,6 @@ pub struct Job<'a> {
     pub repeats: bool,
     /// of how many paths elements are counted at most
     pub paths: usize,
-    /// at most so many findings are printed
+    /// how many findings are printed at most
     pub limit: Option<u64>,
 }

@@ -106,7 +106,7 @@ fn push_left(all: &mut Vec<Count>, counts: &Counts) -> Result<(), AllocError>
     push(all, "files not read to the end", counts.files)
 }
 
-/// The findings that weren't printed, where at most so many are.
+/// The findings that weren't printed, where at most `limit` are.
 fn push_hidden(all: &mut Vec<Count>, limit: Option<u64>, counts: &Counts) -> Result<(), AllocError>
     ensures { OnOk result (map count_of all.new.items ≡ map count_of all.old.items ++ hidden_counts limit counts.now) }
 {
@@ -140,7 +140,7 @@ fn counted(
     Ok(all)
 }
 
-/// Behind the text, a number behind its name.
+/// Appends a number to the text, after its name.
 fn push_count(text: &mut Vec<u8>, name: &str, number: u64) -> Result<(), AllocError>
     ensures { OnOk result (text.new.items ≡ text.old.items ++ count_text (name.now, number)) }
 {

@@ -1,4 +1,4 @@
-//! Runs of commands over dumps, files of BSON documents one behind the other.
+//! Runs of commands over dumps, files of BSON documents one after the other.
 #![tactic(auto)]
 
 mod batch;

@@ -11,7 +11,7 @@ use Rattle.dump_io.specs.input.Cut.{IsSoundLength, said_len}
 use Rattle.bsonraw_dump.specs.files.Guess.{Begins, Hints, LooksLike, LooksLikeNothing, MayBegin, MayFollow, OpensWell, front_of}
 use Rattle.dump_io.proofs.Face.{said_front}
 
--- the byte behind the length of a document that opens well
+-- the byte after the length of a document that opens well
 follows : (most len t : ℕ) (s d r : List ℕ) → length d ≡ len → IsSoundLength most len → t ∷ s ≡ drop 4 d ++ r
     → (drop 4 d ≡ 0 ∷ []) ⊎ ((f : Frame) × (z : List ℕ) × IsFrame (drop 4 d) f z) → MayFollow most len t
 follows most len t s d r size sound e (inl empty) =

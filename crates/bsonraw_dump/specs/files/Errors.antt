@@ -8,7 +8,7 @@ use Rattle.dump_io.specs.declared.lines.failure.Failure.TheVariants as failure
 use Rattle.dump_io.specs.declared.lines.style.Style.{Style}
 use Rattle.dump_io.specs.declared.lines.style.Style.TheVariants as style
 
--- behind a colon how many bytes of a file were read, if some were
+-- after a colon how many bytes of a file were read, if some were
 abbrev pub place_text : Option ℕ → List ℕ
 place_text None = []
 place_text (Some at) = codes ":" ++ decimal at

@@ -7,7 +7,7 @@ use Rattle.raw_view.specs.Frame.Kind.{tag_of}
 use Rattle.raw_view.specs.declared.element_type.ElementType.{ElementType}
 use Rattle.dump_io.specs.input.Cut.{IsPiece, IsSoundLength, said_len}
 
--- so many bytes of a file are looked at
+-- how many bytes of a file are looked at
 abbrev pub front_of : List ℕ → List ℕ
 front_of s = take 64 s
 
@@ -19,7 +19,7 @@ Begins bytes s = (r : List ℕ) × (s ≡ bytes ++ r)
 abbrev pub IsTag : ℕ → Type 0
 IsTag byte = (kind : ElementType) × (byte ≡ tag_of kind)
 
--- This byte may come behind the length of a document: the final 0 of one without elements, or the tag of an element of one that has as
+-- This byte may come after the length of a document: the final 0 of one without elements, or the tag of an element of one that has as
 -- many bytes as a document has.
 abbrev pub MayFollow : (most : ℕ) → (len : ℕ) → ℕ → Type 0
 MayFollow most len byte = ((byte ≡ 0) × (len ≡ 5)) ⊎ (IsTag byte × IsSoundLength most len)
@@ -29,11 +29,11 @@ abbrev pub MayGoOn : (most : ℕ) → (len : ℕ) → List ℕ → Type 0
 MayGoOn most len [] = Unit {0}
 MayGoOn most len (byte ∷ r) = MayFollow most len byte
 
--- a document of at most so many bytes may begin with s
+-- a document of at most this number of bytes may begin with s
 abbrev pub MayBegin : (most : ℕ) → List ℕ → Type 0
 MayBegin most s = MayGoOn most (said_len s) (drop 4 s)
 
--- a document of at most so many bytes that has no elements, or whose first one can be read
+-- a document of at most this number of bytes that has no elements, or whose first one can be read
 pub record OpensWell (most : ℕ) (d : List ℕ) : Type 0 where
   pub piece : IsPiece most d
   pub opens : (drop 4 d ≡ 0 ∷ []) ⊎ ((f : Frame) × (r : List ℕ) × IsFrame (drop 4 d) f r)
@@ -58,7 +58,7 @@ IsUtf16 s = Begins (0xFF ∷ 0xFE ∷ []) s ⊎ Begins (0xFE ∷ 0xFF ∷ []) s
 abbrev pub IsPlain : ℕ → Type 0
 IsPlain byte = (byte ≡ 9) ⊎ (byte ≡ 10) ⊎ (byte ≡ 13) ⊎ ((0x20 ≤ byte) × (byte ≤ 0x7E))
 
--- behind white space an object or an array begins
+-- after white space an object or an array begins
 abbrev pub OpensJson : List ℕ → Type 0
 OpensJson s = (r : List ℕ) × IsTrimAsciiStart s r × (Begins (codes "{") r ⊎ Begins (codes "[") r)
 
@@ -66,7 +66,7 @@ OpensJson s = (r : List ℕ) × IsTrimAsciiStart s r × (Begins (codes "{") r �
 abbrev pub IsMarked : List ℕ → Type 0
 IsMarked s = Begins (0xEF ∷ 0xBB ∷ 0xBF ∷ []) s
 
--- behind it an object or an array begins
+-- after it an object or an array begins
 abbrev pub IsMarkedJson : List ℕ → Type 0
 IsMarkedJson s = IsMarked s × All IsPlain (drop 3 s) × OpensJson (drop 3 s)
 
@@ -85,7 +85,7 @@ LooksLike s words =
 abbrev pub LooksLikeNothing : List ℕ → Type 0
 LooksLikeNothing s = (words : List ℕ) → ¬ LooksLike s words
 
--- what is told of a file that begins so and has to be a dump of documents of at most so many bytes: what it looks like, unless a document
+-- what is told of a file that begins so and has to be a dump of documents of at most this number of bytes: what it looks like, unless a document
 -- may begin so
 abbrev pub Hints : (most : ℕ) → List ℕ → Option (List ℕ) → Type 0
 Hints most s (Some words) = (¬ MayBegin most (front_of s)) × LooksLike (front_of s) words
@@ -99,7 +99,7 @@ HintsAtText s (Some words) =
     ⊎ (IsMarked s × (words ≡ codes "begins with a byte order mark: tail -c +4 FILE | bsonraw-dump bson"))
 HintsAtText s None = (¬ IsGzip s) × (¬ IsUtf16 s) × (¬ IsMarked s)
 
--- the same of a file that has to be a dump of documents of at most so many bytes, or a text
+-- the same of a file that has to be a dump of documents of at most this number of bytes, or a text
 abbrev pub HintsAt : Option ℕ → List ℕ → Option (List ℕ) → Type 0
 HintsAt (Some most) s words = Hints most s words
 HintsAt None s words = HintsAtText s words

@@ -19,7 +19,7 @@ const MARK: char = '\0';
 /// The words of the command line.
 #[derive(Drop)]
 pub struct Words {
-    /// the words; in place of one that isn't UTF-8, behind a mark, what names it
+    /// the words; in place of one that isn't UTF-8, after a mark, what names it
     pub words: Vec<String>,
     /// the first one that isn't UTF-8 and can't be a FILE, since it is the command or an option
     pub wrong: Option<String>,
@@ -94,7 +94,7 @@ pub fn given_words(rt: &HostRuntime) -> Result<Words, AllocError> {
     Ok(words)
 }
 
-/// Puts a stand-in behind the words for one of these bytes, which aren't UTF-8.
+/// Puts a stand-in after the words for one of these bytes, which aren't UTF-8.
 fn stand_for(
     alloc: Global,
     words: &mut Words,
@@ -194,7 +194,7 @@ fn stands_in(names: &[Name], text: &str) -> bool {
     false
 }
 
-/// The files of a folder whose names end in .bson, in order, and behind them those whose names aren't UTF-8; none if it can't be read.
+/// The files of a folder whose names end in .bson, in order, and after them those whose names aren't UTF-8; none if it can't be read.
 fn dumps_in(rt: &HostRuntime, name: &str) -> Result<Vec<Name>, AllocError> {
     let alloc = rt.alloc();
     let mut dumps = Vec::new(alloc);
@@ -209,7 +209,7 @@ fn dumps_in(rt: &HostRuntime, name: &str) -> Result<Vec<Name>, AllocError> {
     Ok(dumps)
 }
 
-/// Behind the others, the names in a listing that end in .bson, in order: those that are read, or the others.
+/// After the others, the names in a listing that end in .bson, in order: those that are read, or the others.
 fn push_dumps(
     alloc: Global,
     folder: &str,
@@ -232,7 +232,7 @@ fn push_dumps(
     Ok(())
 }
 
-/// The names in a folder, each with a byte 0 behind it; none if it can't be read.
+/// The names in a folder, each with a byte 0 after it; none if it can't be read.
 fn listing(rt: &HostRuntime, folder: &str) -> Result<Vec<u8>, AllocError> {
     let mut names = Vec::new(rt.alloc());
     let Ok(dir) = rt.open_dir(folder) else {

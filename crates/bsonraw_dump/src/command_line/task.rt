@@ -25,7 +25,7 @@ pub struct Task<'a> {
     pub inputs: Vec<&'a str>,
 }
 
-/// Elements of so many paths are counted where no number is given.
+/// Of how many paths elements are counted where no number is given.
 const PATHS: usize = 10_000;
 
 fn style_of(matches: &ArgMatches<'_>) -> Style {

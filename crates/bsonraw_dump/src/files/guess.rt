@@ -24,7 +24,7 @@ fn is_tag(byte: u8) -> bool
     ElementType::from(byte).is_some()
 }
 
-/// Whether a byte may come behind the length of a document of at most so many bytes: a tag, or a final 0.
+/// Whether a byte may come after the length of a document of at most `most` bytes: a tag, or a final 0.
 fn may_follow(most: usize, len: usize, byte: u8) -> bool
     ensures { MatchBool result (MayFollow most len byte) (¬ MayFollow most len byte) }
 {
@@ -34,7 +34,7 @@ fn may_follow(most: usize, len: usize, byte: u8) -> bool
     }
 }
 
-/// Whether a document of at most so many bytes may begin so.
+/// Whether a document of at most `most` bytes may begin so.
 fn may_be_document(most: usize, front: &[u8]) -> bool
     ensures { MatchBool result (MayBegin most front.now) (¬ MayBegin most front.now) }
 {
@@ -104,7 +104,7 @@ fn opens_json(front: &[u8]) -> bool
     matches!(front.trim_ascii_start().first(), Some(b'{' | b'['))
 }
 
-/// What is behind the byte order mark.
+/// What is after the byte order mark.
 #[tactic(auto, using(std::proofs::lemmas::List::drop_all))]
 fn behind_mark(front: &[u8]) -> &[u8]
     ensures { result.now ≡ drop 3 front.now }
@@ -146,7 +146,7 @@ fn look(front: &[u8]) -> Option<&'static str>
     }
 }
 
-/// What a file looks like that begins so, and what helps; `None` if it may be a dump of documents of at most so many bytes.
+/// What a file looks like that begins so, and what helps; `None` if it may be a dump of documents of at most `most` bytes.
 pub fn hint(most: usize, read: &[u8]) -> Option<&'static str>
     ensures hints { Hints most read.now (option_copied result) }
     ensures none { (d r more : List ℕ) → OpensWell most d → read.now ++ more ≡ d ++ r → result ≡ None }

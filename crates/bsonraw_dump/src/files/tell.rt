@@ -15,7 +15,7 @@ use std::alloc::{AllocError, Global};
 use std::io;
 use std::io::Write;
 
-/// Tells what goes wrong with a file, and behind how many bytes, if some were read. Where even that fails, nothing is told.
+/// Tells what goes wrong with a file, and after how many bytes, if some were read. Where even that fails, nothing is told.
 pub fn tell(rt: &HostRuntime, style: Style, name: &str, at: Option<u64>, error: &io::Error) {
     match told(rt, style, name, at, error) {
         Ok(line) => put(rt, &line),
@@ -120,7 +120,7 @@ fn lack_words_of(
     Ok(line)
 }
 
-/// Behind the text, the input for which a file isn't written, in quotes.
+/// After the text, the input for which a file isn't written, in quotes.
 fn push_input(line: &mut Vec<u8>, lack: &Lack<'_>) -> Result<(), AllocError>
     ensures { OnOk result (line.new.items ≡ line.old.items ++ input_words lack.now) }
 {
@@ -154,7 +154,7 @@ fn input_of<'a>(lack: &Lack<'a>) -> &'a str
     }
 }
 
-/// Why a file isn't written, behind the name of the input, if it is for one.
+/// Why a file isn't written, after the name of the input, if it is for one.
 fn why<'a>(way_on: &'a str, lack: &Lack<'_>) -> &'a str
     ensures { result.now ≡ lack_words way_on.now lack.now }
 {

@@ -154,7 +154,7 @@ fn line_of(alloc: Global, name: &str, words: &str) -> Result<Vec<u8>, AllocError
     Ok(line)
 }
 
-/// How many bytes come in a second, where so many came in this time.
+/// How many bytes come in a second, where `count` came in this time.
 fn per_second(count: u64, millis: u64) -> u64
     ensures { result ≡ min (count * 1000 / max millis 1) (2 ^ 64 - 1) }
 {

@@ -24,7 +24,7 @@ use Rattle.dump_io.specs.lines.Fronts.{AppendsFront, HasFront}
 use Rattle.dump_commands.specs.elements.Listing.{HasLinesFront, HasNextFront, Lists, ListsEnd, ListsFrame, ListsFrames, ListsInside, ListsNext, TellsElement, TellsStop, indented}
 use Rattle.dump_commands.specs.declared.elements.listing.Next.TheVariants as next
 
--- the lines of what is left of a level, inside which at most so many are listed; nothing is left behind a stop
+-- the lines of what is left of a level, inside which at most so many are listed; nothing is left after a stop
 abbrev pub ListsLeft : ℕ → ℕ → Option (List ℕ) → List ℕ → Type 0
 ListsLeft n depth None text = text ≡ []
 ListsLeft n depth (Some s) text =
@@ -44,7 +44,7 @@ ListsLevels n depth [] text = text ≡ []
 ListsLevels zero depth (w ∷ ws) text = ⊥
 ListsLevels (suc n) depth (w ∷ ws) text = (inner rest : List ℕ) × ListsLevels n (depth + 1) ws inner × ListsLeft n depth w rest × (text ≡ inner ++ rest)
 
--- a front of them, which ends in a level, behind those inside it
+-- a front of them, which ends in a level, after those inside it
 abbrev pub HasLevelsFront : ℕ → ℕ → List (Option (List ℕ)) → List ℕ → Type 0
 HasLevelsFront n depth [] text = ⊥
 HasLevelsFront zero depth (w ∷ ws) text = ⊥
@@ -113,7 +113,7 @@ one_front m here l text (inr (inner, rest, none, left, is)) = subst (HasLeftFron
 pub front_alone : (m here : ℕ) (l : Option (List ℕ)) (text : List ℕ) → HasLeftFront m here l text → HasLevelsFront (suc m) here (l ∷ []) text
 front_alone m here l text h = inr ([], text, refl, h, refl)
 
--- what is written, and what is behind it
+-- what is written, and what is after it
 pub record IsListing (n depth : ℕ) (d : List ℕ) (levels : List (Option (List ℕ))) (old out : Option (List ℕ)) : Type 0 where
   pub written : List ℕ
   pub whole : (text : List ℕ) → ListsLevels n depth levels text → Lists n depth d (written ++ text)
@@ -185,7 +185,7 @@ front_nothing m here (Some s) = ([], s, [], [], refl, refl, inl refl, refl)
 
 -- steps over elements
 
--- an element more, in front of others and of what is behind them
+-- an element more, in front of others and of what is after them
 module _ (m here : ℕ) (E : Type 0) (Goes : List ℕ → List Frame → E → Type 0) (Ends : E → List ℕ → Type 0) where
   abbrev pub HasLines : List ℕ → List ℕ → Type 0
   HasLines s text =
@@ -246,7 +246,7 @@ front_stop m here (Some s) new e line text (stops, gone) (reading, is) (behind, 
     let (fault, stop, says) = stop_of e.kind (option_copied e.key) s stops in
     ([], s, [], text, refl, refl, inr (inr (fault, option_copied e.key, _, stop, (e.kind, says, reading, refl), (behind, sym is ∙ whole))), refl)
 
--- nothing is behind the line of a stop
+-- nothing is after the line of a stop
 stop_whole : (m here : ℕ) (left new : Option (List ℕ)) (e : BorrowedError) (line text : List ℕ) → StepsFront left (Some (Err e)) new → TellsStop here e line
     → HasLeftFront m here new text → HasLeftFront m here left (line ++ text)
 stop_whole m here None new e line text (none, gone) tells h = absurd (cc)
@@ -295,7 +295,7 @@ module _ (here : ℕ) (left new : Option (List ℕ)) (line : List ℕ) where
     inside_front m text front = front_within m here left new is.0 line text is.1
         (frame_line (HasLinesFront m (here + 1)) here (frame_of is.0) line (Some inner) is.2 (no_lines m (here + 1) (bytes_of inner.document))) front
 
-    -- behind the line, a front of those inside
+    -- after the line, a front of those inside
     pub inside_more : (m : ℕ) (text : List ℕ) → HasLinesFront m (here + 1) (bytes_of inner.document) text → HasLeftFront m here left (line ++ text)
     inside_more m text h = front_within m here left new is.0 (line ++ text) (line ++ text) is.1 (inside_lines (HasLinesFront m (here + 1)) text h) ([], sym (append-nil (line ++ text)))
 

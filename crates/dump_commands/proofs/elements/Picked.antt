@@ -13,7 +13,7 @@ use Rattle.dump_commands.specs.elements.Pick.{FindsFirst, FindsInner, LeadsTo, P
 abbrev pub LacksByte : ℕ → List ℕ → Type 0
 LacksByte byte text = (i : ℕ) → i < length text → get_or text i 0 ≢ byte
 
--- the part in front of a separator, and those behind it
+-- the part in front of a separator, and those after it
 pub parts_at : (separator : ℕ) (x more : List ℕ) → LacksByte separator x → parts separator (x ++ separator ∷ more) ≡ x ∷ parts separator more
 unfolding parts
 parts_at separator [] more lacks = rw (eq-eqb separator separator refl)
@@ -75,7 +75,7 @@ leads_out b path level rest step more on split lacks finds =
 pub leads_last : (b path level rest : List ℕ) (goal : Option Frame) → LeadsOn b path level rest → LacksByte dot rest → FindsFirst level rest goal → LeadsTo b (parts dot path) goal
 leads_last b path level rest goal on lacks finds = on goal (subst (λ (xs : List (List ℕ)). LeadsTo level xs goal) (sym (parts_last dot rest lacks)) finds)
 
--- what was picked, and behind it what the rest of the text picks, is what the whole text picks
+-- what was picked, and after it what the rest of the text picks, is what the whole text picks
 abbrev pub PicksOn : (b text done rest : List ℕ) → Type 0
 PicksOn b text done rest = (elements : List ℕ) → PicksEach b (parts comma rest) elements → PicksEach b (parts comma text) (done ++ elements)
 

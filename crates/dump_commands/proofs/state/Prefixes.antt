@@ -67,7 +67,7 @@ within_more : (m n : ℕ) (levels : List Level) → m ≤ n → AreWithin m leve
 within_more m n [] more within = tt
 within_more m n (x ∷ xs) more (first, within) = (omega (arith, first, more), within_more m n xs more within)
 
--- what is behind that changes no level
+-- what is after that changes no level
 same_levels : (m : ℕ) (path path' : List ℕ) (levels : List Level) → take m path' ≡ take m path → AreWithin m levels → levels_of path' levels ≡ levels_of path levels
 same_levels m path path' [] same within = refl
 same_levels m path path' (x ∷ xs) same (first, within) =
@@ -90,7 +90,7 @@ innermost_left path levels few level n left is =
     ap innermost all ∙ ap (λ (k : ℕ). get_or (levels_of path few) (k - 1) outermost) (length-map few (level_of path)) ∙ get_or_map (level_of path) few (length few - 1) outer
     ∙ ap (level_of path) (sym is)
 
--- levels are left, and the last step of a path is put behind the prefix of the innermost that is left
+-- levels are left, and the last step of a path is put after the prefix of the innermost that is left
 pub gone_on : (path path' cut step : List ℕ) (levels few : List Level) {level : Level} (n : ℕ) → AreLevels path levels → few ≡ take n levels → level ≡ last_of few
     → cut ≡ take level.prefix path → path' ≡ cut ++ step → (levels_of path' few ≡ take n (levels_of path levels)) × AreLevels path' few
 gone_on path path' cut step levels few {level = level} n (ascending, within) left last front is =

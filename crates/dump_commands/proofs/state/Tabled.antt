@@ -87,7 +87,7 @@ pub with_short : (place : Origin) (t : Table) (f : Field) (found : Option ℕ) �
 with_short place t f found short is =
     ap (λ (b : Bool). cond b (leave_out t) (with_value place t f (position (bytes_eq f.path) t.paths))) (le-ltb 4096 (length f.path) short) ∙ ap (with_value place t f) is
 
--- a path is put behind the others
+-- a path is put after the others
 pub pushed : {X : Type 0} (f : X → List ℕ) (place : Origin) (t t' : Table) (xs : List X) {ys : List X} (x : X) {path : List ℕ} (row : Row)
     → t.paths ≡ map f xs → t'.paths ≡ map f ys → ys ≡ xs ++ x ∷ [] → f x ≡ path → (t'.most ≡ t.most) × (t'.documents ≡ t.documents) × (t'.left_out ≡ t.left_out)
     × (t'.firsts ≡ t.firsts ++ place ∷ []) × (t'.rows ≡ t.rows ++ row ∷ []) → t' ≡ with_path place t path row
@@ -142,7 +142,7 @@ pub rows_end : (text before : List ℕ) (ps : List (List ℕ)) (os : List Origin
     → before ≡ text ++ rows_text (drop i ps) (drop i os) (drop i rs) → text ≡ before
 rows_end text before ps os rs i few is = sym (is ∙ ap (λ (x : List ℕ). text ++ x) (no_rows ps os rs i few) ∙ append-nil text)
 
--- the next line comes behind the text
+-- the next line comes after the text
 pub rows_next : (text : List ℕ) {more before : List ℕ} (ps : List (List ℕ)) (os : List Origin) (rs : List Row) (i : ℕ) (p : List ℕ) (o : Origin) (r : Row)
     → (i < length ps) × (i < length os) × (i < length rs) → before ≡ text ++ rows_text (drop i ps) (drop i os) (drop i rs)
     → more ≡ text ++ row_line (get_or ps i p) (get_or os i o) (get_or rs i r)
@@ -155,7 +155,7 @@ rows_next text ps os rs i p o r (path, first, row) is line =
     ∙ sym (append_assoc text (row_line (get_or ps i p) (get_or os i o) (get_or rs i r)) rest)
     ∙ ap (λ (x : List ℕ). x ++ rest) (sym line)
 
--- numbers are put behind a text
+-- numbers are put after a text
 pub numbers_told : (row : Row) (t a b c d : List ℕ) → a ≡ t ++ codes "documents: " → b ≡ a ++ decimal row.documents → c ≡ b ++ codes ", longest: " → d ≡ c ++ decimal row.longest
     → d ≡ t ++ numbers_text row
 unfolding numbers_text

@@ -23,7 +23,7 @@ use Rattle.dump_io.specs.lines.Values.{ShowsValue}
 use Rattle.dump_commands.specs.declared.elements.listing.Next.{Next}
 use Rattle.dump_commands.specs.declared.elements.listing.Next.TheVariants as next
 
--- a line in a level that so many others are around: two spaces for each level
+-- a line in a level with this number of others around it: two spaces for each level
 abbrev pub indented : ℕ → List ℕ → List ℕ
 indented depth text = replicate (2 * depth) 32 ++ text ++ codes "\n"
 
@@ -55,7 +55,7 @@ module _ (Nested : List ℕ → List ℕ → Type 0) where
       ((v : RawValue) × (shown inner : List ℕ) × Means f (value v) × ShowsValue v shown × ListsInside v inner × (text ≡ element_line depth f.key shown ++ inner))
       ⊎ ((fault : KeyedFault) × (shown : List ℕ) × Means f (faulty fault) × ShowsFault fault.fault shown × (text ≡ element_line depth f.key (kind_text f.kind ++ codes ", " ++ shown)))
 
-  -- the lines of frames one behind the other
+  -- the lines of frames one after the other
   abbrev pub ListsFrames : ℕ → List Frame → List ℕ → Type 0
   ListsFrames depth [] text = text ≡ []
   ListsFrames depth (f ∷ fs) text = (first rest : List ℕ) × ListsFrame depth f first × ListsFrames depth fs rest × (text ≡ first ++ rest)
@@ -65,7 +65,7 @@ abbrev pub ListsEnd : ℕ → End → List ℕ → Type 0
 ListsEnd depth Done text = text ≡ []
 ListsEnd depth (Stopped fault key) text = (shown : List ℕ) × ShowsFault fault shown × (text ≡ stop_line depth key shown)
 
--- The lines of the bytes b, which have so many levels around them, and of which at most so many levels are listed: those of
+-- The lines of the bytes b, which have d levels around them, and of which at most this number of levels are listed: those of
 -- the frames of their walk, and of the stop at which it ends.
 abbrev pub Lists : ℕ → ℕ → List ℕ → List ℕ → Type 0
 Lists zero depth b text = text ≡ indented depth (codes "too deep")
@@ -85,7 +85,7 @@ HasNextFront Front depth left text =
     ⊎ ((f : Frame) × (r lines : List ℕ) × IsFrame left f r × ListsFrame Front depth f lines × HasFront lines text)
     ⊎ ((fault : Fault) × (key : Option (List ℕ)) × (shown : List ℕ) × IsStop left fault key × ShowsFault fault shown × HasFront (stop_line depth key shown) text)
 
--- A front of the lines of the bytes b: those of the first frames, and a front of what is behind them.
+-- A front of the lines of the bytes b: those of the first frames, and a front of what is after them.
 abbrev pub HasLinesFront : ℕ → ℕ → List ℕ → List ℕ → Type 0
 HasLinesFront zero depth b text = HasFront (indented depth (codes "too deep")) text
 HasLinesFront (suc n) depth b text =

@@ -68,7 +68,7 @@ pub record Document : Type 0 where
 abbrev pub AreFields : Limits → Origin → List ℕ → List Document → Type 0
 AreFields limits place b ds = (ts : List Token) × HasTokens limits.depth 0 0 b ts × (ds ≡ record { place = place; fields = fields_of b (outermost ∷ []) ts } ∷ [])
 
--- What was counted: of at most so many paths, in the order of their first elements, each with the first document that has it and its numbers;
+-- What was counted: of a most of paths, in the order of their first elements, each with the first document that has it and its numbers;
 -- and how many elements were left out, whose paths are others.
 pub record Table : Type 0 where
   pub most : ℕ
@@ -86,11 +86,11 @@ no_table most = record { most = most; documents = 0; paths = []; firsts = []; ro
 abbrev pub no_row : Row
 no_row = record { kinds = replicate 22 0; documents = 0; last = 0; longest = 0 }
 
--- the place of a kind with this tag in a row: the tag; of MaxKey and MinKey, whose tags are 127 and 255, the two behind those of the others
+-- the place of a kind with this tag in a row: the tag; of MaxKey and MinKey, whose tags are 127 and 255, the two after those of the others
 abbrev pub kind_place : ℕ → ℕ
 kind_place tag = cond (nat_lt tag 20) tag (cond (nat_eq tag 127) 20 21)
 
--- a value more with this tag and of so many bytes, of the document with this number
+-- a value more with this tag and this length, of the document with this number
 abbrev pub count_value : (document tag size : ℕ) → Row → Row
 count_value document tag size row = record {
   kinds = set row.kinds (kind_place tag) (get_or row.kinds (kind_place tag) 0 + 1);
@@ -194,7 +194,7 @@ abbrev pub IsAscending : List Level → Type 0
 IsAscending [] = ⊤
 IsAscending (level ∷ levels) = AllByRecursion (λ l. level.prefix ≤ l.prefix) levels × IsAscending levels
 
--- each has at most so many bytes
+-- each has at most this number of bytes
 abbrev pub AreWithin : ℕ → List Level → Type 0
 AreWithin len levels = AllByRecursion (λ level. level.prefix ≤ len) levels
 

@@ -25,7 +25,7 @@ use std::alloc::{AllocError, Global};
 use std::io::Write;
 use std::mem;
 
-/// So many levels are listed, the document among them.
+/// How many levels are listed, the document among them.
 const LEVELS: usize = 500;
 
 /// What comes next in a level.
@@ -144,7 +144,7 @@ fn deep_line(depth: usize, line: &mut Vec<u8>) -> Result<(), AllocError>
     push_words(line, "too deep\n")
 }
 
-/// Puts the reason of a fault behind the text.
+/// Appends the reason of a fault to the text.
 fn push_fault(text: &mut Vec<u8>, error: &BorrowedError<'_>) -> Result<(), AllocError>
     ensures { OnOk result
         (text.new.items ≡ text.old.items ++ (codes "damaged: " ++ find.kind_text error.now.kind)) }

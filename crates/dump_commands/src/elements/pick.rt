@@ -35,7 +35,7 @@ fn document_of(alloc: Global, elements: &[u8]) -> Result<Vec<u8>, AllocError>
     Ok(document)
 }
 
-/// The elements that these paths name, one behind the other.
+/// The elements that these paths name, one after the other.
 fn picked_elements(
     alloc: Global,
     document: RawDocument<'_>,
@@ -53,7 +53,7 @@ fn picked_elements(
     Ok(elements)
 }
 
-/// Puts the element that a path leads to behind the others, with the path as its key.
+/// Puts the element that a path leads to after the others, with the path as its key.
 fn pick_one(document: RawDocument<'_>, path: &str, elements: &mut Vec<u8>) -> Result<(), AllocError>
     ensures { OnOk result ((goal : Option Frame) × LeadsTo (bytes_of document.entry) (parts dot path.now) goal
         × (elements.new.items ≡ elements.old.items ++ renamed path.now goal)) }

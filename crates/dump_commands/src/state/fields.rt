@@ -28,7 +28,7 @@ const NONE: Token = Token {
     inside: 0,
 };
 
-/// Elements have about so many bytes each, or more.
+/// About how many bytes an element has, or fewer than it has.
 const USUAL: usize = 8;
 
 /// The elements of a level.
@@ -81,7 +81,7 @@ pub fn tokens_of(alloc: Global, bytes: &[u8], limits: Limits) -> Result<Vec<Toke
     }
 }
 
-/// So many bytes from this place on, as far as there are any.
+/// `len` bytes from this place on, as far as there are any.
 fn part(bytes: &[u8], at: usize, len: usize) -> &[u8]
     ensures { result.now ≡ take len (drop at bytes.now) }
 {

@@ -48,7 +48,7 @@ impl<'a> Kept<'a> {
     ghost use Rattle.dump_commands.specs.state.Forms.{CountsOne, written_count, digest_of, first_at, first_of, firsts_of, is_new, knows, no_firsts, placed, with_first, with_form};
     ghost use Rattle.dump_io.specs.lines.Origins.{origin_of};
 
-    /// Nothing was written, and nothing counted; at most so many paths will be. Places of first documents are kept where repeats are
+    /// Nothing was written, and nothing counted; at most `paths` paths will be. Places of first documents are kept where repeats are
     /// asked for.
     pub fn new(alloc: Global, repeats: bool, paths: usize) -> Kept<'a>
         ensures none { written_count result ≡ 0 }

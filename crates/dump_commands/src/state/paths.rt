@@ -16,7 +16,7 @@ use indexmap::IndexSet;
 use raw_view::ElementType;
 use std::alloc::{AllocError, Global};
 
-/// A path of more than so many bytes is left out.
+/// How long a path may be, in bytes: a longer one is left out.
 const LONGEST: usize = 4096;
 
 /// What was counted of the values under a path.
@@ -35,7 +35,7 @@ pub struct Row {
 /// The paths of elements, in the order of their first ones, and what was counted of each.
 #[derive(Drop)]
 pub struct Paths<'a> {
-    /// so many paths at most
+    /// how many paths at most
     most: usize,
     /// how many documents were counted
     documents: u64,
@@ -88,7 +88,7 @@ impl Row {
         }
     }
 
-    /// Counts a value more of the document with this number, with this tag and of so many bytes. Fails if a count would be over its range.
+    /// Counts a value more of the document with this number, with this tag and of `size` bytes. Fails if a count would be over its range.
     fn count(&mut self, document: u64, tag: u32, size: u32) -> Result<(), Failure>
         ensures counted { OnOk result (self.new ≡ count_value document tag size self.old) }
         ensures failed { IfErr result (λ failure. ¬ IsReading failure) }
@@ -103,7 +103,7 @@ impl Row {
 }
 
 impl<'a> Paths<'a> {
-    /// Nothing was counted. At most so many paths will be.
+    /// Nothing was counted. At most `most` paths will be.
     pub fn new(alloc: Global, most: usize) -> Paths<'a>
         ensures { table_of result ≡ no_table most }
     {
@@ -128,7 +128,7 @@ impl<'a> Paths<'a> {
         Ok(())
     }
 
-    /// An element more of a document that begins there, with this path, of this kind, and of so many bytes.
+    /// An element more of a document that begins there, with this path, of this kind, and of `size` bytes.
     pub fn add(
         &mut self,
         alloc: Global,
@@ -195,7 +195,7 @@ impl<'a> Paths<'a> {
         Ok(())
     }
 
-    /// Puts a path that isn't there behind the others, with what was counted of it.
+    /// Puts a path that isn't there after the others, with what was counted of it.
     fn push_path(
         &mut self,
         alloc: Global,
@@ -278,7 +278,7 @@ fn count_at(
     Ok(())
 }
 
-/// Behind the text, how many values there are of each kind.
+/// After the text, how many values there are of each kind.
 fn push_kinds(text: &mut Vec<u8>, row: &Row) -> Result<(), AllocError>
     ensures { OnOk result (text.new.items ≡ text.old.items ++ kinds_text row.now) }
 {
@@ -311,7 +311,7 @@ fn push_kinds(text: &mut Vec<u8>, row: &Row) -> Result<(), AllocError>
     Ok(())
 }
 
-/// Behind the text, how many values there are of this kind, if there are any.
+/// After the text, how many values there are of this kind, if there are any.
 fn push_kind_count(text: &mut Vec<u8>, row: &Row, kind: ElementType) -> Result<(), AllocError>
     ensures { OnOk result (text.new.items ≡ text.old.items ++ kind_words row.now kind) }
 {
@@ -325,7 +325,7 @@ fn push_kind_count(text: &mut Vec<u8>, row: &Row, kind: ElementType) -> Result<(
     Ok(())
 }
 
-/// Behind the text, the line of a path. One that isn't UTF-8, which no element of a sound document has, counts as out of memory.
+/// After the text, the line of a path. One that isn't UTF-8, which no element of a sound document has, counts as out of memory.
 fn push_row(text: &mut Vec<u8>, path: &[u8], first: Origin<'_>, row: &Row) -> Result<(), Failure>
     ensures line { OnOk result (text.new.items ≡ text.old.items ++ row_line path.now (origin_of first.entry) row.now) }
     ensures failed { IfErr result (λ failure. ¬ IsReading failure) }
@@ -341,7 +341,7 @@ fn push_row(text: &mut Vec<u8>, path: &[u8], first: Origin<'_>, row: &Row) -> Re
     Ok(())
 }
 
-/// Behind the text, in how many documents the values are, and how many bytes the longest of them has.
+/// After the text, in how many documents the values are, and how many bytes the longest of them has.
 #[tactic(auto, unfolding(crate::specs::state::Fields::numbers_text))]
 fn push_numbers(text: &mut Vec<u8>, row: &Row) -> Result<(), AllocError>
     ensures { OnOk result (text.new.items ≡ text.old.items ++ numbers_text row.now) }
@@ -352,7 +352,7 @@ fn push_numbers(text: &mut Vec<u8>, row: &Row) -> Result<(), AllocError>
     push_number(text, row.longest as u64)
 }
 
-/// Behind the text, where the first document begins that has a path.
+/// After the text, where the first document begins that has a path.
 #[tactic(auto, unfolding(crate::specs::state::Fields::first_text))]
 fn push_first(text: &mut Vec<u8>, first: Origin<'_>) -> Result<(), AllocError>
     ensures { OnOk result (text.new.items ≡ text.old.items ++ first_text (origin_of first.entry)) }

@@ -53,7 +53,7 @@ pub nil_of_none : (s : List ℕ) → length s ≡ 0 → s ≡ []
 nil_of_none [] none = refl
 nil_of_none (x ∷ xs) none = let some : length (x ∷ xs) ≡ suc (length xs) = refl in absurd (omega arith)
 
--- what is left of the input behind these bytes is in front of what is ahead
+-- what is left of the input after these bytes is in front of what is ahead
 pub input_behind : (bytes x : List ℕ) (r r' : Option (List ℕ)) (P : List ℕ → Type 0) → Consumes r r' (bytes ++ x) → ((s : List ℕ) → Consumes (Some s) r' x → P s)
     → IfSome r (λ s. P (drop (length bytes) s))
 input_behind bytes x None r' P read holds = tt

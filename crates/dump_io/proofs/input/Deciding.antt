@@ -105,7 +105,7 @@ module _ {limits : Limits} {r r' : Option (List ℕ)} {x y : Window} {v w : Work
         spends_on s x.offset v w w' (p.spends s read) (subst (λ n. Spends limits s n w w') p.stays.offset here);
   }
 
-  -- what is behind so many bytes of all that is left
+  -- what is after so many bytes of all that is left
   behind : (place : ℕ) (w' : Work) (told : Check) → ChecksBehind limits (ahead_of y) last y.offset place w w' told → (s : List ℕ) → Consumes (Some s) r (ahead_of x)
       → TellsBehind limits (ahead_of y) last (x.offset + length s) s place w' told
   behind place w' told checks s read =
@@ -122,7 +122,7 @@ module _ {limits : Limits} {r r' : Option (List ℕ)} {x y : Window} {v w : Work
   pub sees_stop : (len : ℕ) (w' : Work) → ChecksBehind limits (ahead_of y) last y.offset len w w' check.Stops → IsWork w' → SeesBehind limits r r' x y v w' len false
   sees_stop len w' checks work = record { searches = searched w' checks.works work; is = λ s read. behind len w' check.Stops checks s read }
 
--- what the loop that looks behind keeps
+-- what the loop that looks after keeps
 pub record IsLooked (limits : Limits) (r r' : Option (List ℕ)) (x y : Window) (v w : Work) (len : ℕ) (last : Bool) : Type 0 where
   pub searches : Searches limits r r' x y v w
   pub ends : last ≡ true → IsAtEnd r'
@@ -310,7 +310,7 @@ reach_is : (len end : ℕ) (goes : Bool) → MatchBool goes (end ≡ len) (end �
 reach_is len end true is = is
 reach_is len end false is = is
 
--- so the one in front of s is doubted, by what is behind it, and inside
+-- so the one in front of s is doubted, by what is after it, and inside
 is_doubted : {limits : Limits} (s : List ℕ) (at len : ℕ) {end : ℕ} (w w' : Work) (goes doubted : Bool) → (IsPiece limits.bytes (take len s) × (len ≤ length s) × ¬ IsSound limits (take len s))
     → w.spent ≤ w'.spent → end ≡ cond goes len 0 → GoesOnBehind limits s at len w goes → GoesOnInside limits s at 1 len end w' doubted → IsDoubted limits s at len w' doubted
 is_doubted {limits} s at len {end = end} w w' goes true (piece, within, damaged) more is behind' (j, low, high, on) = record {

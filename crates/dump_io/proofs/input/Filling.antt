@@ -19,7 +19,7 @@ slice_range-put_mid a k n xs ys within fits =
     let after = post_of a k xs in
     ap (take ((a + n) - a)) (drop_at (take a xs) (ys ++ after) a (length-take-le a xs within)) ∙ ap (λ m. take m (ys ++ after)) same ∙ take-append-le n ys after fits
 
--- what was read into the room behind the front stands behind it
+-- what was read into the room after the front stands after it
 pub filled_more : (a b c : Option (List ℕ)) (buffer new : List ℕ) (at room n : ℕ) → at ≤ length buffer → n ≤ length new → Consumes a b (take at buffer) → Consumes b c (take n new)
     → Consumes a c (take (at + n) (put_mid at room buffer new))
 filled_more a b c buffer new at room n within fits before read =
@@ -43,7 +43,7 @@ drained_more a b c count n buffer (bytes, read, len) more fits =
 pub drained_kept : (a b c : Option (List ℕ)) (count : ℕ) → IsDrained a b count → Keeps b c → IsDrained a c count
 drained_kept a b c count (bytes, read, len) kept = (bytes, Consumes-kept a b c bytes read kept, len)
 
--- so it is behind bytes that are ahead
+-- so it is after bytes that are ahead
 pub rest_behind : (a c : Option (List ℕ)) (ahead : List ℕ) (rest all : Drained) → ReadsRest a c [] rest → all.count ≡ rest.count + length ahead → all.failure ≡ rest.failure → ReadsRest a c ahead all
 rest_behind a c ahead rest all r sum same = record {
   more = r.more;

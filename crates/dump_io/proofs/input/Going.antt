@@ -15,7 +15,7 @@ use Rattle.dump_io.proofs.input.Ahead.{all_ahead, front_ahead, front_kept, looks
 pub said_front : (x y : List ℕ) → 4 ≤ length x → said_len (x ++ y) ≡ said_len x
 said_front x y four = ap (from_le_bytes w32) (take-append-le 4 x y four)
 
--- a length that is unsound is, whatever is behind
+-- a length that is unsound is, whatever is after
 pub unsound_behind : {most : ℕ} (len : ℤ) (x rest : List ℕ) → EndsWith most (ending.Unsound len) x → EndsWith most (ending.Unsound len) (x ++ rest)
 unsound_behind {most} len x rest (four, unsound, same) =
     let size : length (x ++ rest) ≡ length x + length rest = length-append x rest in
@@ -50,7 +50,7 @@ cut_off {most} a len count size said sound four few =
     let less : count < len = omega arith in
     (size, omega arith, inr (subst (IsSoundLength most) (sym said) sound, subst (λ n. count < n) (sym said) less))
 
--- a sound length is ahead behind so many bytes, and it is looked as far as it says
+-- a sound length is ahead after so many bytes, and it is looked as far as it says
 module _ {most : ℕ} {r r' r'' : Option (List ℕ)} {x y z : Window} (from len : ℕ) (there more : Bool) (yes' : there ≡ true) (first : SeesAhead r r' x y (from + 4) there)
     (second : SeesAhead r' r'' y z (from + len) more) (said : said_len (drop from (ahead_of y)) ≡ len) (sound : IsSoundLength most len) where
   says : said_len (drop from (ahead_of z)) ≡ len

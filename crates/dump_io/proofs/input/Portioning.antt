@@ -144,7 +144,7 @@ nil_front : (x y : List ℕ) → [] ≡ x ++ y → x ≡ []
 nil_front [] y none = refl
 nil_front (n ∷ x) y none = let len : 0 ≡ suc (length (x ++ y)) = ap length none in absurd (omega arith)
 
--- where the input ends behind these bytes, nothing was read behind them
+-- where the input ends after these bytes, nothing was read after them
 pub ends_within : (r r' r'' : Option (List ℕ)) (bytes more x y : List ℕ) (Less : Type 0) → Consumes r r' (bytes ++ x)
     → ((before : Option (List ℕ)) → Consumes before r' x → Consumes before r'' (more ++ y)) → (Less → (x ≡ []) × IsAtEnd r') → IfSome r (λ s. Less → (s ≡ bytes) × (more ≡ []))
 ends_within None r' r'' bytes more x y Less read on ended = tt
@@ -188,7 +188,7 @@ bytes_passed {r = r} p most goes few none start =
     )
 
 module _ {r r' r'' : Option (List ℕ)} {x y z : Window} (p : Portion) (most : ℕ) where
-  -- and documents behind them
+  -- and documents after them
   abbrev pub in_front_of : (b : PassesBytes p.at r r' x y) (d : PassesDocuments most p.skip r' r'' y z) → ahead_of x ≡ [] → IsInFront p most r (b.0.passes.bytes ++ joined d.documents)
   in_front_of (goes, few, ended) d none =
       let bytes = goes.passes.bytes in

@@ -7,7 +7,7 @@ use Rattle.dump_io.specs.declared.input.scan.Scan.{Scan}
 use Rattle.dump_io.specs.declared.input.scan.Scanned.{Scanned}
 use lib.Seq.{take-add}
 
--- so many bytes behind others
+-- so many bytes after others
 scanned_on : (ahead : List ℕ) (k m n : ℕ) → m ≤ n → fold step (scanned (take k ahead)) (take m (take n (drop k ahead))) ≡ scanned (take (k + m) ahead)
 scanned_on ahead k m n less =
     ap (fold step (scanned (take k ahead))) (take-take m n (drop k ahead) less) ∙ sym (fold-append step start (take k ahead) (take m (drop k ahead)))

@@ -18,7 +18,7 @@ use Rattle.dump_io.specs.input.Resync.{IsNextPlace, SkipsTo, Spends}
 use Rattle.dump_io.specs.declared.input.resync.Skip.{Skip}
 use Rattle.dump_io.specs.declared.input.window.Window.{Window}
 
--- behind these bytes more is read ahead
+-- after these bytes more is read ahead
 pub read_behind : (bytes x y : List ℕ) (r r' r'' : Option (List ℕ)) → Consumes r r' (bytes ++ x)
     → ((before : Option (List ℕ)) → Consumes before r' x → Consumes before r'' y) → Consumes r r'' (bytes ++ y)
 read_behind bytes x y None r' r'' read more = tt
@@ -59,7 +59,7 @@ passes_more r r' x y z n k p some is =
       is_read = λ before read. subst (Consumes before r') (ap (λ l. p.bytes ++ l) whole ∙ sym (append_assoc p.bytes (take k y) z)) (p.is_read before read);
     }
 
--- what is left behind the bytes that are passed over
+-- what is left after the bytes that are passed over
 pub left_behind : (r r' : Option (List ℕ)) (x y s : List ℕ) (n : ℕ) → Consumed r r' x y n → Consumes (Some s) r x → Consumes (Some (drop n s)) r' y × (n ≤ length s)
 left_behind r None x y s n p read = absurd (p.is_read (Some s) read)
 left_behind r (Some rest) x y s n p read =

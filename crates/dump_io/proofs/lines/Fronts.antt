@@ -33,7 +33,7 @@ front_first a b x y h = record {
   put = h.put;
 }
 
--- and that whole, with a front of what is behind it
+-- and that whole, with a front of what is after it
 pub front_behind : (a b c : Option (List ℕ)) (x y : List ℕ) → Appends a b x → AppendsFront b c y → AppendsFront a c (x ++ y)
 front_behind a b c x y put h = record {
   front = x ++ h.front;

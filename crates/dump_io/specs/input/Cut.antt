@@ -1,4 +1,4 @@
--- How the bytes of an input are cut into documents, at the lengths with which they begin, where a document has at most so many bytes.
+-- How the bytes of an input are cut into documents, at the lengths with which they begin, where a document has at most a given number of bytes.
 use Rattle.std.specs.Prelude.{◌≡◌, ◌⊎◌, ◌<◌, ◌≤◌, ℕ, List, length}
 use Rattle.std.specs.Int.{w32, cast_signed}
 pub use Rattle.raw_resync.specs.Pieces.{said_len}
@@ -6,7 +6,7 @@ use Rattle.raw_resync.specs.Pieces as pieces
 use Rattle.dump_io.specs.declared.input.ending.Ending.{Ending}
 use Rattle.dump_io.specs.declared.input.ending.Ending.TheVariants as ending
 
--- a document has so many bytes: enough for a length and a final 0, and at most this many
+-- a document may have this length: enough for a length and a final 0, and at most this many
 abbrev pub IsSoundLength : (most : ℕ) → ℕ → Type 0
 IsSoundLength most len = pieces.IsSoundLength most len
 

@@ -47,7 +47,7 @@ ending_line style.Words name offset end left = line name offset (ending_text end
 ending_line style.Json name offset end left = object_line (head_members name offset ++ ending_members end ++ rest_members left)
 ending_line style.Quiet name offset end left = []
 
--- the last line of an input of which so many bytes are left: why no document is in front of them; none where nothing is left
+-- the last line of an input of which this number of bytes are left: why no document is in front of them; none where nothing is left
 abbrev pub last_line : Style → List ℕ → ℕ → Option Ending → ℕ → List ℕ
 last_line style name offset None count = []
 last_line style name offset (Some end) count = ending_line style name offset end (rest.NotRead count)

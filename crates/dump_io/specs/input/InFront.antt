@@ -1,4 +1,4 @@
--- What is in front of the documents that are asked for: bytes up to an offset, and so many documents behind it.
+-- What is in front of the documents that are asked for: bytes up to an offset, and a number of documents after it.
 use Rattle.std.specs.Prelude.{◌≡◌, ◌<◌, ◌≤◌, ◌+◌, ◌++◌, ℕ, List, [], Option, IfSome, drop, length}
 use Rattle.std.specs.List.{AllByRecursion}
 use Rattle.std.specs.Io.KnownBytes.{Consumes, IsAtEnd}
@@ -10,8 +10,8 @@ use Rattle.dump_io.specs.declared.input.window.Next.{Next}
 use Rattle.dump_io.specs.declared.input.window.Next.TheVariants as next
 use Rattle.dump_io.specs.declared.input.window.Window.{Window}
 
--- Bytes in front of the documents that are asked for, in an input of which these bytes are known: bytes up to the offset at most; and behind
--- the offset so many documents at most, at their lengths.
+-- Bytes in front of the documents that are asked for, in an input of which these bytes are known: bytes up to the offset at most; and after
+-- the offset a number of documents at most, at their lengths.
 pub record IsInFront (p : Portion) (most : ℕ) (input : Option (List ℕ)) (front : List ℕ) : Type 0 where
   pub bytes : List ℕ
   pub documents : List (List ℕ)
@@ -25,7 +25,7 @@ pub record IsInFront (p : Portion) (most : ℕ) (input : Option (List ℕ)) (fro
 abbrev pub BeginsNone : (most : ℕ) → List ℕ → Type 0
 BeginsNone most s = (x : List ℕ) → IsPiece most x → ¬ HasFront s x
 
--- They are all that is in front: the input ends before the offset; or so many documents are behind it, or as many as there are in front of
+-- They are all that is in front: the input ends before the offset; or as many documents as are asked for are after it, or as many as there are in front of
 -- the first place where none begins.
 pub record IsAllInFront (p : Portion) (most : ℕ) (input : Option (List ℕ)) (front : List ℕ) : Type 0 where
   pub front_of : IsInFront p most input front
@@ -34,7 +34,7 @@ pub record IsAllInFront (p : Portion) (most : ℕ) (input : Option (List ℕ)) (
 
 -- What the code tells of what it passes. No contract of a command cites what follows.
 
--- so many bytes were passed at most
+-- no more bytes than these were passed
 abbrev pub GoesUpTo : (most : ℕ) → (old new : Option (List ℕ)) → (window_old window_new : Window) → Type 0
 GoesUpTo most old new window_old window_new = (goes : GoesAhead old new window_old window_new) × (goes.count ≤ most)
 
@@ -43,7 +43,7 @@ abbrev pub PassesBytes : (most : ℕ) → (old new : Option (List ℕ)) → (win
 PassesBytes most old new window_old window_new =
     (goes : GoesAhead old new window_old window_new) × (goes.count ≤ most) × (goes.count < most → (ahead_of window_new ≡ []) × IsAtEnd new)
 
--- so many documents were passed at most, at their lengths
+-- no more documents than these were passed, at their lengths
 pub record PassesDocuments (most count : ℕ) (old new : Option (List ℕ)) (window_old window_new : Window) : Type 0 where
   pub window : IsWindow window_new
   pub documents : List (List ℕ)

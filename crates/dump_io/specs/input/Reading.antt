@@ -32,13 +32,13 @@ ahead_of w = take w.len (drop w.at w.room.items)
 abbrev pub offset_of : Window → ℕ
 offset_of w = w.offset
 
--- Bytes were read behind those that are ahead: whoever had read the ones has read the others, which begin with them.
+-- Bytes were read after those that are ahead: whoever had read the ones has read the others, which begin with them.
 pub record ReadsAhead (old new : Option (List ℕ)) (ahead more : List ℕ) : Type 0 where
   pub is_read : (before : Option (List ℕ)) → Consumes before old ahead → Consumes before new more
   pub len : length ahead ≤ length more
   pub kept : take (length ahead) more ≡ ahead
 
--- so it is, and so many bytes are ahead; or fewer, and the input is at its end
+-- so it is, and as many bytes are ahead as are wanted; or fewer, and the input is at its end
 pub record SeesAhead (old new : Option (List ℕ)) (window_old window_new : Window) (want : ℕ) (is_there : Bool) : Type 0 where
   pub window : IsWindow window_new
   pub offset : window_new.offset ≡ window_old.offset
@@ -52,7 +52,7 @@ pub record Stays (old new : Option (List ℕ)) (window_old window_new : Window) 
   pub offset : window_new.offset ≡ window_old.offset
   pub looks : ReadsAhead old new (ahead_of window_old) (ahead_of window_new)
 
--- what is passed: so many bytes, which were read
+-- what is passed: this number of bytes, which were read
 pub record Consumed (old new : Option (List ℕ)) (ahead_old ahead_new : List ℕ) (count : ℕ) : Type 0 where
   pub bytes : List ℕ
   pub len : length bytes ≡ count
@@ -65,7 +65,7 @@ pub record GoesAhead (old new : Option (List ℕ)) (window_old window_new : Wind
   pub offset : window_new.offset ≡ window_old.offset + count
   pub passes : Consumed old new (ahead_of window_old) (ahead_of window_new) count
 
--- The rest of an input is read: those bytes that are ahead, and others behind them. They are so many. Unless reading failed, none
+-- The rest of an input is read: those bytes that are ahead, and others after them; and their number. Unless reading failed, none
 -- are left.
 pub record ReadsRest (old new : Option (List ℕ)) (ahead : List ℕ) (rest : Drained) : Type 0 where
   pub more : List ℕ
@@ -73,7 +73,7 @@ pub record ReadsRest (old new : Option (List ℕ)) (ahead : List ℕ) (rest : Dr
   pub len : length (ahead ++ more) ≡ rest.count
   pub to_end : IsNone rest.failure → IsAtEnd new
 
--- the input was read to its end; behind a length that is unsound it need not be
+-- the input was read to its end; after a length that is unsound it need not be
 abbrev pub IsReadBehind : Ending → Option (List ℕ) → Type 0
 IsReadBehind (ending.CutOff count) new = IsAtEnd new
 IsReadBehind (ending.Unsound len) new = Unit {0}
@@ -85,7 +85,7 @@ IsNextPiece most new ahead (next.Document len) = (len ≤ length ahead) × IsPie
 IsNextPiece most new ahead next.Nothing = (ahead ≡ []) × IsAtEnd new
 IsNextPiece most new ahead (next.End ending) = EndsWith most ending ahead × IsReadBehind ending new
 
--- with the known bytes of a reader before and after, and a window: what is next behind so many of the bytes ahead was told
+-- with the known bytes of a reader before and after, and a window: what is next after this number of the bytes ahead was told
 pub record TellsNext (most : ℕ) (old new : Option (List ℕ)) (window_old window_new : Window) (from : ℕ) (told : Next) : Type 0 where
   pub window : IsWindow window_new
   pub offset : window_new.offset ≡ window_old.offset

@@ -1,4 +1,4 @@
--- Where the reading of an input goes on behind bytes that no document begins with, and behind lengths that aren't believed.
+-- Where the reading of an input goes on after bytes that no document begins with, and after lengths that aren't believed.
 use Rattle.std.specs.Prelude.{◌≡◌, ◌⊎◌, ◌<◌, ◌≤◌, ◌+◌, ◌-◌, ℕ, List, [], Bool, true, false, Option, Some, drop, length, take}
 use Rattle.std.specs.Io.KnownBytes.{Consumes, IsAtEnd}
 use Rattle.raw_resync.specs.Resync.{EndsOrBegins, GoesOn, GoesOnWith, IsDisbelieved, IsSound}
@@ -15,12 +15,12 @@ use Rattle.dump_io.specs.declared.input.window.Next.{Next}
 use Rattle.dump_io.specs.declared.input.window.Next.TheVariants as next
 use Rattle.dump_io.specs.declared.input.window.Window.{Window}
 
--- searches in s, the end of an input from this offset on, cost so much more, within the bound
+-- searches in s, the end of an input from this offset on, cost this much more, within the bound
 pub record Spends (limits : Limits) (s : List ℕ) (at : ℕ) (old new : Work) : Type 0 where
   pub charges : Charges limits s old new
   pub bounded : IsBounded (at + length s) old → IsBounded (at + length s) new
 
--- Documents go on in s, the end of an input from this offset on, behind so many bytes, which no document covers. At no place in
+-- Documents go on in s, the end of an input from this offset on, after bytes that no document covers. At no place in
 -- these do they go on, but where the place was left out: with what is there as many bytes would be charged as eight times those
 -- in front of its end.
 pub record IsNextPlace (limits : Limits) (s : List ℕ) (at : ℕ) (old new : Work) (skip : Skip) : Type 0 where
@@ -32,7 +32,7 @@ pub record IsNextPlace (limits : Limits) (s : List ℕ) (at : ℕ) (old new : Wo
   pub left : skip.all ≡ false → (j : ℕ) × (0 < j) × (j < skip.count) × IsLeftOut limits (at + length s) s new j
   pub spends : Spends limits s at old new
 
--- the document of so many bytes in front of s is damaged, or too deep, and its length isn't believed
+-- the document of this length in front of s is damaged, or too deep, and its length isn't believed
 pub record HasWrongLength (limits : Limits) (s : List ℕ) (len : ℕ) : Type 0 where
   pub within : len ≤ length s
   pub piece : IsPiece limits.bytes (take len s)
@@ -45,7 +45,7 @@ BreaksWith limits (ending.CutOff count) s = EndsWith limits.bytes (ending.CutOff
 BreaksWith limits (ending.Unsound len) s = EndsWith limits.bytes (ending.Unsound len) s
 BreaksWith limits (ending.WrongLength len) s = HasWrongLength limits s len
 
--- The document of so many bytes in front of s, the end of an input from this offset on, is taken at its length: it is without damage,
+-- The document of this length in front of s, the end of an input from this offset on, is taken at its length: it is without damage,
 -- or the length is believed, but where a place was left out.
 abbrev pub IsBelieved : Limits → List ℕ → (at len : ℕ) → Work → Type 0
 IsBelieved limits s at len work = IsSound limits (take len s) ⊎ (IsDisbelieved limits s len → (j : ℕ) × (j ≤ len) × IsLeftOut limits (at + length s) s work j)
@@ -66,7 +66,7 @@ pub record Searches (limits : Limits) (old new : Option (List ℕ)) (window_old 
   pub work : IsWork work_new
   pub spends : (s : List ℕ) → Consumes (Some s) old (ahead_of window_old) → Spends limits s window_old.offset work_old work_new
 
--- Whether behind so many bytes of s, the end of an input from this offset on, the input ends or a document without damage begins. It
+-- Whether after this number of bytes of s, the end of an input from this offset on, the input ends or a document without damage begins. It
 -- counts as if, where what is there was left out.
 abbrev pub GoesOnBehind : Limits → List ℕ → (at len : ℕ) → Work → Bool → Type 0
 GoesOnBehind limits s at len work true = EndsOrBegins limits (drop len s) ⊎ IsUnprobed limits (at + length s) (drop len s) work
@@ -87,7 +87,7 @@ pub record SeesInside (limits : Limits) (old new : Option (List ℕ)) (window_ol
   pub searches : Searches limits old new window_old window_new work_old work_new
   pub is : (s : List ℕ) → Consumes (Some s) old (ahead_of window_old) → GoesOnInside limits s window_old.offset from to end work_new goes_on
 
--- whether the document of so many bytes in front of s isn't taken at its length
+-- whether the document of this length in front of s isn't taken at its length
 abbrev pub IsDoubted : Limits → List ℕ → (at len : ℕ) → Work → Bool → Type 0
 IsDoubted limits s at len work true = HasWrongLength limits s len
 IsDoubted limits s at len work false = IsBelieved limits s at len work

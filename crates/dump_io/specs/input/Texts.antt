@@ -1,4 +1,4 @@
--- How an input of texts is cut into those of documents: one behind the other, or as the items of one array.
+-- How an input of texts is cut into those of documents: one after the other, or as the items of one array.
 use Rattle.std.specs.Prelude.{◌≡◌, ◌⊎◌, ◌+◌, ◌-◌, ◌^◌, ◌≤◌, ◌<◌, ◌==◌, ◌&&◌, ◌||◌, ℕ, List, [], ◌∷◌, ◌++◌, Bool, true, false, Option, None, Some, if◌then◌else◌, fold, length, nat_lt, not, take}
 use Rattle.dump_io.specs.declared.input.position.Position.{Position}
 use Rattle.dump_io.specs.declared.input.scan.Scan.{Scan}
@@ -17,7 +17,7 @@ begins_level b = (b == 123) || (b == 91)
 abbrev pub ends_level : ℕ → Bool
 ends_level b = (b == 125) || (b == 93)
 
--- a level begins: at the front, behind a colon, a comma or the bracket of an array, and not in too many others
+-- a level begins: at the front, after a colon, a comma or the bracket of an array, and not in too many others
 abbrev pub opened : ℕ → Bool → Bool → Scan
 opened depth may_begin is_array = if may_begin && nat_lt depth 2000 then scan.Levels (depth + 1) is_array else scan.Torn
 
@@ -42,7 +42,7 @@ in_text depth b =
     else if b == 10 then scan.Torn
     else scan.Text depth
 
--- How far the text of a document has come behind one byte more. Only its levels and its strings are looked at.
+-- How far the text of a document has come after one byte more. Only its levels and its strings are looked at.
 abbrev pub step : Scan → ℕ → Scan
 step (scan.Levels depth may_begin) b = in_levels depth may_begin b
 step (scan.Text depth) b = in_text depth b
@@ -74,7 +74,7 @@ IsOneText t = scanned t ≡ scan.Whole
 abbrev pub HasBrace : List ℕ → Type 0
 HasBrace t = (rest : List ℕ) × (t ≡ 123 ∷ rest)
 
--- What of s is read for the text of a document: up to the first byte behind which it can't go on. If there is none, it is all of s, or
+-- What of s is read for the text of a document: up to the first byte after which it can't go on. If there is none, it is all of s, or
 -- 128 MiB.
 pub record IsTextOf (s text : List ℕ) : Type 0 where
   pub rest : List ℕ
@@ -83,11 +83,11 @@ pub record IsTextOf (s text : List ℕ) : Type 0 where
   pub last : ¬ IsOpen (scanned text) → (0 < length text) × IsOpen (scanned (take (length text - 1) text))
   pub all : IsOpen (scanned text) → (rest ≡ []) ⊎ (length text ≡ 2 ^ 27)
 
--- So many bytes of a text that doesn't come to its end are begun: all, or all but the last, behind which it can't go on.
+-- How many bytes of a text that doesn't come to its end are begun: all, or all but the last, after which it can't go on.
 abbrev pub HasBegun : (text : List ℕ) → ℕ → Type 0
 HasBegun text n = (IsOpen (scanned text) → n ≡ length text) × (¬ IsOpen (scanned text) → n ≡ length text - 1)
 
--- what comes of one byte more between the texts of documents: white space; the brackets of one array; a comma behind an item
+-- what comes of one byte more between the texts of documents: white space; the brackets of one array; a comma after an item
 abbrev pub turn_behind : Turn → ℕ → Option Turn
 turn_behind turn.First b = if is_space b then Some turn.First else if b == 91 then Some turn.Item else None
 turn_behind turn.Next b = if is_space b then Some turn.Next else None
@@ -100,7 +100,7 @@ abbrev pub turn_step : Option Turn → ℕ → Option Turn
 turn_step None b = None
 turn_step (Some t) b = turn_behind t b
 
--- what may come behind these bytes between the texts of documents
+-- what may come after these bytes between the texts of documents
 abbrev pub turn_over : Turn → List ℕ → Option Turn
 turn_over t bytes = fold turn_step (Some t) bytes
 
@@ -121,14 +121,14 @@ may_end turn.Next = true
 may_end turn.Last = true
 may_end _ = false
 
--- what comes behind a document
+-- what comes after a document
 abbrev pub turn_behind_document : Turn → Turn
 turn_behind_document turn.Item = turn.Comma
 turn_behind_document turn.More = turn.Comma
 turn_behind_document turn.Comma = turn.Comma
 turn_behind_document _ = turn.Next
 
--- what comes behind bytes that are passed over, unless the input ends there: a document, with no comma before it
+-- what comes after bytes that are passed over, unless the input ends there: a document, with no comma before it
 abbrev pub turn_behind_gap : Turn → Turn
 turn_behind_gap turn.Item = turn.Item
 turn_behind_gap turn.More = turn.Item
@@ -139,18 +139,18 @@ turn_behind_gap _ = turn.Next
 abbrev pub begins_character : ℕ → Bool
 begins_character b = nat_lt b 128 || not (nat_lt b 192)
 
--- the place behind one byte more: a line feed ends a line, and columns count characters
+-- the place after one byte more: a line feed ends a line, and columns count characters
 abbrev pub position_behind : Position → ℕ → Position
 position_behind p b =
     if b == 10 then record { line = p.line + 1; column = 1 }
     else if begins_character b then record p { column = p.column + 1 }
     else p
 
--- the place behind these bytes
+-- the place after these bytes
 abbrev pub position_over : Position → List ℕ → Position
 position_over p bytes = fold position_behind p bytes
 
--- its line or its column could be over 64 bits behind so many bytes
+-- its line or its column could be over 64 bits after this number of bytes
 abbrev pub IsFar : Position → ℕ → Type 0
 IsFar p count = (2 ^ 64 ≤ p.line + count) ⊎ (2 ^ 64 ≤ p.column + count)
 
@@ -162,7 +162,7 @@ first_position = record { line = 1; column = 1 }
 abbrev pub begins_line : Position → ℕ → Bool
 begins_line p b = (p.column == 1) && (b == 123)
 
--- What is behind bytes that are passed over, where this comes behind them: the end of the input, or a line that begins with a brace.
+-- What is after bytes that are passed over, where this comes after them: the end of the input, or a line that begins with a brace.
 abbrev pub EndsGap : Position → (behind_gap : Turn) → List ℕ → Turn → Type 0
 EndsGap p behind_gap [] t = t ≡ turn.Last
 EndsGap p behind_gap (b ∷ bs) t = (begins_line p b ≡ true) × (t ≡ behind_gap)

@@ -120,7 +120,7 @@ kind_explained (kind.MalformedValue why) = reason_explained why
 kind_explained (kind.Utf8EncodingError why) = words_alone (codes "a text isn't UTF-8")
 kind_explained kind.OutOfMemory = words_alone []
 
--- the numbers of a reason, behind its words
+-- the numbers of a reason, after its words
 abbrev pub numbers_text : (number left : Option ℕ) → List ℕ
 numbers_text None None = []
 numbers_text (Some number) None = codes ": " ++ decimal number

@@ -1,4 +1,4 @@
--- Fronts of bytes that a writer holds, and documents one behind the other.
+-- Fronts of bytes that a writer holds, and documents one after the other.
 use Rattle.std.specs.Prelude.{◌≡◌, ◌⊎◌, ◌++◌, ℕ, List, Option, flat_map}
 pub use Rattle.values_to_json.specs.Written.{AppendsFront}
 
@@ -10,6 +10,6 @@ HasFront s front = (rest : List ℕ) × (s ≡ front ++ rest)
 abbrev pub WritesFront : (List ℕ → Type 0) → (old new : Option (List ℕ)) → Type 0
 WritesFront Is old new = (new ≡ old) ⊎ ((text : List ℕ) × Is text × AppendsFront old new text)
 
--- documents one behind the other
+-- documents one after the other
 abbrev pub joined : List (List ℕ) → List ℕ
 joined documents = flat_map (λ d. d) documents

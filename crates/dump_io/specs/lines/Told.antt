@@ -14,7 +14,7 @@ use Rattle.dump_io.specs.declared.lines.style.Style.TheVariants as style
 abbrev pub line : List ℕ → ℕ → List ℕ → List ℕ
 line name offset text = quoted name ++ codes ":" ++ decimal offset ++ codes ": " ++ text ++ codes "\n"
 
--- a key behind a colon, in quotes, where there is one
+-- a key after a colon, in quotes, where there is one
 abbrev pub key_suffix : Option (List ℕ) → List ℕ
 key_suffix None = []
 key_suffix (Some text) = codes ":" ++ quoted text
@@ -107,12 +107,12 @@ repeat_line style.Words r = line r.place.name r.place.offset (first_text r.first
 repeat_line style.Json r = object_line (head_members r.place.name r.place.offset ++ first_members r.first)
 repeat_line style.Quiet r = []
 
--- how what is found is reported where so much was counted before: no findings but as many as are asked for
+-- how what is found is reported where this was counted before: no findings but as many as are asked for
 abbrev pub with_left : Style → ℕ → Style
 with_left shown zero = style.Quiet
 with_left shown (suc n) = shown
 
--- how many bytes a piece has, and behind that what is told of it
+-- how many bytes a piece has, and after that what is told of it
 abbrev pub head_text : List ℕ → Option Account → List ℕ
 head_text b None = decimal (length b) ++ codes " bytes"
 head_text b (Some told) = decimal (length b) ++ codes " bytes" ++ codes ": " ++ words_of told
@@ -123,6 +123,6 @@ error_members name at text = key (codes "file") ∷ string name ∷ number_membe
 
 -- What the code tells of an object that is written. No public contract cites it.
 
--- tokens are put behind those that are there
+-- tokens are put after those that are there
 abbrev pub Grows : Written → Written → List Token → Type 0
 Grows old new more = (new.before ≡ old.before) × (new.tokens ≡ old.tokens ++ more)

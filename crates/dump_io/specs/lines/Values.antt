@@ -11,11 +11,11 @@ use Rattle.raw_view.specs.Meaning.{RawValue, kind_of_raw}
 use Rattle.raw_view.specs.Meaning as raw
 use Rattle.dump_io.specs.lines.Quoting.{quoted}
 
--- a text or bytes of more than so many bytes aren't shown
+-- a text or bytes that are longer aren't shown
 abbrev pub short : ℕ
 short = 64
 
--- so many bytes
+-- a number of bytes
 abbrev pub size_text : ℕ → List ℕ
 size_text n = codes ", " ++ decimal n ++ codes " bytes"
 
@@ -33,7 +33,7 @@ ShowsDouble bits text =
     ((0x7ff0_0000_0000_0000 < bits % 0x8000_0000_0000_0000) × (text ≡ codes "NaN"))
     ⊎ ((bits % 0x8000_0000_0000_0000 ≤ 0x7ff0_0000_0000_0000) × (parse_float binary64 text ≡ Some (from_bits binary64 bits)))
 
--- what is behind the kind of a value that holds no others; numbers of a timestamp are its seconds and its increment
+-- what is after the kind of a value that holds no others; numbers of a timestamp are its seconds and its increment
 abbrev pub ShowsLeaf : Leaf → List ℕ → Type 0
 ShowsLeaf (double bits) text = (number : List ℕ) × ShowsDouble bits number × (text ≡ codes ": " ++ number)
 ShowsLeaf (string s) text = text ≡ sized_text s (quoted s)
@@ -54,13 +54,13 @@ ShowsLeaf (decimal128 bytes) text = text ≡ codes ": " ++ encode_lower bytes
 ShowsLeaf max_key text = text ≡ []
 ShowsLeaf min_key text = text ≡ []
 
--- what is behind the kind of a value
+-- what is after the kind of a value
 abbrev pub ShowsBehind : RawValue → List ℕ → Type 0
 ShowsBehind (raw.single l) text = ShowsLeaf l text
 ShowsBehind (raw.document d) text = text ≡ size_text (length d)
 ShowsBehind (raw.array d) text = text ≡ size_text (length d)
 ShowsBehind (raw.scoped code d) text = text ≡ sized_text code (quoted code) ++ size_text (length d)
 
--- a value: the name of its kind, and what is behind that
+-- a value: the name of its kind, and what is after that
 abbrev pub ShowsValue : RawValue → List ℕ → Type 0
 ShowsValue v text = (behind : List ℕ) × ShowsBehind v behind × (text ≡ kind_text (kind_of_raw v) ++ behind)

@@ -19,6 +19,6 @@ pub trait Inputs {
         ensures bytes { IfOk result (λ input. Self.Input.remaining input ≡ bytes_of self.now name.now) }
         ensures known { OnErr result (bytes_of self.now name.now ≡ None) };
 
-    /// Tells what goes wrong with an input, and behind how many bytes, if some were read.
+    /// Tells what goes wrong with an input, and after how many bytes, if some were read.
     fn tell(&self, name: &str, at: Option<u64>, error: &io::Error);
 }

@@ -15,21 +15,21 @@ use std::io::Read;
 pub struct Portion {
     /// those from this offset on
     pub at: u64,
-    /// behind so many
+    /// how many of them are left out at first
     pub skip: u64,
-    /// and at most so many; `None`: all
+    /// and how many at most; `None`: all
     pub take: Option<u64>,
 }
 
 impl Portion {
-    /// Whether so many are all that are asked for.
+    /// Whether this number of documents is all that is asked for.
     pub fn is_enough(self, count: u64) -> bool
         ensures { MatchBool result (self.take ≡ Some count) (self.take ≢ Some count) }
     {
         self.take == Some(count)
     }
 
-    /// Passes over what is in front of the documents that are asked for, where a document has at most so many bytes.
+    /// Passes over what is in front of the documents that are asked for, where a document has at most `most` bytes.
     pub fn pass_front<R: Read>(
         self,
         most: usize,
@@ -47,7 +47,7 @@ impl Portion {
     }
 }
 
-/// Passes over so many bytes, or all that the input has.
+/// Passes over `count` bytes, or all that the input has.
 fn pass_bytes<R: Read>(count: u64, reader: &mut R, window: &mut Window) -> Result<(), Failure>
     requires { IsWindow window.old }
     ensures passed { OnOk result (PassesBytes count (R.remaining reader.old) (R.remaining reader.new) window.old window.new) }
@@ -66,7 +66,7 @@ fn pass_bytes<R: Read>(count: u64, reader: &mut R, window: &mut Window) -> Resul
     Ok(())
 }
 
-/// Passes over so many documents of at most so many bytes each, at their lengths, or those in front of the first place where none begins.
+/// Passes over `count` documents of at most `most` bytes each, at their lengths, or those in front of the first place where none begins.
 fn pass_documents<R: Read>(
     count: u64,
     most: usize,

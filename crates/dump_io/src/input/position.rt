@@ -25,7 +25,7 @@ impl Position {
         Position { line: 1, column: 1 }
     }
 
-    /// That behind these bytes. Fails if it could be over the range of a number.
+    /// The place after these bytes. Fails if it could be over the range of a number.
     pub fn over(self, bytes: &[u8]) -> Result<Position, Failure>
         ensures over { IfOk result (λ place. place ≡ position_over self bytes.now) }
         ensures most { OnErr result (IsFar self (length bytes.now)) }

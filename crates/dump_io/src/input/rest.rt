@@ -18,7 +18,7 @@ use std::alloc::{AllocError, Global};
 pub enum Rest {
     /// they are passed over
     PassedOver(Skip),
-    /// they are so many, up to the end of the input, and aren't read
+    /// how many they are up to the end of the input; they aren't read
     NotRead(u64),
 }
 

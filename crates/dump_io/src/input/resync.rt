@@ -1,4 +1,4 @@
-//! Goes on in an input behind bytes that no document begins with, and behind lengths that aren't believed.
+//! Goes on in an input after bytes that no document begins with, and after lengths that aren't believed.
 #![tactic(auto)]
 
 ghost use Rattle.std.specs.Prelude.{◌≡◌, ◌≤◌, ◌<◌, IfErr, IfOk, MatchBool, length, take};
@@ -20,13 +20,13 @@ use std::io::Read;
 /// What was passed over.
 #[derive(Clone, Copy)]
 pub struct Skip {
-    /// how many bytes, behind which documents go on
+    /// how many bytes, after which documents go on
     pub count: u64,
     /// whether each place in them was checked; some aren't where that would cost too much
     pub all: bool,
 }
 
-/// The bytes ahead, behind which the input ends or may go on.
+/// The bytes ahead, after which the input ends or may go on.
 fn part_of(window: &Window, is_last: bool, limits: Limits) -> Part<'_>
     requires { IsWindow window.now }
     ensures bytes { result.bytes.now ≡ ahead_of window.now }
@@ -84,7 +84,7 @@ pub fn pass_over<R: Read>(
     Err(Failure::Reading(io::Error::from(io::ErrorKind::TimedOut)))
 }
 
-/// Whether the document of so many of the bytes ahead is damaged and its length isn't believed: documents go on inside it, and
+/// Whether the first document ahead, of `len` bytes, is damaged and its length isn't believed: documents go on inside it, and
 /// the first reaches to its end, or neither the end of the input nor a document without damage is there.
 pub fn is_doubted<R: Read>(
     alloc: Global,
@@ -106,14 +106,14 @@ pub fn is_doubted<R: Read>(
     goes_on_inside(alloc, reader, window, limits, len, end, work)
 }
 
-/// How far documents that go on inside one of so many bytes have to reach: to its end, where something goes on there.
+/// How far documents have to reach that go on inside one of `len` bytes: to its end, where something goes on there.
 fn reach(len: usize, goes_on: bool) -> usize
     ensures { MatchBool goes_on (result ≡ len) (result ≡ 0) }
 {
     if goes_on { len } else { 0 }
 }
 
-/// Whether behind so many of the bytes ahead the input ends or a document without damage begins, or it could cost too much to
+/// Whether after `len` of the bytes ahead the input ends or a document without damage begins, or it could cost too much to
 /// know.
 fn goes_on_behind<R: Read>(
     alloc: Global,
@@ -138,10 +138,10 @@ fn goes_on_behind<R: Read>(
     Err(Failure::Reading(io::Error::from(io::ErrorKind::TimedOut)))
 }
 
-/// So many places at the end are searched first where documents have to reach to it.
+/// How many places at the end are searched first where documents have to reach to it.
 const LAST_PLACES: usize = 64;
 
-/// Whether documents go on behind the first and before so many of the bytes ahead, with a first one that reaches to this end. Where it
+/// Whether documents go on after the first of the `len` bytes ahead, with a first one that reaches to `end`. Where it
 /// isn't 0 the last places are searched first, then twice as many before them, and so on: those up to a document that is found are
 /// at most some four times as many as the bytes that it was charged.
 fn goes_on_inside<R: Read>(

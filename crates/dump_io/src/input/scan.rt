@@ -6,7 +6,7 @@ ghost use Rattle.dump_io.specs.input.Texts.{HasBegun, IsOpen, closed, in_levels,
 ghost use Rattle.dump_io.specs.input.Texts as says;
 ghost use Rattle.dump_io.specs.declared.input.scan.Scan.TheVariants.{Whole};
 
-/// So many levels are in one another at most: more than a document within the limits has, with its wrappers.
+/// How many levels are in one another at most: more than a document within the limits has, with its wrappers.
 pub const DEEPEST: usize = 2000;
 
 /// The most bytes of the text of a document: 128 MiB.
@@ -15,19 +15,19 @@ pub const MOST_TEXT: usize = 1 << 27;
 /// How far the text of a document has come.
 #[derive(Clone, Copy)]
 pub enum Scan {
-    /// in so many levels, outside of strings; whether another one may begin there
+    /// in this number of levels, outside of strings; whether another one may begin there
     Levels(usize, bool),
-    /// in a string in so many levels
+    /// in a string in this number of levels
     Text(usize),
-    /// behind a backslash there
+    /// after a backslash there
     Escape(usize),
-    /// at its end, behind what ends its first level
+    /// at its end, after what ends its first level
     Whole,
     /// in no text of a document
     Torn,
 }
 
-/// How far a text has come, and behind how many bytes.
+/// How far a text has come, and after how many bytes.
 #[derive(Clone, Copy)]
 pub struct Scanned {
     /// how far
@@ -37,7 +37,7 @@ pub struct Scanned {
 }
 
 impl Scanned {
-    /// Goes on over the bytes behind, up to the most of a text.
+    /// Goes on over the bytes that follow, up to the most of a text.
     pub fn on(self, ahead: &[u8]) -> Scanned
         requires { ScansAhead ahead.now self × IsOpen self.scan × (self.len ≤ length ahead.now) × (self.len < 2 ^ 27) }
         ensures scans { ScansAhead ahead.now result }
@@ -60,7 +60,7 @@ impl Scanned {
         matches!(self.scan, Scan::Whole)
     }
 
-    /// How many bytes there are before the one behind which it can't go on, if there is one.
+    /// How many bytes there are before the one after which it can't go on, if there is one.
     pub fn begun(self) -> usize
         ensures less { result ≤ self.len }
         ensures begun { (text : List ℕ) → self.scan ≡ scanned text → self.len ≡ length text → HasBegun text result }
@@ -92,7 +92,7 @@ impl Scan {
         }
     }
 
-    /// How far it has come behind one byte more.
+    /// How far it has come after one byte more.
     fn behind(self, byte: u8) -> Scan
         ensures { result ≡ step self byte }
     {
@@ -135,7 +135,7 @@ impl Scan {
     }
 }
 
-/// How far a text has come behind one byte more in a string.
+/// How far a text has come after one byte more in a string.
 fn behind_text(depth: usize, byte: u8) -> Scan
     ensures { result ≡ in_text depth byte }
 {
@@ -150,7 +150,7 @@ fn behind_text(depth: usize, byte: u8) -> Scan
     }
 }
 
-/// How far a text has come behind one byte more outside of strings.
+/// How far a text has come after one byte more outside of strings.
 fn behind_levels(depth: usize, may_begin: bool, byte: u8) -> Scan
     ensures { result ≡ in_levels depth may_begin byte }
 {

@@ -1,4 +1,4 @@
-//! What may come between the texts of documents: they are one behind the other, or the items of one array.
+//! What may come between the texts of documents: they are one after the other, or the items of one array.
 #![tactic(auto)]
 
 ghost use Rattle.std.specs.Prelude.{◌≡◌};
@@ -60,7 +60,7 @@ impl Turn {
         }
     }
 
-    /// What comes behind a document.
+    /// What comes after a document.
     pub fn behind_document(self) -> Turn
         ensures { result ≡ turn_behind_document self }
     {
@@ -70,7 +70,7 @@ impl Turn {
         }
     }
 
-    /// What comes behind bytes that are passed over.
+    /// What comes after bytes that are passed over.
     pub fn behind_gap(self) -> Turn
         ensures { result ≡ turn_behind_gap self }
     {

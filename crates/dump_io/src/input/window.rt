@@ -13,7 +13,7 @@ use std::alloc::{AllocError, Global};
 use std::io;
 use std::io::{ErrorKind, Read};
 
-/// So many bytes are read at a time, or more.
+/// How many bytes are read at a time, or more.
 const BLOCK: usize = 1 << 18;
 
 /// What was read of an input, and isn't passed yet.
@@ -32,7 +32,7 @@ pub struct Window {
 /// What is next in an input.
 #[derive(Clone, Copy)]
 pub enum Next {
-    /// a document of so many bytes, which are ahead
+    /// a document of this length, which is ahead
     Document(usize),
     /// nothing: the input is at its end
     Nothing,
@@ -80,7 +80,7 @@ impl Window {
         in_range(self.offset.checked_add(self.len as u64))
     }
 
-    /// Passes so many bytes. Fails if the offset would be over its range.
+    /// Passes `count` bytes. Fails if the offset would be over its range.
     pub fn pass(&mut self, count: usize) -> Result<(), Failure>
         requires { IsWindow self.old × (count ≤ length (ahead_of self.old)) }
         ensures passed { OnOk result (IsWindow self.new × (ahead_of self.new ≡ drop count (ahead_of self.old)) × (offset_of self.new ≡ offset_of self.old + count)) }
@@ -93,7 +93,7 @@ impl Window {
         Ok(())
     }
 
-    /// Reads on until so many bytes are ahead, or the input ends, and returns whether they are. Most are ahead already.
+    /// Reads on until `want` bytes are ahead, or the input ends, and returns whether they are. Most are ahead already.
     #[inline(always)]
     pub fn look<R: Read>(&mut self, reader: &mut R, want: usize) -> Result<bool, Failure>
         requires { IsWindow self.old }
@@ -134,7 +134,7 @@ impl Window {
         })
     }
 
-    /// Makes room for so many bytes from the first one ahead on. No more bytes are moved than were passed.
+    /// Makes room for `want` bytes from the first one ahead on. No more bytes are moved than were passed.
     fn make_room(&mut self, want: usize) -> Result<(), AllocError>
         requires { IsWindow self.old }
         ensures window { IsWindow self.new }
@@ -163,7 +163,7 @@ struct Filled {
     failure: Option<io::Error>,
 }
 
-/// Reads on behind the front of the buffer, until so many bytes are filled, the input ends or reading fails.
+/// Reads on after the front of the buffer, until `enough` bytes are filled, the input ends or reading fails.
 fn fill<R: Read>(reader: &mut R, buffer: &mut [u8], front: usize, enough: usize) -> Filled
     requires { (front ≤ length buffer.old) × (enough ≤ length buffer.old) }
     ensures { FillsBuffer (R.remaining reader.old) (R.remaining reader.new) front enough buffer.old buffer.new result }
@@ -233,7 +233,7 @@ fn drain<R: Read>(reader: &mut R, buffer: &mut [u8]) -> Result<Drained, Failure>
     })
 }
 
-/// Looks what is next in an input behind so many of the bytes ahead, where a document has at most this many bytes.
+/// Looks what is next in an input after `from` of the bytes ahead, where a document has at most `most` bytes.
 pub fn look_ahead<R: Read>(
     reader: &mut R,
     window: &mut Window,
@@ -270,7 +270,7 @@ fn length_at(bytes: &[u8], from: usize) -> u32
     u32::from_le_bytes(*head)
 }
 
-/// What is next where so many bytes are left, fewer than a length has.
+/// What is next where `count` bytes are left, fewer than a length has.
 fn too_few(count: usize) -> Next
     requires { count < 4 }
     ensures { (new : Option (List ℕ)) (s : List ℕ) → length s ≡ count → IsAtEnd new → (most : ℕ) → IsNextPiece most new s result }
@@ -282,7 +282,7 @@ fn too_few(count: usize) -> Next
     }
 }
 
-/// Whether a document has so many bytes, where it has at most this many.
+/// Whether a document may have this length, where it has at most `most` bytes.
 fn is_sound(len: usize, most: usize) -> bool
     ensures { MatchBool result (IsSoundLength most len) ((len < 5) ⊎ (most < len)) }
 {

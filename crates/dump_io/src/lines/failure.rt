@@ -25,10 +25,10 @@ impl From<AllocError> for Failure {
     }
 }
 
-/// That reading failed, and behind how many bytes of an input.
+/// That reading failed, and after how many bytes of an input.
 #[derive(Drop)]
 pub struct ReadFailure {
-    /// so many bytes were read
+    /// how many bytes were read
     pub at: u64,
     /// why no more were
     pub error: io::Error,

@@ -17,7 +17,7 @@ pub fn quotation(alloc: Global, words: &str) -> Result<Vec<u8>, AllocError>
     Ok(text)
 }
 
-/// Behind the text, another one in quotes.
+/// After the text, another one in quotes.
 pub fn push_quoted(text: &mut Vec<u8>, words: &str) -> Result<(), AllocError>
     ensures { OnOk result (text.new.items ≡ text.old.items ++ quoted words.now) }
 {
@@ -27,7 +27,7 @@ pub fn push_quoted(text: &mut Vec<u8>, words: &str) -> Result<(), AllocError>
     Ok(())
 }
 
-/// Behind the text, what is in the quotes, in one part where nothing is escaped.
+/// After the text, what is in the quotes, in one part where nothing is escaped.
 fn push_shown(text: &mut Vec<u8>, words: &str) -> Result<(), AllocError>
     ensures { OnOk result (text.new.items ≡ text.old.items ++ shown_text words.now) }
 {

@@ -20,10 +20,10 @@ use raw_view::{
 };
 use std::alloc::{AllocError, Global};
 
-/// A text or bytes of more than so many bytes aren't shown.
+/// How long a text or bytes may be that are shown.
 const SHORT: usize = 64;
 
-/// Puts a value behind the text: the name of its kind, and what shows it.
+/// Appends a value to the text: the name of its kind, and what shows it.
 pub fn push_value(
     alloc: Global,
     text: &mut Vec<u8>,
@@ -36,7 +36,7 @@ pub fn push_value(
     push_behind(alloc, text, value)
 }
 
-/// Puts the name of a kind behind the text.
+/// Appends the name of a kind to the text.
 pub fn push_kind(text: &mut Vec<u8>, kind: ElementType) -> Result<(), AllocError>
     ensures { OnOk result (text.new.items ≡ text.old.items ++ kind_text kind) }
 {
@@ -71,7 +71,7 @@ fn name_of(kind: ElementType) -> &'static str
     }
 }
 
-/// Puts what shows a value behind the name of its kind.
+/// Puts what shows a value after the name of its kind.
 fn push_behind(alloc: Global, text: &mut Vec<u8>, value: RawBsonRef<'_>) -> Result<(), AllocError>
     ensures { OnOk result ((shown : List ℕ) × ShowsBehind (value_of value.entry) shown
         × (text.new.items ≡ text.old.items ++ shown)) }
@@ -141,7 +141,7 @@ fn push_timestamp(text: &mut Vec<u8>, time: Timestamp) -> Result<(), AllocError>
     push_number(text, u64::from(time.increment))
 }
 
-/// Puts words behind the text, and bytes as hex digits.
+/// Appends words to the text, and bytes as hex digits.
 fn push_hex(alloc: Global, text: &mut Vec<u8>, words: &str, bytes: &[u8]) -> Result<(), AllocError>
     ensures { OnOk result
         (text.new.items ≡ text.old.items ++ (words.now ++ encode_lower bytes.now)) }

@@ -10,7 +10,7 @@ use crate::lines::failure::Failure;
 use std::io::Write;
 use values_to_json::put::put_all;
 
-/// Writes these bytes, as `write_all` does: what it leaves behind an error is a front of them. Most commands write none of most
+/// Writes these bytes, as `write_all` does: what it leaves after an error is a front of them. Most commands write none of most
 /// documents.
 #[inline(always)]
 pub fn put<W: Write>(writer: &mut W, bytes: &[u8]) -> Result<(), Failure>

@@ -121,7 +121,7 @@ module _ {limits : Limits} {c : Command} {style : Counts → Style} {resync : Bo
 pub bytes_more : (ps : List Part) (p : Part) → length (bytes_of_parts (ps ++ p ∷ [])) ≡ length (bytes_of_parts ps) + length (bytes_of_part p)
 bytes_more ps p = ap length (sym (one_more bytes_of_part ps p)) ∙ length-append (bytes_of_parts ps) (bytes_of_part p)
 
--- what the loop keeps: parts were passed, the next one begins behind them, and what the searches in them cost
+-- what the loop keeps: parts were passed, the next one begins after them, and what the searches in them cost
 pub record HasPassed (limits : Limits) (c : Command) (style : Counts → Style) (resync : Bool) (name ahead : List ℕ) (r r' d d' w w' : Option (List ℕ)) (n n' : Counts) (k k' : Kept)
     (offset : ℕ) (work : Work) : Type 0 where
   pub ps : List Part

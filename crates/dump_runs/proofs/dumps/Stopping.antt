@@ -41,7 +41,7 @@ left_cut {most} r x count ends behind = record {
   to_end = λ none. behind;
 }
 
--- what is left behind a length that is unsound
+-- what is left after a length that is unsound
 pub left_unsound : {most : ℕ} (r r' : Option (List ℕ)) (x : List ℕ) (len : ℤ) (drained : Drained) → EndsWith most (ending.Unsound len) x → ReadsRest r r' x drained
     → IsLeft most (ending.Unsound len) r r' x drained
 left_unsound r r' x len drained ends l = record {

@@ -40,7 +40,7 @@ module _ (job : Job) (bytes_of : List ℕ → Option (List ℕ)) where
       → RunsOver job bytes_of (map f names) first last
   runs_whole f names i first last all runs = subst (λ (xs : List (List ℕ)). RunsOver job bytes_of xs first last) (ap (map f) (take_all i names all)) runs
 
-  -- a failure comes behind the first of these
+  -- a failure comes after the first of these
   pub runs_front : {A : Type 0} (f : A → List ℕ) (names : List A) (i : ℕ) (first last : State) (d w : Option (List ℕ)) (n : Counts) → RunsOver job bytes_of (map f (take i names)) first last
       → HaltsBefore job bytes_of (map f (drop i names)) last d w n → RunsFront job bytes_of (map f names) first d w n
   runs_front f names i first last d w n runs halts = record {
@@ -58,7 +58,7 @@ module _ (job : Job) (bytes_of : List ℕ → Option (List ℕ)) where
   halts_next f names i x last d w n there stops =
       subst (λ xs. HaltsBefore job bytes_of (map f xs) last d w n) (sym (drop_more names i x there)) stops
 
-  -- behind all of them
+  -- after all of them
   pub halts_behind : {A : Type 0} (f : A → List ℕ) (names : List A) (i : ℕ) (last : State) (d w : Option (List ℕ)) → length names ≤ i
       → Keeps last.out d → AppendsFront last.report w (all_line job job.command last.counts last.kept) → HaltsBefore job bytes_of (map f (drop i names)) last d w last.counts
   halts_behind f names i last d w all kept front =

@@ -61,7 +61,7 @@ advances_on a b c x y z bytes more p q =
 pub goes_on_to : (a b c : Option (List ℕ)) (x y z : Cursor) (bytes : List ℕ) → Advances a b x y bytes → LooksOn b c y z → GoesOnTo a c x z
 goes_on_to a b c x y z bytes p looks = (bytes, advances_ahead a b c x y z bytes p looks)
 
--- what may come behind one byte more
+-- what may come after one byte more
 pub turn_more : (t u v : Turn) (front : List ℕ) (b : ℕ) → turn_over t front ≡ Some u → turn_behind u b ≡ Some v → turn_over t (front ++ b ∷ []) ≡ Some v
 turn_more t u v front b before now = fold-append turn_step (Some t) front (b ∷ []) ∙ ap (λ o. turn_step o b) before ∙ now
 
@@ -98,7 +98,7 @@ module _ {b c : Option (List ℕ)} {y z : Cursor} {q : Option ℕ} where
   between_ends a x t u o (front, p, turns) (looks, is) same stops =
       record { front = front; advances = advances_ahead a b c x y z front p looks; turns = turns; is = subst (IsAhead c z) same is; stops = stops }
 
--- and reading failed behind it
+-- and reading failed after it
 pub between_fails : (a b c : Option (List ℕ)) (x y z : Cursor) (t u : Turn) → HasBetween a b x y t u → LooksOn b c y z → GoesOnTo a c x z
 between_fails a b c x y z t u (front, p, turns) looks = goes_on_to a b c x y z front p looks
 
@@ -132,7 +132,7 @@ module _ {b c : Option (List ℕ)} {y z : Cursor} {o : Option ℕ} {byte : ℕ} 
   gap_goes_on a x t u (gap, p, none) (looks, is) some same begins =
       record { gap = gap; advances = advances_ahead a b c x y z gap p looks; none = none; ends = inl (same, (byte, subst (IsAhead c z) some is, begins)) }
 
--- and reading failed behind it
+-- and reading failed after it
 pub gap_fails : (a b c : Option (List ℕ)) (x y z : Cursor) → HasGap a b x y → LooksOn b c y z → GoesOnTo a c x z
 gap_fails a b c x y z (gap, p, none) looks = goes_on_to a b c x y z gap p looks
 

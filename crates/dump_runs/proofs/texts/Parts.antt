@@ -20,7 +20,7 @@ use Rattle.dump_runs.specs.declared.texts.reading.Went.TheVariants as went
 use Rattle.dump_io.specs.declared.input.turn.Turn.{Turn}
 use Rattle.dump_io.proofs.Face.{front_none}
 
--- the line of a fault so many bytes behind a place, in the front of what is ahead
+-- the line of a fault so many bytes after a place, in the front of what is ahead
 abbrev tells_fault : (style : Style) (name ahead : List ℕ) (place : Position) (len at : ℕ) (reason : TextReason) → len ≤ length ahead → at ≤ len
     → TellsTextFault style name place (take len ahead) (fault_line style name (position_over place (take at ahead)) reason)
 tells_fault style name ahead place len at reason fits within = record {

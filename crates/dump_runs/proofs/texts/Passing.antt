@@ -31,7 +31,7 @@ use Rattle.dump_runs.proofs.texts.Advancing.{advances_more, advances_on}
 use Rattle.dump_io.proofs.Face.{read_behind}
 use Rattle.dump_runs.proofs.texts.Whole.{unended_says_none}
 
--- parts may come behind each of these
+-- parts may come after each of these
 abbrev pub AllGoOn : Bool → List TextPart → Type 0
 AllGoOn keep_going [] = Unit {0}
 AllGoOn keep_going (p ∷ ps) = IsPassedOver keep_going p × AllGoOn keep_going ps
@@ -40,7 +40,7 @@ go_more : (k : Bool) (ps : List TextPart) (p : TextPart) → AllGoOn k ps → Is
 go_more k [] p all here = (here, tt)
 go_more k (x ∷ ps) p (first, rest) here = (first, go_more k ps p rest here)
 
--- so may they behind the last
+-- so may they after the last
 last_goes : (k : Bool) (before : List TextPart) (p : TextPart) → AllGoOn k (before ++ p ∷ []) → IsPassedOver k p
 last_goes k [] p (here, rest) = here
 last_goes k (x ∷ before) p (first, rest) = last_goes k before p rest
@@ -94,7 +94,7 @@ pub record HasTexts (a : AskedTexts) (input d d' w w' : Option (List ℕ)) (n n'
   pub is_reported : Appends w w' (lines_of_texts ps)
   pub is_counted : n' ≡ fold count_text n ps
 
--- they were passed, others may come behind each of them, and these bytes are ahead
+-- they were passed, others may come after each of them, and these bytes are ahead
 pub record GoesOnBehind (a : AskedTexts) (input r d d' w w' : Option (List ℕ)) (n n' : TextCounts) (x : Cursor) (t : Turn) : Type 0 where
   pub ps : List TextPart
   pub has : HasTexts a input d d' w w' n n' ps
@@ -113,7 +113,7 @@ front_of None r bytes ahead read = tt
 front_of (Some s) None bytes ahead read = absurd read
 front_of (Some s) (Some rest) bytes ahead read = (ahead ++ rest, read ∙ append_assoc bytes ahead rest)
 
--- what is behind bytes of an input, of which these are ahead
+-- what is after bytes of an input, of which these are ahead
 behind_of : (input r : Option (List ℕ)) (bytes ahead : List ℕ) (P : List ℕ → Type 0) → Consumes input r (bytes ++ ahead)
     → ((rest : List ℕ) → (IsAtEnd r → rest ≡ []) → P (ahead ++ rest)) → IfSome input (λ s. P (drop (length bytes) s))
 behind_of None r bytes ahead P read is = tt
@@ -138,7 +138,7 @@ nothing_passed a r d w n x none start zero =
     }
 
 module _ {a : AskedTexts} {input r d d' w w' : Option (List ℕ)} {n n' : TextCounts} {x : Cursor} {t : Turn} (g : GoesOnBehind a input r d d' w w' n n' x t) where
-  -- one more part comes behind them
+  -- one more part comes after them
   parts_more : (p : TextPart) → IsTextPart (style_of_fault a.style a.limit n') a.name.now input x.window.offset x.place t p
       → AreTexts a.keep_going (style_of_fault a.style a.limit) a.name.now input 0 first_position turn.First n (g.ps ++ p ∷ [])
   parts_more p is =
@@ -276,7 +276,7 @@ module _ {style : Style} {name : List ℕ} (input r' : Option (List ℕ)) (bytes
     ends = ends;
   }
 
--- bytes of an input that are passed over behind these
+-- bytes of an input that are passed over after these
 record GapBehind (input : Option (List ℕ)) (bytes text : List ℕ) (place : Position) (u : Turn) : Type 0 where
   gap : List ℕ
   none : HasNoLine (position_over place text) gap
@@ -324,7 +324,7 @@ gap_ends r q place u v s rest end next here (inr (last, (none, done))) =
 abbrev pub IsWritten : List (List ℕ) → Type 0
 IsWritten made = (document : List ℕ) × (made ≡ document ∷ [])
 
--- a document is written, unless the run goes on behind a fault
+-- a document is written, unless the run goes on after a fault
 written_of : (style : Style) (name : List ℕ) (place : Position) (before : Turn) (ahead : List ℕ) (told : NextText) {what : Went} (text : List ℕ) (made : List (List ℕ)) (lines : List ℕ)
     (behind : Turn) {k : Bool} → Becomes style name place before ahead told what text made lines behind → (what ≡ went.Document) ⊎ (k ≡ true)
     → IsWritten made ⊎ (k ≡ true)
@@ -340,7 +340,7 @@ none_made style name place before ahead told {what = went.Document} text made li
 none_made style name place before ahead told {what = went.Refused} text made lines behind is other = is.none
 none_made style name place before ahead told {what = went.Astray} text made lines behind is other = is.none
 
--- a part with this front and text, or one that goes on with more, is in front of the input behind these bytes
+-- a part with this front and text, or one that goes on with more, is in front of the input after these bytes
 abbrev pub Completes : (style : Style) (name : List ℕ) (input : Option (List ℕ)) (bytes : List ℕ) (x : Cursor) (t : Turn) (front text : List ℕ) (made : List (List ℕ)) → List ℕ → Type 0
 Completes style name input bytes x t front text made lines =
     (gap : List ℕ) × (behind : Turn) × IsTextPart style name input x.window.offset x.place t (record { front = front; text = text ++ gap; made = made; lines = lines; behind = behind })
@@ -356,7 +356,7 @@ read_of None r bytes at read far = tt
 read_of (Some s) r bytes at read far = (bytes, read, far)
 
 module _ {a : AskedTexts} {input r d d' w w' : Option (List ℕ)} {n n' : TextCounts} {y : Cursor} {ps : List TextPart} where
-  -- reading fails behind what is ahead
+  -- reading fails after what is ahead
   fails_at : (e : TextEnd) → HasTexts a input d d' w w' n n' ps → LastGoesOn a.keep_going ps → IsAt input r y → FailsAt (y.window.offset + length (ahead_of y.window)) e
       → ReadsTexts a input r d d' w w' n n' e
   fails_at end.End h last here none = absurd none
@@ -421,13 +421,13 @@ module _ {a : AskedTexts} {input r r' d d' w w' : Option (List ℕ)} {n n' : Tex
             ⊎ MeetsNoText shown a.name.now input (x.window.offset + length f.front) q u text made lines v) f.advances.place first;
       }
 
-  -- the text is in front of the input, behind what is before it
+  -- the text is in front of the input, after what is before it
   front_text : (text : List ℕ) → HasFront (ahead_of y.window) text → IfSome input (λ s. HasFront s (bytes_of_texts g.ps ++ (f.front ++ text)))
   front_text text (rest, split) =
       let both = subst (Consumes input r') (ap (λ l. before ++ l) split ∙ sym (append_assoc before text rest)) read_found in
       subst (λ l. IfSome input (λ s. HasFront s l)) (append_assoc (bytes_of_texts g.ps) f.front text) (front_of input r' (before ++ text) rest both)
 
-  -- and with what is passed over behind it, where it is no whole one
+  -- and with what is passed over after it, where it is no whole one
   completed : (what : Went) (text : List ℕ) (made : List (List ℕ)) (lines : List ℕ) (v : Turn) → HasFront (ahead_of y.window) text
       → Becomes shown a.name.now y.place u (ahead_of y.window) told what text made lines v → Completes shown a.name.now input (bytes_of_texts g.ps) x t f.front text made lines
   completed went.Document text made lines v front is =
@@ -495,7 +495,7 @@ module _ {a : AskedTexts} {input r r' d d' w w' : Option (List ℕ)} {n n' : Tex
         let part : TextPart = record { front = f.front; text = p.text ++ gap; made = p.made; lines = p.lines; behind = behind } in
         (part, refl, refl, has_more g d'' w'' n'' part next there p.is_written p.is_reported p.is_counted)
 
-    -- it has a fault, and the run stops behind it
+    -- it has a fault, and the run stops after it
     pub stops_fault : (left : Option (List ℕ)) → (what ≢ went.Document) × (a.keep_going ≡ false) → ReadsTexts a input left d d'' w w'' n n'' end.Stopped
     stops_fault left (other, asked) =
         let (q, made, lines, h) = last_part in
@@ -509,7 +509,7 @@ module _ {a : AskedTexts} {input r r' d d' w w' : Option (List ℕ)} {n n' : Tex
           is_counted = h.is_counted;
         }
 
-    -- reading fails behind it
+    -- reading fails after it
     pub fails_behind : (r'' : Option (List ℕ)) (q : Cursor) (e : TextEnd) → (what ≡ went.Document) ⊎ (a.keep_going ≡ true) → GoesOnTo r' r'' z q
         → FailsAt (q.window.offset + length (ahead_of q.window)) e → ReadsTexts a input r'' d d'' w w'' n n'' e
     fails_behind r'' q e asked goes is =
@@ -523,7 +523,7 @@ module _ {a : AskedTexts} {input r r' d d' w w' : Option (List ℕ)} {n n' : Tex
     pub halts_passed : HaltsTexts a.keep_going (style_of_fault a.style a.limit) a.name.now input d d'' w w'' n n''
     halts_passed = let (part, made, lines, h) = last_part in halts_has a input d d'' w w'' n n'' (g.ps ++ part ∷ []) h
 
-    -- nothing is passed behind it
+    -- nothing is passed after it
     goes_whole : IsPassedOver a.keep_going (record { front = f.front; text = p.text; made = p.made; lines = p.lines; behind = v })
         → IsDocument u p.text p.made p.lines v ⊎ IsRefused shown a.name.now y.place u p.text p.made p.lines v → GoesOnBehind a input r' d d'' w w'' n n'' z v
     goes_whole on is =
@@ -561,7 +561,7 @@ module _ {a : AskedTexts} {input r : Option (List ℕ)} (r' : Option (List ℕ))
 
 module _ {a : AskedTexts} {input r r' d d' w w' : Option (List ℕ)} {n n' : TextCounts} {x y : Cursor} {t u : Turn} {told : NextText}
     (g : GoesOnBehind a input r d d' w w' n n' x t) (f : FindsText r r' x y t u told) {z : Cursor} {v : Turn} {d'' w'' : Option (List ℕ)} {n'' : TextCounts} where
-  -- what is next is passed, and the bytes behind it
+  -- what is next is passed, and the bytes after it
   pub goes_next : (what : Went) (r'' : Option (List ℕ)) (q : Cursor) (s : Turn) → PassesText (style_of_fault a.style a.limit n') a.name.now told y z u v d' d'' w' w'' n' n'' what
       → PassesBehind what r' r'' z q v s → (what ≡ went.Document) ⊎ (a.keep_going ≡ true) → GoesOnBehind a input r'' d d'' w w'' n n'' q s
   goes_next went.Document r'' q s p same asked =

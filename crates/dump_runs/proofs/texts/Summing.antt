@@ -33,7 +33,7 @@ module _ (job : TextJob) (bytes_of : List ℕ → Option (List ℕ)) where
       → ReadsOver job bytes_of (map f names) first last
   reads_all f names i first last all reads = subst (λ (xs : List (List ℕ)). ReadsOver job bytes_of xs first last) (ap (map f) (take_all i names all)) reads
 
-  -- a failure comes behind the first of these
+  -- a failure comes after the first of these
   pub reads_front : {A : Type 0} (f : A → List ℕ) (names : List A) (i : ℕ) (first last : TextState) (d w : Option (List ℕ)) (n : TextCounts)
       → ReadsOver job bytes_of (map f (take i names)) first last → HaltsReading job bytes_of (map f (drop i names)) last d w n → ReadsFront job bytes_of (map f names) first d w n
   reads_front f names i first last d w n reads halts = record {
@@ -51,7 +51,7 @@ module _ (job : TextJob) (bytes_of : List ℕ → Option (List ℕ)) where
       → HaltsReading job bytes_of (map f (drop i names)) last d w n
   halts_next f names i x last d w n there halts = subst (λ xs. HaltsReading job bytes_of (map f xs) last d w n) (sym (drop_more names i x there)) halts
 
-  -- behind all of them
+  -- after all of them
   pub halts_behind : {A : Type 0} (f : A → List ℕ) (names : List A) (i : ℕ) (last : TextState) (d w : Option (List ℕ)) → length names ≤ i → Keeps last.out d
       → AppendsFront last.report w (text_summary job.style job.limit last.counts) → HaltsReading job bytes_of (map f (drop i names)) last d w last.counts
   halts_behind f names i last d w all kept front =

@@ -32,7 +32,7 @@ EndsLevels n may (Token.boolean b ∷ ts) = EndsLevels n true ts
 EndsLevels n may (Token.null ∷ ts) = EndsLevels n true ts
 EndsLevels n may (Token.bad ∷ ts) = ⊥
 
--- behind the end of the innermost level
+-- after the end of the innermost level
 abbrev EndsOther : ℕ → List Token → Type 0
 EndsOther n ts = ((n ≡ 1) × (ts ≡ [])) ⊎ ((1 < n) × EndsLevels (n - 1) true ts)
 
@@ -77,7 +77,7 @@ scan_in in_word n may = scan.Levels n may
 scan_in in_string n may = scan.Text n
 scan_in in_escape n may = scan.Escape n
 
--- what is so in this mode, where what is ahead of a word may be bare: behind a word or a string the scan lets no level begin
+-- what is so in this mode, where what is ahead of a word may be bare: after a word or a string the scan lets no level begin
 abbrev FitsMode : Mode → Type 0 → Bool → Type 0
 FitsMode between bare flag = Unit {0}
 FitsMode in_word bare flag = bare × (flag ≡ false)
@@ -100,7 +100,7 @@ no_end after_value n may h = h
 no_end after_comma n may h = h
 no_end after_key n may h = h
 
--- no byte comes behind these two
+-- no byte comes after these two
 torn_ends : (m : Mode) (xs : List ℕ) (p : Place) (n : ℕ) (may : Bool) → EndsLevels n may (punctuate p (lex m xs)) → EndsWhole scan.Torn xs
 unfolding lex
 torn_ends m [] p n may h = λ stays. absurd (no_end p n may h)
@@ -180,7 +180,7 @@ allowed : (b : Bool) (t : Token) (k : Place → List Token) (next : Place) (n : 
 allowed true t k next n may h = (refl, h)
 allowed false t k next n may h = absurd h
 
--- what comes behind a string or a word, where no level may begin
+-- what comes after a string or a word, where no level may begin
 abbrev GoesBehind : (k : Place → List Token) → ℕ → Type 0
 GoesBehind k n = (p : Place) × (may_begin p ≡ false) × EndsLevels n true (k p)
 

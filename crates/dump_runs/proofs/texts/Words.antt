@@ -103,7 +103,7 @@ bare_digits : (t : List ℕ) → IsBare (drop (prefix_len is_ascii_digit t) t) �
 bare_digits [] h = tt
 bare_digits (x ∷ xs) h = bare_digit (is_ascii_digit x) x (prefix_len is_ascii_digit xs) xs refl (bare_digits xs) h
 
--- so it is of what is behind a part of a number, if there is one
+-- so it is of what is after a part of a number, if there is one
 abbrev IsBareBehind : Option (List ℕ) → Type 0
 IsBareBehind None = ⊥
 IsBareBehind (Some rest) = IsBare rest

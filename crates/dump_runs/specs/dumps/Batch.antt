@@ -24,7 +24,7 @@ use Rattle.dump_commands.specs.declared.state.kept.Kept.{Kept}
 use Rattle.dump_io.specs.declared.input.status.Status.{Status}
 use Rattle.dump_io.specs.input.Done.{CutInput, cut_of, input_of}
 
--- the first input that isn't read to its end, where this one comes behind the others, and so much was counted of it
+-- the first input that isn't read to its end, where this one comes after the others, with what was counted of it
 abbrev pub first_cut : Option CutInput → Counts → CutInput → Option CutInput
 first_cut (Some cut) n input = Some cut
 first_cut None n input = cond (nat_lt 0 n.files) (Some input) None
@@ -46,7 +46,7 @@ state_of out report totals = record { out = out; report = report; counts = total
 abbrev pub start_of : (out report : Option (List ℕ)) → Kept → State
 start_of out report kept = record { out = out; report = report; counts = no_counts; kept = kept; cut = None }
 
--- no document was written, no digest is known, and no element was counted; places are kept where repeats are asked for, and so many
+-- no document was written, no digest is known, and no element was counted; places are kept where repeats are asked for, and this number of
 -- paths at most
 pub record KeepsNothing (repeats : Bool) (paths : ℕ) (kept : Kept) : Type 0 where
   pub none : written_count kept ≡ 0
@@ -66,7 +66,7 @@ all_line job command.List n kept = []
 all_line job command.Fields n kept = table_text (tabled kept) ++ summary_line job.style None job.limit command.Fields n (written_count kept)
 all_line job _ n kept = summary_line job.style None job.limit job.command n (written_count kept)
 
--- how many findings of an input are printed at most, before which so much was counted
+-- how many findings of an input are printed at most, where this was counted before it
 abbrev pub left_limit : Job → (before : Counts) → Option ℕ
 left_limit job before = option_map (λ most. most - before.findings) job.limit
 
@@ -75,7 +75,7 @@ abbrev pub style_behind : Job → (before : Counts) → Counts → Style
 style_behind job before = style_at job.style (left_limit job before)
 
 -- An input of which these bytes are known is opened, and run over, as far as it is asked for. Bytes could be passed over in it where
--- reading didn't fail. So much was counted before it.
+-- reading didn't fail. This was counted before it.
 pub record IsRun (job : Job) (before : Counts) (name : List ℕ) (input out_old out_new report_old report_new : Option (List ℕ)) (kept_old kept_new : Kept) (counts : Counts)
     (goes_on : Bool) : Type 0 where
   pub left : Option (List ℕ)
@@ -114,13 +114,13 @@ abbrev pub RunsOver : Job → (bytes_of : List ℕ → Option (List ℕ)) → Li
 RunsOver job bytes_of [] old new = new ≡ old
 RunsOver job bytes_of (name ∷ names) old new = (between : State) × CountsAnother job (bytes_of name) name old between × RunsOver job bytes_of names between new
 
--- The inputs of these names were run over, from this state on, and the line of all was written behind what they gave.
+-- The inputs of these names were run over, from this state on, and the line of all was written after what they gave.
 pub record RunsAll (job : Job) (bytes_of : List ℕ → Option (List ℕ)) (names : List (List ℕ)) (first last : State) (out_new report_new : Option (List ℕ)) : Type 0 where
   pub runs : RunsOver job bytes_of names first last
   pub out : Keeps last.out out_new
   pub report : Appends last.report report_new (all_line job job.command last.counts last.kept)
 
--- so much more is counted; nothing where a sum would be over the range of a count
+-- this is counted as well; nothing where a sum would be over the range of a count
 abbrev pub CountsMore : (counts_old counts counts_new : Counts) → Type 0
 CountsMore counts_old counts counts_new = (counts_new ≡ plus counts_old counts) ⊎ ((¬ AreInRange (plus counts_old counts)) × (counts_new ≡ counts_old))
 
@@ -140,7 +140,7 @@ HaltsBefore job bytes_of [] last out_new report_new counts_new =
 HaltsBefore job bytes_of (name ∷ names) last out_new report_new counts_new =
     HaltsWithin job name (bytes_of name) last.out out_new last.report report_new last.kept last.counts counts_new
 
--- Some of the inputs of these names were run over, from this state on, in order; and then a failure came, in the next, or behind all.
+-- Some of the inputs of these names were run over, from this state on, in order; and then a failure came, in the next, or after all.
 pub record RunsFront (job : Job) (bytes_of : List ℕ → Option (List ℕ)) (names : List (List ℕ)) (first : State) (out_new report_new : Option (List ℕ)) (counts_new : Counts) : Type 0 where
   pub passed : List (List ℕ)
   pub others : List (List ℕ)

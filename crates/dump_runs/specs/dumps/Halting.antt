@@ -1,4 +1,4 @@
--- What two writers hold behind a run over an input that fails: what parts of it give, and a front of what comes behind them.
+-- What two writers hold after a run over an input that fails: what parts of it give, and a front of what comes after them.
 use Rattle.std.specs.Prelude.{◌≡◌, ◌⊎◌, ◌++◌, ℕ, List, Bool, true, false, Option, Some, IfSome, drop, fold, length, take}
 use Rattle.std.specs.Io.KnownBytes.{Appends, Consumes}
 use Rattle.raw_resync.specs.Seeking.{no_work}
@@ -43,7 +43,7 @@ abbrev pub HaltsIn : Limits → Command → Style → List ℕ → ℕ → List 
 HaltsIn limits c style name offset b kept out_old out_new report_old report_new =
     (found : Finding) × (told : Option Account) × FindsFor limits c b found told × HaltsInside c style name offset b found told kept out_old out_new report_old report_new
 
--- A piece is next in s, the end of an input from this offset on, and is taken at its length; where searches before it cost so much.
+-- A piece is next in s, the end of an input from this offset on, and is taken at its length; with what searches before it cost.
 pub record IsNextPiece (limits : Limits) (resync : Bool) (s : List ℕ) (offset : ℕ) (work : Work) (b : List ℕ) : Type 0 where
   pub in_front : HasFront s b
   pub work_new : Work
@@ -91,7 +91,7 @@ HaltsOne limits any c style name offset b kept out_old out_new report_old report
     ⊎ ((found : Finding) × (told : Option Account) × FindsFor limits c b found told × (any ≡ false → ¬ MayBeDamaged found)
     × HaltsInside c style name offset b found told kept out_old out_new report_old report_new)
 
--- the same of the piece of so many bytes at the bytes ahead, where its length is believed
+-- the same of the first piece ahead, of this length, where that is believed
 abbrev pub HaltsBelieved : Limits → Command → Style → List ℕ → (len : ℕ) → (read_old : Option (List ℕ)) → (window_old : Window) → (work_old : Work) → Kept
     → (out_old out_new report_old report_new : Option (List ℕ)) → Type 0
 HaltsBelieved limits c style name len read_old window_old work_old kept out_old out_new report_old report_new =

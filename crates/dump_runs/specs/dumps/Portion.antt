@@ -1,4 +1,4 @@
--- Which documents of an input are asked for: those from an offset on, behind so many, and at most so many.
+-- Which documents of an input are asked for: those from an offset on, without the first few, and no more than a most.
 use Rattle.std.specs.Prelude.{◌≡◌, ◌⊎◌, ◌<◌, ◌+◌, ◌∷◌, ℕ, List, [], Bool, true, Option, IfSome, IsNone, Some, flat_map, length}
 use Rattle.raw_tree.specs.declared.reader.limits.Limits.{Limits}
 use Rattle.dump_runs.specs.dumps.Halting.{Halts}
@@ -29,7 +29,7 @@ IsRunOver (piece e) = Unit {0}
 IsRunOver (gap g) = Unit {0}
 IsRunOver (skipped b) = ⊥
 
--- the command is run over each of these parts, behind so many documents, and fewer than are asked for are before it
+-- the command is run over each of these parts, after this number of documents, and fewer than are asked for are before it
 abbrev pub AreAsked : Option ℕ → ℕ → List Part → Type 0
 AreAsked take count [] = Unit {0}
 AreAsked take count (q ∷ qs) = IsRunOver q × IfSome take (λ n. count < n) × AreAsked take (count + length (documents_of_part q)) qs
@@ -38,7 +38,7 @@ AreAsked take count (q ∷ qs) = IsRunOver q × IfSome take (λ n. count < n) ×
 abbrev pub IsEnough : Portion → List Part → Type 0
 IsEnough p ps = p.take ≡ Some (length (documents_of_parts ps))
 
--- These parts are what is in front of the documents that are asked for, and behind that parts which the command is run over: none, unless it
+-- These parts are what is in front of the documents that are asked for, and after that parts which the command is run over: none, unless it
 -- is all that is in front.
 pub record IsChosen (p : Portion) (most : ℕ) (input : Option (List ℕ)) (front : List ℕ) (ps : List Part) : Type 0 where
   pub in_front : IsInFront p most input front

@@ -64,7 +64,7 @@ findings_in c found = 0
 abbrev pub findings_of : Command → Outcome → ℕ
 findings_of c outcome = findings_in c outcome.finding + cond outcome.repeats 1 0
 
--- What is so of a piece at this offset. Behind what is reported of it is the line of a repeat, if it is one.
+-- What is so of a piece at this offset. After what is reported of it is the line of a repeat, if it is one.
 pub record IsEntry (limits : Limits) (c : Command) (style : Style) (name : List ℕ) (offset : ℕ) (e : Entry) : Type 0 where
   pub piece : IsPiece limits.bytes e.bytes
   pub found : FindsFor limits c e.bytes e.finding e.told
@@ -79,7 +79,7 @@ pub record IsEntry (limits : Limits) (c : Command) (style : Style) (name : List 
   pub counts : HasFields limits c (origin_at name offset) e.bytes e.finding e.fields
 
 -- A piece is in front of s, the end of an input from this offset on, and is taken at its length, where bytes may be passed over; and
--- what finding that out cost, where earlier searches cost so much.
+-- what finding that out cost, with what earlier searches cost.
 pub record IsTaken (limits : Limits) (resync : Bool) (s : List ℕ) (offset : ℕ) (work : Work) (e : Entry) : Type 0 where
   pub believed : resync ≡ true → IsBelieved limits s offset (length e.bytes) e.work
   pub spends : Spends limits s offset work e.work
@@ -93,9 +93,9 @@ pub record Gap : Type 0 where
   pub work : Work
   pub lines : List ℕ
 
--- What is so of a gap at this offset of an input, of which these bytes are known, where earlier searches cost so much: it is
+-- What is so of a gap at this offset of an input, of which these bytes are known, with what earlier searches cost: it is
 -- asked for, no document is in front of it, or a damaged one whose length isn't believed, and the next place at which documents are
--- found to go on is behind it.
+-- found to go on is after it.
 pub record IsGap (limits : Limits) (style : Style) (resync : Bool) (name : List ℕ) (input : Option (List ℕ)) (offset : ℕ) (work : Work) (g : Gap) : Type 0 where
   pub asked : resync ≡ true
   pub breaks : IfSome input (λ s. BreaksWith limits g.end (drop offset s))
@@ -139,13 +139,13 @@ fields_of_part (piece e) = e.fields
 fields_of_part (gap g) = []
 fields_of_part (skipped b) = []
 
--- what the searches cost behind a part
+-- what the searches cost after a part
 abbrev pub work_behind : Work → Part → Work
 work_behind work (piece e) = e.work
 work_behind work (gap g) = g.work
 work_behind work (skipped b) = work
 
--- what is so of a part at this offset of an input, where the searches before it cost so much
+-- what is so of a part at this offset of an input, with what the searches before it cost
 abbrev pub IsPart : Limits → Command → Style → (resync : Bool) → List ℕ → Option (List ℕ) → ℕ → Work → Part → Type 0
 IsPart limits c style resync name input offset work (piece e) = IsEntry limits c style name offset e × IfSome input (λ s. IsTaken limits resync (drop offset s) offset work e)
 IsPart limits c style resync name input offset work (gap g) = IsGap limits style resync name input offset work g
@@ -212,7 +212,7 @@ abbrev pub style_at : Style → Option ℕ → Counts → Style
 style_at shown None n = shown
 style_at shown (Some most) n = with_left shown (most - n.findings)
 
--- Parts one behind the other, the first of which begins at this offset of the input, where the searches before it cost so much, and this was
+-- Parts one after the other, the first of which begins at this offset of the input, with what the searches before it cost, and what was
 -- counted before it. How each is reported goes by what was counted before it.
 abbrev pub AreParts : Limits → Command → (Counts → Style) → (resync : Bool) → List ℕ → Option (List ℕ) → ℕ → Work → Counts → List Part → Type 0
 AreParts limits c style resync name input offset work n [] = Unit {0}
@@ -220,7 +220,7 @@ AreParts limits c style resync name input offset work n (p ∷ ps) =
     IsPart limits c (style n) resync name input offset work p
     × AreParts limits c style resync name input (offset + length (bytes_of_part p)) (work_behind work p) (count_part n p) ps
 
--- These parts were read, and behind them what is ahead; and of the parts this was written and counted, and nothing else. Known
+-- These parts were read, and after them what is ahead; and of the parts this was written and counted, and nothing else. Known
 -- bytes are those of a reader and two writers.
 pub record Passed (limits : Limits) (c : Command) (style : Counts → Style) (resync : Bool) (name ahead : List ℕ)
     (read_old read_new out_old out_new report_old report_new : Option (List ℕ)) (counts_old counts_new : Counts) (kept_old kept_new : Kept)
@@ -244,7 +244,7 @@ EndsAs limits resync false (Some end) None left read_new = EndsWith limits.bytes
 EndsAs limits resync false (Some end) (Some failed) left read_new = EndsWith limits.bytes end left × (resync ≡ false)
 
 -- How a run ends: parts were passed; then this was left, of which no part is made, and was counted, and its line was written. Where
--- reading failed, it failed behind it. What was known of the report and what was counted between the two is a part of it.
+-- reading failed, it failed after it. What was known of the report and what was counted between the two is a part of it.
 pub record EndsRun (limits : Limits) (c : Command) (style : Counts → Style) (resync : Bool) (name : List ℕ) (read_old read_new out_old out_new report_old report_new : Option (List ℕ))
     (counts_old counts_new : Counts) (kept_old kept_new : Kept) (failed : Option ReadFailure) : Type 0 where
   pub ps : List Part
@@ -267,7 +267,7 @@ pub record PassesGap (limits : Limits) (style : Style) (name : List ℕ) (end : 
   pub told : Appends report_old report_new (ending_line style name (offset_of window_old) end (rest.PassedOver skip))
   pub is_counted : counts_new ≡ count_gap counts_old skip.count
 
--- the document of so many bytes in front of the bytes ahead is passed, one that may be damaged only where any is
+-- the first document ahead, of this length, is passed, one that may be damaged only where any is
 pub record PassesFront (limits : Limits) (any : Bool) (c : Command) (style : Style) (name : List ℕ) (len : ℕ) (window_old window_new : Window)
     (out_old out_new report_old report_new : Option (List ℕ)) (counts_old counts_new : Counts) (kept_old kept_new : Kept) : Type 0 where
   pub window : IsWindow window_new
@@ -333,7 +333,7 @@ pub record PassesAll (limits : Limits) (c : Command) (style : Counts → Style) 
   pub passed : Passed limits c style resync name left read_old read_new out_old out_new report_old report_new counts_old counts_new kept_old kept_new ps
   pub stops : EndsParts limits resync stopped (length (bytes_of_parts ps)) read_new window_new left
 
--- The rest of an input, with which no document begins, is read: bytes that are ahead, and others behind them. They are so many.
+-- The rest of an input, with which no document begins, is read: bytes that are ahead, and others after them; and their number.
 pub record IsLeft (most : ℕ) (end : Ending) (read_old read_new : Option (List ℕ)) (ahead : List ℕ) (rest : Drained) : Type 0 where
   pub more : List ℕ
   pub is_read : (before : Option (List ℕ)) → Consumes before read_old ahead → Consumes before read_new (ahead ++ more)
@@ -341,7 +341,7 @@ pub record IsLeft (most : ℕ) (end : Ending) (read_old read_new : Option (List 
   pub len : length (ahead ++ more) ≡ rest.count
   pub to_end : IsNone rest.failure → IsAtEnd read_new
 
--- The rest of an input, with which no document begins, is counted, and its line is written. Reading fails behind it, or it is all.
+-- The rest of an input, with which no document begins, is counted, and its line is written. Reading fails after it, or it is all.
 pub record Leaves (limits : Limits) (style : Style) (name : List ℕ) (end : Ending) (window_old : Window) (read_old read_new report_old report_new : Option (List ℕ))
     (counts_old counts_new : Counts) (failed : Option ReadFailure) : Type 0 where
   pub more : List ℕ

@@ -20,18 +20,18 @@ abbrev pub HasDamage : Command → Counts → Type 0
 HasDamage command.Check n = (0 < n.damaged) ⊎ (0 < n.too_deep) ⊎ (0 < n.breached)
 HasDamage _ n = (0 < n.damaged) ⊎ (0 < n.too_deep)
 
--- how a run ends that counted so much, unless memory ran out or writing failed
+-- how a run ends with these counts, unless memory ran out or writing failed
 abbrev pub IsStatus : Command → Counts → Status → Type 0
 IsStatus c n status.Done = (¬ IsCut n) × (¬ HasDamage c n)
 IsStatus c n status.Damage = (¬ IsCut n) × HasDamage c n
 IsStatus c n status.Input = IsCut n
 IsStatus c n _ = ⊥
 
--- How a run ends where writing failed with this error, and so much was counted before: as without it where a pipe has no reader any more.
+-- How a run ends where writing failed with this error, after these counts: as without it where a pipe has no reader any more.
 abbrev pub IsWritingStatus : Command → Counts → Error → Status → Type 0
 IsWritingStatus c n e ended = ((error_kind e ≡ BrokenPipe) × IsStatus c n ended) ⊎ ((error_kind e ≢ BrokenPipe) × (ended ≡ status.Output))
 
--- how a run ends that fails, and counted so much before
+-- how a run ends that fails, after these counts
 abbrev pub IsFailureStatus : Command → Counts → Failure → Status → Type 0
 IsFailureStatus c n failure.Memory ended = ended ≡ status.Memory
 IsFailureStatus c n (failure.Writing e) ended = IsWritingStatus c n e ended

@@ -26,7 +26,7 @@ use Rattle.dump_runs.specs.declared.texts.reading.TextEnd.TheVariants as end
 use Rattle.dump_runs.specs.declared.texts.batch.TextJob.{TextJob}
 use Rattle.dump_runs.specs.declared.texts.batch.TextTotals.{TextTotals}
 
--- the faults that aren't told, where at most so many are
+-- the faults that aren't told, where there is a most
 abbrev pub hidden_faults : Option ℕ → TextCounts → Option ℕ
 hidden_faults limit n = option_map (λ most. n.refused - most) limit
 
@@ -47,24 +47,24 @@ text_summary style.Json limit n =
     )
 text_summary style.Quiet limit n = []
 
--- how a run ends that counted so much, unless memory ran out or writing failed
+-- how a run ends with these counts, unless memory ran out or writing failed
 abbrev pub IsTextStatus : TextCounts → Status → Type 0
 IsTextStatus n status.Done = (n.files ≡ 0) × (n.refused ≡ 0)
 IsTextStatus n status.Damage = (n.files ≡ 0) × (0 < n.refused)
 IsTextStatus n status.Input = 0 < n.files
 IsTextStatus n _ = ⊥
 
--- how a run ends where writing failed with this error, and so much was counted before: as without it where a pipe has no reader any more
+-- how a run ends where writing failed with this error, after these counts: as without it where a pipe has no reader any more
 abbrev pub IsTextWritingStatus : TextCounts → Error → Status → Type 0
 IsTextWritingStatus n e ended = ((error_kind e ≡ BrokenPipe) × IsTextStatus n ended) ⊎ ((error_kind e ≢ BrokenPipe) × (ended ≡ status.Output))
 
--- how a run ends that fails, and counted so much before
+-- how a run ends that fails, after these counts
 abbrev pub IsTextFailureStatus : TextCounts → Failure → Status → Type 0
 IsTextFailureStatus n failure.Memory ended = ended ≡ status.Memory
 IsTextFailureStatus n (failure.Writing e) ended = IsTextWritingStatus n e ended
 IsTextFailureStatus n (failure.Reading e) ended = IsTextWritingStatus n e ended
 
--- the first input that isn't read to its end, where this one comes behind the others
+-- the first input that isn't read to its end, where this one comes after the others
 abbrev pub first_text_cut : Option CutInput → CutInput → Option CutInput
 first_text_cut (Some cut) input = Some cut
 first_text_cut None input = Some input
@@ -121,7 +121,7 @@ abbrev pub ReadsOver : TextJob → (bytes_of : List ℕ → Option (List ℕ)) �
 ReadsOver job bytes_of [] old new = new ≡ old
 ReadsOver job bytes_of (name ∷ names) old new = (between : TextState) × ReadsInput job (bytes_of name) name old between × ReadsOver job bytes_of names between new
 
--- The inputs of these names were read, from this state on, and the line of all was written behind what they gave.
+-- The inputs of these names were read, from this state on, and the line of all was written after what they gave.
 pub record ReadsThem (job : TextJob) (bytes_of : List ℕ → Option (List ℕ)) (names : List (List ℕ)) (first last : TextState) (out_new report_new : Option (List ℕ)) : Type 0 where
   pub reads : ReadsOver job bytes_of names first last
   pub out : Keeps last.out out_new
@@ -134,7 +134,7 @@ HaltsReading job bytes_of [] last out_new report_new counts_new =
 HaltsReading job bytes_of (name ∷ names) last out_new report_new counts_new =
     HaltsTexts job.keep_going (style_of_fault job.style job.limit) name (bytes_of name) last.out out_new last.report report_new last.counts counts_new
 
--- Some of the inputs of these names were read, from this state on, in order; and then a failure came, in the next, or behind all.
+-- Some of the inputs of these names were read, from this state on, in order; and then a failure came, in the next, or after all.
 pub record ReadsFront (job : TextJob) (bytes_of : List ℕ → Option (List ℕ)) (names : List (List ℕ)) (first : TextState) (out_new report_new : Option (List ℕ))
     (counts_new : TextCounts) : Type 0 where
   pub passed : List (List ℕ)

@@ -27,7 +27,7 @@ pub record LooksOn (old new : Option (List ℕ)) (cursor_old cursor_new : Cursor
   pub offset : offset_of cursor_new.window ≡ offset_of cursor_old.window
   pub looks : ReadsAhead old new (ahead_of cursor_old.window) (ahead_of cursor_new.window)
 
--- so it is, and so many bytes are ahead; or fewer, and the input is at its end
+-- so it is, and as many bytes are ahead as are wanted; or fewer, and the input is at its end
 pub record LooksFar (old new : Option (List ℕ)) (cursor_old cursor_new : Cursor) (want : ℕ) (is_there : Bool) : Type 0 where
   pub on : LooksOn old new cursor_old cursor_new
   pub there : is_there ≡ true → want ≤ length (ahead_of cursor_new.window)
@@ -49,7 +49,7 @@ pub record Advances (old new : Option (List ℕ)) (cursor_old cursor_new : Curso
 abbrev pub GoesOnTo : (old new : Option (List ℕ)) → (cursor_old cursor_new : Cursor) → Type 0
 GoesOnTo old new cursor_old cursor_new = (bytes : List ℕ) × Advances old new cursor_old cursor_new bytes
 
--- so many bytes that are ahead were passed
+-- this number of the bytes ahead were passed
 abbrev pub PassesAhead : (cursor_old cursor_new : Cursor) → ℕ → Type 0
 PassesAhead cursor_old cursor_new count =
     IsWindow cursor_new.window × (ahead_of cursor_new.window ≡ drop count (ahead_of cursor_old.window))

@@ -34,7 +34,7 @@ use Rattle.dump_io.specs.declared.input.turn.Turn.{Turn}
 use Rattle.dump_io.specs.declared.input.turn.Turn.TheVariants as turn
 
 -- A part of an input: what is between documents; the text of one, or what is passed in its place; the document that is written of it,
--- if one is; the line of its fault, if it has one; and what may come behind it.
+-- if one is; the line of its fault, if it has one; and what may come after it.
 pub record TextPart : Type 0 where
   pub front : List ℕ
   pub text : List ℕ
@@ -60,14 +60,14 @@ pub record IsDocument (before : Turn) (text : List ℕ) (made : List (List ℕ))
   pub quiet : lines ≡ []
   pub next : behind ≡ turn_behind_document before
 
--- the line of a fault that is so many bytes behind this place
+-- the line of a fault that is this number of bytes after this place
 pub record TellsTextFault (style : Style) (name : List ℕ) (place : Position) (text lines : List ℕ) : Type 0 where
   pub at : ℕ
   pub within : at ≤ length text
   pub reason : TextReason
   pub told : lines ≡ fault_line style name (position_over place (take at text)) reason
 
--- Why a text isn't read that has a fault behind so many bytes: from there on it isn't UTF-8; or it is UTF-8 and says no document, unless its
+-- Why a text isn't read that has a fault after its first bytes, which are this many: from there on it isn't UTF-8; or it is UTF-8 and says no document, unless its
 -- reason leaves that open. Which of these reasons it is, and where, is what from_json says of it.
 abbrev pub IsFaultOf : List ℕ → ℕ → TextReason → Type 0
 IsFaultOf text at reason.NotUtf8 = IsValidUpTo text at
@@ -83,19 +83,19 @@ pub record IsRefused (style : Style) (name : List ℕ) (place : Position) (befor
   pub why : IsFaultOf text fault.at fault.reason
   pub next : behind ≡ turn_behind_document before
 
--- What is wrong with a text that doesn't come to its end, where these bytes are read for it, and so many begun: there are 128 MiB; or they
+-- What is wrong with a text that doesn't come to its end, where these bytes are read for it, and this number of them begun: there are 128 MiB; or they
 -- have a fault, whose place is told within what is begun.
 abbrev pub IsUnendedFault : (text : List ℕ) → (begun at : ℕ) → TextReason → Type 0
 IsUnendedFault text begun at why =
     ((length text ≡ 2 ^ 27) × (at ≡ 0) × (why ≡ reason.Json json.TooManyBytes))
     ⊎ ((length text < 2 ^ 27) × ((place : ℕ) × IsFaultOf text place why × (at ≡ min place begun)))
 
--- The text of a document in front of s doesn't come to its end, and says no document: so many bytes of it are begun, and behind so many it
+-- The text of a document in front of s doesn't come to its end, and says no document: this number of its bytes are begun, and after at of them it
 -- has this fault.
 abbrev pub IsUnended : (s : List ℕ) → (begun at : ℕ) → TextReason → Type 0
 IsUnended s begun at why = (text : List ℕ) × IsTextOf s text × (¬ IsOneText text) × SaysNone text × HasBegun text begun × IsUnendedFault text begun at why
 
--- Why no whole text is in front of s, of which so many bytes are begun, and behind how many of them: the input ends where it may not; a
+-- Why no whole text is in front of s, of which this number of bytes are begun, and after how many of them: the input ends where it may not; a
 -- byte can't be there; or a text doesn't come to its end.
 abbrev pub HasNoText : (before : Turn) → (s : List ℕ) → (begun at : ℕ) → TextReason → Type 0
 HasNoText before [] begun at why = (may_end before ≡ false) × (begun ≡ 0) × (at ≡ 0) × (why ≡ reason.Json json.EndOfText)
@@ -104,7 +104,7 @@ HasNoText before (b ∷ bs) begun at why =
     ⊎ ((b ≡ 123) × (may_begin before ≡ true) × IsUnended (b ∷ bs) begun at why)
 
 -- No text of a document is at this offset of an input, of which these bytes are known, or one that doesn't come to its end. What there is
--- of it is passed, and the bytes behind it up to the next line that begins with a brace, or to the end of the input.
+-- of it is passed, and the bytes after it up to the next line that begins with a brace, or to the end of the input.
 pub record MeetsNoText (style : Style) (name : List ℕ) (input : Option (List ℕ)) (offset : ℕ) (place : Position) (before : Turn) (text : List ℕ)
     (made : List (List ℕ)) (lines : List ℕ) (behind : Turn) : Type 0 where
   pub begun : List ℕ
@@ -136,7 +136,7 @@ made_of_texts ps = flat_map (λ p. joined p.made) ps
 abbrev pub lines_of_texts : List TextPart → List ℕ
 lines_of_texts ps = flat_map (λ p. p.lines) ps
 
--- what may come behind these parts
+-- what may come after these parts
 abbrev pub turn_behind_texts : Turn → List TextPart → Turn
 turn_behind_texts t ps = fold (λ _ p. p.behind) t ps
 
@@ -163,16 +163,16 @@ count_text n p = count_made n p.made
 abbrev pub count_file : TextCounts → TextCounts
 count_file n = record n { files = n.files + 1 }
 
--- parts come behind this one: it is a document, or that is asked for
+-- parts come after this one: it is a document, or that is asked for
 abbrev pub IsPassedOver : (keep_going : Bool) → TextPart → Type 0
 IsPassedOver keep_going p = ((document : List ℕ) × (p.made ≡ document ∷ [])) ⊎ (keep_going ≡ true)
 
--- how a fault is told, where so much was counted before it: not at all behind as many as are asked for
+-- how a fault is told, where this was counted before it: not at all after as many as are asked for
 abbrev pub style_of_fault : Style → Option ℕ → TextCounts → Style
 style_of_fault shown None n = shown
 style_of_fault shown (Some most) n = with_left shown (most - n.refused)
 
--- Parts one behind the other, the first of which begins at this offset of an input, of which these bytes are known, and at this place, and
+-- Parts one after the other, the first of which begins at this offset of an input, of which these bytes are known, and at this place, and
 -- this was counted before it. How a fault is told goes by what was counted before it.
 abbrev pub AreTexts : (keep_going : Bool) → (TextCounts → Style) → List ℕ → Option (List ℕ) → (offset : ℕ) → Position → Turn → TextCounts → List TextPart → Type 0
 AreTexts keep_going style name input offset place before n [] = Unit {0}
@@ -180,8 +180,8 @@ AreTexts keep_going style name input offset place before n (p ∷ ps) =
     IsTextPart (style n) name input offset place before p × ((ps ≡ []) ⊎ IsPassedOver keep_going p)
     × AreTexts keep_going style name input (offset + length (bytes_of p)) (position_over place (bytes_of p)) p.behind (count_text n p) ps
 
--- How a run over these parts ends, where the input is known to be s, and the reader has this left: behind them is only what may be between
--- documents, and the input may end there, and is read; a fault is the last part; or reading failed, behind so many bytes.
+-- How a run over these parts ends, where the input is known to be s, and the reader has this left: after them is only what may be between
+-- documents, and the input may end there, and is read; a fault is the last part; or reading failed, after this number of bytes.
 abbrev pub EndsAs : TextEnd → List TextPart → (left : Option (List ℕ)) → List ℕ → Type 0
 EndsAs end.End ps left s =
     (behind : List ℕ) × (last : Turn) × (s ≡ bytes_of_texts ps ++ behind) × (turn_over (turn_behind_texts turn.First ps) behind ≡ Some last) × (may_end last ≡ true)
@@ -189,7 +189,7 @@ EndsAs end.End ps left s =
 EndsAs end.Stopped ps left s = HasFront s (bytes_of_texts ps)
 EndsAs (end.Failed failure) ps left s = HasFront s (bytes_of_texts ps) × ((read : List ℕ) × Consumes (Some s) left read × (failure.at ≡ length read))
 
--- parts may come behind the last of these
+-- parts may come after the last of these
 abbrev pub LastGoesOn : (keep_going : Bool) → List TextPart → Type 0
 LastGoesOn keep_going ps = (before : List TextPart) (p : TextPart) → ps ≡ before ++ p ∷ [] → IsPassedOver keep_going p
 
@@ -210,7 +210,7 @@ pub record ReadsTexts (asked : AskedTexts) (input left out_old out_new report_ol
   pub is_reported : Appends report_old report_new (lines_of_texts ps)
   pub is_counted : counts_new ≡ fold count_text counts_old ps
 
--- nothing is written behind these parts, or a front of what one more gives
+-- nothing is written after these parts, or a front of what one more gives
 abbrev pub HaltsBehind : (keep_going : Bool) → (TextCounts → Style) → List ℕ → (input : Option (List ℕ)) → TextCounts → List TextPart
     → (out_old out_new report_old report_new : Option (List ℕ)) → Type 0
 HaltsBehind keep_going style name input n ps out_old out_new report_old report_new =
@@ -234,7 +234,7 @@ pub record HaltsTexts (keep_going : Bool) (style : TextCounts → Style) (name :
 
 -- What the code tells of one part. No public contract cites what follows.
 
--- no whole text is in front of these bytes, of which this was told: so many are begun, and behind so many is this fault
+-- no whole text is in front of these bytes, of which this was told: begun of them are begun, and after at of them is this fault
 abbrev pub TellsNoText : (ahead : List ℕ) → NextText → (begun at : ℕ) → TextReason → Type 0
 TellsNoText ahead (next.Text found) begun at why =
     (¬ IsOneText (take found.len ahead)) × HasBegun (take found.len ahead) begun × IsUnendedFault (take found.len ahead) begun at why
@@ -298,12 +298,12 @@ abbrev pub IsMadeOf : List ℕ → Made → Type 0
 IsMadeOf text (made.Document document) = Gives text document
 IsMadeOf text (made.Fault at reason) = (at ≤ length text) × IsFaultOf text at reason
 
--- bytes are passed behind what was no whole text, and none behind another part
+-- bytes are passed after what was no whole text, and none after another part
 abbrev pub PassesBehind : Went → (old new : Option (List ℕ)) → (cursor_old cursor_new : Cursor) → (turn_old turn_new : Turn) → Type 0
 PassesBehind went.Astray old new cursor_old cursor_new turn_old turn_new = PassesGap old new cursor_old cursor_new turn_old turn_new
 PassesBehind _ old new cursor_old cursor_new turn_old turn_new = (new ≡ old) × (cursor_new ≡ cursor_old) × (turn_new ≡ turn_old)
 
--- reading failed behind so many bytes
+-- reading failed after this number of bytes
 abbrev pub FailsAt : ℕ → TextEnd → Type 0
 FailsAt at (end.Failed failure) = failure.at ≡ at
 FailsAt at _ = ⊥

@@ -38,7 +38,7 @@ pub struct Totals<'a> {
 }
 
 impl<'a> Totals<'a> {
-    /// Nothing was read. Elements of at most so many paths will be counted.
+    /// Nothing was read. Elements of at most `paths` paths will be counted.
     fn new(alloc: Global, repeats: bool, paths: usize) -> Totals<'a>
         ensures counts { result.counts ≡ no_counts }
         ensures kept { KeepsNothing repeats paths result.kept }
@@ -51,7 +51,7 @@ impl<'a> Totals<'a> {
         }
     }
 
-    /// So many were read of one input more.
+    /// One input more, with these counts.
     fn add(&mut self, name: &'a str, counts: Counts, goes_on: bool) -> Result<(), Failure>
         ensures counted { OnOk result (self.new.counts ≡ plus self.old.counts counts) }
         ensures uncounted { OnErr result ((¬ AreInRange (plus self.old.counts counts)) × (self.new.counts ≡ self.old.counts)) }
@@ -210,7 +210,7 @@ fn run_open<'a, I: Inputs, D: Write, W: Write>(
     Ok(counts)
 }
 
-/// How many findings of an input are printed at most, before which so much was counted.
+/// How many findings of an input are printed at most, where this was counted before it.
 fn left_of(job: Job<'_>, before: Counts) -> Option<u64>
     ensures { result ≡ left_limit job.entry before }
 {
@@ -317,7 +317,7 @@ fn put_fields<W: Write>(
     )
 }
 
-/// How a run ends that fails, and counted so many. A pipe whose reader is gone changes nothing.
+/// How a run ends that fails, after these counts. A pipe whose reader is gone changes nothing.
 fn status_of_failure(command: Command<'_>, counts: Counts, failure: &Failure) -> Status
     ensures { IsFailureStatus command.entry counts failure.now result }
 {
@@ -333,7 +333,7 @@ fn status_of_failure(command: Command<'_>, counts: Counts, failure: &Failure) ->
     }
 }
 
-/// How a run ends that counted so many.
+/// How a run ends with these counts.
 fn status_of(command: Command<'_>, counts: Counts) -> Status
     ensures { IsStatus command.entry counts result }
 {

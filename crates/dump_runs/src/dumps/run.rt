@@ -43,7 +43,7 @@ pub struct Asked<'a> {
     pub command: Command<'a>,
     /// how what is found is printed
     pub style: Style,
-    /// at most so many findings are printed
+    /// how many findings are printed at most
     pub limit: Option<u64>,
     /// whether bytes are passed over where no document begins
     pub resync: bool,
@@ -56,7 +56,7 @@ pub struct Asked<'a> {
 }
 
 impl<'a> Asked<'a> {
-    /// The same of what is next, where so much was counted: nothing is printed where enough was.
+    /// The same of what is next, after these counts: nothing is printed where enough was.
     fn at(self, counts: Counts) -> Asked<'a>
         ensures { result ≡ record self.entry { style = style_at self.entry.style self.entry.limit counts } }
     {
@@ -255,7 +255,7 @@ fn rest_of<R: Read>(ending: Ending, reader: &mut R, window: &mut Window) -> Resu
     }
 }
 
-/// That reading failed behind so many bytes, where it did.
+/// That reading failed after `at` bytes, where it did.
 fn failure_at(at: u64, error: Option<io::Error>) -> Option<ReadFailure>
     ensures none { IsNone result → IsNone error }
     ensures at { IfSome result (λ failure. failure.at ≡ at) }
@@ -304,7 +304,7 @@ fn pass_next<'a, R: Read, D: Write, W: Write>(
     Ok(Next::End(Ending::WrongLength(len)))
 }
 
-/// Passes the document of so many bytes in front of the bytes ahead, which may be damaged, where its length is believed, and returns whether
+/// Passes the first document ahead, of `len` bytes, which may be damaged, where its length is believed, and returns whether
 /// it is.
 fn pass_believed<'a, R: Read, D: Write, W: Write>(
     alloc: Global,
@@ -333,7 +333,7 @@ fn pass_believed<'a, R: Read, D: Write, W: Write>(
     pass_front(alloc, asked, true, len, window, out, report, counts, kept)
 }
 
-/// Passes the document of so many bytes in front of the bytes ahead, and returns whether it did: one that may be damaged is passed
+/// Passes the first document ahead, of `len` bytes, and returns whether it did: one that may be damaged is passed
 /// where any is.
 fn pass_front<'a, D: Write, W: Write>(
     alloc: Global,

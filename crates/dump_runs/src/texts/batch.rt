@@ -29,9 +29,9 @@ use std::io::{ErrorKind, Write};
 pub struct TextJob {
     /// how what is found is printed
     pub style: Style,
-    /// whether reading goes on behind a fault
+    /// whether reading goes on after a fault
     pub keep_going: bool,
-    /// at most so many faults are told
+    /// how many faults are told at most
     pub limit: Option<u64>,
 }
 
@@ -244,7 +244,7 @@ fn words_of(alloc: Global, limit: Option<u64>, counts: TextCounts) -> Result<Vec
     Ok(line)
 }
 
-/// The faults that weren't told, where at most so many are.
+/// The faults that weren't told, where at most `limit` are.
 fn hidden(limit: Option<u64>, counts: TextCounts) -> Option<u64>
     ensures { result ≡ hidden_faults limit counts }
 {
@@ -278,7 +278,7 @@ fn object_of(alloc: Global, limit: Option<u64>, counts: TextCounts) -> Result<Ve
     ended(object)
 }
 
-/// How a run ends that fails, and counted so many. A pipe whose reader is gone changes nothing.
+/// How a run ends that fails, after these counts. A pipe whose reader is gone changes nothing.
 fn status_of_failure(counts: TextCounts, failure: &Failure) -> Status
     ensures { IsTextFailureStatus counts failure.now result }
 {
@@ -294,7 +294,7 @@ fn status_of_failure(counts: TextCounts, failure: &Failure) -> Status
     }
 }
 
-/// How a run ends that counted so many.
+/// How a run ends with these counts.
 fn status_of(counts: TextCounts) -> Status
     ensures { IsTextStatus counts result }
 {

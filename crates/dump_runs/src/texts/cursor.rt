@@ -53,7 +53,7 @@ impl Cursor {
         }
     }
 
-    /// Reads on until so many bytes are ahead, or the input ends, and returns whether they are.
+    /// Reads on until `want` bytes are ahead, or the input ends, and returns whether they are.
     fn look<R: Read>(&mut self, reader: &mut R, want: usize) -> Result<bool, Failure>
         requires { IsWindow self.old.window × (want < 2 ^ 32) }
         ensures looks { IfOk result (LooksFar (R.remaining reader.old) (R.remaining reader.new) self.old self.new want) }
@@ -74,7 +74,7 @@ impl Cursor {
         Ok(self.window.ahead().first().copied())
     }
 
-    /// Passes so many bytes.
+    /// Passes `len` bytes.
     pub fn pass(&mut self, len: usize) -> Result<(), Failure>
         requires { IsWindow self.old.window × (len ≤ length (ahead_of self.old.window)) }
         ensures passed { OnOk result (PassesAhead self.old self.new len) }
@@ -85,7 +85,7 @@ impl Cursor {
         self.window.pass(len)
     }
 
-    /// Passes what may be between documents, and returns the byte behind it.
+    /// Passes what may be between documents, and returns the byte after it.
     fn pass_between<R: Read>(
         &mut self,
         reader: &mut R,

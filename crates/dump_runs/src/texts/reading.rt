@@ -34,16 +34,16 @@ use std::{io, str};
 pub struct AskedTexts<'a> {
     /// how what is found is printed
     pub style: Style,
-    /// at most so many faults are told
+    /// how many faults are told at most
     pub limit: Option<u64>,
-    /// whether reading goes on behind a fault
+    /// whether reading goes on after a fault
     pub keep_going: bool,
     /// its name, which begins each line
     pub name: &'a str,
 }
 
 impl<'a> AskedTexts<'a> {
-    /// The same of what is next, where so much was counted: no fault is told where enough were.
+    /// The same of what is next, after these counts: no fault is told where enough were.
     fn at(self, counts: TextCounts) -> AskedTexts<'a>
         ensures { result ≡ record self.entry { style = style_of_fault self.entry.style self.entry.limit counts } }
     {
@@ -86,12 +86,12 @@ pub enum Went {
 enum Made {
     /// its bytes
     Document(RawDocumentBuf),
-    /// nothing: so many bytes behind its beginning it has a fault
+    /// nothing: this number of bytes after its beginning it has a fault
     Fault(usize, TextReason),
 }
 
-/// Reads the documents of an input of texts, one behind the other or the items of one array, writes their bytes, and reports in a
-/// line what is wrong with a text. A fault ends the run, unless it is asked to go on: behind the text, where that is whole, else at
+/// Reads the documents of an input of texts, one after the other or the items of one array, writes their bytes, and reports in a
+/// line what is wrong with a text. A fault ends the run, unless it is asked to go on: after the text, where that is whole, else at
 /// the next line that begins with a brace.
 pub fn read_texts<R: Read, D: Write, W: Write>(
     alloc: Global,
@@ -136,7 +136,7 @@ pub fn read_texts<R: Read, D: Write, W: Write>(
     Err(Failure::Writing(io::Error::from(io::ErrorKind::FileTooLarge)))
 }
 
-/// Whether a run stops behind this.
+/// Whether a run stops after this.
 fn stops(keep_going: bool, went: Went) -> bool
     ensures { MatchBool result ((went ≢ Document) × (keep_going ≡ false)) ((went ≡ Document) ⊎ (keep_going ≡ true)) }
 {
@@ -146,7 +146,7 @@ fn stops(keep_going: bool, went: Went) -> bool
     }
 }
 
-/// That reading failed, behind so many bytes.
+/// That reading failed, and after how many bytes.
 fn stopped(cursor: &Cursor, failure: Failure) -> Result<TextEnd, Failure>
     requires { IsReading failure → IsWindow cursor.now.window }
     ensures stops { IfOk result (λ end. IsReading failure × FailsAt (offset_of cursor.now.window + length (ahead_of cursor.now.window)) end) }
@@ -161,7 +161,7 @@ fn stopped(cursor: &Cursor, failure: Failure) -> Result<TextEnd, Failure>
     }
 }
 
-/// Passes the bytes behind what was passed, where that was no whole text.
+/// Passes the bytes after what was passed, where that was no whole text.
 fn pass_behind<R: Read>(
     went: Went,
     reader: &mut R,
@@ -256,7 +256,7 @@ fn made_of(alloc: Global, text: &[u8]) -> Result<Made, Failure>
     }
 }
 
-/// Where and why a text has a fault that doesn't come to its end, of which so many bytes were read, and so many are begun, and this fault
+/// Where and why a text has a fault that doesn't come to its end, of which `len` bytes were read, `begun` are begun, and this fault
 /// was found.
 fn fault_of(len: usize, begun: usize, at: usize, reason: TextReason) -> (usize, TextReason)
     requires { len ≤ 2 ^ 27 }
@@ -293,7 +293,7 @@ fn pass_document<D: Write>(
     Ok(Went::Document)
 }
 
-/// Tells the fault of a whole text, which is so many bytes behind its beginning, and passes the text.
+/// Tells the fault of a whole text, `at` bytes after its beginning, and passes the text.
 fn pass_refused<W: Write>(
     alloc: Global,
     asked: AskedTexts<'_>,
@@ -315,7 +315,7 @@ fn pass_refused<W: Write>(
     Ok(Went::Refused)
 }
 
-/// Tells why no whole text is there, so many bytes behind the place, and passes what there is of one.
+/// Tells why no whole text is there, `at` bytes after the place, and passes what there is of one.
 fn pass_astray<W: Write>(
     alloc: Global,
     asked: AskedTexts<'_>,
@@ -338,7 +338,7 @@ fn pass_astray<W: Write>(
     Ok(Went::Astray)
 }
 
-/// Tells a fault that is so many bytes behind the place, counts it, and passes so many bytes.
+/// Tells a fault that is `at` bytes after the place, counts it, and passes `len` bytes.
 fn tell_fault<W: Write>(
     alloc: Global,
     asked: AskedTexts<'_>,
@@ -367,7 +367,7 @@ fn tell_fault<W: Write>(
     Ok(())
 }
 
-/// The line of a fault that is so many bytes behind the place.
+/// The line of a fault that is `at` bytes after the place.
 fn line_at(
     alloc: Global,
     asked: AskedTexts<'_>,

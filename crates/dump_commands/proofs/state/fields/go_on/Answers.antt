@@ -4,7 +4,7 @@ use Rattle.dump_io.proofs.Face.{on_ok}
 use Rattle.dump_commands.proofs.state.Prefixes.{gone_on, innermost_left, last_of}
 use Rattle.dump_commands.proofs.state.fields.go_on.Goals as goal
 
--- behind the step these are the levels around the element, and their paths begin what its path is
+-- after the step these are the levels around the element, and their paths begin what its path is
 gone : (c : goal.After-push_bytes) → c.push_bytes.new.text.items ≡ c.truncate-2.new.self.items ++ c.step.result.now
     → (levels_of c.push_bytes.new.text.items c.truncate.new.self.items ≡ levels_around (levels_of c.args.path.now.items c.args.levels.now.items) c.args.token)
     × AreLevels c.push_bytes.new.text.items c.truncate.new.self.items

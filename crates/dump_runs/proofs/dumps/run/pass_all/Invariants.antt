@@ -4,7 +4,7 @@ use Rattle.dump_runs.specs.dumps.Run.{style_at}
 use Rattle.dump_runs.proofs.dumps.Choosing.{HasPassedPortion}
 use Rattle.dump_runs.proofs.dumps.run.pass_all.Given as goal
 
--- parts were passed, and the next one begins behind them
+-- parts were passed, and the next one begins after them
 abbrev pub invariant-loop : goal.invariant-loop
 invariant-loop g l =
     IsWindow l.window × IsWork l.work

@@ -2,7 +2,7 @@ use Rattle.dump_io.specs.input.Reading.{IsWindow}
 use Rattle.dump_runs.proofs.texts.Passing.{GoesOnBehind}
 use Rattle.dump_runs.proofs.texts.reading.read_texts.Given as goal
 
--- parts were passed, and others may come behind them
+-- parts were passed, and others may come after them
 abbrev pub invariant-loop : goal.invariant-loop
 invariant-loop g l =
     IsWindow l.cursor.window

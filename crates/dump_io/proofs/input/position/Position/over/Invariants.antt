@@ -3,7 +3,7 @@ use Rattle.dump_io.specs.input.Texts.{position_over}
 use Rattle.dump_io.specs.declared.input.position.Position.{Position}
 use Rattle.dump_io.proofs.input.position.Position.over.Given as goal
 
--- the place behind the bytes so far
+-- the place after the bytes so far
 abbrev pub invariant-loop-byte : goal.invariant-loop-byte
 invariant-loop-byte l =
     let here : Position = record { line = l.line; column = l.column } in
