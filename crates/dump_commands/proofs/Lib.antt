@@ -5,5 +5,3 @@ mod Reported
 mod Counted
 mod Endings
 pub mod Face
-mod elements
-mod state

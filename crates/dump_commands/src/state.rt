@@ -3,6 +3,8 @@
 
 mod fields;
 pub mod kept;
+mod path_lines;
 pub mod paths;
+mod rows;
 
 pub use fields::tokens_of;

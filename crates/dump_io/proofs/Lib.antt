@@ -1,3 +1,1 @@
 pub mod Face
-mod input
-mod lines

@@ -1,2 +1,0 @@
-mod dumps
-mod texts

@@ -12,7 +12,7 @@ use Rattle.raw_tree.specs.declared.reader.limits.Limits.{Limits}
 use Rattle.raw_view.specs.declared.element_type.ElementType.{ElementType}
 use Rattle.dump_commands.specs.state.Fields.{Field, Table, kind_words, kinds, kinds_text, leave_out, numbers_text, rows_text, row_line, with_field, with_path, with_value}
 use Rattle.dump_io.specs.lines.Origins.{Origin}
-use Rattle.dump_commands.specs.declared.state.paths.Row.{Row}
+use Rattle.dump_commands.specs.declared.state.rows.Row.{Row}
 
 -- tokens
 

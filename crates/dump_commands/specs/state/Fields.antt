@@ -12,7 +12,7 @@ use Rattle.dump_io.specs.lines.Origins.{Origin, origin_of}
 use Rattle.dump_commands.specs.declared.state.fields.Level.{Level}
 use Rattle.dump_commands.specs.declared.state.kept.Kept.{Kept}
 use Rattle.dump_commands.specs.declared.state.paths.Paths.{Paths}
-use Rattle.dump_commands.specs.declared.state.paths.Row.{Row}
+use Rattle.dump_commands.specs.declared.state.rows.Row.{Row}
 
 -- the elements of a level: what their paths begin with, and whether they are those of an array
 pub record Around : Type 0 where

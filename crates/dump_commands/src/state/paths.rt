@@ -1,36 +1,22 @@
 //! What was counted of the values under each path.
 #![tactic(auto)]
 
-ghost use Rattle.std.specs.Prelude.{◌≡◌, ◌<◌, ◌+◌, ◌++◌, ◌^◌, ◌≤◌, None, Some, false, true, bytes_eq, cond, IfErr, IfOk, IfSome, IsNone, OnOk, get_or, length, min, nat_eq, position, set};
+ghost use Rattle.std.specs.Prelude.{◌≡◌, ◌<◌, ◌+◌, ◌++◌, None, Some, false, true, bytes_eq, IfErr, IfOk, IsNone, OnOk, get_or, length, min, position, set};
 ghost use Rattle.indexmap.specs.IndexSet.{contains_by};
-ghost use Rattle.dump_commands.specs.state.Fields.{count_value, first_text, kind_place, kind_words, kinds_text, leave_out, next_document, no_row, no_table, numbers_text, row_line, rows_text, table_of, table_text, with_field, with_path, with_value};
+ghost use Rattle.dump_commands.specs.state.Fields.{count_value, leave_out, next_document, no_row, no_table, rows_text, table_of, table_text, with_field, with_path, with_value};
 ghost use Rattle.dump_io.specs.lines.Failing.{IsReading};
 ghost use Rattle.dump_io.specs.lines.Origins.{origin_of};
 
+use crate::state::path_lines::push_row;
+use crate::state::rows::Row;
 use dump_io::lines::failure::{Failure, in_range};
 use dump_io::lines::origin::Origin;
-use dump_io::lines::quote::push_quoted;
 use dump_io::lines::text::{push_number, push_words};
-use dump_io::lines::value::push_kind;
 use indexmap::IndexSet;
-use raw_view::ElementType;
 use std::alloc::{AllocError, Global};
 
 /// How long a path may be, in bytes: a longer one is left out.
 const LONGEST: usize = 4096;
-
-/// What was counted of the values under a path.
-#[derive(Clone, Copy)]
-pub struct Row {
-    /// how many there are of each kind, at the place of the kind
-    pub kinds: [u64; 22],
-    /// how many documents they are in
-    pub documents: u64,
-    /// the number of the last of these, counted from 1
-    pub last: u64,
-    /// how many bytes the longest of them has
-    pub longest: u32,
-}
 
 /// The paths of elements, in the order of their first ones, and what was counted of each.
 #[derive(Drop)]
@@ -47,59 +33,6 @@ pub struct Paths<'a> {
     left_out: u64,
     /// the number of the path that comes next, if elements come as in the document before
     guess: usize,
-}
-
-/// The place of a kind with this tag in a row.
-fn place_of(tag: u32) -> usize
-    ensures place { result ≡ kind_place tag }
-    ensures within { result < 22 }
-{
-    if tag < 20 {
-        tag as usize
-    } else if tag == 127 {
-        20
-    } else {
-        21
-    }
-}
-
-impl Row {
-    /// Nothing was counted.
-    fn new() -> Row
-        ensures { result ≡ no_row }
-    {
-        Row {
-            kinds: [0; 22],
-            documents: 0,
-            last: 0,
-            longest: 0,
-        }
-    }
-
-    /// How many documents there are with the one with this number; `None` where they would be over the range of a count.
-    fn documents_with(&self, document: u64) -> Option<u64>
-        ensures with { IfSome result (λ n. n ≡ cond (nat_eq self.now.last document) self.now.documents (self.now.documents + 1)) }
-        ensures none { IsNone result → (2 ^ 64 ≤ self.now.documents + 1) × (nat_eq self.now.last document ≡ false) }
-    {
-        if self.last == document {
-            Some(self.documents)
-        } else {
-            self.documents.checked_add(1)
-        }
-    }
-
-    /// Counts a value more of the document with this number, with this tag and of `size` bytes. Fails if a count would be over its range.
-    fn count(&mut self, document: u64, tag: u32, size: u32) -> Result<(), Failure>
-        ensures counted { OnOk result (self.new ≡ count_value document tag size self.old) }
-        ensures failed { IfErr result (λ failure. ¬ IsReading failure) }
-    {
-        let place = place_of(tag);
-        self.kinds[place] = in_range(self.kinds[place].checked_add(1))?;
-        self.documents = in_range(self.documents_with(document))?;
-        self.last = document;
-        self.longest = self.longest.max(size);
-        Ok(())
-    }
 }
 
 impl<'a> Paths<'a> {
@@ -276,90 +209,4 @@ fn count_at(
         rows[number].count(document, tag, size)?;
     }
     Ok(())
-}
-
-/// After the text, how many values there are of each kind.
-fn push_kinds(text: &mut Vec<u8>, row: &Row) -> Result<(), AllocError>
-    ensures { OnOk result (text.new.items ≡ text.old.items ++ kinds_text row.now) }
-{
-    let kinds: &[ElementType] = &[
-        ElementType::Double,
-        ElementType::String,
-        ElementType::EmbeddedDocument,
-        ElementType::Array,
-        ElementType::Binary,
-        ElementType::Undefined,
-        ElementType::ObjectId,
-        ElementType::Boolean,
-        ElementType::DateTime,
-        ElementType::Null,
-        ElementType::RegularExpression,
-        ElementType::DbPointer,
-        ElementType::JavaScriptCode,
-        ElementType::Symbol,
-        ElementType::JavaScriptCodeWithScope,
-        ElementType::Int32,
-        ElementType::Timestamp,
-        ElementType::Int64,
-        ElementType::Decimal128,
-        ElementType::MaxKey,
-        ElementType::MinKey,
-    ];
-    for kind in kinds {
-        push_kind_count(text, row, *kind)?;
-    }
-    Ok(())
-}
-
-/// After the text, how many values there are of this kind, if there are any.
-fn push_kind_count(text: &mut Vec<u8>, row: &Row, kind: ElementType) -> Result<(), AllocError>
-    ensures { OnOk result (text.new.items ≡ text.old.items ++ kind_words row.now kind) }
-{
-    let count = row.kinds[place_of(u32::from(kind.to_tag()))];
-    if count > 0 {
-        push_kind(text, kind)?;
-        push_words(text, ": ")?;
-        push_number(text, count)?;
-        push_words(text, ", ")?;
-    }
-    Ok(())
-}
-
-/// After the text, the line of a path. One that isn't UTF-8, which no element of a sound document has, counts as out of memory.
-fn push_row(text: &mut Vec<u8>, path: &[u8], first: Origin<'_>, row: &Row) -> Result<(), Failure>
-    ensures line { OnOk result (text.new.items ≡ text.old.items ++ row_line path.now (origin_of first.entry) row.now) }
-    ensures failed { IfErr result (λ failure. ¬ IsReading failure) }
-{
-    let Ok(path) = str::from_utf8(path) else {
-        return Err(Failure::Memory);
-    };
-    push_quoted(text, path)?;
-    push_words(text, ": ")?;
-    push_kinds(text, row)?;
-    push_numbers(text, row)?;
-    push_first(text, first)?;
-    Ok(())
-}
-
-/// After the text, in how many documents the values are, and how many bytes the longest of them has.
-#[tactic(auto, unfolding(crate::specs::state::Fields::numbers_text))]
-fn push_numbers(text: &mut Vec<u8>, row: &Row) -> Result<(), AllocError>
-    ensures { OnOk result (text.new.items ≡ text.old.items ++ numbers_text row.now) }
-{
-    push_words(text, "documents: ")?;
-    push_number(text, row.documents)?;
-    push_words(text, ", longest: ")?;
-    push_number(text, row.longest as u64)
-}
-
-/// After the text, where the first document begins that has a path.
-#[tactic(auto, unfolding(crate::specs::state::Fields::first_text))]
-fn push_first(text: &mut Vec<u8>, first: Origin<'_>) -> Result<(), AllocError>
-    ensures { OnOk result (text.new.items ≡ text.old.items ++ first_text (origin_of first.entry)) }
-{
-    push_words(text, ", first: ")?;
-    push_quoted(text, first.name)?;
-    push_words(text, ":")?;
-    push_number(text, first.offset)?;
-    push_words(text, "\n")
 }

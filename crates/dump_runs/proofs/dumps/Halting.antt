@@ -19,9 +19,9 @@ use Rattle.dump_commands.specs.declared.counts.Counts.{Counts}
 use Rattle.dump_io.specs.declared.input.ending.Ending.{Ending}
 use Rattle.dump_io.specs.declared.input.rest.Rest.TheVariants as rest
 use Rattle.dump_commands.specs.declared.state.kept.Kept.{Kept}
-use Rattle.dump_runs.specs.declared.dumps.run.Asked.{Asked}
+use Rattle.dump_runs.specs.declared.dumps.asked.Asked.{Asked}
 use Rattle.dump_runs.specs.declared.dumps.run.Stop.TheVariants as stop
-use Rattle.dump_runs.specs.declared.dumps.run.Outcome.{Outcome}
+use Rattle.dump_runs.specs.declared.dumps.asked.Outcome.{Outcome}
 use Rattle.dump_io.specs.declared.lines.style.Style.{Style}
 use Rattle.dump_io.specs.declared.input.window.Next.TheVariants as next
 use Rattle.dump_io.specs.declared.input.window.Window.{Window}

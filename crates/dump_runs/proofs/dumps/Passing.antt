@@ -27,7 +27,7 @@ use Rattle.dump_commands.specs.Unique.{firsts_behind, repeats_of}
 use Rattle.dump_io.specs.lines.Origins.{Origin, origin_at}
 use Rattle.dump_io.specs.declared.input.ending.Ending.{Ending}
 use Rattle.dump_io.specs.declared.input.rest.Rest.TheVariants as rest
-use Rattle.dump_runs.specs.declared.dumps.run.Outcome.{Outcome}
+use Rattle.dump_runs.specs.declared.dumps.asked.Outcome.{Outcome}
 use Rattle.dump_commands.specs.declared.command.Command.{Command}
 use Rattle.dump_commands.specs.declared.counts.Counts.{Counts}
 use Rattle.dump_commands.specs.declared.state.kept.Kept.{Kept}

@@ -16,7 +16,7 @@ use Rattle.dump_io.specs.declared.input.scan.Scan.TheVariants as scan
 use Rattle.dump_io.specs.declared.lines.style.Style.{Style}
 use Rattle.dump_runs.specs.declared.texts.counts.TextCounts.{TextCounts}
 use Rattle.dump_runs.specs.declared.texts.fault.TextReason.{TextReason}
-use Rattle.dump_runs.specs.declared.texts.reading.Went.TheVariants as went
+use Rattle.dump_runs.specs.declared.texts.piece.Went.TheVariants as went
 use Rattle.dump_io.specs.declared.input.turn.Turn.{Turn}
 use Rattle.dump_io.proofs.Face.{front_none}
 

@@ -8,7 +8,7 @@ use Rattle.dump_runs.specs.texts.Batch.{HaltsReading, ReadsFront, ReadsInput, Re
 use Rattle.dump_runs.specs.texts.Run.{EndsAs, HaltsTexts, ReadsTexts, TextPart, bytes_of_texts, style_of_fault}
 use Rattle.dump_io.specs.declared.lines.style.Style.{Style}
 use Rattle.dump_runs.specs.declared.texts.counts.TextCounts.{TextCounts}
-use Rattle.dump_runs.specs.declared.texts.reading.AskedTexts.{AskedTexts}
+use Rattle.dump_runs.specs.declared.texts.asked.AskedTexts.{AskedTexts}
 use Rattle.dump_runs.specs.declared.texts.reading.TextEnd.{TextEnd}
 use Rattle.dump_runs.specs.declared.texts.reading.TextEnd.TheVariants as end
 use Rattle.dump_runs.specs.declared.texts.batch.TextJob.{TextJob}

@@ -30,7 +30,7 @@ use Rattle.dump_io.specs.declared.input.resync.Skip.{Skip}
 use Rattle.raw_resync.specs.declared.work.Work.{Work}
 use Rattle.dump_io.specs.declared.lines.find.Finding.{Finding}
 use Rattle.dump_io.specs.declared.lines.find.Finding.TheVariants as finding
-use Rattle.dump_runs.specs.declared.dumps.run.Outcome.{Outcome}
+use Rattle.dump_runs.specs.declared.dumps.asked.Outcome.{Outcome}
 use Rattle.dump_runs.specs.declared.dumps.run.Stop.{Stop}
 use Rattle.dump_runs.specs.declared.dumps.run.Stop.TheVariants as stop
 use Rattle.dump_io.specs.declared.lines.style.Style.{Style}

@@ -20,7 +20,7 @@ use Rattle.dump_io.specs.declared.input.status.Status.TheVariants as status
 use Rattle.dump_io.specs.declared.lines.style.Style.{Style}
 use Rattle.dump_io.specs.declared.lines.style.Style.TheVariants as style
 use Rattle.dump_runs.specs.declared.texts.counts.TextCounts.{TextCounts}
-use Rattle.dump_runs.specs.declared.texts.reading.AskedTexts.{AskedTexts}
+use Rattle.dump_runs.specs.declared.texts.asked.AskedTexts.{AskedTexts}
 use Rattle.dump_runs.specs.declared.texts.reading.TextEnd.{TextEnd}
 use Rattle.dump_runs.specs.declared.texts.reading.TextEnd.TheVariants as end
 use Rattle.dump_runs.specs.declared.texts.batch.TextJob.{TextJob}

@@ -23,13 +23,13 @@ use Rattle.dump_io.specs.declared.lines.style.Style.{Style}
 use Rattle.dump_runs.specs.declared.texts.counts.TextCounts.{TextCounts}
 use Rattle.dump_runs.specs.declared.texts.fault.TextReason.{TextReason}
 use Rattle.dump_runs.specs.declared.texts.fault.TextReason.TheVariants as reason
-use Rattle.dump_runs.specs.declared.texts.reading.AskedTexts.{AskedTexts}
-use Rattle.dump_runs.specs.declared.texts.reading.Made.{Made}
-use Rattle.dump_runs.specs.declared.texts.reading.Made.TheVariants as made
+use Rattle.dump_runs.specs.declared.texts.asked.AskedTexts.{AskedTexts}
+use Rattle.dump_runs.specs.declared.texts.piece.Made.{Made}
+use Rattle.dump_runs.specs.declared.texts.piece.Made.TheVariants as made
 use Rattle.dump_runs.specs.declared.texts.reading.TextEnd.{TextEnd}
 use Rattle.dump_runs.specs.declared.texts.reading.TextEnd.TheVariants as end
-use Rattle.dump_runs.specs.declared.texts.reading.Went.{Went}
-use Rattle.dump_runs.specs.declared.texts.reading.Went.TheVariants as went
+use Rattle.dump_runs.specs.declared.texts.piece.Went.{Went}
+use Rattle.dump_runs.specs.declared.texts.piece.Went.TheVariants as went
 use Rattle.dump_io.specs.declared.input.turn.Turn.{Turn}
 use Rattle.dump_io.specs.declared.input.turn.Turn.TheVariants as turn
 

@@ -1,38 +1,33 @@
 //! Runs a command over inputs, one after the other.
 #![tactic(auto)]
 
-ghost use Rattle.std.specs.Prelude.{◌≡◌, None, map, IfErr, IfOk, MatchBool, OnErr, OnOk};
-ghost use Rattle.std.specs.Io.KnownBytes.{Appends};
+ghost use Rattle.std.specs.Prelude.{◌≡◌, None, map, IfErr, IfOk, OnErr, OnOk};
 ghost use Rattle.std.specs.Option.{option_map};
-ghost use Rattle.dump_io.specs.lines.Fronts.{AppendsFront};
 ghost use Rattle.dump_commands.specs.Counting.{AreInRange, no_counts, plus};
-ghost use Rattle.dump_runs.specs.dumps.Batch.{CountsAnother, CountsInput, CountsRun, IsDone, KeepsNothing, RunsAll, RunsFront, State, HaltsWithin, all_line, first_cut, input_line, left_limit, state_of};
+ghost use Rattle.dump_runs.specs.dumps.Batch.{CountsAnother, CountsInput, CountsRun, IsDone, KeepsNothing, RunsAll, RunsFront, State, HaltsWithin, first_cut, left_limit, state_of};
 ghost use Rattle.dump_io.specs.input.Done.{cut_of, input_of};
 ghost use Rattle.dump_io.specs.lines.Failing.{IsReading};
-ghost use Rattle.dump_commands.specs.declared.command.Command.TheVariants.{Fields};
-ghost use Rattle.dump_runs.specs.dumps.Status.{HasDamage, IsFailureStatus, IsStatus};
 
-use crate::dumps::run::{Asked, run};
-use dump_commands::command::Command;
+use crate::dumps::asked::Asked;
+use crate::dumps::ends::{status_of, status_of_failure};
+use crate::dumps::run::run;
+use crate::dumps::sums::{put_all_counts, put_counts};
 use dump_commands::counts::Counts;
 use dump_commands::job::Job;
-use dump_commands::reporting::put_summary;
 use dump_commands::state::kept::Kept;
 use dump_io::input::done::{Cut, Done, Lack, flush};
 use dump_io::input::inputs::Inputs;
-use dump_io::input::status::Status;
 use dump_io::lines::failure::{Failure, in_range};
-use dump_io::lines::write::put;
 use std::alloc::Global;
-use std::io::{ErrorKind, Write};
+use std::io::Write;
 
 /// What came of the inputs so far.
 #[derive(Drop)]
 pub struct Totals<'a> {
     /// what was read
-    counts: Counts,
+    pub counts: Counts,
     /// what was written
-    kept: Kept<'a>,
+    pub kept: Kept<'a>,
     /// the first input that wasn't read to its end
     cut: Option<Cut<'a>>,
 }
@@ -218,139 +213,4 @@ fn left_of(job: Job<'_>, before: Counts) -> Option<u64>
         Some(most) => Some(most.saturating_sub(before.findings)),
         None => None,
     }
-}
-
-/// Of `check` and `count`, writes what was counted of one input.
-fn put_counts<W: Write>(
-    alloc: Global,
-    job: Job<'_>,
-    name: &str,
-    counts: &Counts,
-    report: &mut W,
-) -> Result<(), Failure>
-    ensures written { OnOk result
-        (Appends (W.contents report.old) (W.contents report.new) (input_line job.entry job.entry.command name.now counts.now)) }
-    ensures front { OnErr result
-        (AppendsFront (W.contents report.old) (W.contents report.new) (input_line job.entry job.entry.command name.now counts.now)) }
-    ensures failed { IfErr result (λ failure. ¬ IsReading failure) }
-{
-    match job.command {
-        Command::Check | Command::Count => put_summary(
-            alloc,
-            job.style,
-            Some(name),
-            None,
-            job.command,
-            counts,
-            0,
-            report,
-        ),
-        Command::List
-        | Command::Canon
-        | Command::Sound
-        | Command::Unique(_)
-        | Command::Fields
-        | Command::Json(_)
-        | Command::Pick(_) => Ok(()),
-    }
-}
-
-/// Writes what was counted of all inputs, but of a list. Of fields, the lines of the paths come before it.
-fn put_all_counts<W: Write>(
-    alloc: Global,
-    job: Job<'_>,
-    totals: &Totals<'_>,
-    report: &mut W,
-) -> Result<(), Failure>
-    ensures written { OnOk result
-        (Appends (W.contents report.old) (W.contents report.new) (all_line job.entry job.entry.command totals.now.counts totals.now.kept)) }
-    ensures front { OnErr result
-        (AppendsFront (W.contents report.old) (W.contents report.new) (all_line job.entry job.entry.command totals.now.counts totals.now.kept)) }
-    ensures failed { IfErr result (λ failure. ¬ IsReading failure) }
-{
-    match job.command {
-        Command::List => Ok(()),
-        Command::Fields => put_fields(alloc, job, totals, report),
-        Command::Check
-        | Command::Count
-        | Command::Canon
-        | Command::Sound
-        | Command::Unique(_)
-        | Command::Json(_)
-        | Command::Pick(_) => put_summary(
-            alloc,
-            job.style,
-            None,
-            job.limit,
-            job.command,
-            &totals.counts,
-            totals.kept.count(),
-            report,
-        ),
-    }
-}
-
-/// Writes the lines of the paths that were counted, and what was counted of all inputs.
-fn put_fields<W: Write>(
-    alloc: Global,
-    job: Job<'_>,
-    totals: &Totals<'_>,
-    report: &mut W,
-) -> Result<(), Failure>
-    ensures written { OnOk result
-        (Appends (W.contents report.old) (W.contents report.new) (all_line job.entry Fields totals.now.counts totals.now.kept)) }
-    ensures front { OnErr result
-        (AppendsFront (W.contents report.old) (W.contents report.new) (all_line job.entry Fields totals.now.counts totals.now.kept)) }
-    ensures failed { IfErr result (λ failure. ¬ IsReading failure) }
-{
-    let lines = totals.kept.paths().lines(alloc)?;
-    put(report, &lines)?;
-    put_summary(
-        alloc,
-        job.style,
-        None,
-        job.limit,
-        Command::Fields,
-        &totals.counts,
-        totals.kept.count(),
-        report,
-    )
-}
-
-/// How a run ends that fails, after these counts. A pipe whose reader is gone changes nothing.
-fn status_of_failure(command: Command<'_>, counts: Counts, failure: &Failure) -> Status
-    ensures { IsFailureStatus command.entry counts failure.now result }
-{
-    match failure {
-        Failure::Memory => Status::Memory,
-        Failure::Writing(error) | Failure::Reading(error) => {
-            if error.kind() == ErrorKind::BrokenPipe {
-                status_of(command, counts)
-            } else {
-                Status::Output
-            }
-        }
-    }
-}
-
-/// How a run ends with these counts.
-fn status_of(command: Command<'_>, counts: Counts) -> Status
-    ensures { IsStatus command.entry counts result }
-{
-    if counts.files > 0 || counts.passed_over > 0 {
-        Status::Input
-    } else if is_damage(command, counts) {
-        Status::Damage
-    } else {
-        Status::Done
-    }
-}
-
-/// Whether what was read makes the command's status one of damage.
-fn is_damage(command: Command<'_>, counts: Counts) -> bool
-    ensures { MatchBool result (HasDamage command.entry counts) (¬ HasDamage command.entry counts) }
-{
-    counts.damaged > 0
-        || counts.too_deep > 0
-        || (matches!(command, Command::Check) && counts.breached > 0)
 }

@@ -11,8 +11,9 @@ ghost use Rattle.dump_runs.specs.texts.Batch.{EndsInput, IsTextFailureStatus, Is
 ghost use Rattle.dump_runs.specs.texts.Run.{AreTextsInRange, HaltsTexts, count_file, no_texts, style_of_fault};
 ghost use Rattle.dump_io.specs.declared.lines.style.Style.TheVariants.{Json, Words};
 
+use crate::texts::asked::AskedTexts;
 use crate::texts::counts::TextCounts;
-use crate::texts::reading::{AskedTexts, TextEnd, read_texts};
+use crate::texts::reading::{TextEnd, read_texts};
 use dump_io::input::done::{Cut, Done, Lack, flush};
 use dump_io::input::inputs::Inputs;
 use dump_io::input::status::Status;

@@ -4,7 +4,7 @@ use Rattle.dump_runs.specs.dumps.Portion.{documents_of_parts}
 use Rattle.dump_runs.specs.dumps.Halting.{HaltsInGap, HaltsNext}
 use Rattle.dump_runs.specs.dumps.Run.{PassesGap, PassesNext, style_at}
 use Rattle.dump_commands.specs.declared.counts.Counts.{Counts}
-use Rattle.dump_runs.specs.declared.dumps.run.Asked.{Asked}
+use Rattle.dump_runs.specs.declared.dumps.asked.Asked.{Asked}
 use Rattle.dump_io.specs.declared.input.window.Next.{Next}
 use Rattle.raw_resync.specs.Seeking.{IsWork, no_work}
 use Rattle.dump_runs.proofs.dumps.Choosing.{chosen_front, chosen_gap, chosen_piece, documents_between, halts_first, halts_portion, has_failed, stops_enough, stops_portion, where_false, where_true}

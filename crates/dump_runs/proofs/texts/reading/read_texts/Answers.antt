@@ -2,7 +2,7 @@ use Rattle.std.proofs.Common.{subst}
 use Rattle.dump_io.specs.input.Reading.{ahead_of}
 use Rattle.dump_runs.specs.texts.Reading.{FindsText}
 use Rattle.dump_runs.specs.texts.Run.{HaltsText, PassesText, ReadsTexts}
-use Rattle.dump_runs.specs.declared.texts.reading.AskedTexts.{AskedTexts}
+use Rattle.dump_runs.specs.declared.texts.asked.AskedTexts.{AskedTexts}
 use Rattle.dump_io.proofs.Face.{if_ok, on_any}
 use Rattle.dump_runs.proofs.texts.Passing.{fails_behind, fails_here, goes_next, halts_here, halts_next, halts_passed, nothing_passed, stops_end, stops_fault, window_behind}
 use Rattle.dump_runs.proofs.texts.reading.read_texts.Goals as goal

@@ -1,7 +1,7 @@
 use Rattle.std.proofs.Common.{rules, ◌≡◌, ◌≤◌, ◌∙◌, Global, List, None, Some, Vec, ap, bytes_eq, length, position, sym, ℕ}
 use Rattle.dump_commands.specs.state.Fields.{Field, Table, table_of}
 use Rattle.dump_io.specs.lines.Origins.{origin_of}
-use Rattle.dump_commands.specs.declared.state.paths.Row.{Row}
+use Rattle.dump_commands.specs.declared.state.rows.Row.{Row}
 use Rattle.dump_io.proofs.Face.{on_ok}
 use Rattle.dump_commands.proofs.state.Tabled.{position_map, with_short}
 use Rattle.dump_commands.proofs.state.paths.Paths.add.Goals as goal

@@ -2,7 +2,7 @@ use Rattle.std.proofs.Common.{◌≡◌, ◌<◌, ◌++◌, ◌∙◌, Global, L
 use Rattle.std.proofs.lemmas.List.{get_or-map, length-map}
 use Rattle.dump_commands.specs.state.Fields.{row_line, rows_text, table_of}
 use Rattle.dump_io.specs.lines.Origins.{Origin, origin_of}
-use Rattle.dump_commands.specs.declared.state.paths.Row.{Row}
+use Rattle.dump_commands.specs.declared.state.rows.Row.{Row}
 use Rattle.dump_commands.proofs.state.Tabled.{rows_end, rows_next}
 use Rattle.dump_commands.proofs.state.paths.Paths.push_rows.Goals as goal
 
