@@ -147,7 +147,7 @@ fn start(rt: &HostRuntime, run: &Run<'_>) -> Status {
             let mut out = Prompt::new(rt, out, !is_file);
             each(rt, run, &mut io::sink(), &mut out).status
         }
-        Some(Command::List) => each(rt, run, &mut io::sink(), &mut out).status,
+        Some(Command::List | Command::Sizes) => each(rt, run, &mut io::sink(), &mut out).status,
         Some(
             Command::Canon
             | Command::Sound

@@ -9,6 +9,7 @@ pub firsts_none : (c : Command) (f : Firsts) → firsts_behind c f [] ≡ f
 firsts_none command.Check f = refl
 firsts_none command.List f = refl
 firsts_none command.Count f = refl
+firsts_none command.Sizes f = refl
 firsts_none command.Canon f = refl
 firsts_none command.Sound f = refl
 firsts_none command.Fields f = refl
@@ -20,6 +21,7 @@ pub repeats_none : (c : Command) (f : Firsts) → repeats_of c f [] ≡ []
 repeats_none command.Check f = refl
 repeats_none command.List f = refl
 repeats_none command.Count f = refl
+repeats_none command.Sizes f = refl
 repeats_none command.Canon f = refl
 repeats_none command.Sound f = refl
 repeats_none command.Fields f = refl

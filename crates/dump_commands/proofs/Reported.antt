@@ -21,6 +21,7 @@ pub reports_front : (c : Command) (style : Style) (name : List â„•) (offset : â„
 reports_front command.List style name offset b f told other reports front = absurd other
 reports_front command.Check style name offset b f told {text = text} other reports front = (front.front, (text, reports, (front.behind, front.whole)), front.put)
 reports_front command.Count style name offset b f told {text = text} other reports front = (front.front, (text, reports, (front.behind, front.whole)), front.put)
+reports_front command.Sizes style name offset b f told {text = text} other reports front = (front.front, (text, reports, (front.behind, front.whole)), front.put)
 reports_front command.Sound style name offset b f told {text = text} other reports front = (front.front, (text, reports, (front.behind, front.whole)), front.put)
 reports_front command.Fields style name offset b f told {text = text} other reports front = (front.front, (text, reports, (front.behind, front.whole)), front.put)
 reports_front command.Canon style name offset b f told {text = text} other reports front = (front.front, (text, reports, (front.behind, front.whole)), front.put)

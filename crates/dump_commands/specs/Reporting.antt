@@ -17,9 +17,10 @@ told_line style name offset None = []
 told_line style name offset (Some told) = report_line style name offset told
 
 -- what a command reports of a piece b at this offset, in which this is found: list its length, what is found and its elements;
--- check what isn't canonical; the others what they leave out
+-- sizes its length; check what isn't canonical; the others what they leave out
 abbrev pub Reports : Command → Style → List ℕ → ℕ → List ℕ → Finding → Option Account → List ℕ → Type 0
 Reports command.List style name offset b found told lines = (listing : List ℕ) × ListsDocument b listing × (lines ≡ line name offset (head_text b told) ++ listing)
+Reports command.Sizes style name offset b found told lines = lines ≡ line name offset (head_text b told)
 Reports c style name offset b finding.Damaged told lines = lines ≡ told_line style name offset told
 Reports c style name offset b finding.TooDeep told lines = lines ≡ told_line style name offset told
 Reports command.Check style name offset b finding.Breached told lines = lines ≡ told_line style name offset told

@@ -18,11 +18,12 @@ Count = List ℕ × ℕ
 abbrev pub count_of : summary.Count → Count
 count_of count = (count.name.now, count.number)
 
--- how many documents a command kept, and how many it left out; check, list, count and fields keep none
+-- how many documents a command kept, and how many it left out; check, list, count, sizes and fields keep none
 abbrev pub kept_counts : Command → Counts → ℕ → List Count
 kept_counts command.Check n kept = []
 kept_counts command.List n kept = []
 kept_counts command.Count n kept = []
+kept_counts command.Sizes n kept = []
 kept_counts command.Fields n kept = []
 kept_counts _ n kept = (codes "kept", kept) ∷ (codes "left out", n.documents - kept) ∷ []
 
@@ -32,9 +33,10 @@ breached_counts command.Check n = (codes "not canonical", n.breached) ∷ []
 breached_counts command.Canon n = (codes "not canonical", n.breached) ∷ []
 breached_counts _ n = []
 
--- how many documents are damaged or too deep; count doesn't know
+-- how many documents are damaged or too deep; count and sizes don't know
 abbrev pub damaged_counts : Command → Counts → List Count
 damaged_counts command.Count n = []
+damaged_counts command.Sizes n = []
 damaged_counts _ n = (codes "damaged", n.damaged) ∷ (codes "too deep", n.too_deep) ∷ []
 
 -- the bytes of which no document is made, and the files of which they are some

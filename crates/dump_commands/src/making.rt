@@ -55,7 +55,7 @@ pub fn emit<'a, D: Write>(
     ensures failed { IfErr result (λ failure. ¬ IsReading failure) }
 {
     match (command, finding) {
-        (Command::Check | Command::List | Command::Count | Command::Fields, _)
+        (Command::Check | Command::List | Command::Count | Command::Sizes | Command::Fields, _)
         | (_, Finding::Damaged | Finding::TooDeep | Finding::Unvalidated) => Ok(None),
         (Command::Sound, Finding::Canonical | Finding::Breached) => {
             put_document(command, origin, bytes, bytes, out, kept)
@@ -121,6 +121,7 @@ fn spelled<'a>(command: Command<'_>, bytes: &'a [u8], form: &'a [u8]) -> &'a [u8
         | Command::Check
         | Command::List
         | Command::Count
+        | Command::Sizes
         | Command::Canon
         | Command::Sound
         | Command::Fields
@@ -208,6 +209,7 @@ fn put_document<'a, D: Write>(
         Command::Check
         | Command::List
         | Command::Count
+        | Command::Sizes
         | Command::Canon
         | Command::Sound
         | Command::Fields

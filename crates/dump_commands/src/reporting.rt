@@ -51,6 +51,7 @@ pub fn report_found<W: Write>(
 {
     match (command, found.finding) {
         (Command::List, _) => put_listing(alloc, name, offset, bytes, &found.told, report),
+        (Command::Sizes, _) => put_head(alloc, name, offset, bytes, &found.told, report),
         (_, Finding::Damaged | Finding::TooDeep) | (Command::Check, Finding::Breached) => {
             put_told(alloc, style, name, offset, &found.told, report)
         }
@@ -84,28 +85,30 @@ fn put_listing<W: Write>(
         × Appends (W.contents report.old) (W.contents report.new) lines) }
     ensures failed { IfErr result (λ failure. ¬ IsReading failure) }
 {
-    let head = sized(alloc, bytes.len(), told)?;
-    put_line(alloc, name, offset, &head, report)?;
+    put_head(alloc, name, offset, bytes, told, report)?;
     match RawDocument::from_bytes(bytes) {
         Ok(document) => list_levels(alloc, document, report),
         Err(_) => Ok(()),
     }
 }
 
-fn put_line<W: Write>(
+/// Writes where a document begins, how many bytes it has, and what is found in it.
+fn put_head<W: Write>(
     alloc: Global,
     name: &str,
     offset: u64,
-    words: &[u8],
+    bytes: &[u8],
+    told: &Option<Told<'_>>,
     report: &mut W,
 ) -> Result<(), Failure>
-    ensures written { OnOk result
-        (Appends (W.contents report.old) (W.contents report.new) (line name.now offset words.now)) }
-    ensures front { OnErr result
-        (AppendsFront (W.contents report.old) (W.contents report.new) (line name.now offset words.now)) }
+    ensures written { OnOk result (Appends (W.contents report.old) (W.contents report.new)
+        (line name.now offset (head_text bytes.now (option_map account_of told.now)))) }
+    ensures front { OnErr result (AppendsFront (W.contents report.old) (W.contents report.new)
+        (line name.now offset (head_text bytes.now (option_map account_of told.now)))) }
     ensures failed { IfErr result (λ failure. ¬ IsReading failure) }
 {
-    let text = line_of(alloc, name, offset, words)?;
+    let head = sized(alloc, bytes.len(), told)?;
+    let text = line_of(alloc, name, offset, &head)?;
     put(report, &text)
 }
 

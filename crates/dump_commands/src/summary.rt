@@ -41,7 +41,9 @@ fn push_kept(
     ensures { OnOk result (map count_of all.new.items ≡ map count_of all.old.items ++ kept_counts command.entry counts.now kept) }
 {
     match command {
-        Command::Check | Command::List | Command::Count | Command::Fields => Ok(()),
+        Command::Check | Command::List | Command::Count | Command::Sizes | Command::Fields => Ok(
+            (),
+        ),
         Command::Canon
         | Command::Sound
         | Command::Unique(_)
@@ -65,6 +67,7 @@ fn push_breached(
         Command::Check | Command::Canon => push(all, "not canonical", counts.breached),
         Command::List
         | Command::Count
+        | Command::Sizes
         | Command::Sound
         | Command::Unique(_)
         | Command::Fields
@@ -82,7 +85,7 @@ fn push_damaged(
     ensures { OnOk result (map count_of all.new.items ≡ map count_of all.old.items ++ damaged_counts command.entry counts.now) }
 {
     match command {
-        Command::Count => Ok(()),
+        Command::Count | Command::Sizes => Ok(()),
         Command::Check
         | Command::List
         | Command::Canon

@@ -192,6 +192,12 @@ fn counts<'a>(alloc: Global) -> CommandBuilder<'a> {
     )
 }
 
+/// The command that prints where documents begin.
+fn sizes<'a>(alloc: Global) -> CommandBuilder<'a> {
+    let about = "Prints where each document begins and how many bytes it has, by its length alone";
+    reading(alloc, CommandBuilder::new(alloc, "sizes", about))
+}
+
 /// The command that writes canonical forms.
 fn forms<'a>(alloc: Global) -> CommandBuilder<'a> {
     let about = "Writes the canonical form of each document without damage";
@@ -209,6 +215,7 @@ fn with_reports<'a>(alloc: Global, line: CommandBuilder<'a>) -> CommandBuilder<'
     line.subcommand(checks(alloc))
         .subcommand(lists(alloc))
         .subcommand(counts(alloc))
+        .subcommand(sizes(alloc))
         .subcommand(fields(alloc))
 }
 

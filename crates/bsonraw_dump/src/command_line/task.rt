@@ -97,7 +97,7 @@ fn task_of<'a>(
     matches: &ArgMatches<'a>,
 ) -> Result<Task<'a>, Error> {
     let output = match command {
-        Command::Check | Command::List | Command::Count | Command::Fields => None,
+        Command::Check | Command::List | Command::Count | Command::Sizes | Command::Fields => None,
         Command::Canon
         | Command::Sound
         | Command::Unique(_)
@@ -105,7 +105,7 @@ fn task_of<'a>(
         | Command::Pick(_) => { matches.get_str("output").filter(|name| *name != "-") }
     };
     let style = match command {
-        Command::List | Command::Fields => Style::Words,
+        Command::List | Command::Sizes | Command::Fields => Style::Words,
         Command::Check
         | Command::Count
         | Command::Canon
@@ -121,7 +121,7 @@ fn task_of<'a>(
             resync: matches.get_flag("resync"),
             repeats: matches!(command, Command::Unique(_)) && matches.get_flag("repeats"),
             limit: match command {
-                Command::List | Command::Fields => None,
+                Command::List | Command::Sizes | Command::Fields => None,
                 _ => matches.get_one("limit"),
             },
             limits: limits_of(matches),
@@ -167,6 +167,7 @@ fn command_of<'a>(name: &str, matches: &ArgMatches<'a>) -> Option<Command<'a>> {
         "check" => Some(Command::Check),
         "list" => Some(Command::List),
         "count" => Some(Command::Count),
+        "sizes" => Some(Command::Sizes),
         "fields" => Some(Command::Fields),
         "canon" => Some(Command::Canon),
         "sound" => Some(Command::Sound),

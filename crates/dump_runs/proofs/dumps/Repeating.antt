@@ -23,6 +23,7 @@ pub firsts_more : (c : Command) (f : Firsts) (xs ys : List Placed) → firsts_be
 firsts_more command.Check f xs ys = refl
 firsts_more command.List f xs ys = refl
 firsts_more command.Count f xs ys = refl
+firsts_more command.Sizes f xs ys = refl
 firsts_more command.Canon f xs ys = refl
 firsts_more command.Sound f xs ys = refl
 firsts_more command.Fields f xs ys = refl
@@ -41,6 +42,7 @@ pub repeats_more : (c : Command) (f : Firsts) (xs ys : List Placed) → repeats_
 repeats_more command.Check f xs ys = refl
 repeats_more command.List f xs ys = refl
 repeats_more command.Count f xs ys = refl
+repeats_more command.Sizes f xs ys = refl
 repeats_more command.Canon f xs ys = refl
 repeats_more command.Sound f xs ys = refl
 repeats_more command.Fields f xs ys = refl

@@ -60,9 +60,10 @@ input_line job command.Check name n = summary_line job.style (Some name) None jo
 input_line job command.Count name n = summary_line job.style (Some name) None job.command n 0
 input_line job _ name n = []
 
--- the line that tells what was counted of all; list has none, and fields has the lines of its paths before it
+-- the line that tells what was counted of all; list and sizes have none, and fields has the lines of its paths before it
 abbrev pub all_line : Job → Command → Counts → Kept → List ℕ
 all_line job command.List n kept = []
+all_line job command.Sizes n kept = []
 all_line job command.Fields n kept = table_text (tabled kept) ++ summary_line job.style None job.limit command.Fields n (written_count kept)
 all_line job _ n kept = summary_line job.style None job.limit job.command n (written_count kept)
 

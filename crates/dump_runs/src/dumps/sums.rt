@@ -44,6 +44,7 @@ pub fn put_counts<W: Write>(
             report,
         ),
         Command::List
+        | Command::Sizes
         | Command::Canon
         | Command::Sound
         | Command::Unique(_)
@@ -53,7 +54,7 @@ pub fn put_counts<W: Write>(
     }
 }
 
-/// Writes what was counted of all inputs, but of a list. Of fields, the lines of the paths come before it.
+/// Writes what was counted of all inputs, but of a list and of sizes. Of fields, the lines of the paths come before it.
 pub fn put_all_counts<W: Write>(
     alloc: Global,
     job: Job<'_>,
@@ -67,7 +68,7 @@ pub fn put_all_counts<W: Write>(
     ensures failed { IfErr result (λ failure. ¬ IsReading failure) }
 {
     match job.command {
-        Command::List => Ok(()),
+        Command::List | Command::Sizes => Ok(()),
         Command::Fields => put_fields(alloc, job, totals, report),
         Command::Check
         | Command::Count
