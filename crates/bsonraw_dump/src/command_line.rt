@@ -3,10 +3,12 @@
 
 mod args;
 mod builder;
+mod commands;
 mod names;
 mod reading;
 mod task;
 
+pub use commands::prints;
 pub use names::{Words, copied, expanded, given_words};
 pub use reading::Reading;
 pub use task::{Task, parsed};

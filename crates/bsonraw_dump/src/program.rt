@@ -1,14 +1,13 @@
 //! Runs a command over files.
 #![tactic(auto)]
 
-use crate::command_line::{Reading, Task, Words, copied, expanded, given_words, parsed};
+use crate::command_line::{Reading, Task, Words, copied, expanded, given_words, parsed, prints};
 use crate::files::findings::Findings;
 use crate::files::inputs::{Files, Unread, are_one, node_of};
 use crate::files::output::{BLOCK, Fill, into_file};
 use crate::files::prompt::Prompt;
 use crate::files::tell::{tell, tell_words};
 use crate::version::VERSION;
-use dump_commands::command::Command;
 use dump_io::input::done::{Done, Lack};
 use dump_io::input::status::Status;
 use dump_io::lines::failure::Failure;
@@ -141,21 +140,14 @@ fn start(rt: &HostRuntime, run: &Run<'_>) -> Status {
         tell_words(rt, run.reading.style(), "not enough memory");
         return Status::Memory;
     };
-    match run.reading.command() {
-        Some(Command::Check | Command::Count | Command::Fields) => {
+    match run.reading.command().map(prints) {
+        Some(prints) if prints.soon => {
             let is_file = node_of(rt, "/dev/stdout").is_some();
             let mut out = Prompt::new(rt, out, !is_file);
             each(rt, run, &mut io::sink(), &mut out).status
         }
-        Some(Command::List | Command::Sizes) => each(rt, run, &mut io::sink(), &mut out).status,
-        Some(
-            Command::Canon
-            | Command::Sound
-            | Command::Unique(_)
-            | Command::Json(_)
-            | Command::Pick(_),
-        )
-        | None => {
+        Some(prints) if !prints.documents => each(rt, run, &mut io::sink(), &mut out).status,
+        _ => {
             let mut findings = Findings {
                 writer: rt.stderr(),
                 is_apart: !are_one(rt, "/dev/stdout", "/dev/stderr"),
@@ -203,11 +195,11 @@ fn each<'a, D: Write, W: Write>(
 
 fn files_of<'a>(rt: &'a HostRuntime, run: &'a Run<'_>) -> Files<'a> {
     let is_redirected = run.output.is_none();
-    let is_apart = matches!(
-        run.reading.command(),
-        Some(Command::Check | Command::Count | Command::Fields)
-    ) || !is_redirected
-        || !rt.stdout().is_terminal();
+    let is_soon = match run.reading.command() {
+        Some(command) => prints(command).soon,
+        None => false,
+    };
+    let is_apart = is_soon || !is_redirected || !rt.stdout().is_terminal();
     Files {
         rt,
         style: run.reading.style(),

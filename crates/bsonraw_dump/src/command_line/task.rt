@@ -2,9 +2,10 @@
 #![tactic(auto)]
 
 use crate::command_line::args::command_line;
+use crate::command_line::commands::{command_of, prints};
 use crate::command_line::reading::Reading;
 use clap::{ArgMatches, Error};
-use dump_commands::command::{Command, Picking, Spelling};
+use dump_commands::command::Command;
 use dump_commands::job::Job;
 use dump_io::input::portion::Portion;
 use dump_io::lines::find::most_allowed;
@@ -12,7 +13,6 @@ use dump_io::lines::style::Style;
 use dump_runs::TextJob;
 use raw_tree::Limits;
 use std::alloc::Global;
-use values_to_json::{Format, Layout, Style as JsonStyle};
 
 /// What the arguments ask for.
 #[derive(Drop)]
@@ -38,46 +38,12 @@ fn style_of(matches: &ArgMatches<'_>) -> Style {
     }
 }
 
-fn json_style_of(matches: &ArgMatches<'_>) -> JsonStyle {
-    JsonStyle {
-        format: if matches.get_flag("canonical") {
-            Format::Canonical
-        } else {
-            Format::Relaxed
-        },
-        layout: if matches.get_flag("indent") {
-            Layout::Indented
-        } else {
-            Layout::OneLine
-        },
-    }
-}
-
 /// What a document may cost, as it was given.
 fn limits_of(matches: &ArgMatches<'_>) -> Limits {
     let usual = most_allowed();
     Limits {
         bytes: matches.get_one("max-bytes").unwrap_or(usual.bytes),
         depth: matches.get_one("max-depth").unwrap_or(usual.depth),
-    }
-}
-
-fn spelling_of(matches: &ArgMatches<'_>) -> Spelling {
-    if matches.get_flag("as-is") {
-        Spelling::Original
-    } else {
-        Spelling::Canonical
-    }
-}
-
-fn picking_of<'a>(matches: &ArgMatches<'a>) -> Picking<'a> {
-    Picking {
-        paths: matches.get_str("PATHS").unwrap_or(""),
-        style: if matches.get_flag("bson") {
-            None
-        } else {
-            Some(json_style_of(matches))
-        },
     }
 }
 
@@ -96,23 +62,16 @@ fn task_of<'a>(
     command: Command<'a>,
     matches: &ArgMatches<'a>,
 ) -> Result<Task<'a>, Error> {
-    let output = match command {
-        Command::Check | Command::List | Command::Count | Command::Sizes | Command::Fields => None,
-        Command::Canon
-        | Command::Sound
-        | Command::Unique(_)
-        | Command::Json(_)
-        | Command::Pick(_) => { matches.get_str("output").filter(|name| *name != "-") }
+    let prints = prints(command);
+    let output = if prints.documents {
+        matches.get_str("output").filter(|name| *name != "-")
+    } else {
+        None
     };
-    let style = match command {
-        Command::List | Command::Sizes | Command::Fields => Style::Words,
-        Command::Check
-        | Command::Count
-        | Command::Canon
-        | Command::Sound
-        | Command::Unique(_)
-        | Command::Json(_)
-        | Command::Pick(_) => style_of(matches),
+    let style = if prints.findings {
+        style_of(matches)
+    } else {
+        Style::Words
     };
     Ok(Task {
         reading: Reading::Dumps(Job {
@@ -120,9 +79,10 @@ fn task_of<'a>(
             style,
             resync: matches.get_flag("resync"),
             repeats: matches!(command, Command::Unique(_)) && matches.get_flag("repeats"),
-            limit: match command {
-                Command::List | Command::Sizes | Command::Fields => None,
-                _ => matches.get_one("limit"),
+            limit: if prints.findings {
+                matches.get_one("limit")
+            } else {
+                None
             },
             limits: limits_of(matches),
             portion: Portion {
@@ -159,23 +119,6 @@ fn text_task<'a>(alloc: Global, matches: &ArgMatches<'a>) -> Result<Task<'a>, Er
         output: matches.get_str("output").filter(|name| *name != "-"),
         inputs: inputs_of(alloc, matches)?,
     })
-}
-
-/// The command of this name, which reads dumps, with what was given to it; none of the one that reads texts.
-fn command_of<'a>(name: &str, matches: &ArgMatches<'a>) -> Option<Command<'a>> {
-    match name {
-        "check" => Some(Command::Check),
-        "list" => Some(Command::List),
-        "count" => Some(Command::Count),
-        "sizes" => Some(Command::Sizes),
-        "fields" => Some(Command::Fields),
-        "canon" => Some(Command::Canon),
-        "sound" => Some(Command::Sound),
-        "unique" => Some(Command::Unique(spelling_of(matches))),
-        "json" => Some(Command::Json(json_style_of(matches))),
-        "pick" => Some(Command::Pick(picking_of(matches))),
-        _ => None,
-    }
 }
 
 /// What the matches of a command line ask for.
