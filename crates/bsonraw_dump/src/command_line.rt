@@ -8,7 +8,7 @@ mod names;
 mod reading;
 mod task;
 
-pub use commands::prints;
+pub use commands::printing_of;
 pub use names::{Words, copied, expanded, given_words};
 pub use reading::Reading;
 pub use task::{Task, parsed};

@@ -1,7 +1,9 @@
 //! Runs a command over files.
 #![tactic(auto)]
 
-use crate::command_line::{Reading, Task, Words, copied, expanded, given_words, parsed, prints};
+use crate::command_line::{
+    Reading, Task, Words, copied, expanded, given_words, parsed, printing_of,
+};
 use crate::files::findings::Findings;
 use crate::files::inputs::{Files, Unread, are_one, node_of};
 use crate::files::output::{BLOCK, Fill, into_file};
@@ -140,13 +142,13 @@ fn start(rt: &HostRuntime, run: &Run<'_>) -> Status {
         tell_words(rt, run.reading.style(), "not enough memory");
         return Status::Memory;
     };
-    match run.reading.command().map(prints) {
-        Some(prints) if prints.soon => {
+    match run.reading.command().map(printing_of) {
+        Some(printing) if printing.soon => {
             let is_file = node_of(rt, "/dev/stdout").is_some();
             let mut out = Prompt::new(rt, out, !is_file);
             each(rt, run, &mut io::sink(), &mut out).status
         }
-        Some(prints) if !prints.documents => each(rt, run, &mut io::sink(), &mut out).status,
+        Some(printing) if !printing.documents => each(rt, run, &mut io::sink(), &mut out).status,
         _ => {
             let mut findings = Findings {
                 writer: rt.stderr(),
@@ -196,7 +198,7 @@ fn each<'a, D: Write, W: Write>(
 fn files_of<'a>(rt: &'a HostRuntime, run: &'a Run<'_>) -> Files<'a> {
     let is_redirected = run.output.is_none();
     let is_soon = match run.reading.command() {
-        Some(command) => prints(command).soon,
+        Some(command) => printing_of(command).soon,
         None => false,
     };
     let is_apart = is_soon || !is_redirected || !rt.stdout().is_terminal();

@@ -85,11 +85,29 @@ fn put_listing<W: Write>(
         × Appends (W.contents report.old) (W.contents report.new) lines) }
     ensures failed { IfErr result (λ failure. ¬ IsReading failure) }
 {
-    put_head(alloc, name, offset, bytes, told, report)?;
+    let head = sized(alloc, bytes.len(), told)?;
+    put_line(alloc, name, offset, &head, report)?;
     match RawDocument::from_bytes(bytes) {
         Ok(document) => list_levels(alloc, document, report),
         Err(_) => Ok(()),
     }
+}
+
+fn put_line<W: Write>(
+    alloc: Global,
+    name: &str,
+    offset: u64,
+    words: &[u8],
+    report: &mut W,
+) -> Result<(), Failure>
+    ensures written { OnOk result
+        (Appends (W.contents report.old) (W.contents report.new) (line name.now offset words.now)) }
+    ensures front { OnErr result
+        (AppendsFront (W.contents report.old) (W.contents report.new) (line name.now offset words.now)) }
+    ensures failed { IfErr result (λ failure. ¬ IsReading failure) }
+{
+    let text = line_of(alloc, name, offset, words)?;
+    put(report, &text)
 }
 
 /// Writes where a document begins, how many bytes it has, and what is found in it.

@@ -7,7 +7,7 @@ use values_to_json::{Format, Layout, Style as JsonStyle};
 
 /// What a command prints, and where.
 #[derive(Clone, Copy)]
-pub struct Prints {
+pub struct Printing {
     /// whether it writes documents into the output; what it finds goes to standard error then
     pub documents: bool,
     /// whether its lines are few, and shown as soon as they are there
@@ -17,7 +17,7 @@ pub struct Prints {
 }
 
 /// What this command prints.
-pub fn prints(command: Command<'_>) -> Prints {
+pub fn printing_of(command: Command<'_>) -> Printing {
     let (documents, soon, findings) = match command {
         Command::Check | Command::Count => (false, true, true),
         Command::Fields => (false, true, false),
@@ -28,7 +28,7 @@ pub fn prints(command: Command<'_>) -> Prints {
         | Command::Json(_)
         | Command::Pick(_) => (true, false, true),
     };
-    Prints {
+    Printing {
         documents,
         soon,
         findings,

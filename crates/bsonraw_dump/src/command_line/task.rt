@@ -2,7 +2,7 @@
 #![tactic(auto)]
 
 use crate::command_line::args::command_line;
-use crate::command_line::commands::{command_of, prints};
+use crate::command_line::commands::{command_of, printing_of};
 use crate::command_line::reading::Reading;
 use clap::{ArgMatches, Error};
 use dump_commands::command::Command;
@@ -62,13 +62,13 @@ fn task_of<'a>(
     command: Command<'a>,
     matches: &ArgMatches<'a>,
 ) -> Result<Task<'a>, Error> {
-    let prints = prints(command);
-    let output = if prints.documents {
+    let printing = printing_of(command);
+    let output = if printing.documents {
         matches.get_str("output").filter(|name| *name != "-")
     } else {
         None
     };
-    let style = if prints.findings {
+    let style = if printing.findings {
         style_of(matches)
     } else {
         Style::Words
@@ -79,7 +79,7 @@ fn task_of<'a>(
             style,
             resync: matches.get_flag("resync"),
             repeats: matches!(command, Command::Unique(_)) && matches.get_flag("repeats"),
-            limit: if prints.findings {
+            limit: if printing.findings {
                 matches.get_one("limit")
             } else {
                 None
