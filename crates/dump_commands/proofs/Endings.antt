@@ -94,7 +94,8 @@ bson_made c (inl e) = subst MakesBson (sym e) canon_makes
 bson_made c (inr (inl e)) = subst MakesBson (sym e) sound_makes
 bson_made c (inr (inr (spelling, e))) = subst MakesBson (sym e) (unique_makes spelling)
 
-pub none_made : (c : Command) → (c ≡ command.Check) ⊎ (c ≡ command.List) ⊎ (c ≡ command.Count) ⊎ (c ≡ command.Sizes) ⊎ (c ≡ command.Fields) ⊎ ((style : json.Style) × (c ≡ command.Json style)) → MakesNoBson c
+pub none_made : (c : Command) → (c ≡ command.Check) ⊎ (c ≡ command.List) ⊎ (c ≡ command.Count) ⊎ (c ≡ command.Sizes) ⊎ (c ≡ command.Fields) ⊎ ((style : json.Style) × (c ≡ command.Json style))
+    → MakesNoBson c
 none_made c (inl e) = subst MakesNoBson (sym e) check_makes_none
 none_made c (inr (inl e)) = subst MakesNoBson (sym e) list_makes_none
 none_made c (inr (inr (inl e))) = subst MakesNoBson (sym e) count_makes_none
