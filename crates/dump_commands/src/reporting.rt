@@ -93,6 +93,7 @@ fn put_listing<W: Write>(
     }
 }
 
+/// Writes a line of a document, with these words.
 fn put_line<W: Write>(
     alloc: Global,
     name: &str,
