@@ -12,6 +12,7 @@ fn copies_with_ample_memory(rt: HostRuntime) {
         copies::are_copied(checks, view(&rt, ALL_KINDS))
             && copies::has_fault(checks, view(&rt, BOOLEAN_TWO))
             && copies::is_made(checks, "a")
+            && copies::are_buffers_copied(checks)
     );
 }
 
@@ -21,6 +22,7 @@ fn buffers_with_ample_memory(rt: HostRuntime) {
     assert!(rt;
         buffers::are_empty(checks)
             && buffers::are_appended(checks)
+            && buffers::is_key_refused(checks)
             && buffers::is_first_appended(checks, view(&rt, ONE_INT32))
             && buffers::are_pushed(checks)
             && buffers::are_collected(checks)
@@ -30,6 +32,7 @@ fn buffers_with_ample_memory(rt: HostRuntime) {
 #[test]
 fn trees_with_ample_memory(rt: HostRuntime) {
     let checks = Checks::ample(rt.alloc());
+    trees::forms(&rt, checks);
     assert!(rt;
         trees::is_view_read(checks, view(&rt, trees::OTHER_SPELLING))
             && trees::are_buffers_read(checks)

@@ -3,7 +3,7 @@ use crate::fixtures::*;
 use crate::memory::asserts::OwnedChecks;
 use raw_bson::{
     BinarySubtype, RawArrayBuf, RawBinaryRef, RawBson, RawBsonRef, RawDocument, RawDocumentBuf,
-    RawElement, Result, ToRawBson,
+    RawElement, Reason, Result, ToRawBson,
 };
 use std::alloc::Global;
 use std::process::Abort;
@@ -81,20 +81,54 @@ fn has_number_appended(checks: Checks, made: &mut Result<RawDocumentBuf>) -> boo
     }
 }
 
+/// A new buffer, to which the numbers of the document of three int32 are appended.
+fn with_numbers(alloc: Global) -> Result<RawDocumentBuf> {
+    let mut document = RawDocumentBuf::new(alloc)?;
+    document.append("a", RawBson::Int32(-1))?;
+    document.append("b", RawBson::Int32(123))?;
+    document.append("c", RawBson::Int32(0))?;
+    Ok(document)
+}
+
 /// Whether values are appended, owned and borrowed, or memory ran out.
 pub(crate) fn are_appended(checks: Checks) -> bool {
     let_go!(made = with_copy(checks.alloc); checks.is_document(&made, OLD_BINARY))
+        && let_go!(made = with_numbers(checks.alloc); checks.is_document(&made, THREE_INT32))
         && let_go!(
             mut made = document_of(checks.alloc, ONE_INT32);
             has_number_appended(checks, &mut made)
         )
 }
 
+/// Whether a null isn't appended for the 0 in its key, which comes before memory is asked for, and the buffer is as it was.
+fn is_nul_refused(document: &mut RawDocumentBuf) -> bool {
+    let_go!(
+        made = document.append("a\0b", RawBson::Null);
+        is_refused(&made, Reason::InteriorNul, None)
+    ) && document.as_bytes() == EMPTY
+}
+
+/// The same of a buffer, if there is memory for it.
+fn has_nul_refused(checks: Checks, made: &mut Result<RawDocumentBuf>) -> bool {
+    match made {
+        Ok(document) => is_nul_refused(document),
+        Err(error) => checks.is_out_of_memory(error),
+    }
+}
+
+/// The same of a new one.
+pub(crate) fn is_key_refused(checks: Checks) -> bool {
+    let_go!(mut made = RawDocumentBuf::new(checks.alloc); has_nul_refused(checks, &mut made))
+}
+
 #[test]
 fn append_or_out_of_memory(rt: HostRuntime) {
     let checks = Checks::refusable(rt.alloc());
     assert!(rt;
-        are_empty(checks) && are_appended(checks) && is_first_appended(checks, view(&rt, ONE_INT32))
+        are_empty(checks)
+            && are_appended(checks)
+            && is_key_refused(checks)
+            && is_first_appended(checks, view(&rt, ONE_INT32))
     );
 }
 

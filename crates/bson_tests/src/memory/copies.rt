@@ -2,7 +2,10 @@
 use crate::fixtures::*;
 use crate::memory::asserts::OwnedChecks;
 use crate::memory::kinds::has_memory;
-use raw_bson::{ElementType, RawBson, RawBsonRef, RawDocument, RawElement, ToRawBson};
+use raw_bson::{
+    ElementType, RawArrayBuf, RawBson, RawBsonRef, RawDocument, RawDocumentBuf, RawElement,
+    ToRawBson,
+};
 use std::alloc::{AllocError, Global};
 use std::process::Abort;
 
@@ -83,6 +86,42 @@ pub(crate) fn is_made(checks: Checks, text: &str) -> bool {
     let_go!(made = RawBson::from_str(checks.alloc, text); checks.is_value(&made, RawBsonRef::String(text)))
 }
 
+/// Whether a copy is equal, or there is none because memory ran out.
+fn is_equal<T: PartialEq>(checks: Checks, copy: &Result<T, AllocError>, copied: &T) -> bool {
+    match copy {
+        Ok(copy) => copy == copied,
+        Err(_) => checks.is_refusable,
+    }
+}
+
+/// Whether a buffer of the greeting is copied, and is as it was, if there was memory for it.
+fn is_document_copied(checks: Checks, made: &raw_bson::Result<RawDocumentBuf>) -> bool {
+    match made {
+        Ok(document) => {
+            let_go!(copy: Result<_, _> = document.clone(); is_equal(checks, &copy, document))
+                && document.as_bytes() == GREETING
+        }
+        Err(error) => checks.is_out_of_memory(error),
+    }
+}
+
+/// The same of an array of a null and a stop.
+fn is_array_copied(checks: Checks, made: &raw_bson::Result<RawArrayBuf>) -> bool {
+    match made {
+        Ok(array) => {
+            let_go!(copy: Result<_, _> = array.clone(); is_equal(checks, &copy, array))
+                && array.as_bytes() == SWALLOWED_TERMINATOR
+        }
+        Err(error) => checks.is_out_of_memory(error),
+    }
+}
+
+/// Whether buffers are copied, or memory ran out.
+pub(crate) fn are_buffers_copied(checks: Checks) -> bool {
+    let_go!(made = document_of(checks.alloc, GREETING); is_document_copied(checks, &made))
+        && let_go!(made = array_of(checks.alloc, SWALLOWED_TERMINATOR); is_array_copied(checks, &made))
+}
+
 #[test]
 fn copies_or_out_of_memory(rt: HostRuntime) {
     let checks = Checks::refusable(rt.alloc());
@@ -90,5 +129,6 @@ fn copies_or_out_of_memory(rt: HostRuntime) {
         are_copied(checks, view(&rt, ALL_KINDS))
             && has_fault(checks, view(&rt, BOOLEAN_TWO))
             && is_made(checks, "a")
+            && are_buffers_copied(checks)
     );
 }

@@ -72,15 +72,14 @@ fn turned(alloc: Global, value: RawBson) -> Result<RawBson> {
 }
 
 /// Whether the value is what it was before.
-fn is_turned(checks: Checks, value: RawBson, want: RawBsonRef<'_>) -> bool {
+pub(crate) fn is_turned(checks: Checks, value: RawBson, want: RawBsonRef<'_>) -> bool {
     let_go!(made = turned(checks.alloc, value); checks.is_value(&made, want))
 }
 
-/// One request for the text, and none for the tree that it becomes; none for a number.
+/// One request for the text, and none for what it becomes.
 #[test]
 fn a_text_that_becomes_a_tree_asks_for_nothing(rt: HostRuntime) {
     let checks = Checks::ample(rt.alloc());
-    assert!(rt; is_turned(checks, RawBson::Int32(7), RawBsonRef::Int32(7)));
     if let Ok(text) = String::from_str(rt.alloc(), LONG) {
         assert!(rt; is_turned(checks, RawBson::String(text), RawBsonRef::String(LONG)));
     }

@@ -138,6 +138,41 @@ fn bytes_of_trees_or_out_of_memory(rt: HostRuntime) {
     assert!(rt; are_parts_written(Checks::refusable(rt.alloc())));
 }
 
+/// Documents and their canonical forms: of the repeated key, the array with an empty key, the options out of order, and the least code with
+/// scope.
+const FORMS: &[(&[u8], &[u8])] = &[
+    (REPEATED_KEY, b"\x0C\0\0\0\x10a\0\x02\0\0\0\0"),
+    (
+        ARRAY_WITH_AN_EMPTY_KEY,
+        b"\x10\0\0\0\x04a\0\x08\0\0\0\x0A0\0\0\0",
+    ),
+    (OPTIONS_OUT_OF_ORDER, b"\x0D\0\0\0\x0Br\0a\0im\0\0"),
+    (LEAST_CODE_WITH_SCOPE, LEAST_CODE_WITH_SCOPE),
+];
+
+/// The tree of a buffer of these bytes.
+fn read(alloc: Global, bytes: &[u8]) -> Result<Document> {
+    document_of(alloc, bytes)?.to_document()
+}
+
+/// Whether the document is written as its form, by way of its tree and at once, or memory ran out.
+fn has_form(checks: Checks, bytes: &[u8], form: &[u8]) -> bool {
+    let_go!(tree = read(checks.alloc, bytes); is_form(checks, &tree, form))
+        && let_go!(made = canonical_bytes(checks.alloc, bytes); checks.is_list(&made, form))
+}
+
+/// Each document has its form.
+pub(crate) fn forms(rt: &impl Abort, checks: Checks) {
+    for (row, (bytes, form)) in FORMS.iter().enumerate() {
+        require_row(rt, has_form(checks, bytes, form), "forms", row);
+    }
+}
+
+#[test]
+fn forms_or_out_of_memory(rt: HostRuntime) {
+    forms(&rt, Checks::refusable(rt.alloc()));
+}
+
 /// Whether the result is the value under this key, or out of memory.
 fn is_part_made(checks: Checks, key: &str, answer: &Result<Bson>) -> bool {
     match answer {
@@ -225,15 +260,15 @@ fn is_form(checks: Checks, answer: &Result<Document>, bytes: &[u8]) -> bool {
 /// Whether these bytes are their own form, or memory ran out for them.
 fn are_form(checks: Checks, made: &std::result::Result<Vec<u8>, AllocError>) -> bool {
     match made {
-        Ok(bytes) => let_go!(tree = tree_of(checks.alloc, bytes); is_form(checks, &tree, bytes)),
+        Ok(bytes) => let_go!(tree = read(checks.alloc, bytes); is_form(checks, &tree, bytes)),
         Err(_) => checks.is_refusable,
     }
 }
 
-/// Whether a document of `levels` levels is.
+/// Whether so many levels around the innermost are.
 pub(crate) fn are_levels_form(checks: Checks, levels: usize) -> bool {
     let_go!(
-        made = nested(checks.alloc, &[IN_A_DOCUMENT], levels, EMPTY);
+        made = nested(checks.alloc, &[UNDER_THE_EMPTY_KEY], levels, EMPTY);
         are_form(checks, &made)
     )
 }

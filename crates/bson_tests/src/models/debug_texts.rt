@@ -2,7 +2,7 @@
 //! hexadecimal digits.
 
 use crate::fixtures::*;
-use raw_bson::{ElementType, RawBson, RawBsonRef, Result, ToRawBson};
+use raw_bson::{ElementType, RawArrayBuf, RawBson, RawBsonRef, RawDocumentBuf, Result, ToRawBson};
 use std::alloc::Global;
 use std::process::Abort;
 
@@ -65,6 +65,54 @@ fn is_row(alloc: Global, row: Row) -> bool {
 fn values_have_debug_texts(rt: HostRuntime) {
     for (row, value) in VALUES.iter().enumerate() {
         require_row(&rt, is_row(rt.alloc(), *value), "values", row);
+    }
+}
+
+/// Arrays, and the texts of their copies, with how many items these have.
+const ARRAYS: &[(&[u8], &str)] = &[
+    (EMPTY, "RawArrayBuf { data: \"0500000000\", len: 0 }"),
+    // a null and a stop
+    (
+        SWALLOWED_TERMINATOR,
+        "RawArrayBuf { data: \"060000000a00\", len: 2 }",
+    ),
+    (
+        SWALLOWED_TERMINATOR_PUSHED,
+        "RawArrayBuf { data: \"090000000a0a320000\", len: 1 }",
+    ),
+    // a stop
+    (
+        NEGATIVE_DOCUMENT_LENGTH,
+        "RawArrayBuf { data: \"0c000000036100ffffffff00\", len: 1 }",
+    ),
+];
+
+/// Whether the copy of an array has this text.
+fn is_array_printed(alloc: Global, bytes: &[u8], text: &str) -> bool {
+    let_go!(made = array_of(alloc, bytes); is_printed(alloc, &made, text))
+}
+
+/// Whether new buffers have their texts.
+fn are_new_printed(alloc: Global) -> bool {
+    let_go!(
+        made = RawDocumentBuf::new(alloc);
+        is_printed(alloc, &made, "RawDocumentBuf { data: \"0500000000\" }")
+    ) && let_go!(
+        made = RawArrayBuf::new(alloc);
+        is_printed(alloc, &made, "RawArrayBuf { data: \"0500000000\", len: 0 }")
+    )
+}
+
+#[test]
+fn buffers_have_debug_texts(rt: HostRuntime) {
+    require_row(&rt, are_new_printed(rt.alloc()), "new buffers", 0);
+    for (row, (bytes, text)) in ARRAYS.iter().enumerate() {
+        require_row(
+            &rt,
+            is_array_printed(rt.alloc(), bytes, text),
+            "arrays",
+            row,
+        );
     }
 }
 

@@ -1,14 +1,12 @@
-//! The shelf.
-use raw_bson::{RawBson, RawDocumentBuf, Result};
+use raw_bson::{RawDocumentBuf, Result};
 use raw_shelf::{PutError, Shelf};
 use std::alloc::Global;
 use std::process::Abort;
 
-/// The number 2 under `b`.
-fn two_under_b(alloc: Global) -> Result<RawDocumentBuf> {
-    let mut document = RawDocumentBuf::new(alloc)?;
-    document.append("b", RawBson::Int32(2))?;
-    Ok(document)
+/// A buffer of one text, `y'all`, under the key `hi`.
+fn greeting(alloc: Global) -> Result<RawDocumentBuf> {
+    let bytes = Vec::from_slice(alloc, b"\x13\0\0\0\x02hi\0\x06\0\0\0y'all\0\0")?;
+    RawDocumentBuf::from_bytes(bytes)
 }
 
 /// Whether the put into the empty shelf stores the document; or memory runs out, and the shelf is still empty.
@@ -22,7 +20,7 @@ fn is_stored(shelf: &mut Shelf, document: RawDocumentBuf) -> bool {
 // `bin/test` runs this alone, with each request for memory failing in turn.
 #[test]
 fn put_or_out_of_memory(rt: HostRuntime) {
-    if let Ok(document) = two_under_b(rt.alloc()) {
+    if let Ok(document) = greeting(rt.alloc()) {
         assert!(rt; is_stored(&mut Shelf::new(rt.alloc()), document));
     }
 }
