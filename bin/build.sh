@@ -161,15 +161,15 @@ prove() {
     if [ -d "$root/crates/$1/out/rlib" ]; then printf '%s' "$3" >"$root/crates/$1/out/rlib/stamp"; else note_built "$1" "$3"; fi
 }
 
-# run_step GOAL JOBS KEY: what make runs for a goal of plan.py
+# run_step GOAL KEY: what make runs for a goal of plan.py
 run_step() {
-    touch "$work/begun/$1"
+    jobs=$(plan begin "$work" "$slots" "$1") || return 1
     case $1 in
     *:again)
         built_for=$machine
         . "$root/bin/release.sh" && for_machine "$built_for" && build_others
         ;;
-    *) locked "$1" sh -c '. "$root/bin/build.sh" && prove "$@"' sh "$@" ;;
+    *) locked "$1" sh -c '. "$root/bin/build.sh" && prove "$@"' sh "$1" "$jobs" "$2" ;;
     esac >"$work/log/$1" 2>&1 </dev/null
     if [ $? = 0 ]; then touch "$work/ended/$1"; else echo "$1" >>"$work/failed"; fi
     [ -e "$work/ended/$1" ]
@@ -192,10 +192,10 @@ show_left() {
     now=$(date +%s)
     through=$(find "$work/ended" -type f | wc -l)
     [ "$through" != "$shown" ] || { [ -t 2 ] && [ $((now - said_at)) -ge 5 ]; } || return 0
-    shown=$through
     said_at=$now
     # shellcheck disable=SC2046 # words
     set -- $(plan left "$work" "$slots")
+    shown=$1
     text="$me: $1 of $2 done in $(((now - began) / 60)) min, about $3 min left"
     shift 3
     if [ -t 2 ]; then
@@ -211,7 +211,7 @@ build() {
     mkdir "$work/begun" "$work/ended" "$work/log" && slots=$(plan slots) && planned=$(plan makefile "$(kit)" "$work" "$slots" "$@") || return 1
     # shellcheck disable=SC2086 # three numbers
     say_how_long $planned
-    export root me work machine
+    export root me work machine slots
     # in a session of its own, so that it ends with all that it started
     env -u MAKEFLAGS -u MFLAGS -u MAKELEVEL setsid sh -c 'make -s -f "$work/Makefile" -j "$1" >"$work/make" 2>&1; echo "$?" >"$work/status"' \
         sh "$slots" </dev/null &

@@ -5,12 +5,13 @@
     plan.py minutes SLOTS GOAL..            prints how many minutes these crates and those below them take, the first time
     plan.py makefile KIT WORK SLOTS GOAL..  writes WORK/Makefile and WORK/plan for those that aren't built, SLOTS at a time; prints how many
                                             crates that is, how many of them were proved here before, and how many minutes it takes
+    plan.py begin WORK SLOTS GOAL           notes in WORK/begun that a step begins, and prints how many jobs it has
     plan.py left WORK SLOTS                 prints how many steps of it are through, how many there are, how many minutes are left, by
                                             what the others took, and which steps are under way
     plan.py slots                           prints how many crates can be proved at a time: by the processors and the free memory
 
 A goal is a crate, or a crate and `:again`, which builds the C library once more for other processors. WORK/begun and WORK/ended have a file
-for each step, as old as its begin and its end. KIT is the kit's folder. The key of a library is what `rt` writes to out/rlib/stamp, so that
+for each step, as old as its begin and its end; the first has its jobs. KIT is the kit's folder. The key of a library is what `rt` writes to out/rlib/stamp, so that
 neither builds anew what the other built. In a kit where `rt` writes another one, each builds it once more, over the proofs that are kept.
 """
 
@@ -147,12 +148,13 @@ def compiling(goal: str) -> float:
     return 0.03 * sum(crates()[it].lines(".rt") for it in below([goal])) + (5000 if "clap" in crate.uses else 0)
 
 
-def cost(goal: str, is_first: bool = False) -> float:
-    """What a step costs, in lines that are proved. What each check reads before its first function counts as 500. Where a crate was proved
-    before, a tenth of it is taken to have changed."""
+def proving(goal: str, is_first: bool) -> float:
+    """What it costs to prove a crate, in lines. What a check reads before its first function counts as 500. Where a crate was proved before, a
+    tenth of it is taken to have changed."""
     crate = crate_of(goal)
-    proved = 0 if goal.endswith(AGAIN) else crate.lines(".rt", ".antt") * (1 if is_first or not crate.is_kept else 0.1)
-    return 500 + compiling(goal) + proved
+    if goal.endswith(AGAIN):
+        return 500
+    return 500 + crate.lines(".rt", ".antt") * (1 if is_first or not crate.is_kept else 0.1)
 
 
 class Step(NamedTuple):
@@ -161,42 +163,51 @@ class Step(NamedTuple):
     goal: str
     waits: List[str]
     cost: float
-    jobs: int
+    compiled: float
+    """The part of the cost that more jobs don't shorten."""
 
-    @property
-    def span(self) -> float:
+    def span(self, jobs: int) -> float:
         """How long it takes, in lines."""
-        return self.cost * (1.0 if self.goal.endswith(AGAIN) else BY_JOBS[self.jobs])
+        return (self.cost - self.compiled) * BY_JOBS[jobs] + self.compiled
 
 
-def jobs(goal: str, waits: Dict[str, List[str]], costs: Dict[str, float], slots: int) -> int:
-    """How many jobs a check has: its share of the processors, by what it costs and what can be done beside it."""
-    beside = sum(costs[it] for it in costs if it != goal and it not in waits[goal] and goal not in waits[it])
-    return max(1, min(round(slots * costs[goal] / (costs[goal] + beside)), slots, max(BY_JOBS)))
+def share(slots: int, others: int, ready: int) -> int:
+    """How many jobs a check has that begins: the processors that neither other checks have, nor those that are ready wait for; one at least."""
+    return max(1, min(slots - others - ready, max(BY_JOBS)))
 
 
-def planned(goals: List[str], slots: int, is_first: bool = False) -> List[Step]:
+def planned(goals: List[str], is_first: bool = False) -> List[Step]:
     """The steps of these goals, first those with the longest chain of others after them."""
     waits = {it: [other for other in below([it]) if other in goals and other != it] for it in goals}
-    costs = {it: cost(it, is_first) for it in goals}
-    steps = [Step(it, waits[it], costs[it], jobs(it, waits, costs, slots)) for it in goals]
+    steps = [Step(it, waits[it], proving(it, is_first) + compiling(it), compiling(it)) for it in goals]
     chain: Dict[str, float] = {}
     for step in sorted(steps, key=lambda it: -len(it.waits)):
-        chain[step.goal] = step.span + max((chain[it.goal] for it in steps if step.goal in it.waits), default=0)
+        chain[step.goal] = step.span(1) + max((chain[it.goal] for it in steps if step.goal in it.waits), default=0)
     return sorted(steps, key=lambda it: -chain[it.goal])
 
 
-def finish(steps: List[Step], spans: Dict[str, float], slots: int) -> float:
-    """When the last of these steps is through, if make begins them in this order."""
+class Running(NamedTuple):
+    """A step that has begun."""
+
+    end: float
+    goal: str
+    jobs: int
+
+
+def finish(steps: List[Step], slots: int, rate: float, running: List[Running]) -> float:
+    """When the last of these steps is through, if make begins them in this order, and a line takes this long."""
     left, now = list(steps), 0.0
-    running: List[Tuple[float, str]] = []
-    through = {it for step in steps for it in step.waits}.difference(it.goal for it in steps)
+    heapq.heapify(running)
+    open_goals = {it.goal for it in steps} | {it.goal for it in running}
     while left or running:
-        for step in [it for it in left if through.issuperset(it.waits)][: slots - len(running)]:
+        ready = [it for it in left if not open_goals.intersection(it.waits)]
+        begin = ready[: slots - len(running)]
+        for at, step in enumerate(begin, 1):
+            jobs = share(slots, sum(it.jobs for it in running), len(ready) - at)
+            heapq.heappush(running, Running(now + rate * step.span(jobs), step.goal, jobs))
             left.remove(step)
-            heapq.heappush(running, (now + spans[step.goal], step.goal))
-        now, goal = heapq.heappop(running)
-        through.add(goal)
+        now, goal, _ = heapq.heappop(running)
+        open_goals.remove(goal)
     return now
 
 
@@ -209,8 +220,7 @@ def with_again(names: List[str]) -> List[str]:
 def line_seconds() -> float:
     """How many seconds a line takes, by MINUTES, which is for the programs and the C library."""
     tops = [it.name for it in crates().values() if it.kind != "library" and it.name.startswith("bsonraw")]
-    steps = planned(with_again(below(tops)), MEASURED_AT, is_first=True)
-    return 60 * MINUTES / finish(steps, {it.goal: it.span for it in steps}, MEASURED_AT)
+    return 60 * MINUTES / finish(planned(with_again(below(tops)), is_first=True), MEASURED_AT, 1, [])
 
 
 def in_minutes(seconds: float) -> int:
@@ -219,43 +229,69 @@ def in_minutes(seconds: float) -> int:
 
 def minutes(slots: int, goals: List[str]) -> int:
     """How long the first build of these goals takes."""
-    steps = planned([*below(goals), *(it for it in goals if it.endswith(AGAIN))], slots, is_first=True)
-    return in_minutes(line_seconds() * finish(steps, {it.goal: it.span for it in steps}, slots))
+    steps = planned([*below(goals), *(it for it in goals if it.endswith(AGAIN))], is_first=True)
+    return in_minutes(finish(steps, slots, line_seconds(), []))
 
 
 def write_makefile(kit: str, work: Path, slots: int, goals: List[str]) -> List[int]:
     """Writes the makefile and the plan; returns how many crates there are, how many of them were proved before, and the minutes."""
     names = [it for it in below(goals) if not is_built(kit, it)]
-    steps = planned([*names, *(it for it in goals if it.endswith(AGAIN))], slots)
+    steps = planned([*names, *(it for it in goals if it.endswith(AGAIN))])
     target = {it.goal: it.goal.replace(":", "-") for it in steps}
     text = f".PHONY: all {' '.join(target.values())}\nall: {' '.join(target.values())}\n"
     for step in steps:
         text += f"{target[step.goal]}: {' '.join(target[it] for it in step.waits)}\n"
-        text += f'\t@. "$$root/bin/build.sh" && run_step {step.goal} {step.jobs} {key(kit, crate_of(step.goal).name)}\n'
+        text += f'\t@. "$$root/bin/build.sh" && run_step {step.goal} {key(kit, crate_of(step.goal).name)}\n'
     (work / "Makefile").write_text(text)
     (work / "plan").write_text(json.dumps({"rate": line_seconds(), "steps": steps}))
     kept = sum(crates()[it].is_kept for it in names)
-    return [len(names), kept, in_minutes(line_seconds() * finish(steps, {it.goal: it.span for it in steps}, slots))]
+    return [len(names), kept, in_minutes(finish(steps, slots, line_seconds(), []))]
+
+
+class State:
+    """How far the steps of a folder are."""
+
+    def __init__(self, work: Path) -> None:
+        plan = json.loads((work / "plan").read_text())
+        self.steps = [Step(*it) for it in plan["steps"]]
+        self.rate: float = plan["rate"]
+        self.begun = {it.name: it.stat().st_mtime for it in (work / "begun").iterdir()}
+        self.jobs = {it.name: int(it.read_text() or 1) for it in (work / "begun").iterdir()}
+        self.ended = {it.name: it.stat().st_mtime for it in (work / "ended").iterdir()}
+
+    def under_way(self) -> List[Step]:
+        return [it for it in self.steps if it.goal in self.begun and it.goal not in self.ended]
+
+    def waiting(self) -> List[Step]:
+        return [it for it in self.steps if it.goal not in self.begun]
+
+
+def begin(work: Path, slots: int, goal: str) -> int:
+    """Notes that a step begins; returns how many jobs it has."""
+    state = State(work)
+    others = sum(state.jobs[it.goal] for it in state.under_way() if it.goal != goal)
+    ready = [it for it in state.waiting() if it.goal != goal and state.ended.keys() >= set(it.waits)]
+    found = share(slots, others, len(ready))
+    (work / "begun" / goal).write_text(str(found))
+    return found
 
 
 def left(work: Path, slots: int) -> str:
     """How many steps are through, of how many, the minutes that are left, and what is under way."""
-    plan = json.loads((work / "plan").read_text())
-    steps = [Step(*it) for it in plan["steps"]]
-    begun = {it.name: it.stat().st_mtime for it in (work / "begun").iterdir()}
-    ended = {it.name: it.stat().st_mtime for it in (work / "ended").iterdir()}
+    state = State(work)
     # what a line takes: by MINUTES as long as little is through, and then by what that took
-    through = [it for it in steps if it.goal in ended]
+    through = [it for it in state.steps if it.goal in state.ended]
     known = 3000.0
-    took = known * plan["rate"] + sum(ended[it.goal] - begun[it.goal] for it in through)
-    rate = took / (known + sum(it.span for it in through))
+    took = known * state.rate + sum(state.ended[it.goal] - state.begun[it.goal] for it in through)
+    rate = took / (known + sum(it.span(state.jobs[it.goal]) for it in through))
     now = time.time()
-    spans = {it.goal: it.span * rate - (now - begun.get(it.goal, now)) for it in steps if it.goal not in ended}
-    spans = {goal: max(span, 0.1 * rate * 500) for goal, span in spans.items()}
-    rest = sorted((it for it in steps if it.goal not in ended), key=lambda it: it.goal not in begun)
-    under_way = [it.goal for it in steps if it.goal in begun and it.goal not in ended]
-    minutes = in_minutes(finish(rest, spans, slots)) if rest else 0
-    return f"{len(through)} {len(steps)} {minutes} {' '.join(under_way)}"
+    running = []
+    for it in state.under_way():
+        span = it.span(state.jobs[it.goal]) * rate
+        running.append(Running(max(span - (now - state.begun[it.goal]), 0.1 * span), it.goal, state.jobs[it.goal]))
+    names = [it.goal for it in state.under_way()]
+    minutes = in_minutes(finish(state.waiting(), slots, rate, running)) if names or state.waiting() else 0
+    return f"{len(through)} {len(state.steps)} {minutes} {' '.join(names)}"
 
 
 def number_in(file: str, pattern: str) -> int:
@@ -289,6 +325,8 @@ def main(verb: str, *words: str) -> int:
         print(minutes(int(words[0]), list(words[1:])))
     elif verb == "makefile":
         print(*write_makefile(words[0], Path(words[1]), int(words[2]), list(words[3:])))
+    elif verb == "begin":
+        print(begin(Path(words[0]), int(words[1]), words[2]))
     elif verb == "left":
         print(left(Path(words[0]), int(words[1])))
     elif verb == "slots":
