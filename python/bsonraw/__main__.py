@@ -1,6 +1,6 @@
 """python -m bsonraw check|json FILE: what is wrong with a dump, and its documents as JSON.
 
-The programs bsonraw-dump and bsonraw do the same and more, and what they print is proved.
+The programs bsonraw-dump and bsonraw do the same and more.
 """
 
 import argparse

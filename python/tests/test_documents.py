@@ -276,6 +276,7 @@ class Worked(unittest.TestCase):
             self.assertEqual(breach[1:], (error.path, error.keys, error.offset))
 
 
+@unittest.skipUnless(EXAMPLES.is_dir(), "the examples aren't in a source archive")
 class Examples(unittest.TestCase):
     def test_each_has_the_listing_beside_it(self) -> None:
         paths = sorted(EXAMPLES.glob("*.hex"))
