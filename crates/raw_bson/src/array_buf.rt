@@ -97,8 +97,8 @@ impl RawArrayBuf {
         RawArray::from_doc(self.document.as_ref())
     }
 
-    /// The count. Its decimal is the key of the next value that is pushed. It isn't the number of items if values
-    /// are pushed onto a damaged array.
+    /// The count, whose decimal is the key of the next value that is pushed. It isn't the number of items if
+    /// values are pushed onto a damaged array.
     pub fn count(&self) -> usize
         ensures { result ≡ self.now.count }
     {
@@ -148,7 +148,7 @@ impl RawArrayBuf {
         self.document.as_bytes()
     }
 
-    /// Whether iteration yields no item. It yields none if and only if the array has five bytes.
+    /// Whether iteration yields no item, which holds if and only if the array has five bytes.
     pub fn is_empty(&self) -> bool
         ensures five { IsTrue result ↔ (length self.now.bytes ≡ 5) }
         ensures no_item { IsTrue result ↔ AreItems self.now.bytes [] }

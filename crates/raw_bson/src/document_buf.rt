@@ -78,8 +78,8 @@ impl RawDocumentBuf {
         Ok(document)
     }
 
-    /// A buffer of these bytes if their envelope is sound. Otherwise the bytes are dropped, and the error, without
-    /// a key, is the first of these that applies: too short, wrong length, not terminated. It takes no memory.
+    /// A buffer of these bytes if their envelope is sound, otherwise the first error of these, without a key: too
+    /// short, wrong length, not terminated. Then the bytes are dropped. It takes no memory.
     /// ```
     /// let bytes = Vec::from_slice(alloc, b"\x05\0\0\0\0")?;
     /// assert!(rt; RawDocumentBuf::from_bytes(bytes)?.is_empty());

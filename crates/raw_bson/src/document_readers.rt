@@ -26,7 +26,7 @@ impl RawDocumentBuf {
     ghost use Rattle.raw_view.specs.declared.element_type.ElementType.TheVariants as variants;
     ghost use Rattle.raw_view.specs.declared.error.Error.{Error};
 
-    /// Whether iteration yields no item. It yields none if and only if the document has five bytes.
+    /// Whether iteration yields no item, which holds if and only if the document has five bytes.
     pub fn is_empty(&self) -> bool
         ensures five { IsTrue result ↔ (length self.now ≡ 5) }
         ensures no_item { IsTrue result ↔ AreItems self.now [] }

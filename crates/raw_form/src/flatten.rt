@@ -84,11 +84,11 @@ fn flatten_to<'a>(
     }
 }
 
-/// The elements of all levels of a document within limits as tokens, depth first in byte order. The elements of a
-/// scope are inside the code with scope. It returns how many there are, and writes as many as fit; the rest of the
-/// room is unchanged. The error is the first barrier, as `first_fault_within` returns it; then the content of the
-/// room is not specified. Out of memory is possible only if there are few enough bytes and a level may be entered.
-/// BSON 1.1, `document`.
+/// Writes the elements of all levels of a document within limits as tokens, as many as fit, and returns how many
+/// there are. They are depth first in byte order; the elements of a scope are inside the code with scope. The rest
+/// of the room is unchanged. The error is the first barrier, as `first_fault_within` returns it; then the content
+/// of the room is not specified. Out of memory is possible only if there are few enough bytes and a level may be
+/// entered. BSON 1.1, `document`.
 ///
 /// Not in the contract: no depth fills the stack. Memory is taken for the waiting levels, and for the path of a
 /// barrier.

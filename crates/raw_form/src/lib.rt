@@ -9,7 +9,7 @@
 //! proofs.
 //!
 //! `raw_bson` doesn't rest on this crate; `bsonraw_c` and the dump crates do. How a form is found may change
-//! freely, as long as the contracts of the three calls below stay.
+//! freely, as long as the contracts of `canonical_within` and `flatten_within` stay.
 #![tactic(auto)]
 
 mod canonical;

@@ -32,7 +32,7 @@ impl Model for Shelf {
     ghost invariant = { λ s. IsShelf (items s.documents.keys) };
 }
 
-/// Puts bytes last, unless they are there. Returns whether they were new. The only error is out of memory.
+/// Puts bytes last, unless they are there, and returns whether they were new. The only error is out of memory.
 fn store(documents: &mut IndexSet<Vec<u8>>, bytes: Vec<u8>) -> Result<bool, PutError>
     ensures { Stores (items documents.old.keys) bytes.items result (items documents.new.keys) }
 {
@@ -52,7 +52,7 @@ impl Shelf {
         }
     }
 
-    /// Puts a canonical document last, unless it is there. Returns whether it was new. If the document isn't
+    /// Puts a canonical document last, unless it is there, and returns whether it was new. If the document isn't
     /// canonical, the error is its first breach. An error, even out of memory, leaves the shelf unchanged.
     /// ```
     /// let mut shelf = Shelf::new(alloc);

@@ -32,10 +32,10 @@ fn numbers_of(alloc: Global, steps: &[PathStep<'_>]) -> Result<Vec<usize>>
     Ok(numbers)
 }
 
-/// Whether a document is canonical. `None` if and only if it is; then it has a tree, which is written back as
-/// its own bytes. Otherwise it returns the first place, depth first in byte order, where the document isn't
-/// canonical, and why. The key of an element is validated first, then its value, then what is inside the
-/// value. The only error is out of memory. BSON 1.1, `document`.
+/// Returns `None` if and only if a document is canonical, otherwise its first breach: the first place, depth first
+/// in byte order, where it isn't canonical, and why. A canonical document has a tree, which is written back as its
+/// own bytes. The key of an element is validated first, then its value, then what is inside the value. The only
+/// error is out of memory. BSON 1.1, `document`.
 ///
 /// Not in the contract: no tree is built, and no depth fills the stack. Memory is taken for the keys of the
 /// open levels, for the waiting levels and for the path.

@@ -69,7 +69,7 @@ impl<'a> RawArray<'a> {
         self.document.as_bytes()
     }
 
-    /// Whether iteration yields no item. It yields none if and only if the array has five bytes.
+    /// Whether iteration yields no item, which holds if and only if the array has five bytes.
     pub fn is_empty(self) -> bool
         ensures five { IsTrue result ↔ (length (array_bytes_of self.entry) ≡ 5) }
         ensures no_item { IsTrue result ↔ AreItems (array_bytes_of self.entry) [] }

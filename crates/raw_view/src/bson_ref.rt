@@ -94,7 +94,7 @@ impl<'a> RawBsonRef<'a> {
     }
 }
 
-/// Bytes with a subtype. The bytes of an old binary exclude the inner length. BSON 1.1, `binary`.
+/// Bytes with a subtype, for an old binary without the inner length. BSON 1.1, `binary`.
 /// ```
 /// let binary = RawBinaryRef { subtype: BinarySubtype::Generic, bytes: b"ab" };
 /// assert_eq!(rt; RawBsonRef::from(binary).as_binary(), Some(binary));

@@ -59,9 +59,8 @@ impl<'a> RawDocument<'a> {
     ghost use Rattle.raw_view.specs.declared.element.RawElement.{RawElement};
     ghost use Rattle.raw_view.specs.declared.error.Error.{Error};
 
-    /// A view of the bytes if their envelope is sound. Otherwise the error is the first of these that
-    /// applies: too short, wrong length, not terminated. The length in the header must be that of all the
-    /// bytes. These errors have no key.
+    /// A view of the bytes if their envelope is sound, otherwise the first error of these: too short, wrong
+    /// length, not terminated. The length in the header must be that of all the bytes. These errors have no key.
     /// ```
     /// assert!(rt; RawDocument::from_bytes(b"\x05\0\0\0\0").is_ok());
     /// assert!(rt; RawDocument::from_bytes(b"\x06\0\0\0\0").is_err());
@@ -100,7 +99,7 @@ impl<'a> RawDocument<'a> {
         self.bytes
     }
 
-    /// Whether iteration yields no item. It yields none if and only if the document has five bytes.
+    /// Whether iteration yields no item, which holds if and only if the document has five bytes.
     pub fn is_empty(self) -> bool
         ensures five { IsTrue result ↔ (length (bytes_of self.entry) ≡ 5) }
         ensures no_item { IsTrue result ↔ AreItems (bytes_of self.entry) [] }

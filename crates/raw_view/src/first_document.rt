@@ -24,10 +24,9 @@ pub enum NoDocument {
 }
 
 impl<'a> RawDocument<'a> {
-    /// The document at the front of the bytes, and the bytes after it. Otherwise the error is the first of
-    /// these that applies: too short, a length that doesn't fit, not terminated. The last has the length, so
-    /// that a caller can skip the damaged document. At most one document is at the front of any bytes. BSON
-    /// 1.1, `document`.
+    /// The document at the front of the bytes and the bytes after it, or why there is none: the first that applies
+    /// of too short, a length that doesn't fit, not terminated. The last has the length, so that a caller can skip
+    /// the damaged document. At most one document is at the front of any bytes. BSON 1.1, `document`.
     /// ```
     /// let (first, behind) = RawDocument::split_first(b"\x05\0\0\0\0and more")?;
     /// assert!(rt; first.is_empty() && behind == b"and more".as_slice());

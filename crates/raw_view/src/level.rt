@@ -31,8 +31,7 @@ pub struct RawLevel<'a> {
 }
 
 impl<'a> RawBsonRef<'a> {
-    /// The level that the value holds. Only a document, an array and a code with scope hold one. BSON 1.1,
-    /// `element`.
+    /// The level that the value holds, if it is a document, an array or a code with scope. BSON 1.1, `element`.
     /// ```
     /// let document = RawDocument::from_bytes(b"\x05\0\0\0\0")?;
     /// let array = RawBsonRef::Array(RawArray::from_doc(document));

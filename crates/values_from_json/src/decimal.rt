@@ -156,7 +156,7 @@ fn digits_of(whole: &[u8], fraction: &[u8]) -> Option<Kept>
     kept.with_digits(whole)?.with_digits(fraction)
 }
 
-/// The number that the digits of an exponent write. If there are many digits, it is any number far from 0.
+/// The number that the digits of an exponent write. If there are many digits, it is some number far from 0.
 fn size_of(digits: &[u8]) -> u128
     requires { AllDigits 10 digits.now }
     ensures { result ≡ min (digits_value 10 digits.now) (2 ^ 70) }

@@ -138,11 +138,11 @@ fn too_deep(error: WalkError<'_>, outermost: usize) -> Result<Option<Found<'_>>>
     }
 }
 
-/// Whether a document is canonical within limits. `None` if and only if it is canonical and has neither more
-/// bytes nor more levels than allowed. More bytes than allowed are the first error. Otherwise it is the first
-/// of these, depth first in byte order: a breach, which is returned, or the entry into a level that is too
-/// deep, which is an error. The key of an element is validated first, then its value, then what is inside the
-/// value. Both come with their place. BSON 1.1, `document`.
+/// Returns `None` if and only if a document is canonical and has neither more bytes nor more levels than allowed.
+/// More bytes than allowed are the first error. Otherwise the result is the first of these, depth first in byte
+/// order: a breach, which is returned, or the entry into a level that is too deep, which is an error. Both have
+/// their place. The key of an element is validated first, then its value, then what is inside the value. BSON 1.1,
+/// `document`.
 ///
 /// Not in the contract: no tree is built, no key is copied, and no depth fills the stack. Memory is taken for
 /// the keys of the open levels, for the waiting levels and for the path.
