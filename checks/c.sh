@@ -239,8 +239,8 @@ look_at_words() {
     } >"$work/words.c"
     compile -std=c99 -O1 -fPIE -c -o "$work/words.o" "$work/words.c" && link libbsonraw.a "$work/words" "$work/words.o" || return 1
     {
-        sed -n 's/.*Reason::.* => "\(.*\)",/\1/p' crates/dump_lines/src/reason.rt
-        sed -n 's/.*Some(Cause::.* => "\(.*\)",/\1/p' crates/dump_lines/src/find.rt
+        sed -n 's/.*Reason::.* => "\(.*\)",/\1/p' crates/dump_io/src/lines/reason.rt
+        sed -n 's/.*Some(Cause::.* => "\(.*\)",/\1/p' crates/dump_io/src/lines/find.rt
     } >"$work/wanted"
     [ "$(wc -l <"$work/wanted")" = 25 ] || return 1
     "$work/words" | diff "$work/wanted" - >&2

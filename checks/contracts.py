@@ -19,8 +19,8 @@ PROGRAMS = {
     "bsonraw/src/answer.rt": ["answer"],
     "bsonraw/src/run.rt": ["run"],
     "dump_commands/src/reporting.rt": ["put_summary"],
-    "dump_runs/src/batch.rt": ["run_all"],
-    "dump_runs/src/run.rt": ["run"],
+    "dump_runs/src/dumps/batch.rt": ["run_all"],
+    "dump_runs/src/dumps/run.rt": ["run"],
 }
 KINDS = "fn|struct|enum|type|const|trait"
 

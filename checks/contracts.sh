@@ -60,7 +60,7 @@ if ! cmp -s "$work/page" "$page"; then
 fi
 # A file that is named no longer is seen: one that a clause cites, one of the library for C, one that only a definition
 # cites, and one that only definitions of each other do.
-for file in raw_view/specs/Errors/Answers bsonraw_c/specs/Json dump_kept/specs/Forms values_from_json/specs/Wrapped; do
+for file in raw_view/specs/Errors/Answers bsonraw_c/specs/Json dump_commands/specs/state/Forms values_from_json/specs/Wrapped; do
     sed "s|(../crates/$file.antt)||" docs/DEFINITIONS.md >"$work/definitions"
     if [ "$(undefined "$work/definitions")" != "$file.antt" ]; then
         echo "contracts: it isn't seen that DEFINITIONS.md doesn't name $file.antt" >&2

@@ -325,6 +325,33 @@ run 'counts as JSON' 3 count --json cut.bson
 wants ''
 run 'nothing but the status' 3 count -q cut.bson
 
+# -- sizes
+
+wants '"mixed.bson":0: 12 bytes
+"mixed.bson":12: 19 bytes
+"mixed.bson":31: 9 bytes
+"mixed.bson":40: 27 bytes
+"mixed.bson":67: 5 bytes
+"mixed.bson":72: 12 bytes
+"one":0: 12 bytes
+'
+run 'where documents begin, damaged or not' 0 sizes mixed.bson one
+wants '"mixed.bson":31: 9 bytes
+"mixed.bson":40: 27 bytes
+'
+run 'where two of them begin' 0 sizes --at 31 --take 2 mixed.bson
+wants '"cut.bson":0: 12 bytes
+"cut.bson":12: cut off: only 6 bytes of a document: 6 bytes not read, --resync goes on
+'
+run 'where they begin in a file that is cut off' 3 sizes cut.bson
+wants '"wrong":0: 12 bytes
+"wrong":12: wrong length 32: 12 bytes passed over
+"wrong":24: 12 bytes
+"wrong":36: 12 bytes
+"wrong":48: 12 bytes
+'
+run 'where they begin after a length that is not believed' 3 sizes --resync wrong
+
 # -- fields
 
 # summed DOCUMENTS BYTES DAMAGED TOO_DEEP PASSED_OVER NOT_READ FILES: the last line of fields
@@ -1354,7 +1381,7 @@ END
 wants "bsonraw-dump $(cat "$root/VERSION") (unreleased)
 "
 run 'the version' 0 --version
-for words in '' 'lost' 'check --lost' 'check -o output' 'count -o output' 'fields -o output' 'fields --paths x one' 'check --paths 1 one' 'list --json' 'canon --canonical' \
+for words in '' 'lost' 'check --lost' 'check -o output' 'count -o output' 'fields -o output' 'fields --paths x one' 'check --paths 1 one' 'list --json' 'sizes --json' 'sizes -o output' 'canon --canonical' \
     'check --max-bytes 4 one' 'count --max-bytes 2147483648 one' 'check --max-depth 0 one' 'list --max-depth x one' 'bson --max-depth 1 many'; do
     # shellcheck disable=SC2086 # words
     "$program" $words >out 2>err </dev/null

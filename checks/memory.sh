@@ -89,9 +89,9 @@ def within(most, status, *args):
 least = run("--version")[1]
 
 # One document at a time: of 32 MiB of small ones, and of five of the greatest, 80 MiB. Of json a text has a block of its own.
-for command in "check", "list", "count", "fields", "canon", "sound", "unique", "json":
+for command in "check", "list", "count", "sizes", "fields", "canon", "sound", "unique", "json":
     within(8, 0, command, "small")
-for command in "check", "list", "count", "canon", "sound":
+for command in "check", "list", "count", "sizes", "canon", "sound":
     within(24, 0, command, "great")
 within(48, 0, "json", "great")
 

@@ -182,17 +182,10 @@ GIVES = {
     "bson_from_json": "documents from Extended JSON",
     "json_round_trip": "that what is printed is read back",
     "bsonraw": "the program for one document in hex",
-    "dump_lines": "what is found in a document, in lines",
-    "dump_elements": "elements, shown and picked",
-    "dump_input": "inputs as they are read",
-    "dump_files": "files, and what is told of them",
-    "dump_cli": "the command line",
-    "dump_kept": "what is kept of documents",
+    "dump_io": "what is read, and how lines are written",
     "dump_commands": "what each command makes of a document",
-    "dump_runs": "runs over dumps",
-    "text_runs": "runs over texts",
-    "dump_tasks": "what a command line asks for",
-    "bsonraw_dump": "the program for dumps",
+    "dump_runs": "runs over dumps and over texts",
+    "bsonraw_dump": "the program for dumps: command line, files",
     "bsonraw_c": "the library for C, and so for Python and Rust",
     "bson_uses": "proved callers, to copy from",
     "reader": "the program of README, to copy",
@@ -249,7 +242,7 @@ def crates_graph():
     crates = crates_of()
     lines = [
         "digraph crates {",
-        f'graph [rankdir=BT, bgcolor=transparent, nodesep=0.2, ranksep=0.4, margin=0.1, label="{CRATES_LABEL}", labelloc=b, '
+        f'graph [rankdir=BT, bgcolor=transparent, nodesep=0.2, ranksep=0.4, margin=0.1, pad=0.2, label="{CRATES_LABEL}", labelloc=b, '
         f'fontname="DejaVu Sans", fontsize=12, fontcolor="{TEXT}"]',
         'node [shape=box, style=filled, color=transparent, fontname="DejaVu Sans", fontcolor=white, margin="0.1,0.08"]',
         f'edge [color="{TEXT}", arrowsize=0.7]',

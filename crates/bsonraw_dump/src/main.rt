@@ -1,11 +1,22 @@
-//! Checks dumps, files of BSON documents one behind the other, and writes their documents anew.
+//! Checks dumps, files of BSON documents one after the other, and writes their documents anew.
+//!
+//! - `command_line`: the words of the command line, the names of files in them, and what they ask for (`parsed`).
+//! - `files`: inputs and how far they are read, the output, which takes the place of another file, and lines on standard error.
+//! - `program`: does what is asked, and gives the exit status.
+//!
+//! Begin at `all` in `program.rt`. An option is added in `command_line/args.rt`, and read in `command_line/task.rt`; the table
+//! of commands is `command_line/commands.rt`. What is proved of a run is below, in `dump_runs`: here are the files, the terminal and
+//! the environment, of which no contract can speak. Change them with `checks/outputs.sh` at hand, which sees that OUTPUT is put in
+//! place exactly if all went well.
 #![tactic(auto)]
 
+mod command_line;
 mod files;
+mod program;
 mod version;
 
 use std::process::ExitCode;
 
 fn main(rt: HostRuntime) -> ExitCode {
-    ExitCode::from(files::all(&rt).code())
+    ExitCode::from(program::all(&rt).code())
 }

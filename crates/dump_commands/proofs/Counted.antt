@@ -3,9 +3,9 @@ use Rattle.std.proofs.Common.{ℕ, List, [], ◌∷◌, inl, inr, refl, subst, s
 use Rattle.raw_form.specs.Tokens.{HasTokens}
 use Rattle.raw_form.specs.declared.token.Token.{Token}
 use Rattle.raw_tree.specs.declared.reader.limits.Limits.{Limits}
-use Rattle.dump_lines.specs.Origins.{Origin}
-use Rattle.dump_lines.specs.declared.find.Finding.{Finding}
-use Rattle.dump_kept.specs.Fields.{Document, fields_of, outermost}
+use Rattle.dump_io.specs.lines.Origins.{Origin}
+use Rattle.dump_io.specs.declared.lines.find.Finding.{Finding}
+use Rattle.dump_commands.specs.state.Fields.{Document, fields_of, outermost}
 use Rattle.dump_commands.specs.Counted.{HasFields, IsCounted}
 use Rattle.dump_commands.specs.declared.command.Command.{Command}
 use Rattle.dump_commands.specs.declared.command.Command.TheVariants as command

@@ -2,23 +2,23 @@
 use Rattle.std.proofs.Common.{ℕ, List, [], ◌++◌, Option, refl, inl, inr}
 use Rattle.std.specs.Io.KnownBytes.{Appends}
 use Rattle.std.proofs.KnownBytes.{Appends-nil, Appends-trans}
-use Rattle.dump_lines.specs.Fronts.{AppendsFront}
+use Rattle.dump_io.specs.lines.Fronts.{AppendsFront}
 use Rattle.raw_view.specs.Frame.Envelope.{IsEnvelope, Refuses}
 use Rattle.raw_view.specs.Errors.{IsMalformed, TellsRefusal}
 use Rattle.raw_view.specs.declared.error.Error.{Error}
 use Rattle.raw_view.specs.declared.error.Reason.{Reason}
 use Rattle.raw_view.specs.declared.error.ErrorKind.{ErrorKind}
 use Rattle.raw_view.specs.declared.error.ErrorKind.TheVariants as kind
-use Rattle.dump_lines.specs.Find.{Account}
+use Rattle.dump_io.specs.lines.Find.{Account}
 use Rattle.dump_commands.specs.Reporting.{ListsFront}
-use Rattle.dump_elements.specs.Listing.{HasLinesFront, Lists, ListsDocument}
-use Rattle.dump_lines.specs.Told.{head_text, line}
+use Rattle.dump_commands.specs.elements.Listing.{HasLinesFront, Lists, ListsDocument}
+use Rattle.dump_io.specs.lines.Told.{head_text, line}
 
 -- the lines of a level are written
 abbrev pub IsWritten : ℕ → ℕ → List ℕ → (old new : Option (List ℕ)) → Type 0
 IsWritten inside depth d old new = (text : List ℕ) × Lists inside depth d text × Appends old new text
 
--- behind the line of the document its listing is written
+-- after the line of the document its listing is written
 pub listed_behind : (b head : List ℕ) (old mid new : Option (List ℕ)) → IsEnvelope b → Appends old mid head → IsWritten 500 1 b mid new
     → (listing : List ℕ) × ListsDocument b listing × Appends old new (head ++ listing)
 listed_behind b head old mid new is first (text, lists, put) = (text, inl (is, lists), Appends-trans old mid new head text first put)

@@ -10,23 +10,23 @@ use Rattle.bson_json.specs.declared.error.WriteJsonError.TheVariants as error
 use Rattle.values_to_json.specs.declared.style.Style as json
 use Rattle.raw_tree.specs.CanonicalForm.{IsCanonicalForm}
 use Rattle.raw_tree.specs.declared.reader.limits.Limits.{Limits}
-use Rattle.dump_kept.proofs.Face.{known_same}
-use Rattle.dump_kept.specs.Fields.{KeepsWritten}
-use Rattle.dump_lines.specs.Fronts.{AppendsFront, WritesFront}
+use Rattle.dump_commands.proofs.state.Known.{known_same}
+use Rattle.dump_commands.specs.state.Fields.{KeepsWritten}
+use Rattle.dump_io.specs.lines.Fronts.{AppendsFront, WritesFront}
 use Rattle.dump_commands.specs.Making.{IsMade, IsPickedAs, IsPrinted, Emits, Makes, MakesJson, MakesPicked, Writes, spelled}
-use Rattle.dump_lines.proofs.Face.{front_behind, front_first}
-use Rattle.dump_elements.specs.Pick.{IsPicked}
-use Rattle.dump_kept.specs.Forms.{CountsOne, Made, firsts_of, knows, made_as, origins_of, plain}
+use Rattle.dump_io.proofs.Face.{front_behind, front_first}
+use Rattle.dump_commands.specs.elements.Pick.{IsPicked}
+use Rattle.dump_commands.specs.state.Forms.{CountsOne, Made, firsts_of, knows, made_as, origins_of, plain}
 use Rattle.dump_commands.specs.Unique.{kept_of, known_behind, written_of}
 use Rattle.dump_commands.specs.declared.command.Command.{Command}
 use Rattle.dump_commands.specs.declared.command.Command.TheVariants as command
 use Rattle.dump_commands.specs.declared.command.Spelling.{Spelling}
-use Rattle.dump_kept.specs.declared.kept.Kept.{Kept}
-use Rattle.dump_lines.specs.declared.origin.Origin.{Origin}
+use Rattle.dump_commands.specs.declared.state.kept.Kept.{Kept}
+use Rattle.dump_io.specs.declared.lines.origin.Origin.{Origin}
 use Rattle.dump_commands.specs.declared.command.Picking.{Picking}
 use Rattle.dump_commands.proofs.Repeating.{firsts_none, repeats_none}
-use Rattle.dump_lines.specs.declared.find.Finding.{Finding}
-use Rattle.dump_lines.specs.declared.find.Finding.TheVariants as finding
+use Rattle.dump_io.specs.declared.lines.find.Finding.{Finding}
+use Rattle.dump_io.specs.declared.lines.find.Finding.TheVariants as finding
 
 nothing_kept : (c : Command) (known : List ℕ → Bool) → kept_of c known [] ≡ []
 nothing_kept c known = grind arith

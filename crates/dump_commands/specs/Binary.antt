@@ -2,9 +2,9 @@
 use Rattle.std.specs.Prelude.{◌≡◌, ℕ, List, [], ◌∷◌, ◌++◌}
 use Rattle.raw_view.specs.Frame.Envelope.{IsEnvelope}
 use Rattle.dump_commands.specs.Making.{Makes}
-use Rattle.dump_kept.specs.Forms.{Made, made_as, plain}
+use Rattle.dump_commands.specs.state.Forms.{Made, made_as, plain}
 use Rattle.dump_commands.specs.declared.command.Command.{Command}
-use Rattle.dump_lines.specs.declared.find.Finding.TheVariants as finding
+use Rattle.dump_io.specs.declared.lines.find.Finding.TheVariants as finding
 
 -- of each canonical document a command makes one with a 0 at its end, as BSON has
 abbrev pub MakesBson : Command → Type 0

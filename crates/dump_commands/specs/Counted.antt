@@ -1,11 +1,11 @@
 -- The elements that a command counts.
 use Rattle.std.specs.Prelude.{◌≡◌, ◌⊎◌, ℕ, List, [], fold}
 use Rattle.raw_tree.specs.declared.reader.limits.Limits.{Limits}
-use Rattle.dump_lines.specs.Origins.{Origin}
-use Rattle.dump_lines.specs.declared.find.Finding.{Finding}
-use Rattle.dump_lines.specs.declared.find.Finding.TheVariants as finding
-use Rattle.dump_kept.specs.Fields.{AreFields, Document, tabled, with_document}
-use Rattle.dump_kept.specs.declared.kept.Kept.{Kept}
+use Rattle.dump_io.specs.lines.Origins.{Origin}
+use Rattle.dump_io.specs.declared.lines.find.Finding.{Finding}
+use Rattle.dump_io.specs.declared.lines.find.Finding.TheVariants as finding
+use Rattle.dump_commands.specs.state.Fields.{AreFields, Document, tabled, with_document}
+use Rattle.dump_commands.specs.declared.state.kept.Kept.{Kept}
 use Rattle.dump_commands.specs.declared.command.Command.{Command}
 use Rattle.dump_commands.specs.declared.command.Command.TheVariants as command
 

@@ -1,8 +1,8 @@
 -- What is counted of documents, and of bytes of which none is made.
 use Rattle.std.specs.Prelude.{ℕ, ◌+◌, ◌<◌, ◌^◌}
 use Rattle.dump_commands.specs.declared.counts.Counts.{Counts}
-use Rattle.dump_lines.specs.declared.find.Finding.{Finding}
-use Rattle.dump_lines.specs.declared.find.Finding.TheVariants as finding
+use Rattle.dump_io.specs.declared.lines.find.Finding.{Finding}
+use Rattle.dump_io.specs.declared.lines.find.Finding.TheVariants as finding
 
 -- nothing was read
 abbrev pub no_counts : Counts
@@ -16,15 +16,15 @@ count_finding finding.Damaged n = record n { damaged = n.damaged + 1 }
 count_finding finding.TooDeep n = record n { too_deep = n.too_deep + 1 }
 count_finding finding.Unvalidated n = n
 
--- one more document of so many bytes, in which this is found, with so many findings
+-- one more document of this length, in which this is found, with this number of findings
 abbrev pub count_document : Counts → (len : ℕ) → Finding → (findings : ℕ) → Counts
 count_document n len found findings = count_finding found (record n { documents = n.documents + 1; bytes = n.bytes + len; findings = n.findings + findings })
 
--- so many bytes more that are passed over, of which a line tells
+-- this number of bytes more that are passed over, of which a line tells
 abbrev pub count_gap : Counts → ℕ → Counts
 count_gap n count = record n { passed_over = n.passed_over + count; findings = n.findings + 1 }
 
--- one more file that isn't read to its end, with so many bytes of which no part is made
+-- one more file that isn't read to its end, with this number of bytes of which no part is made
 abbrev pub count_left : Counts → ℕ → Counts
 count_left n count = record n { not_read = n.not_read + count; files = n.files + 1 }
 

@@ -3,11 +3,12 @@ use Rattle.std.specs.Prelude.{◌≡◌, ℕ, List, Option, None}
 use Rattle.raw_tree.specs.declared.reader.limits.Limits.{Limits}
 use Rattle.dump_commands.specs.declared.command.Command.{Command}
 use Rattle.dump_commands.specs.declared.command.Command.TheVariants as command
-use Rattle.dump_lines.specs.declared.find.Finding.{Finding}
-use Rattle.dump_lines.specs.declared.find.Finding.TheVariants as finding
-use Rattle.dump_lines.specs.Find.{Account, Finds}
+use Rattle.dump_io.specs.declared.lines.find.Finding.{Finding}
+use Rattle.dump_io.specs.declared.lines.find.Finding.TheVariants as finding
+use Rattle.dump_io.specs.lines.Find.{Account, Finds}
 
--- what a command finds in a piece b, and what is told of it: count judges none
+-- what a command finds in a piece b, and what is told of it: count and sizes look into none
 abbrev pub FindsFor : Limits → Command → List ℕ → Finding → Option Account → Type 0
 FindsFor limits command.Count b found told = (found ≡ finding.Unvalidated) × (told ≡ None)
+FindsFor limits command.Sizes b found told = (found ≡ finding.Unvalidated) × (told ≡ None)
 FindsFor limits _ b found told = Finds limits b found told

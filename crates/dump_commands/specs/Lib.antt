@@ -6,3 +6,5 @@ pub mod Counted
 pub mod Making
 pub mod Reporting
 pub mod Binary
+pub mod elements
+pub mod state

@@ -5,18 +5,18 @@ use Rattle.std.specs.Option.{option_map}
 use Rattle.raw_tree.specs.CanonicalForm.{IsCanonicalForm}
 use Rattle.bson_json.specs.Json.{IsJson}
 use Rattle.values_to_json.specs.declared.style.Style as json
-use Rattle.dump_elements.specs.Pick.{IsPicked}
+use Rattle.dump_commands.specs.elements.Pick.{IsPicked}
 use Rattle.dump_commands.specs.declared.command.Picking.{Picking}
-use Rattle.dump_kept.specs.Forms.{firsts_of, knows, Made, made_as, placed_at, plain, repeat_at, written_count}
+use Rattle.dump_commands.specs.state.Forms.{firsts_of, knows, Made, made_as, placed_at, plain, repeat_at, written_count}
 use Rattle.dump_commands.specs.Unique.{firsts_behind, kept_of, known_behind, repeats_of, written_of}
-use Rattle.dump_lines.specs.Origins.{Origin, origin_of}
+use Rattle.dump_io.specs.lines.Origins.{Origin, origin_of}
 use Rattle.dump_commands.specs.declared.command.Command.{Command}
 use Rattle.dump_commands.specs.declared.command.Command.TheVariants as command
 use Rattle.dump_commands.specs.declared.command.Spelling.TheVariants as spelling
-use Rattle.dump_kept.specs.declared.kept.Kept.{Kept}
-use Rattle.dump_lines.specs.declared.origin.Origin as origin
-use Rattle.dump_lines.specs.declared.find.Finding.{Finding}
-use Rattle.dump_lines.specs.declared.find.Finding.TheVariants as finding
+use Rattle.dump_commands.specs.declared.state.kept.Kept.{Kept}
+use Rattle.dump_io.specs.declared.lines.origin.Origin as origin
+use Rattle.dump_io.specs.declared.lines.find.Finding.{Finding}
+use Rattle.dump_io.specs.declared.lines.find.Finding.TheVariants as finding
 
 -- what is written of a piece b with this canonical form: the form, or the piece as it is
 abbrev pub spelled : Command → (b form : List ℕ) → List ℕ
@@ -52,12 +52,13 @@ MakesPicked picking b finding.TooDeep made = made ≡ []
 MakesPicked picking b finding.Unvalidated made = made ≡ []
 MakesPicked picking b _ made = (picked : List ℕ) × IsPickedAs picking b picked × (made ≡ plain picked ∷ [])
 
--- what a command makes of a piece b in which this is found: check, list, count and fields nothing; sound the piece itself, unless it is damaged or too deep; canon
+-- what a command makes of a piece b in which this is found: check, list, count, sizes and fields nothing; sound the piece itself, unless it is damaged or too deep; canon
 -- and unique its canonical form, or unique the piece itself, where it is asked for; json its line; pick the document of some of its elements
 abbrev pub Makes : Command → List ℕ → Finding → List Made → Type 0
 Makes command.Check b found made = made ≡ []
 Makes command.List b found made = made ≡ []
 Makes command.Count b found made = made ≡ []
+Makes command.Sizes b found made = made ≡ []
 Makes command.Fields b found made = made ≡ []
 Makes command.Sound b finding.Damaged made = made ≡ []
 Makes command.Sound b finding.TooDeep made = made ≡ []

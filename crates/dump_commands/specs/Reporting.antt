@@ -1,15 +1,15 @@
 -- What a command reports of a document in which something is found, and fronts of that.
 use Rattle.std.specs.Prelude.{◌≡◌, ℕ, List, [], ◌++◌, Option, None, Some, flat_map, ◌⊎◌}
-use Rattle.dump_lines.specs.Find.{Account}
-use Rattle.dump_elements.specs.Listing.{ListsDocument, HasListingFront}
-use Rattle.dump_lines.specs.Told.{line, repeat_line, report_line, head_text}
-use Rattle.dump_lines.specs.Origins.{Repeat}
+use Rattle.dump_io.specs.lines.Find.{Account}
+use Rattle.dump_commands.specs.elements.Listing.{ListsDocument, HasListingFront}
+use Rattle.dump_io.specs.lines.Told.{line, repeat_line, report_line, head_text}
+use Rattle.dump_io.specs.lines.Origins.{Repeat}
 use Rattle.dump_commands.specs.declared.command.Command.{Command}
 use Rattle.dump_commands.specs.declared.command.Command.TheVariants as command
-use Rattle.dump_lines.specs.declared.find.Finding.{Finding}
-use Rattle.dump_lines.specs.declared.find.Finding.TheVariants as finding
-use Rattle.dump_lines.specs.declared.style.Style.{Style}
-use Rattle.dump_lines.specs.Fronts.{HasFront}
+use Rattle.dump_io.specs.declared.lines.find.Finding.{Finding}
+use Rattle.dump_io.specs.declared.lines.find.Finding.TheVariants as finding
+use Rattle.dump_io.specs.declared.lines.style.Style.{Style}
+use Rattle.dump_io.specs.lines.Fronts.{HasFront}
 
 -- the line of a piece of which this is told; none of nothing
 abbrev pub told_line : Style → List ℕ → ℕ → Option Account → List ℕ
@@ -17,9 +17,10 @@ told_line style name offset None = []
 told_line style name offset (Some told) = report_line style name offset told
 
 -- what a command reports of a piece b at this offset, in which this is found: list its length, what is found and its elements;
--- check what isn't canonical; the others what they leave out
+-- sizes its length; check what isn't canonical; the others what they leave out
 abbrev pub Reports : Command → Style → List ℕ → ℕ → List ℕ → Finding → Option Account → List ℕ → Type 0
 Reports command.List style name offset b found told lines = (listing : List ℕ) × ListsDocument b listing × (lines ≡ line name offset (head_text b told) ++ listing)
+Reports command.Sizes style name offset b found told lines = lines ≡ line name offset (head_text b told)
 Reports c style name offset b finding.Damaged told lines = lines ≡ told_line style name offset told
 Reports c style name offset b finding.TooDeep told lines = lines ≡ told_line style name offset told
 Reports command.Check style name offset b finding.Breached told lines = lines ≡ told_line style name offset told

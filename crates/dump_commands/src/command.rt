@@ -33,6 +33,8 @@ pub enum Command<'a> {
     List,
     /// how many there are, and of how many bytes, by their lengths alone
     Count,
+    /// where each begins, and how many bytes it has, by its length alone
+    Sizes,
     /// the canonical form of each without damage
     Canon,
     /// each without damage, unchanged
@@ -41,7 +43,7 @@ pub enum Command<'a> {
     Unique(Spelling),
     /// what the elements of all have under each path
     Fields,
-    /// each without damage as Extended JSON, with a line feed behind it
+    /// each without damage as Extended JSON, with a line feed after it
     Json(Style),
     /// a document of some elements of each without damage
     Pick(Picking<'a>),
@@ -55,8 +57,12 @@ impl Command<'_> {
         match self {
             Command::Canon | Command::Sound | Command::Unique(_) => true,
             Command::Pick(picking) => picking.style.is_none(),
-            Command::Check | Command::List | Command::Count | Command::Fields | Command::Json(_) =>
-                false,
+            Command::Check
+            | Command::List
+            | Command::Count
+            | Command::Sizes
+            | Command::Fields
+            | Command::Json(_) => false,
         }
     }
 }

@@ -1,7 +1,7 @@
 ghost use Rattle.std.specs.Prelude.{◌≡◌, IfSome, IsNone};
 ghost use Rattle.dump_commands.specs.Counting.{AreInRange, count_document, count_gap, count_left, count_rest, no_counts, plus};
 
-use dump_lines::find::Finding;
+use dump_io::lines::find::Finding;
 
 /// What was read so far.
 #[derive(Clone, Copy)]
@@ -44,7 +44,7 @@ impl Counts {
         }
     }
 
-    /// One document more, of so many bytes, in which this was found, with so many findings; `None` where a count would be over its range.
+    /// One document more, of `len` bytes, in which this was found, with this number of findings; `None` where a count would be over its range.
     pub fn with(self, len: usize, finding: Finding, findings: u64) -> Option<Counts>
         ensures counted { IfSome result (λ n. n ≡ count_document self len finding findings) }
         ensures none { IsNone result → ¬ AreInRange (count_document self len finding findings) }
@@ -72,7 +72,7 @@ impl Counts {
         }
     }
 
-    /// So many bytes more that were passed over; `None` where they would be over the range of a count.
+    /// `count` bytes more that were passed over; `None` where they would be over the range of a count.
     pub fn with_gap(self, count: u64) -> Option<Counts>
         ensures counted { IfSome result (λ n. n ≡ count_gap self count) }
         ensures none { IsNone result → ¬ AreInRange (count_gap self count) }
@@ -84,7 +84,7 @@ impl Counts {
         })
     }
 
-    /// One file more that wasn't read to its end, and so many bytes of which no document was made; `None` where a count would be
+    /// One file more that wasn't read to its end, and `count` bytes of which no document was made; `None` where a count would be
     /// over its range.
     pub fn with_left(self, count: u64) -> Option<Counts>
         ensures counted { IfSome result (λ n. n ≡ count_left self count) }

@@ -3,15 +3,15 @@
 
 ghost use Rattle.std.specs.Prelude.{◌≤◌, IfOk, length};
 ghost use Rattle.std.specs.Option.{option_map};
-ghost use Rattle.dump_lines.specs.Find.{account_of};
+ghost use Rattle.dump_io.specs.lines.Find.{account_of};
 ghost use Rattle.dump_commands.specs.Findings.{FindsFor};
 
 use crate::command::Command;
-use dump_lines::find::{Finding, Found, find};
+use dump_io::lines::find::{Finding, Found, find};
 use raw_tree::Limits;
 use std::alloc::{AllocError, Global};
 
-/// What a command finds in the bytes of a document, within limits: `count` judges none.
+/// What a command finds in the bytes of a document, within limits: `count` and `sizes` look into none.
 pub fn found_in<'a>(
     alloc: Global,
     command: Command<'_>,
@@ -23,7 +23,7 @@ pub fn found_in<'a>(
         (λ found. FindsFor limits command.entry bytes.now found.finding (option_map account_of found.told)) }
 {
     match command {
-        Command::Count => Ok(Found {
+        Command::Count | Command::Sizes => Ok(Found {
             finding: Finding::Unvalidated,
             told: None,
         }),

@@ -2,8 +2,8 @@
 #![tactic(auto)]
 
 use crate::command::Command;
-use dump_input::portion::Portion;
-use dump_lines::style::Style;
+use dump_io::input::portion::Portion;
+use dump_io::lines::style::Style;
 use raw_tree::Limits;
 
 /// What is asked of inputs.
@@ -23,6 +23,6 @@ pub struct Job<'a> {
     pub repeats: bool,
     /// of how many paths elements are counted at most
     pub paths: usize,
-    /// at most so many findings are printed
+    /// how many findings are printed at most
     pub limit: Option<u64>,
 }

@@ -1,10 +1,21 @@
-//! What each command of bsonraw-dump makes of one document, and its tables.
+//! What each command of `bsonraw-dump` makes of one document: what it writes to the output, what it reports, and what it counts.
+//!
+//! - `command` names the commands, and `job` what is asked of one.
+//! - `reporting` says what is found in a document, and `summary` what was counted. `elements` lists the elements, and picks those at paths.
+//! - `making` writes the document, its canonical form, or its JSON.
+//! - `state` is what is carried from one document to the next: how many were written, the forms that were seen, the counts of elements.
+//!
+//! Begin at `report_found` in `reporting.rt` and `emit` in `making.rt`. To change what a command writes, change `Makes` in
+//! `specs/Making.antt` or `Reports` in `specs/Reporting.antt` first. Nothing is read here: a document comes as a slice with its
+//! place, and readers and the order of documents are `dump_runs`.
 #![tactic(auto)]
 
 pub mod command;
 pub mod counts;
+mod elements;
 pub mod finding;
 pub mod job;
 pub mod making;
 pub mod reporting;
+pub mod state;
 mod summary;

@@ -4,15 +4,15 @@
 ghost use Rattle.std.specs.Prelude.{◌≡◌, ℕ, List, Option, [], ◌∷◌, ◌++◌, codes, IfOk, IfErr, MatchBool, OnErr, OnOk};
 ghost use Rattle.std.specs.Io.KnownBytes.{Appends};
 ghost use Rattle.dump_commands.specs.Findings.{FindsFor};
-ghost use Rattle.dump_lines.specs.Fronts.{AppendsFront, WritesFront};
+ghost use Rattle.dump_io.specs.lines.Fronts.{AppendsFront, WritesFront};
 ghost use Rattle.dump_commands.specs.Making.{IsMade, IsPickedAs, Emits, Puts};
 ghost use Rattle.dump_commands.specs.Counted.{CountsFields, IsCounted};
-ghost use Rattle.dump_kept.specs.Fields.{KeepsCounted, KeepsWritten};
-ghost use Rattle.dump_lines.specs.Find.{Account};
-ghost use Rattle.dump_kept.specs.Forms.{CountsOne, knows, made_as};
+ghost use Rattle.dump_commands.specs.state.Fields.{KeepsCounted, KeepsWritten};
+ghost use Rattle.dump_io.specs.lines.Find.{Account};
+ghost use Rattle.dump_commands.specs.state.Forms.{CountsOne, knows, made_as};
 ghost use Rattle.dump_commands.specs.Unique.{written_of};
-ghost use Rattle.dump_lines.specs.Origins.{origin_of};
-ghost use Rattle.dump_lines.specs.Failing.{IsReading};
+ghost use Rattle.dump_io.specs.lines.Origins.{origin_of};
+ghost use Rattle.dump_io.specs.lines.Failing.{IsReading};
 ghost use Rattle.dump_commands.specs.Making as says;
 ghost use Rattle.raw_tree.specs.CanonicalForm.{IsCanonicalForm};
 ghost use Rattle.raw_view.specs.Frame.Envelope.{IsEnvelope};
@@ -21,14 +21,14 @@ ghost use Rattle.dump_commands.specs.declared.command.Command.TheVariants.{Uniqu
 ghost use Rattle.dump_commands.specs.declared.command.Spelling as spells;
 
 use crate::command::{Command, Picking, Spelling};
+use crate::elements::pick::picked;
+use crate::state::kept::{Added, Kept};
+use crate::state::tokens_of;
 use bson_json::{Style as JsonStyle, WriteJsonError, write_json};
-use dump_elements::pick::picked;
-use dump_kept::kept::{Added, Kept};
-use dump_kept::tokens_of;
-use dump_lines::failure::Failure;
-use dump_lines::find::Finding;
-use dump_lines::origin::Origin;
-use dump_lines::write::put;
+use dump_io::lines::failure::Failure;
+use dump_io::lines::find::Finding;
+use dump_io::lines::origin::Origin;
+use dump_io::lines::write::put;
 use raw_form::canonical_within;
 use raw_tree::Limits;
 use raw_view::RawDocument;
@@ -55,7 +55,7 @@ pub fn emit<'a, D: Write>(
     ensures failed { IfErr result (λ failure. ¬ IsReading failure) }
 {
     match (command, finding) {
-        (Command::Check | Command::List | Command::Count | Command::Fields, _)
+        (Command::Check | Command::List | Command::Count | Command::Sizes | Command::Fields, _)
         | (_, Finding::Damaged | Finding::TooDeep | Finding::Unvalidated) => Ok(None),
         (Command::Sound, Finding::Canonical | Finding::Breached) => {
             put_document(command, origin, bytes, bytes, out, kept)
@@ -121,6 +121,7 @@ fn spelled<'a>(command: Command<'_>, bytes: &'a [u8], form: &'a [u8]) -> &'a [u8
         | Command::Check
         | Command::List
         | Command::Count
+        | Command::Sizes
         | Command::Canon
         | Command::Sound
         | Command::Fields
@@ -208,6 +209,7 @@ fn put_document<'a, D: Write>(
         Command::Check
         | Command::List
         | Command::Count
+        | Command::Sizes
         | Command::Canon
         | Command::Sound
         | Command::Fields

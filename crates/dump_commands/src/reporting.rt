@@ -4,28 +4,28 @@
 ghost use Rattle.std.specs.Prelude.{ℕ, List, ◌++◌, IfErr, OnErr, OnOk};
 ghost use Rattle.std.specs.Option.{option_copied, option_map};
 ghost use Rattle.std.specs.Io.KnownBytes.{Appends};
-ghost use Rattle.dump_lines.specs.Fronts.{AppendsFront};
+ghost use Rattle.dump_io.specs.lines.Fronts.{AppendsFront};
 ghost use Rattle.dump_commands.specs.Reporting.{ListsFront, ReportsFront, Reports, lines_of_repeats};
-ghost use Rattle.dump_elements.specs.Listing.{ListsDocument};
-ghost use Rattle.dump_lines.specs.Find.{account_of};
-ghost use Rattle.dump_kept.specs.Forms.{repeat_at};
-ghost use Rattle.dump_lines.specs.Origins.{origin_of};
-ghost use Rattle.dump_lines.specs.Told.{line, head_text};
+ghost use Rattle.dump_commands.specs.elements.Listing.{ListsDocument};
+ghost use Rattle.dump_io.specs.lines.Find.{account_of};
+ghost use Rattle.dump_commands.specs.state.Forms.{repeat_at};
+ghost use Rattle.dump_io.specs.lines.Origins.{origin_of};
+ghost use Rattle.dump_io.specs.lines.Told.{line, head_text};
 ghost use Rattle.dump_commands.specs.Summary.{summary_line};
-ghost use Rattle.dump_lines.specs.Failing.{IsReading};
+ghost use Rattle.dump_io.specs.lines.Failing.{IsReading};
 ghost use Rattle.dump_commands.specs.Reporting as says;
 
 use crate::command::Command;
 use crate::counts::Counts;
+use crate::elements::listing::list_levels;
 use crate::summary::{summary, summary_object};
-use dump_elements::listing::list_levels;
-use dump_lines::failure::Failure;
-use dump_lines::find::{Finding, Found, Told};
-use dump_lines::object::{repeat_object, told_object};
-use dump_lines::origin::Origin;
-use dump_lines::style::Style;
-use dump_lines::text::{line_of, repeat_line, sized, told_line};
-use dump_lines::write::put;
+use dump_io::lines::failure::Failure;
+use dump_io::lines::find::{Finding, Found, Told};
+use dump_io::lines::object::{repeat_object, told_object};
+use dump_io::lines::origin::Origin;
+use dump_io::lines::style::Style;
+use dump_io::lines::text::{line_of, repeat_line, sized, told_line};
+use dump_io::lines::write::put;
 use raw_view::RawDocument;
 use std::alloc::Global;
 use std::io::Write;
@@ -51,6 +51,7 @@ pub fn report_found<W: Write>(
 {
     match (command, found.finding) {
         (Command::List, _) => put_listing(alloc, name, offset, bytes, &found.told, report),
+        (Command::Sizes, _) => put_head(alloc, name, offset, bytes, &found.told, report),
         (_, Finding::Damaged | Finding::TooDeep) | (Command::Check, Finding::Breached) => {
             put_told(alloc, style, name, offset, &found.told, report)
         }
@@ -106,6 +107,26 @@ fn put_line<W: Write>(
     ensures failed { IfErr result (λ failure. ¬ IsReading failure) }
 {
     let text = line_of(alloc, name, offset, words)?;
+    put(report, &text)
+}
+
+/// Writes where a document begins, how many bytes it has, and what is found in it.
+fn put_head<W: Write>(
+    alloc: Global,
+    name: &str,
+    offset: u64,
+    bytes: &[u8],
+    told: &Option<Told<'_>>,
+    report: &mut W,
+) -> Result<(), Failure>
+    ensures written { OnOk result (Appends (W.contents report.old) (W.contents report.new)
+        (line name.now offset (head_text bytes.now (option_map account_of told.now)))) }
+    ensures front { OnErr result (AppendsFront (W.contents report.old) (W.contents report.new)
+        (line name.now offset (head_text bytes.now (option_map account_of told.now)))) }
+    ensures failed { IfErr result (λ failure. ¬ IsReading failure) }
+{
+    let head = sized(alloc, bytes.len(), told)?;
+    let text = line_of(alloc, name, offset, &head)?;
     put(report, &text)
 }
 

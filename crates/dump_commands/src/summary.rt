@@ -3,15 +3,15 @@
 
 ghost use Rattle.std.specs.Prelude.{◌≡◌, ◌++◌, ◌∷◌, [], IfOk, OnOk, flat_map, map};
 ghost use Rattle.std.specs.Option.{option_copied};
-ghost use Rattle.dump_lines.specs.Told.{Grows};
+ghost use Rattle.dump_io.specs.lines.Told.{Grows};
 ghost use Rattle.dump_commands.specs.Summary.{breached_counts, count_members, count_of, count_text, counts_of, damaged_counts, hidden_counts, kept_counts, left_counts, name_members, name_text, next_text, summary_line};
-ghost use Rattle.dump_lines.specs.declared.style.Style.TheVariants.{Json, Words};
+ghost use Rattle.dump_io.specs.declared.lines.style.Style.TheVariants.{Json, Words};
 
 use crate::command::Command;
 use crate::counts::Counts;
-use dump_lines::object::{begun, ended, put_number, put_text};
-use dump_lines::quote::push_quoted;
-use dump_lines::text::{push_number, push_words};
+use dump_io::lines::object::{begun, ended, put_number, put_text};
+use dump_io::lines::quote::push_quoted;
+use dump_io::lines::text::{push_number, push_words};
 use json::Writer;
 use std::alloc::{AllocError, Global};
 
@@ -41,7 +41,9 @@ fn push_kept(
     ensures { OnOk result (map count_of all.new.items ≡ map count_of all.old.items ++ kept_counts command.entry counts.now kept) }
 {
     match command {
-        Command::Check | Command::List | Command::Count | Command::Fields => Ok(()),
+        Command::Check | Command::List | Command::Count | Command::Sizes | Command::Fields => Ok(
+            (),
+        ),
         Command::Canon
         | Command::Sound
         | Command::Unique(_)
@@ -65,6 +67,7 @@ fn push_breached(
         Command::Check | Command::Canon => push(all, "not canonical", counts.breached),
         Command::List
         | Command::Count
+        | Command::Sizes
         | Command::Sound
         | Command::Unique(_)
         | Command::Fields
@@ -82,7 +85,7 @@ fn push_damaged(
     ensures { OnOk result (map count_of all.new.items ≡ map count_of all.old.items ++ damaged_counts command.entry counts.now) }
 {
     match command {
-        Command::Count => Ok(()),
+        Command::Count | Command::Sizes => Ok(()),
         Command::Check
         | Command::List
         | Command::Canon
@@ -106,7 +109,7 @@ fn push_left(all: &mut Vec<Count>, counts: &Counts) -> Result<(), AllocError>
     push(all, "files not read to the end", counts.files)
 }
 
-/// The findings that weren't printed, where at most so many are.
+/// The findings that weren't printed, where at most `limit` are.
 fn push_hidden(all: &mut Vec<Count>, limit: Option<u64>, counts: &Counts) -> Result<(), AllocError>
     ensures { OnOk result (map count_of all.new.items ≡ map count_of all.old.items ++ hidden_counts limit counts.now) }
 {
@@ -140,7 +143,7 @@ fn counted(
     Ok(all)
 }
 
-/// Behind the text, a number behind its name.
+/// Appends a number to the text, after its name.
 fn push_count(text: &mut Vec<u8>, name: &str, number: u64) -> Result<(), AllocError>
     ensures { OnOk result (text.new.items ≡ text.old.items ++ count_text (name.now, number)) }
 {

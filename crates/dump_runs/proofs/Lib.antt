@@ -1,8 +1,0 @@
-mod Findings
-mod Repeating
-mod Writing
-mod Passing
-mod Stopping
-mod Halting
-mod Choosing
-mod Summing

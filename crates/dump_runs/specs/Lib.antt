@@ -1,5 +1,2 @@
-pub mod Run
-pub mod Halting
-pub mod Portion
-pub mod Status
-pub mod Batch
+pub mod dumps
+pub mod texts

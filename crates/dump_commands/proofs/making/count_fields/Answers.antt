@@ -1,7 +1,7 @@
 use Rattle.std.proofs.Common.{rules, subst, sym}
 use Rattle.raw_form.specs.Tokens.{HasTokens}
-use Rattle.dump_lines.specs.Origins.{origin_of}
-use Rattle.dump_lines.proofs.Face.{on_ok}
+use Rattle.dump_io.specs.lines.Origins.{origin_of}
+use Rattle.dump_io.proofs.Face.{on_ok}
 use Rattle.dump_commands.proofs.Counted.{counted}
 use Rattle.dump_commands.proofs.making.count_fields.Goals as goal
 

@@ -1,12 +1,12 @@
 use Rattle.std.proofs.Common.{[], ◌∷◌, subst, sym}
 use Rattle.std.proofs.lemmas.Result.{IfOk-weaker}
-use Rattle.dump_lines.specs.Fronts.{AppendsFront}
+use Rattle.dump_io.specs.lines.Fronts.{AppendsFront}
 use Rattle.dump_commands.specs.Making.{Puts}
-use Rattle.dump_kept.specs.Forms.{knows, made_as}
+use Rattle.dump_commands.specs.state.Forms.{knows, made_as}
 use Rattle.dump_commands.specs.Unique.{written_of}
 use Rattle.dump_commands.specs.declared.command.Command.TheVariants.{Unique}
 use Rattle.dump_commands.specs.declared.command.Spelling.{Spelling}
-use Rattle.dump_lines.proofs.Face.{on_err}
+use Rattle.dump_io.proofs.Face.{on_err}
 use Rattle.dump_commands.proofs.making.put_document.Goals as goal
 
 pub returns-in-Unique-clause-written : goal.returns-in-Unique-clause-written

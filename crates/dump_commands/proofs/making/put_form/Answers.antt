@@ -1,11 +1,11 @@
 use Rattle.std.proofs.Common.{rules, inr, subst, ◌∷◌, [], List, ℕ}
 use Rattle.std.proofs.lemmas.Result.{IfOk-weaker}
 use Rattle.raw_tree.specs.CanonicalForm.{IsCanonicalForm}
-use Rattle.dump_lines.specs.Fronts.{AppendsFront, WritesFront}
+use Rattle.dump_io.specs.lines.Fronts.{AppendsFront, WritesFront}
 use Rattle.dump_commands.specs.Making.{Puts}
-use Rattle.dump_kept.specs.Forms.{knows, made_as}
+use Rattle.dump_commands.specs.state.Forms.{knows, made_as}
 use Rattle.dump_commands.specs.Unique.{written_of}
-use Rattle.dump_lines.proofs.Face.{on_err}
+use Rattle.dump_io.proofs.Face.{on_err}
 use Rattle.dump_commands.proofs.Writing.{IsFormWritten, form_made, spelled_made}
 use Rattle.dump_commands.proofs.making.put_form.Goals as goal
 

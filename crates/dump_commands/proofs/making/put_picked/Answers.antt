@@ -2,11 +2,11 @@ use Rattle.std.proofs.Common.{◌++◌, ℕ, List, None, Some, codes, inr, refl,
 use Rattle.raw_view.specs.Document.{bytes_of}
 use Rattle.std.specs.Io.KnownBytes.{Appends}
 use Rattle.bson_json.specs.Json.{IsJson}
-use Rattle.dump_lines.specs.Fronts.{AppendsFront, WritesFront}
-use Rattle.dump_elements.specs.Pick.{IsPicked}
+use Rattle.dump_io.specs.lines.Fronts.{AppendsFront, WritesFront}
+use Rattle.dump_commands.specs.elements.Pick.{IsPicked}
 use Rattle.dump_commands.specs.Making.{IsPickedAs, IsPrinted}
-use Rattle.dump_kept.specs.Forms.{CountsOne}
-use Rattle.dump_lines.proofs.Face.{on_err, on_ok}
+use Rattle.dump_commands.specs.state.Forms.{CountsOne}
+use Rattle.dump_io.proofs.Face.{on_err, on_ok}
 use Rattle.dump_commands.proofs.Writing.{front_picked, is_picked_as}
 use Rattle.dump_commands.proofs.making.put_picked.Goals as goal
 

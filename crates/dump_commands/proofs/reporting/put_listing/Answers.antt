@@ -3,12 +3,12 @@ use Rattle.std.specs.Io.KnownBytes.{Appends}
 use Rattle.std.specs.Option.{option_map}
 use Rattle.raw_view.specs.Document.{bytes_of}
 use Rattle.raw_view.specs.Frame.Envelope.{IsEnvelope}
-use Rattle.dump_lines.specs.Find.{account_of}
-use Rattle.dump_elements.specs.Listing.{ListsDocument}
-use Rattle.dump_lines.specs.Told.{head_text, line}
+use Rattle.dump_io.specs.lines.Find.{account_of}
+use Rattle.dump_commands.specs.elements.Listing.{ListsDocument}
+use Rattle.dump_io.specs.lines.Told.{head_text, line}
 use Rattle.dump_commands.specs.Reporting.{ListsFront}
 use Rattle.dump_commands.proofs.Listed.{IsPartly, IsWritten, listed_behind, listed_nothing, lists_behind, lists_first}
-use Rattle.dump_lines.proofs.Face.{front_none, on_any, on_err, on_ok}
+use Rattle.dump_io.proofs.Face.{front_none, on_any, on_err, on_ok}
 use Rattle.dump_commands.proofs.reporting.put_listing.Goals as goal
 
 pub returns-in-Ok-clause-listed : goal.returns-in-Ok-clause-listed

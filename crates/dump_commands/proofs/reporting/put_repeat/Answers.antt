@@ -1,4 +1,4 @@
-use Rattle.dump_lines.proofs.Face.{front_none, on_any}
+use Rattle.dump_io.proofs.Face.{front_none, on_any}
 use Rattle.dump_commands.proofs.reporting.put_repeat.Goals as goal
 
 pub returns-in_err-text-in-Words-clause-front : goal.returns-in_err-text-in-Words-clause-front

@@ -1,5 +1,5 @@
 use Rattle.std.proofs.Common.{flat_map, map, take}
-use Rattle.dump_lines.specs.Told.{Grows}
+use Rattle.dump_io.specs.lines.Told.{Grows}
 use Rattle.dump_commands.specs.Summary.{count_members, count_of}
 use Rattle.dump_commands.proofs.summary.put_counts.Given as goal
 

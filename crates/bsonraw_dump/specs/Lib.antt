@@ -1,0 +1,2 @@
+pub mod command_line
+pub mod files

@@ -1,0 +1,87 @@
+//! The table of the commands that read dumps: how each is named, what it prints, and where.
+#![tactic(auto)]
+
+use clap::ArgMatches;
+use dump_commands::command::{Command, Picking, Spelling};
+use values_to_json::{Format, Layout, Style as JsonStyle};
+
+/// What a command prints, and where.
+#[derive(Clone, Copy)]
+pub struct Printing {
+    /// whether it writes documents into the output; what it finds goes to standard error then
+    pub documents: bool,
+    /// whether its lines are few, and shown as soon as they are there
+    pub soon: bool,
+    /// whether its lines may be printed as JSON, the first of them only, or none
+    pub findings: bool,
+}
+
+/// What this command prints.
+pub fn printing_of(command: Command<'_>) -> Printing {
+    let (documents, soon, findings) = match command {
+        Command::Check | Command::Count => (false, true, true),
+        Command::Fields => (false, true, false),
+        Command::List | Command::Sizes => (false, false, false),
+        Command::Canon
+        | Command::Sound
+        | Command::Unique(_)
+        | Command::Json(_)
+        | Command::Pick(_) => (true, false, true),
+    };
+    Printing {
+        documents,
+        soon,
+        findings,
+    }
+}
+
+/// The command of this name, which reads dumps, with what was given to it; none of the one that reads texts.
+pub fn command_of<'a>(name: &str, matches: &ArgMatches<'a>) -> Option<Command<'a>> {
+    match name {
+        "check" => Some(Command::Check),
+        "list" => Some(Command::List),
+        "count" => Some(Command::Count),
+        "sizes" => Some(Command::Sizes),
+        "fields" => Some(Command::Fields),
+        "canon" => Some(Command::Canon),
+        "sound" => Some(Command::Sound),
+        "unique" => Some(Command::Unique(spelling_of(matches))),
+        "json" => Some(Command::Json(json_style_of(matches))),
+        "pick" => Some(Command::Pick(picking_of(matches))),
+        _ => None,
+    }
+}
+
+fn json_style_of(matches: &ArgMatches<'_>) -> JsonStyle {
+    JsonStyle {
+        format: if matches.get_flag("canonical") {
+            Format::Canonical
+        } else {
+            Format::Relaxed
+        },
+        layout: if matches.get_flag("indent") {
+            Layout::Indented
+        } else {
+            Layout::OneLine
+        },
+    }
+}
+
+fn spelling_of(matches: &ArgMatches<'_>) -> Spelling {
+    if matches.get_flag("as-is") {
+        Spelling::Original
+    } else {
+        Spelling::Canonical
+    }
+}
+
+fn picking_of<'a>(matches: &ArgMatches<'a>) -> Picking<'a> {
+    Picking {
+        paths: matches.get_str("PATHS").unwrap_or(""),
+        style: if matches.get_flag("bson") {
+            None
+        } else {
+            Some(json_style_of(matches))
+        },
+    }
+}

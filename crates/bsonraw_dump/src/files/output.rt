@@ -1,0 +1,183 @@
+//! Writes into a file in place of standard output: by way of a file beside it, which takes its place at the end.
+#![tactic(auto)]
+
+ghost use Rattle.std.specs.Prelude.{◌≡◌};
+ghost use Rattle.bsonraw_dump.specs.files.Endings.{unwritten_status};
+
+use crate::files::tell::{tell, tell_lack};
+use dump_io::input::done::{Done, Lack};
+use dump_io::input::status::Status;
+use dump_io::lines::failure::Failure;
+use dump_io::lines::style::Style;
+use std::alloc::AllocError;
+use std::fs::{File, Metadata, OpenOptions};
+use std::io::BufWriter;
+use std::os::fd::AsRawFd;
+use std::os::unix::fs::{MetadataExt, fchown};
+use std::{fs, io, process};
+
+/// How many bytes are written at a time.
+pub const BLOCK: usize = 1 << 18;
+
+/// The most bytes of a file's name.
+const LONGEST: usize = 255;
+
+/// A run that fills a file.
+pub trait Fill<'a> {
+    /// How it is told what goes wrong.
+    fn style(&self) -> Style;
+
+    /// What is told of an input that could be read on, and how.
+    fn way_on(&self) -> &'static str;
+
+    /// Runs, and writes all into the file.
+    fn fill(&self, rt: &HostRuntime, data: &mut BufWriter<File>) -> Done<'a>;
+}
+
+/// Does a run whose output goes into this file. What is there and isn't a file, as a device or a pipe, is written as it is.
+pub fn into_file<'a, F: Fill<'a>>(rt: &HostRuntime, run: &F, name: &str) -> Status {
+    let guards = match guards(rt) {
+        Ok(guards) => guards,
+        Err(error) => return without(rt, run.style(), "/dev/null", &error),
+    };
+    let result = match fs::metadata(rt, name) {
+        Ok(old) if old.is_file() => replaced(rt, run, name, Some(old)),
+        Ok(_) => written(rt, run, name),
+        Err(_) => replaced(rt, run, name, None),
+    };
+    drop(guards);
+    match result {
+        Ok(status) => status,
+        Err(error) => without(rt, run.style(), name, &error),
+    }
+}
+
+fn without(rt: &HostRuntime, style: Style, name: &str, error: &io::Error) -> Status {
+    tell(rt, style, name, None, error);
+    Status::Output
+}
+
+/// Takes the numbers of standard streams that are closed, so that no file that is opened later gets one of them and what is
+/// written to the stream doesn't go there. The streams fail as before: input isn't read, output isn't written.
+fn guards(rt: &HostRuntime) -> io::Result<(Option<File>, File, File)> {
+    let input = OpenOptions::new().write(true).open(rt, "/dev/null")?;
+    let input = if input.as_raw_fd() == 0 {
+        Some(input)
+    } else {
+        drop(input);
+        None
+    };
+    Ok((
+        input,
+        File::open(rt, "/dev/null")?,
+        File::open(rt, "/dev/null")?,
+    ))
+}
+
+/// Writes into what is there.
+fn written<'a, F: Fill<'a>>(rt: &HostRuntime, run: &F, name: &str) -> io::Result<Status> {
+    let file = OpenOptions::new().write(true).open(rt, name)?;
+    let mut data = BufWriter::with_capacity(rt.alloc(), BLOCK, file)?;
+    Ok(run.fill(rt, &mut data).status)
+}
+
+/// Writes into a file beside it, with the same mode, owner and group, which takes its place where all went well but for damage.
+fn replaced<'a, F: Fill<'a>>(
+    rt: &HostRuntime,
+    run: &F,
+    name: &str,
+    old: Option<Metadata>,
+) -> io::Result<Status> {
+    if old.is_some() {
+        let _may_be_written = OpenOptions::new().write(true).open(rt, name)?;
+    }
+    let place = match fs::canonicalize(rt, name) {
+        Ok(place) => format!(in rt.alloc(); "{}", place.display())?,
+        Err(_) => String::from_str(rt.alloc(), name)?,
+    };
+    let beside = beside(rt, place.as_str())?;
+    let file = match File::create_new(rt, beside.as_str()) {
+        Ok(file) => file,
+        Err(error) if old.is_some() => return Err(not_beside(rt, &error)),
+        Err(error) => return Err(error),
+    };
+    let result = match filled(rt, run, name, file, old) {
+        Ok(done) if done.lack.is_none() => {
+            fs::rename(rt, beside.as_str(), place.as_str())?;
+            return Ok(done.status);
+        }
+        result => result,
+    };
+    let _removed = fs::remove_file(rt, beside.as_str());
+    let done = result?;
+    if let Some(lack) = &done.lack {
+        tell_lack(rt, run.style(), run.way_on(), name, lack);
+    }
+    Ok(status_of(&done))
+}
+
+/// How a run ends whose file isn't written. If writing failed, it is by that, even where the reader of the findings is gone.
+fn status_of(done: &Done<'_>) -> Status
+    ensures { result ≡ unwritten_status done.now }
+{
+    match done.lack {
+        Some(Lack::Failed(Failure::Writing(_) | Failure::Reading(_))) => Status::Output,
+        _ => done.status,
+    }
+}
+
+/// Why the file that takes the place of another at the end can't be made beside it.
+fn not_beside(rt: &HostRuntime, error: &io::Error) -> io::Error {
+    let text: Result<_, _> = format!(in rt.alloc(); "a file beside it can't be made: {error}");
+    io::Error::other(
+        text.as_ref()
+            .map_or("a file beside it can't be made", |text| text.as_str()),
+    )
+}
+
+/// The name of the file that takes a place at the end: that of the place, cut if it is too long, with a number and `.tmp`.
+fn beside(rt: &HostRuntime, place: &str) -> Result<String, AllocError> {
+    let number = process::id(rt.process());
+    let end = format!(in rt.alloc(); ".{number}.tmp")?;
+    let begins = place.rfind('/').map_or(0, |at| at + 1);
+    let most = LONGEST.saturating_sub(end.len());
+    let len = place.len().min(begins.saturating_add(most));
+    let front = &place[..place.floor_char_boundary(len)];
+    format!(in rt.alloc(); "{front}{end}")
+}
+
+/// Writes all into the file, which is on the disk at the end.
+fn filled<'a, F: Fill<'a>>(
+    rt: &HostRuntime,
+    run: &F,
+    name: &str,
+    file: File,
+    old: Option<Metadata>,
+) -> io::Result<Done<'a>> {
+    if let Some(old) = old {
+        keep_owner(rt, run.style(), name, &file, &old);
+        file.set_permissions(old.permissions())?;
+    }
+    let mut data = BufWriter::with_capacity(rt.alloc(), BLOCK, file)?;
+    let done = run.fill(rt, &mut data);
+    if done.lack.is_none() {
+        data.get_ref().sync_all()?;
+    }
+    Ok(done)
+}
+
+/// Gives a file the owner and the group of the one whose place it takes, and tells where it can't.
+fn keep_owner(rt: &HostRuntime, style: Style, name: &str, file: &File, old: &Metadata) {
+    let kept = fchown(file, None, Some(old.gid())).and_then(|()| fchown(
+        file,
+        Some(old.uid()),
+        None,
+    ));
+    if let Err(error) = kept {
+        let text: Result<_, _> = format!(in rt.alloc(); "its owner or group isn't kept: {error}");
+        let words = text
+            .as_ref()
+            .map_or("its owner or group isn't kept", |text| text.as_str());
+        tell(rt, style, name, None, &io::Error::other(words));
+    }
+}

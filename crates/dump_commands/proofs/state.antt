@@ -1,0 +1,4 @@
+mod Digesting
+mod Tabled
+mod Prefixes
+pub mod Known

@@ -1,5 +1,0 @@
-use Rattle.dump_files.proofs.Guessing.{begins_is}
-use Rattle.dump_files.proofs.guess.begins.Goals as goal
-
-pub returns : goal.returns
-returns c = begins_is c.starts_with.result c.args.front.now c.args.bytes.now c.starts_with.ensures.value

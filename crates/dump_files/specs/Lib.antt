@@ -1,5 +1,0 @@
-pub mod Guess
-pub mod Watching
-pub mod Errors
-pub mod Endings
-pub mod Findings

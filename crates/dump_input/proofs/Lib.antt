@@ -1,8 +1,0 @@
-mod Filling
-pub mod Ahead
-pub mod Going
-pub mod Skipping
-pub mod Deciding
-mod Scanning
-pub mod Portioning
-pub mod Face

@@ -1,8 +1,0 @@
-use Rattle.std.proofs.Common.{◌≡◌, length}
-use Rattle.dump_input.specs.InFront.{PassesDocuments}
-use Rattle.dump_input.proofs.portion.pass_documents.Given as goal
-
--- so many documents were passed
-abbrev pub invariant-documents : goal.invariant-documents
-invariant-documents g l =
-    (d : PassesDocuments l.most l.count (g.R.Read.remaining l.initial.reader) (g.R.Read.remaining l.reader) l.initial.window l.window) × (length d.documents ≡ l.counter)

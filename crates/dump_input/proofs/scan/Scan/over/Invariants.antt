@@ -1,7 +1,0 @@
-use Rattle.std.proofs.Common.{◌≡◌, fold, take}
-use Rattle.dump_input.specs.Texts.{IsOpen, step}
-use Rattle.dump_input.proofs.scan.Scan.over.Given as goal
-
--- so far the text comes, and may go on
-abbrev pub invariant-loop-index : goal.invariant-loop-index
-invariant-loop-index l = (l.scan ≡ fold step l.fn.self (take l.index l.bytes)) × IsOpen l.scan

@@ -1,7 +1,0 @@
-use Rattle.std.proofs.Common.{◌<◌, length}
-use Rattle.dump_input.proofs.Filling.{IsDrained}
-use Rattle.dump_input.proofs.window.drain.Given as goal
-
--- so many bytes were read
-abbrev pub invariant-loop : goal.invariant-loop
-invariant-loop g l = IsDrained (g.R.Read.remaining l.initial.reader) (g.R.Read.remaining l.reader) l.count × (0 < length l.buffer)

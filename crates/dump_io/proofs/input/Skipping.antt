@@ -1,0 +1,242 @@
+-- Bytes that are passed over, one after the other.
+use Rattle.std.proofs.Common.{◌≡◌, ℕ, ◌+◌, ◌-◌, ◌<◌, ◌≤◌, List, [], ◌++◌, Option, None, Some, Bool, true, false, ◌&&◌, not, arith, length, take, drop, sym, ap, ◌∙◌, subst, refl, inl, inr, append_assoc, length-append, length-drop, length-take-le, add_assoc, add-zero}
+use Rattle.std.proofs.lemmas.List.{drop-drop, take-append-drop}
+use Rattle.std.proofs.Math.Seq.{drop-append_seam}
+use Rattle.std.specs.Io.KnownBytes.{Consumes, IsAtEnd}
+use Rattle.raw_tree.specs.declared.reader.limits.Limits.{Limits}
+use Rattle.raw_resync.specs.Resync.{GoesOn, GoesOnWith}
+use Rattle.raw_resync.specs.Charge.{Charges, IsBounded}
+use Rattle.raw_resync.specs.Seeking.{IsWork, MayFollow, PassesOver, Seeks, TellsSought}
+use Rattle.raw_resync.specs.declared.search.Places.{Places}
+use Rattle.raw_resync.specs.declared.search.Sought.{Sought}
+use Rattle.raw_resync.specs.declared.search.Sought.TheVariants as sought
+use Rattle.raw_resync.specs.declared.work.Work.{Work}
+use Rattle.raw_resync.proofs.Face.{charges_further, charges_none, charges_on, passes_join, passes_since, spent_more}
+use Rattle.raw_resync.proofs.Face as face
+use Rattle.dump_io.specs.input.Reading.{GoesAhead, IsWindow, ReadsAhead, Consumed, SeesAhead, Stays, ahead_of}
+use Rattle.dump_io.specs.input.Resync.{IsNextPlace, SkipsTo, Spends}
+use Rattle.dump_io.specs.declared.input.resync.Skip.{Skip}
+use Rattle.dump_io.specs.declared.input.window.Window.{Window}
+
+-- after these bytes more is read ahead
+pub read_behind : (bytes x y : List ℕ) (r r' r'' : Option (List ℕ)) → Consumes r r' (bytes ++ x)
+    → ((before : Option (List ℕ)) → Consumes before r' x → Consumes before r'' y) → Consumes r r'' (bytes ++ y)
+read_behind bytes x y None r' r'' read more = tt
+read_behind bytes x y (Some s) None r'' read more = absurd read
+read_behind bytes x y (Some s) (Some rest) None read more = absurd (more (Some (x ++ rest)) refl)
+read_behind bytes x y (Some s) (Some rest) (Some left) read more =
+    read ∙ append_assoc bytes x rest ∙ ap (λ l. bytes ++ l) (more (Some (x ++ rest)) refl) ∙ sym (append_assoc bytes y left)
+
+-- nothing is passed over
+pub passes_none : (r : Option (List ℕ)) (x : List ℕ) → Consumed r r x x 0
+passes_none r x = record { bytes = []; len = refl; is_read = λ before read. read }
+
+-- more is read ahead
+pub passes_ahead : (r r' r'' : Option (List ℕ)) (x y z : List ℕ) (n : ℕ) → Consumed r r' x y n → ReadsAhead r' r'' y z → Consumed r r'' x z n
+passes_ahead r r' r'' x y z n p looks = record {
+  bytes = p.bytes;
+  len = p.len;
+  is_read = λ before read. read_behind p.bytes y z before r' r'' (p.is_read before read) looks.is_read;
+}
+
+-- so many were passed, and more is read ahead
+pub goes_ahead : (r r' r'' : Option (List ℕ)) (x z w : Window) (n : ℕ) → Consumed r r' (ahead_of x) (ahead_of z) n → z.offset ≡ x.offset + n → Stays r' r'' z w → GoesAhead r r'' x w
+goes_ahead r r' r'' x z w n passes at stays = record {
+  window = stays.window;
+  count = n;
+  offset = stays.offset ∙ at;
+  passes = passes_ahead r r' r'' (ahead_of x) (ahead_of z) (ahead_of w) n passes stays.looks;
+}
+
+-- more bytes are passed over
+pub passes_more : (r r' : Option (List ℕ)) (x y z : List ℕ) (n k : ℕ) → Consumed r r' x y n → k ≤ length y → z ≡ drop k y → Consumed r r' x z (n + k)
+passes_more r r' x y z n k p some is =
+    let size : length (take k y) ≡ k = length-take-le k y some in
+    let whole : y ≡ take k y ++ z = sym (take-append-drop k y) ∙ ap (λ l. take k y ++ l) (sym is) in
+    record {
+      bytes = p.bytes ++ take k y;
+      len = length-append p.bytes (take k y) ∙ ap (λ m. m + length (take k y)) p.len ∙ ap (λ m. n + m) size;
+      is_read = λ before read. subst (Consumes before r') (ap (λ l. p.bytes ++ l) whole ∙ sym (append_assoc p.bytes (take k y) z)) (p.is_read before read);
+    }
+
+-- what is left after the bytes that are passed over
+pub left_behind : (r r' : Option (List ℕ)) (x y s : List ℕ) (n : ℕ) → Consumed r r' x y n → Consumes (Some s) r x → Consumes (Some (drop n s)) r' y × (n ≤ length s)
+left_behind r None x y s n p read = absurd (p.is_read (Some s) read)
+left_behind r (Some rest) x y s n p read =
+    let all = p.is_read (Some s) read ∙ append_assoc p.bytes y rest in
+    let behind : drop n s ≡ y ++ rest = ap (λ m. drop m s) (sym p.len) ∙ ap (drop (length p.bytes)) all ∙ drop-append_seam p.bytes (y ++ rest) in
+    let size : length s ≡ length p.bytes + length (y ++ rest) = ap length all ∙ length-append p.bytes (y ++ rest) in
+    let len : length p.bytes ≡ n = p.len in
+    (behind, omega arith)
+
+-- what follows the bytes ahead: nothing, where the input is at its end
+pub follows : (s ahead : List ℕ) (r : Option (List ℕ)) (last : Bool) → Consumes (Some s) r ahead → (last ≡ true → IsAtEnd r) → (rest : List ℕ) × (s ≡ ahead ++ rest) × MayFollow last rest
+follows s ahead None last read ends = absurd read
+follows s ahead (Some rest) last read ends = (rest, read, ends)
+
+-- what was searched of all that is left: the places from the second on and before one, at no cost that is over the bound
+pub record IsCovered (limits : Limits) (s : List ℕ) (at : ℕ) (old new : Work) (to : ℕ) (all : Bool) : Type 0 where
+  pub over : PassesOver limits (at + length s) s 1 to 0 new all
+  pub spends : Spends limits s at old new
+
+-- what the loop keeps: so many bytes are passed over, more are ahead, and the places before this one of those were searched
+pub record IsSearched (limits : Limits) (r r' : Option (List ℕ)) (x y : Window) (old new : Work) (from : ℕ) (last all : Bool) : Type 0 where
+  pub n : ℕ
+  pub window : IsWindow y
+  pub work : IsWork new
+  pub offset : y.offset ≡ x.offset + n
+  pub start : 1 ≤ n + from
+  pub within : from ≤ length (ahead_of y)
+  pub ends : last ≡ true → IsAtEnd r'
+  pub passes : Consumed r r' (ahead_of x) (ahead_of y) n
+  pub searches : (s : List ℕ) → Consumes (Some s) r (ahead_of x) → IsCovered limits s x.offset old new (n + from) all
+
+pub searched_none : {limits : Limits} (r : Option (List ℕ)) (x : Window) (w : Work) → IsWindow x → IsWork w → 0 < length (ahead_of x) → IsSearched limits r r x x w w 1 false true
+searched_none {limits} r x w is work some = record {
+  n = 0;
+  window = is;
+  work = work;
+  offset = omega arith;
+  start = omega arith;
+  within = omega (arith, some);
+  ends = λ is. let impossible : ⊥ = cc in absurd impossible;
+  passes = passes_none r (ahead_of x);
+  searches = λ s read. record {
+    over = face.passes_none limits (x.offset + length s) s 1 0 w;
+    spends = record { charges = charges_none limits s w; bounded = λ bound. bound };
+  };
+}
+
+nothing_from : (j : ℕ) → 0 - j ≡ 0
+nothing_from j = omega arith
+
+-- bytes are passed over up to here
+next_place : {limits : Limits} (s : List ℕ) {at : ℕ} {old new : Work} (n place : ℕ) {all : Bool} (skip : Skip) → 1 ≤ n + place → n + place ≤ length s
+    → GoesOnWith limits (0 - place) (drop place (drop n s)) → IsCovered limits s at old new (n + place) all → skip.count ≡ n + place → skip.all ≡ all → IsNextPlace limits s at old new skip
+next_place {limits} s n place {all = all} skip some within goes done count both =
+    let none : 0 - place ≡ 0 = omega arith in
+    let here = subst (λ m. GoesOn limits (drop m s)) (sym count) (subst (GoesOn limits) (drop-drop place n s) (subst (λ m. GoesOnWith limits m (drop place (drop n s))) none goes)) in
+    let over = done.over in
+    record {
+      some = omega (arith, count, some);
+      within = subst (λ m. m ≤ length s) (sym count) within;
+      goes_on = here;
+      passed = λ j low high. elim (over.each j low (omega (arith, high, count))) [
+        | inl not ↦ inl (subst (λ m. ¬ GoesOnWith limits m (drop j s)) (nothing_from j) not)
+        | inr left ↦ inr left
+      ];
+      all = λ is j low high. subst (λ m. ¬ GoesOnWith limits m (drop j s)) (nothing_from j) (over.whole (sym both ∙ is) j low (omega (arith, high, count)));
+      left = λ is. let (j, low, high, left) = over.some (sym both ∙ is) in (j, low, omega (arith, high, count), left);
+      spends = done.spends;
+    }
+
+-- a search in the bytes ahead
+module _ {limits : Limits} {r r' : Option (List ℕ)} {x y : Window} {old mid : Work} {from : ℕ} {last all : Bool} (is : IsSearched limits r r' x y old mid from last all) (q : Places)
+    (begin : q.from ≡ from) (end : q.end ≡ 0) where
+  -- all that is left, as its front that was passed, the bytes ahead, and what follows them
+  whole : (s : List ℕ) → Consumes (Some s) r (ahead_of x) → (rest : List ℕ) × (drop is.n s ≡ ahead_of y ++ rest) × MayFollow last rest × (y.offset + length (drop is.n s) ≡ x.offset + length s)
+  whole s read =
+      let (left, within) = left_behind r r' (ahead_of x) (ahead_of y) s is.n is.passes read in
+      let (rest, split, may) = follows (drop is.n s) (ahead_of y) r' last left is.ends in
+      let size : length (drop is.n s) ≡ length s - is.n = length-drop is.n s in
+      (rest, split, may, omega (arith, size, within, is.offset))
+
+  module _ {new : Work} {told : Sought} (seeks : Seeks limits (ahead_of y) last y.offset q mid new told) where
+    -- what it tells of all that is left
+    tells : (s : List ℕ) → Consumes (Some s) r (ahead_of x) → TellsSought limits (ahead_of y) last (x.offset + length s) (drop is.n s) q new told
+    tells s read =
+        let (rest, split, may, total) = whole s read in
+        let here = seeks.tells rest may in
+        let here' = subst (λ t. TellsSought limits (ahead_of y) last (y.offset + length t) t q new told) (sym split) here in
+        subst (λ n. TellsSought limits (ahead_of y) last n (drop is.n s) q new told) total here'
+
+    charged : (s : List ℕ) → Consumes (Some s) r (ahead_of x) → Charges limits s mid new
+    charged s read =
+        let (rest, split, may, total) = whole s read in
+        charges_further limits is.n s mid new (subst (λ t. Charges limits t mid new) (sym split) (seeks.works.charges rest may))
+
+    bounded : (s : List ℕ) → Consumes (Some s) r (ahead_of x) → IsBounded (x.offset + length s) mid → IsBounded (x.offset + length s) new
+    bounded s read =
+        let (rest, split, may, total) = whole s read in
+        let here = subst (λ t. IsBounded (y.offset + length t) mid → IsBounded (y.offset + length t) new) (sym split) (seeks.works.bounded rest may) in
+        subst (λ n. IsBounded n mid → IsBounded n new) total here
+
+    -- the places before another were searched, too
+    searched : (place : ℕ) (more : Bool) (s : List ℕ) (read : Consumes (Some s) r (ahead_of x)) → from ≤ place
+        → PassesOver limits (x.offset + length s) (drop is.n s) q.from place q.end new more → IsCovered limits s x.offset old new (is.n + place) (all && more)
+    searched place more s read high over =
+        let before = is.searches s read in
+        let here = charged s read in
+        let over' = subst (λ n. PassesOver limits (x.offset + length s) (drop is.n s) from place n new more) end
+        (subst (λ n. PassesOver limits (x.offset + length s) (drop is.n s) n place q.end new more) begin over) in
+        record {
+          over = passes_join limits (x.offset + length s) 1 is.n from place s new is.start high
+              (passes_since limits (x.offset + length s) s 1 (is.n + from) 0 mid new all (spent_more limits s mid new here) before.over) over';
+          spends = record {
+            charges = charges_on limits s old mid new before.spends.charges here;
+            bounded = λ bound. bounded s read (before.spends.bounded bound);
+          };
+        }
+
+  -- it wants more, and more is read
+  module _ {r'' : Option (List ℕ)} {z w : Window} {new : Work} {place n want : ℕ} {more there : Bool} where
+    pub searched_on : Seeks limits (ahead_of y) last y.offset q mid new (sought.Wants place n more) → IsWork new
+        → ahead_of z ≡ drop place (ahead_of y) → z.offset ≡ y.offset + place → SeesAhead r' r'' z w want there → (last' : Bool) → (last' ≡ true → there ≡ false)
+        → IsSearched limits r r'' x w old new 0 last' (all && more)
+    searched_on seeks work passed at sees last' ends =
+        let told = seeks.tells [] (λ yes. refl) in
+        let low : from ≤ place = subst (λ m. m ≤ place) begin told.0 in
+        record {
+          n = is.n + place;
+          window = sees.window;
+          work = work;
+          offset = sees.offset ∙ at ∙ ap (λ m. m + place) is.offset ∙ add_assoc x.offset is.n place;
+          start = omega (arith, is.start, low);
+          within = omega arith;
+          ends = λ yes. (sees.ends (ends yes)).1;
+          passes = passes_ahead r r' r'' (ahead_of x) (ahead_of z) (ahead_of w) (is.n + place)
+              (passes_more r r' (ahead_of x) (ahead_of y) (ahead_of z) is.n place is.passes told.2 passed) sees.looks;
+          searches = λ s read.
+              let here = tells seeks s read in
+              subst (λ m. IsCovered limits s x.offset old new m (all && more)) (sym (add-zero (is.n + place)))
+              (searched seeks place more s read low here.4);
+        }
+
+  -- documents go on there
+  module _ {z : Window} {new : Work} {place : ℕ} {more : Bool} {skip : Skip} where
+    pub searched_to : Seeks limits (ahead_of y) last y.offset q mid new (sought.Found place more) → IsWork new
+        → IsWindow z → ahead_of z ≡ drop place (ahead_of y) → z.offset ≡ y.offset + place → skip.count ≡ is.n + place → skip.all ≡ (all && more) → SkipsTo limits r r' x z old new skip
+    searched_to seeks work window passed at count both =
+        let told = seeks.tells [] (λ yes. refl) in
+        let low : from ≤ place = subst (λ m. m ≤ place) begin told.0 in
+        let over = passes_more r r' (ahead_of x) (ahead_of y) (ahead_of z) is.n place is.passes told.2 passed in
+        record {
+          window = window;
+          offset = at ∙ ap (λ m. m + place) is.offset ∙ add_assoc x.offset is.n place ∙ ap (λ m. x.offset + m) (sym count);
+          work = work;
+          passes = subst (Consumed r r' (ahead_of x) (ahead_of z)) (sym count) over;
+          is = λ s read.
+              let here = tells seeks s read in
+              let done = searched seeks place more s read low here.4 in
+              let goes = subst (λ m. GoesOnWith limits m (drop place (drop is.n s))) (ap (λ e. e - place) end) here.3 in
+              let within = (left_behind r r' (ahead_of x) (ahead_of z) s (is.n + place) over read).1 in
+              next_place s is.n place skip (omega (arith, is.start, low)) within goes done count both;
+        }
+
+-- a search in these bytes is one in those ahead
+module _ {limits m : Limits} {b : List ℕ} {l last : Bool} {a : ℕ} {q : Places} {v w : Work} {told found : Sought} where
+  pub seeks_ahead : (y : Window)
+      → m ≡ limits → b ≡ ahead_of y → l ≡ last → a ≡ y.offset → told ≡ found → Seeks m b l a q v w told → Seeks limits (ahead_of y) last y.offset q v w found
+  seeks_ahead y most bytes is at same seeks =
+      subst (λ t. Seeks limits (ahead_of y) last y.offset q v w t) same
+      (subst (λ n. Seeks limits (ahead_of y) last n q v w told) at
+      (subst (λ i. Seeks limits (ahead_of y) i a q v w told) is
+      (subst (λ t. Seeks limits t l a q v w told) bytes (subst (λ n. Seeks n b l a q v w told) most seeks))))
+
+pub not_true : (b : Bool) → not b ≡ true → b ≡ false
+not_true true is = let impossible : ⊥ = cc in absurd impossible
+not_true false is = refl
+
+pub not_false : (b : Bool) → not b ≡ false → b ≡ true
+not_false true is = refl
+not_false false is = let impossible : ⊥ = cc in absurd impossible

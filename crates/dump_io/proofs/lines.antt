@@ -1,0 +1,5 @@
+pub mod Cases
+pub mod Fronts
+pub mod Objects
+mod Naming
+mod Quoted

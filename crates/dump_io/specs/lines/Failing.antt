@@ -1,0 +1,8 @@
+-- Whether reading fails.
+use Rattle.dump_io.specs.declared.lines.failure.Failure.{Failure}
+use Rattle.dump_io.specs.declared.lines.failure.Failure.TheVariants as failure
+
+-- reading fails
+abbrev pub IsReading : Failure → Type 0
+IsReading (failure.Reading e) = Unit {0}
+IsReading _ = ⊥

@@ -1,0 +1,24 @@
+//! What the inputs are.
+#![tactic(auto)]
+
+ghost use Rattle.std.specs.Prelude.{◌≡◌, ℕ, List, Option, None, IfOk, OnErr};
+
+use std::io;
+use std::io::Read;
+
+/// Opens inputs by their names, and tells what goes wrong with them.
+pub trait Inputs {
+    /// An input that is open.
+    type Input: Read + Drop;
+
+    // The bytes of the input of a name, where they are known. Such an input can be opened.
+    ghost bytes_of: { Self → List ℕ → Option (List ℕ) } = { λ _ _. None };
+
+    /// Opens an input.
+    fn open(&self, name: &str) -> io::Result<Self::Input>
+        ensures bytes { IfOk result (λ input. Self.Input.remaining input ≡ bytes_of self.now name.now) }
+        ensures known { OnErr result (bytes_of self.now name.now ≡ None) };
+
+    /// Tells what goes wrong with an input, and after how many bytes, if some were read.
+    fn tell(&self, name: &str, at: Option<u64>, error: &io::Error);
+}

@@ -1,0 +1,13 @@
+//! Input and output of `bsonraw-dump`, byte by byte: how dumps and texts are read, and how the lines are written that say what is found.
+//!
+//! - `input` reads: a window over a reader (`Window`), the next document by its length (`look_ahead`), the portion that is asked for
+//!   (`Portion`), where documents go on after damage (`pass_over`), and the text of a document (`Scan`) with its line and column (`Position`).
+//! - `lines` writes: what is found in a document (`find`), in words (`text`) or as an object of JSON (`object`), by `put`.
+//!
+//! Begin at `look_ahead` in `input/window.rt`, and at `find` in `lines/find.rt`. To change a line, change its definition first, in
+//! `specs/lines/Told.antt` or `specs/input/Endings.antt`, and then the two functions that write it. What may be skipped of a damaged dump
+//! isn't decided here but in `raw_resync`. No file is opened here, and no command is known.
+#![tactic(auto)]
+
+pub mod input;
+pub mod lines;

@@ -1,0 +1,25 @@
+//! Writes bytes.
+#![tactic(auto)]
+
+ghost use Rattle.std.specs.Prelude.{IfErr, OnErr, OnOk};
+ghost use Rattle.std.specs.Io.KnownBytes.{Appends};
+ghost use Rattle.dump_io.specs.lines.Fronts.{AppendsFront};
+ghost use Rattle.dump_io.specs.lines.Failing.{IsReading};
+
+use crate::lines::failure::Failure;
+use std::io::Write;
+use values_to_json::put::put_all;
+
+/// Writes these bytes, as `write_all` does: what it leaves after an error is a front of them. Most commands write none of most
+/// documents.
+#[inline(always)]
+pub fn put<W: Write>(writer: &mut W, bytes: &[u8]) -> Result<(), Failure>
+    ensures written { OnOk result (Appends (W.contents writer.old) (W.contents writer.new) bytes.now) }
+    ensures front { OnErr result (AppendsFront (W.contents writer.old) (W.contents writer.new) bytes.now) }
+    ensures failed { IfErr result (λ failure. ¬ IsReading failure) }
+{
+    if bytes.is_empty() {
+        return Ok(());
+    }
+    put_all(writer, bytes).map_err(Failure::Writing)
+}

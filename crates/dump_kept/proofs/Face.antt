@@ -1,3 +1,0 @@
--- The lemmas of this crate that crates above may cite; they cite no other.
-
-pub use Rattle.dump_kept.proofs.Known.{known_same}

@@ -1,5 +1,0 @@
-mod Digesting
-mod Tabled
-mod Prefixes
-pub mod Known
-pub mod Face

@@ -1,8 +1,0 @@
-//! What is kept of documents from one to the next: how many were written, the digests of their forms, and what was counted of elements.
-#![tactic(auto)]
-
-mod fields;
-pub mod kept;
-pub mod paths;
-
-pub use fields::tokens_of;

@@ -1,6 +1,0 @@
-pub mod Cases
-pub mod Fronts
-pub mod Objects
-mod Naming
-mod Quoted
-pub mod Face

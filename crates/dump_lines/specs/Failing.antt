@@ -1,8 +1,0 @@
--- Whether reading fails.
-use Rattle.dump_lines.specs.declared.failure.Failure.{Failure}
-use Rattle.dump_lines.specs.declared.failure.Failure.TheVariants as failure
-
--- reading fails
-abbrev pub IsReading : Failure → Type 0
-IsReading (failure.Reading e) = Unit {0}
-IsReading _ = ⊥

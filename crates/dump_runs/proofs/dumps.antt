@@ -1,0 +1,8 @@
+mod Findings
+mod Repeating
+mod Writing
+mod Passing
+mod Stopping
+mod Halting
+mod Choosing
+mod Summing

@@ -1,0 +1,6 @@
+mod Advancing
+mod Words
+mod Whole
+mod Parts
+mod Passing
+mod Summing

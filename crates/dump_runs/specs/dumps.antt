@@ -1,0 +1,5 @@
+pub mod Run
+pub mod Halting
+pub mod Portion
+pub mod Status
+pub mod Batch

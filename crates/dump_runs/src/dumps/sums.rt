@@ -1,0 +1,117 @@
+//! Writes what was counted: of one input, and of all.
+#![tactic(auto)]
+
+ghost use Rattle.std.specs.Prelude.{None, IfErr, OnErr, OnOk};
+ghost use Rattle.std.specs.Io.KnownBytes.{Appends};
+ghost use Rattle.dump_io.specs.lines.Fronts.{AppendsFront};
+ghost use Rattle.dump_runs.specs.dumps.Batch.{all_line, input_line};
+ghost use Rattle.dump_io.specs.lines.Failing.{IsReading};
+ghost use Rattle.dump_commands.specs.declared.command.Command.TheVariants.{Fields};
+
+use crate::dumps::batch::Totals;
+use dump_commands::command::Command;
+use dump_commands::counts::Counts;
+use dump_commands::job::Job;
+use dump_commands::reporting::put_summary;
+use dump_io::lines::failure::Failure;
+use dump_io::lines::write::put;
+use std::alloc::Global;
+use std::io::Write;
+
+/// Of `check` and `count`, writes what was counted of one input.
+pub fn put_counts<W: Write>(
+    alloc: Global,
+    job: Job<'_>,
+    name: &str,
+    counts: &Counts,
+    report: &mut W,
+) -> Result<(), Failure>
+    ensures written { OnOk result
+        (Appends (W.contents report.old) (W.contents report.new) (input_line job.entry job.entry.command name.now counts.now)) }
+    ensures front { OnErr result
+        (AppendsFront (W.contents report.old) (W.contents report.new) (input_line job.entry job.entry.command name.now counts.now)) }
+    ensures failed { IfErr result (λ failure. ¬ IsReading failure) }
+{
+    match job.command {
+        Command::Check | Command::Count => put_summary(
+            alloc,
+            job.style,
+            Some(name),
+            None,
+            job.command,
+            counts,
+            0,
+            report,
+        ),
+        Command::List
+        | Command::Sizes
+        | Command::Canon
+        | Command::Sound
+        | Command::Unique(_)
+        | Command::Fields
+        | Command::Json(_)
+        | Command::Pick(_) => Ok(()),
+    }
+}
+
+/// Writes what was counted of all inputs, but of a list and of sizes. Of fields, the lines of the paths come before it.
+pub fn put_all_counts<W: Write>(
+    alloc: Global,
+    job: Job<'_>,
+    totals: &Totals<'_>,
+    report: &mut W,
+) -> Result<(), Failure>
+    ensures written { OnOk result
+        (Appends (W.contents report.old) (W.contents report.new) (all_line job.entry job.entry.command totals.now.counts totals.now.kept)) }
+    ensures front { OnErr result
+        (AppendsFront (W.contents report.old) (W.contents report.new) (all_line job.entry job.entry.command totals.now.counts totals.now.kept)) }
+    ensures failed { IfErr result (λ failure. ¬ IsReading failure) }
+{
+    match job.command {
+        Command::List | Command::Sizes => Ok(()),
+        Command::Fields => put_fields(alloc, job, totals, report),
+        Command::Check
+        | Command::Count
+        | Command::Canon
+        | Command::Sound
+        | Command::Unique(_)
+        | Command::Json(_)
+        | Command::Pick(_) => put_summary(
+            alloc,
+            job.style,
+            None,
+            job.limit,
+            job.command,
+            &totals.counts,
+            totals.kept.count(),
+            report,
+        ),
+    }
+}
+
+/// Writes the lines of the paths that were counted, and what was counted of all inputs.
+fn put_fields<W: Write>(
+    alloc: Global,
+    job: Job<'_>,
+    totals: &Totals<'_>,
+    report: &mut W,
+) -> Result<(), Failure>
+    ensures written { OnOk result
+        (Appends (W.contents report.old) (W.contents report.new) (all_line job.entry Fields totals.now.counts totals.now.kept)) }
+    ensures front { OnErr result
+        (AppendsFront (W.contents report.old) (W.contents report.new) (all_line job.entry Fields totals.now.counts totals.now.kept)) }
+    ensures failed { IfErr result (λ failure. ¬ IsReading failure) }
+{
+    let lines = totals.kept.paths().lines(alloc)?;
+    put(report, &lines)?;
+    put_summary(
+        alloc,
+        job.style,
+        None,
+        job.limit,
+        Command::Fields,
+        &totals.counts,
+        totals.kept.count(),
+        report,
+    )
+}

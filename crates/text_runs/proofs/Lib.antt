@@ -1,6 +1,0 @@
-mod Advancing
-mod TextWords
-mod TextWhole
-mod TextParts
-mod TextPassing
-mod TextSumming

@@ -1,4 +1,0 @@
-pub mod TextReading
-pub mod TextFaults
-pub mod TextRun
-pub mod TextBatch
