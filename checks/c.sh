@@ -516,7 +516,7 @@ run_sanitized() {
         skip "AddressSanitizer"
         return
     fi
-    for name in agree build daily edit pieces slips streams; do
+    for name in agree build changes daily pieces slips streams; do
         [ "$name" = agree ] && fewer=4000 || fewer=
         # shellcheck disable=SC2086 # a list of flags
         cc -std=gnu99 -g -O1 $sanitized -Ic -o "$work/sanitized" "c/tests/$name.c" c/tests/documents.c c/daily.c c/edit.c c/stream.c "$prefix/lib/libbsonraw.a" &&

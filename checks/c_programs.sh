@@ -2,7 +2,7 @@
 # with headers of the tests' own. They source it, in the folder of the repository, with a scratch folder in $work.
 kit=$(dirname "$(rt doc)")/toolchain
 warnings='-Wall -Wextra -Wpedantic -Wconversion -Wshadow -Wstrict-prototypes -Wmissing-prototypes -Werror'
-programs='agree buffers build daily edit from_json large memory numbers pieces reasons resync slips streams texts threads touch unchecked'
+programs='agree buffers build changes daily from_json large memory numbers pieces reasons resync slips streams texts threads touch unchecked'
 failed=0
 
 fails() {

@@ -36,6 +36,11 @@ def cases() -> List[Case]:
     return found
 
 
+def fits(made: str, wanted: str) -> bool:
+    """Whether this is the document in hex that is wanted, in which each dot stands for any digit."""
+    return len(made) == len(wanted) and all(w in (m, ".") for m, w in zip(made, wanted))
+
+
 def compare(files: List[str]) -> int:
     wrong = 0
     for name, path in zip(("ours", "libbson", "package"), files):
@@ -44,7 +49,7 @@ def compare(files: List[str]) -> int:
             print(f"{name} has {len(made)} lines for {len(cases())} texts")
             return 1
         for case, is_made in zip(cases(), made):
-            if is_made != getattr(case, name):
+            if not fits(is_made, getattr(case, name)):
                 wrong += 1
                 print(f"{name}: {case.text}\n    {is_made}\n    and not {getattr(case, name)}")
     print(f"{len(cases())} cases, {wrong} of which aren't as they were written down")

@@ -120,19 +120,15 @@ class Pages(unittest.TestCase):
 
     def test_the_first_page(self) -> None:
         (block,) = blocks_of(FOLDER / "README.md")
-        for data, wanted in (
-            ("13000000 02686900 06000000 7927616c6c00 00", (0, "hi: y'all\n", "")),
-            ("08000000 146100 00", (1, "", "damaged: at offset 4: at key 'a': no kind has this tag: 20\n")),
-        ):
-            done = subprocess.run(
-                [sys.executable, "-c", block],
-                input=bytes.fromhex(data),
-                stdout=subprocess.PIPE,
-                stderr=subprocess.PIPE,
-                env={**os.environ, "PYTHONPATH": os.path.dirname(os.path.dirname(bsonraw.__file__))},
-                timeout=60,
-            )
-            self.assertEqual((done.returncode, done.stdout.decode(), done.stderr.decode()), wanted)
+        done = subprocess.run(
+            [sys.executable, "-c", block],
+            stdout=subprocess.PIPE,
+            stderr=subprocess.PIPE,
+            env={**os.environ, "PYTHONPATH": os.path.dirname(os.path.dirname(bsonraw.__file__))},
+            timeout=60,
+        )
+        wanted = (0, "{'hi': \"y'all\"}\n", "")
+        self.assertEqual((done.returncode, done.stdout.decode(), done.stderr.decode()), wanted)
 
     def test_the_text_of_the_package(self) -> None:
         outcome = doctest.testmod(bsonraw)

@@ -459,5 +459,5 @@ int main(void) {
     look_at_deep();
     look_at_old_names();
     look_at_memory();
-    return result("edit");
+    return result("changes");
 }
