@@ -70,7 +70,7 @@ measured() {
     awk '/---- daily use/ { daily = 1 }
         daily && /^[A-Za-z].*[ *]bsonraw_[a-z0-9_]*\(/ { name = $0; sub(/\(.*/, "", name); sub(/.*[ *]/, "", name); text = "" }
         name != "" { text = text $0 }
-        name != "" && /;$/ { gsub(/\(\*[a-z_]*\)\([^)]*\)/, "", text); if (text ~ /\*[A-Z_ ]*[a-z_]+, +size_t [a-z_]+[,)]/) print name; name = "" }' "$1"
+        name != "" && /;$/ { gsub(/\(\*[a-z_]*\)\([^)]*\)|, +size_t max_[a-z]+/, "", text); if (text ~ /\*[A-Z_ ]*[a-z_]+, +size_t [a-z_]+[,)]/) print name; name = "" }' "$1"
 }
 
 # touched FILE: whether BSONRAW_DEBUG looks at what each of them is given, in this header

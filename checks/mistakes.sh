@@ -20,7 +20,7 @@ notices_mistakes() {
         "$work/llvm-objcopy" --redefine-sym "$name=right_${name#bsonraw_}" "$prefix/lib/wrong.a" || return 1
     done
     mistake=0
-    for name in buffers threads buffers buffers memory reasons memory agree agree agree agree agree agree agree build build build agree buffers agree agree agree buffers texts texts threads agree agree build agree agree resync resync from_json from_json memory daily daily daily pieces pieces pieces pieces; do
+    for name in buffers threads buffers buffers memory reasons memory agree agree agree agree agree agree agree build build build agree buffers agree agree agree buffers texts texts threads agree agree build agree agree resync resync from_json from_json memory daily daily daily pieces pieces pieces pieces slips; do
         mistake=$((mistake + 1))
         # shellcheck disable=SC2086
         compile -std=c99 $warnings -DMISTAKE=$mistake -O1 -fPIE -c -o "$work/wrong.o" c/tests/wrong.c &&

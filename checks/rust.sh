@@ -195,7 +195,7 @@ if ls -d $registry/serde-1* $registry/serde_derive-1* $registry/serde_json-1* >/
     echo "rust: $(passed) tests and examples with serde"
     in_crate sh -c 'cd with-serde && cargo build --lib --examples' || fails "the example with serde isn't built"
     tells inventory "$work/with_serde/debug/examples/inventory"
-    if [ -n "$raw" ]; then
+    if [ -n "${BSONRAW_RAW-}" ]; then
         rustdoc --edition 2021 --test "$work/raw.md" --extern "bsonraw=$work/with_serde/debug/libbsonraw.rlib" \
             -L "dependency=$work/with_serde/debug/deps" >"$work/said" 2>&1 || fails "an example of the crate bson doesn't do with serde what it says"
         [ "$(passed)" = 33 ] || fails "$(passed) examples of the crate bson are there with serde, not 33"

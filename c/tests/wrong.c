@@ -191,6 +191,7 @@ int32_t right_append_iter(struct bsonraw_builder *builder, uint8_t *room, size_t
 int32_t right_append_begin(struct bsonraw_builder *builder, uint8_t *room, size_t room_len, uint32_t tag,
                            const uint8_t *key, size_t key_len, struct bsonraw_builder *level);
 int32_t right_append_end(struct bsonraw_builder *builder, uint8_t *room, size_t room_len, struct bsonraw_builder *level);
+int32_t right_append_cancel(struct bsonraw_builder *builder, struct bsonraw_builder *level);
 
 /* 29: no document is begun where there is no room for its length. */
 int32_t bsonraw_builder_begin(struct bsonraw_builder *builder, uint8_t *room, size_t room_len) {
@@ -235,6 +236,14 @@ int32_t bsonraw_append_end(struct bsonraw_builder *builder, uint8_t *room, size_
     struct bsonraw_builder before = *builder;
     int32_t status = right_append_end(builder, room, room_len, level);
     if (MISTAKE == 31 && status == BSONRAW_SMALL_BUFFER) before.status = status, *builder = before;
+    return status;
+}
+
+/* 44: a level that is taken back stays open. */
+int32_t bsonraw_append_cancel(struct bsonraw_builder *builder, struct bsonraw_builder *level) {
+    uint32_t begins = level->begins;
+    int32_t status = right_append_cancel(builder, level);
+    if (MISTAKE == 44) level->begins = begins;
     return status;
 }
 
