@@ -88,6 +88,8 @@ static void look_at_slips(void) {
     sticks(bsonraw_append_iter(&b, room, len, &it, a, sizeof a), BSONRAW_MISUSE, "a copy while a level is open");
     begin();
     is(bsonraw_append_cancel(&b, &inner), BSONRAW_MISUSE, "another level is taken back");
+    begin();
+    sticks(bsonraw_append_cancel(&b, NULL), BSONRAW_NULL, "no level is taken back");
     bsonraw_builder_begin(&b, room, len);
     sticks(bsonraw_append_array_begin(&b, room, len, BSONRAW_KEY("\0"), &outer), BSONRAW_FAULT, "a level whose key has a 0");
     bsonraw_builder_begin(&b, room, len);

@@ -248,12 +248,32 @@ static void look_at_cuts(void) {
     }
 }
 
+/* Where a search goes on, at the end of the first 65,536 bytes, there is no document but its length; and in it two documents begin. */
+static void look_at_step(void) {
+    static const uint8_t two[] = "\5\0\0\0\0\5\0\0\0";
+    struct bsonraw_stream s;
+    FILE *file;
+    len = 65536 + 200;
+    memset(data, 0, len);
+    put_length(0, 0xFFFFFFFFu), put_length(65536, 64);
+    memcpy(data + 65552, two, sizeof two), memcpy(data + 65600, two, sizeof two);
+    file = file_of();
+    bsonraw_stream_from_file(&s, file);
+    is(bsonraw_stream_read(&s), BSONRAW_NO_DOCUMENT, "a wrong length");
+    is(bsonraw_stream_resync(&s, 99, 9), BSONRAW_OK, "a search in two steps");
+    is(bsonraw_stream_read(&s), BSONRAW_OK, "the first document");
+    is((int64_t)s.offset, 65552, "the first document");
+    bsonraw_stream_free(&s);
+    fclose(file);
+}
+
 int main(void) {
     data = needed(SIZE);
     look_at_damage();
     look_at_length();
     look_at_waiting();
     look_at_cuts();
+    look_at_step();
     look_at_many();
     free(data);
     return result("streams");
