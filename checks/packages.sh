@@ -146,8 +146,8 @@ $well"
     makes proved
     record "$work/copy" passed 'bin/test 5 passed, 0 failed, 1 skipped
 skipped rust: cargo of 1.81 or later'
-    makes skipped
-    tar -xOf "$work"/skipped/*-linux.tar.gz --wildcards '*/PROVED' >"$work/said"
+    makes with_skips
+    tar -xOf "$work"/with_skips/*-linux.tar.gz --wildcards '*/PROVED' >"$work/said"
     grep -qx 'skipped rust: cargo of 1.81 or later' "$work/said" && grep -q 'all is tested but for what is named as skipped' "$work/said" ||
         fails "PROVED doesn't say what was skipped"
     record "$work/copy" passed "$well"
@@ -447,8 +447,10 @@ try_packages() {
     names_functions "$debs/usr/lib/x86_64-linux-gnu/libbsonraw.so" "$debs/usr/lib/debug" $gdb
     needs=$(for package in "$made"/libbsonraw2_*.deb "$made"/bsonraw_*.deb; do dpkg-deb -f "$package" Depends; done | sed 's/.*libc6 (>= \(.*\)).*/\1/')
     # shellcheck disable=SC2086 # two versions
-    tr -s '\n ' '  ' <README.md | grep -q "$(printf 'The library needs glibc %s or later, the programs %s,' $needs)" ||
-        fails "README doesn't say which glibc is needed: $needs"
+    printf '| C library, Rust | glibc %s or later |\n| programs | glibc %s or later,\n' $needs >"$work/glibc"
+    while IFS= read -r words; do
+        grep -qF "$words" README.md || fails "README doesn't say which glibc is needed: $needs"
+    done <"$work/glibc"
     library=$debs/usr/lib/x86_64-linux-gnu
     prepare "$work/new user"
     env -i PATH=/usr/bin:/bin $has_compiler PKG_CONFIG_PATH="$library/pkgconfig" PKG_CONFIG_SYSROOT_DIR="$debs" \

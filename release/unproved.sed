@@ -13,3 +13,11 @@ s/over a library whose calls are proved to return/over a library, whose proof wa
 s/The library below is proved; this package is tested\./No proof of the library below was seen./
 s/, and what was proved of it;/, and that no proof of it was seen;/
 s/PROMISES.md says what is proved and what is trusted\./PROMISES.md says what would be proved./
+s/^ \* Proved, but \(bsonraw_[a-z_]*\), which is tested\./ * All but \1 have contracts, whose proof was not seen./
+s/^ \* Proved\./ * It has a contract, whose proof was not seen./
+s/^ \* Tested\./ * It has no contract./
+s/^ \* bsonraw_iter_value is proved; the others, which call it, are tested\./ * bsonraw_iter_value has a contract, whose proof was not seen; the others call it./
+s/ and _cancel are proved; the others, which call bsonraw_append for a kind$/ and _cancel have contracts, whose proof was not seen; the others call bsonraw_append for a kind/
+s/^ \* each, are tested\./ * each./
+s/ one behind the other: proved -/ one behind the other -/
+s/ from text: proved, but where and why a text is refused, which is tested -/ from text -/

@@ -5,3 +5,9 @@ s/Tested, not proved, over the functions/Nothing of it is proved, and no test wa
 s/^The others are tested\./Of the others nothing is proved, and no test was run./
 s/The library below is proved; this package is tested\./The library below is proved; no test of this package was run./
 s/, and what was proved of it;/, what was proved of it, and that no test was run;/
+s/^ \* Proved, but \(bsonraw_[a-z_]*\), which is tested\./ * Proved, but \1, of which no test was run./
+s/^ \* Tested\./ * Nothing of it is proved, and no test was run./
+s/^ \* bsonraw_iter_value is proved; the others, which call it, are tested\./ * bsonraw_iter_value is proved; the others call it, and no test of them was run./
+s/ and _cancel are proved; the others, which call bsonraw_append for a kind$/ and _cancel are proved; the others call bsonraw_append for a kind/
+s/^ \* each, are tested\./ * each, and no test of them was run./
+s/ a text is refused, which is tested -/ a text is refused, of which no test was run -/
