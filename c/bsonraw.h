@@ -40,7 +40,7 @@ enum bsonraw_status {
     BSONRAW_TOO_MANY_BYTES = 5, /* the document has more than max_bytes */
     BSONRAW_TOO_DEEP = 6,       /* more levels than max_depth, of which the document itself is one */
     BSONRAW_TOO_LONG = 7,       /* a document would have over 2147483647 bytes */
-    BSONRAW_SMALL_BUFFER = 8,   /* the room is too small, and how much is wanted is said */
+    BSONRAW_SMALL_BUFFER = 8,   /* the room is too small; how much is needed is said */
     BSONRAW_BAD_OFFSET = 9,     /* the fields that were given name no place in the bytes */
     BSONRAW_NO_MEMORY = 10,     /* memory was refused */
     BSONRAW_OTHER_KIND = 11,    /* the element is of another kind. Of a builder: the parts aren't those of the kind */
@@ -214,7 +214,7 @@ BSONRAW_INLINE uint32_t bsonraw_layout_2(void) {
 struct bsonraw_error {
     uint32_t kind;   /* enum bsonraw_kind; 0 no fault */
     uint32_t reason; /* enum bsonraw_reason; 0 none */
-    uint64_t number; /* the tag or the byte at fault, the length, or how many bytes are wanted */
+    uint64_t number; /* the tag or the byte at fault, the length, or how many bytes are needed */
     uint64_t left;   /* how many there are, up to the end of the document, its final 0 counted, or of a code with scope */
     uint64_t offset; /* where the element at fault begins, or where none does */
 };
@@ -235,7 +235,7 @@ struct bsonraw_error {
 /* A cursor. It is at one element of a document, or at none. */
 struct bsonraw_iter {
     uint32_t tag;          /* enum bsonraw_tag */
-    uint32_t key_at;       /* the key; no 0 is in it, and one is behind it */
+    uint32_t key_at;       /* the key; no 0 is in it, and one is after it */
     uint32_t key_len;
     uint32_t payload_at;   /* the payload, as BSON stores it */
     uint32_t payload_len;
@@ -271,7 +271,7 @@ BSONRAW_USE int32_t bsonraw_iter_next(struct bsonraw_iter *iter, const uint8_t *
  *                     printf("%02x\n", child.tag);
  *
  * bsonraw_iter_init_at sets one before the first element of the document of document_len bytes at document_at, such as a
- * scope: BSONRAW_BAD_OFFSET where so many aren't there, or they end past 4294967295, and else BSONRAW_NO_DOCUMENT where they
+ * scope: BSONRAW_BAD_OFFSET where fewer are there, or they end past 4294967295, otherwise BSONRAW_NO_DOCUMENT where they
  * are no document, and error says why.
  *
  *     struct bsonraw_iter it, scope;
@@ -326,7 +326,7 @@ struct bsonraw_entry {
 
 /* Goes on over as many elements as there is room for, and writes count entries: BSONRAW_OK where the room is full, and more
  * elements may follow; else BSONRAW_NONE or BSONRAW_FAULT, as bsonraw_iter_next. The cursor is then at no element, and goes
- * on behind the last entry.
+ * on after the last entry.
  *
  *     struct bsonraw_iter it;
  *     struct bsonraw_entry entries[64];
@@ -439,7 +439,7 @@ BSONRAW_USE BSONRAW_INLINE int32_t bsonraw_checked_iter_next_many(struct bsonraw
 #define bsonraw_iter_next_many bsonraw_checked_iter_next_many
 #endif
 
-/* The key of the element that a cursor is at, or of a stop that has one: iter->key_len bytes, with a 0 behind them. Where there is none, it
+/* The key of the element that a cursor is at, or of a stop that has one: iter->key_len bytes, with a 0 after them. Where there is none, it
  * is an empty text, and never NULL.
  *
  *     struct bsonraw_iter it;
@@ -469,7 +469,7 @@ struct bsonraw_value {
     uint32_t text_at;   /* the text of a string, a symbol or a code; a pattern; a namespace; the bytes of a binary (of subtype
                            2 without their inner length), an ObjectId, a Decimal128; a document or an array */
     uint32_t text_len;
-    uint32_t more_at;   /* options; the scope of a code; the ObjectId behind a namespace */
+    uint32_t more_at;   /* options; the scope of a code; the ObjectId after a namespace */
     uint32_t more_len;
     uint32_t time;      /* of a timestamp */
     uint32_t increment; /* of a timestamp */
@@ -643,7 +643,7 @@ BSONRAW_USE BSONRAW_INLINE int32_t bsonraw_iter_bytes_of(const struct bsonraw_it
     return status;
 }
 
-/* A 0 is behind the text, and may be in it. */
+/* A 0 follows the text, and may be in it. */
 BSONRAW_READS(2, 3)
 BSONRAW_USE BSONRAW_INLINE int32_t bsonraw_iter_utf8(const struct bsonraw_iter *iter, const uint8_t *bytes, size_t len,
                                                      const char **text, size_t *text_len) {
@@ -714,7 +714,7 @@ BSONRAW_USE BSONRAW_INLINE int32_t bsonraw_iter_binary(const struct bsonraw_iter
     return status;
 }
 
-/* A 0 is behind both, and in none. */
+/* A 0 follows each, and is in none. */
 BSONRAW_READS(2, 3)
 BSONRAW_USE BSONRAW_INLINE int32_t bsonraw_iter_regex(const struct bsonraw_iter *iter, const uint8_t *bytes, size_t len,
                                                       const char **pattern, const char **options) {
@@ -736,8 +736,8 @@ BSONRAW_USE BSONRAW_INLINE int32_t bsonraw_iter_regex(const struct bsonraw_iter 
  * own, which grows. A call returns builder->status, and bsonraw_append_begin level->status, which the builder takes over:
  *   - BSONRAW_OK: what was appended so far is in the room.
  *   - BSONRAW_SMALL_BUFFER: the room is too small. Later calls go on to count, so that in the end len says how many bytes
- *     are wanted. They do so with no room at all, too, and where a later call is given a larger room, as bytes are lacking by then.
- *     What bsonraw_append_cancel takes back isn't wanted: it returns what the builder had before the level.
+ *     are needed. They do so with no room at all, too, and where a later call is given a larger room, as bytes are lacking by then.
+ *     What bsonraw_append_cancel takes back isn't needed: it returns what the builder had before the level.
  *   - Anything else: the first call that was refused, and why. Later calls change nothing, and count is the number of the element
  *     that was refused, from 0, in its level.
  * So one look at the end is enough. Refused are, in this order: NULL with a length (BSONRAW_NULL); an append to a builder in which a
@@ -746,13 +746,13 @@ BSONRAW_USE BSONRAW_INLINE int32_t bsonraw_iter_regex(const struct bsonraw_iter 
  * since no call has begun it, and a cursor that is at no element (BSONRAW_BAD_OFFSET); a tag of no kind, and parts that aren't
  * those of the kind, as another length, or a boolean's byte over 1 (BSONRAW_OTHER_KIND), a text that isn't UTF-8, or a pattern
  * or options with a 0 (BSONRAW_FAULT), or bytes that are no document (BSONRAW_NO_DOCUMENT); a key with a 0, or that isn't UTF-8
- * (BSONRAW_FAULT); an element behind which its level couldn't be ended within 2147483647 bytes, or a count that is as much, as
+ * (BSONRAW_FAULT); an element after which its level couldn't be ended within 2147483647 bytes, or a count that is as much, as
  * where it was changed (BSONRAW_TOO_LONG). As a level is ended, the final 0s of those around it aren't counted yet. In an array
  * the keys are made, 0, 1, 2 and so on, and the key that is given isn't looked at. Whether a key is there already isn't looked
  * at either.
  */
 struct bsonraw_builder {
-    uint32_t len;    /* how many bytes are taken so far, or wanted; in the end, how many the document has */
+    uint32_t len;    /* how many bytes are taken so far, or needed; in the end, how many the document has */
     uint32_t begins; /* where the document or the array begins whose elements are appended */
     uint32_t count;  /* how many it has so far */
     uint32_t tag;    /* BSONRAW_TAG_DOCUMENT or BSONRAW_TAG_ARRAY; and 256 more while a level is open in it that found the room too small */
@@ -796,7 +796,7 @@ int32_t bsonraw_append_end(struct bsonraw_builder *builder, uint8_t *BSONRAW_RES
 int32_t bsonraw_append_cancel(struct bsonraw_builder *builder, struct bsonraw_builder *BSONRAW_RESTRICT level);
 
 /* Appends the element that a cursor is at, as it is: its value isn't looked at. So a code with scope that says it has under
- * 4 bytes is copied, too: it takes in bytes of what is appended behind it, and may be read as something else there.
+ * 4 bytes is copied, too: it takes in bytes of what is appended after it, and may be read as something else there.
  *
  *     uint8_t room[64];
  *     struct bsonraw_builder b;
@@ -811,7 +811,7 @@ int32_t bsonraw_append_iter(struct bsonraw_builder *builder, uint8_t *BSONRAW_RE
 
 /* Appends an element of any kind, by its parts. One is the text of a string, a code or a symbol; a document or an array; the
  * bytes of a binary; a pattern, a namespace, or a code before its scope; and of any other kind the payload as BSON stores it.
- * Two is the subtype of a binary, in a byte; options; the twelve bytes behind a namespace; a scope; and of any other kind it
+ * Two is the subtype of a binary, in a byte; options; the twelve bytes after a namespace; a scope; and of any other kind it
  * isn't looked at. Lengths and 0s are put around them, and the inner length of a binary of subtype 2. The calls that follow
  * are this one, for a kind each.
  *
@@ -1103,7 +1103,7 @@ BSONRAW_INLINE int32_t bsonraw_append_array_begin(struct bsonraw_builder *builde
     return bsonraw_append_begin(builder, room, room_len, BSONRAW_TAG_ARRAY, key, key_len, level);
 }
 
-/* ---- documents one behind the other: proved -------------------------------------------------------------------------- */
+/* ---- documents one after the other: proved -------------------------------------------------------------------------- */
 
 /* A reader of a buffer of documents, which may be longer than 32 bits say: other calls are given a document as
  * bytes + document_at and document_len. All 0 is one that begins. */
@@ -1115,7 +1115,7 @@ struct bsonraw_reader {
 };
 
 /* Goes on to the next document: BSONRAW_OK; BSONRAW_NONE at the end of the bytes. Else BSONRAW_NO_DOCUMENT, and error says
- * why: where the length is sound and the last byte isn't 0 (BSONRAW_NOT_TERMINATED), the next call goes on behind it; else
+ * why: where the length is sound and the last byte isn't 0 (BSONRAW_NOT_TERMINATED), the next call goes on after it; otherwise
  * nothing says where the next document begins, and the next call returns BSONRAW_NONE. BSONRAW_BAD_OFFSET where next is over
  * len.
  *
@@ -1286,12 +1286,12 @@ BSONRAW_USE int32_t bsonraw_canonical(const uint8_t *bytes, size_t len, size_t m
 
 /* The document as MongoDB's Extended JSON v2, relaxed or, where canonical isn't 0, canonical; on one line or, where indented isn't 0,
  * with a line for each member, indented by two spaces a level, but none within a wrapper, as {"$oid": ..}. Each element is printed as it
- * is: repeated keys in order, an array without its keys. BSONRAW_OK, and the text is at the front of text, with a 0 behind it; count is
+ * is: repeated keys in order, an array without its keys. BSONRAW_OK, and the text is at the front of text, with a 0 after it; count is
  * its bytes without that 0. BSONRAW_SMALL_BUFFER where text_len is less than 1 + count. With any status but BSONRAW_OK nothing is
  * written to text. It takes memory for the text of the largest value that isn't a document or an array, and for as much of the whole
  * text as fits into text_len bytes, which is none where that is 0; of each at most twice as much. Indented, each line has two bytes for
  * each level that it is in, so that max_depth bounds the text as well. bsonraw_json_write prints in little memory. A canonical text says
- * all of a canonical document but for the bits of a NaN, a Decimal128 that isn't canonical, and a nested document with a key as $oid or
+ * all of a canonical document except for the bits of a NaN, a Decimal128 that isn't canonical, and a nested document with a key as $oid or
  * $date, which is printed as such a value is.
  *
  *     uint8_t text[4096];
@@ -1377,7 +1377,7 @@ enum bsonraw_json_reason {
     BSONRAW_JSON_EXPECTED_COLON = 5,
     BSONRAW_JSON_EXPECTED_COMMA = 6,    /* no comma, nor the end of the object or array */
     BSONRAW_JSON_EXPECTED_VALUE = 7,
-    BSONRAW_JSON_TEXT_BEHIND = 8,       /* the text goes on behind the document */
+    BSONRAW_JSON_TEXT_BEHIND = 8,       /* the text goes on after the document */
     BSONRAW_JSON_BAD_NUMBER = 9,        /* no number as JSON writes them */
     BSONRAW_JSON_INTEGER_TOO_LARGE = 10,/* an integer of more than 64 bits */
     BSONRAW_JSON_NUMBER_TOO_LARGE = 11, /* a number beyond the greatest double */
@@ -1424,7 +1424,7 @@ struct bsonraw_json_report {
 /* The document that a text of MongoDB's Extended JSON v2 writes, canonical or relaxed: BSONRAW_OK, and its count bytes are at the
  * front of document; BSONRAW_SMALL_BUFFER where document_len is less. Else BSONRAW_FAULT, BSONRAW_TOO_MANY_BYTES, BSONRAW_TOO_DEEP
  * or BSONRAW_NO_MEMORY, and the report says where the text isn't read. With any status but BSONRAW_OK nothing is written to
- * document. What isn't said of the report is 0. The text is UTF-8, and needs no 0 behind it.
+ * document. What isn't said of the report is 0. The text is UTF-8, and needs no 0 after it.
  * A number without a wrapper is an int32 or else an int64 where it is an integer, and else the nearest double. An object with a
  * wrapper's key is its value, or an error; only the whole text and a scope are documents whatever their keys. Keys that repeat
  * are kept, in order. It takes memory for the levels, under 100 bytes for each; for the document, which has at most max_bytes, and up to
@@ -1566,11 +1566,11 @@ const char *bsonraw_tag_text(uint32_t tag);
 const char *bsonraw_error_text(const struct bsonraw_error *error);
 
 /* The same with its numbers, as "a value is longer than what is left: 4157 where 62 are left". As snprintf it puts as much as there is
- * room for, and a 0 behind it, and returns how many bytes the text has without that 0; 150 are always enough. */
+ * room for, and a 0 after it, and returns how many bytes the text has without that 0; 150 are always enough. */
 size_t bsonraw_fault_text(const struct bsonraw_error *error, char *BSONRAW_RESTRICT text, size_t room) BSONRAW_WRITES(2, 3);
 
 /* What is wrong with a text of JSON, as "expected a value", and of a wrapper what it has to be, as "this is not {"$oid": 24 hex digits}": of
- * a report of bsonraw_from_json with BSONRAW_FAULT. As snprintf it puts as much as there is room for, and a 0 behind it, and returns how
+ * a report of bsonraw_from_json with BSONRAW_FAULT. As snprintf it puts as much as there is room for, and a 0 after it, and returns how
  * many bytes the text has without that 0; 100 are always enough.
  *
  *     uint8_t document[64];
@@ -1585,7 +1585,7 @@ size_t bsonraw_json_fault_text(const struct bsonraw_json_report *report, char *B
 
 /* The path of a report as a text, as bsonraw-dump prints it: for each level a slash, the number, and where there is a key a colon and
  * the key in quotes, as in JSON, with all control characters escaped: /1:"authors"/0:"0". Of more than 20 levels the first ten and the last
- * ten are there, with /.. between. As snprintf it puts as much as there is room for, and a 0 behind it, and returns
+ * ten are there, with /.. between. As snprintf it puts as much as there is room for, and a 0 after it, and returns
  * how many bytes the text has without that 0; of no document it returns 0.
  *
  *     struct bsonraw_report r;
@@ -1602,7 +1602,7 @@ size_t bsonraw_path_text(const uint8_t *bytes, size_t len, const uint64_t *path,
 
 /* The element at a path, and its value where it is of the kind that is asked for: BSONRAW_OK; BSONRAW_NO_DOCUMENT, BSONRAW_NONE,
  * BSONRAW_FAULT and BSONRAW_OTHER_KIND as the calls of a cursor. What is written is then 0, and a pointer NULL. Pointers are into the
- * bytes; a 0 is behind a text. Other kinds are got by bsonraw_get and bsonraw_iter_regex and its kin.
+ * bytes; a 0 follows a text. Other kinds are got by bsonraw_get and bsonraw_iter_regex and its kin.
  *
  *     int32_t born;
  *     const char *name;
@@ -1717,7 +1717,7 @@ BSONRAW_USE int32_t bsonraw_json_write(const uint8_t *bytes, size_t len, size_t 
                                        BSONRAW_READS(1, 2) BSONRAW_WRITES(9, 10);
 
 /* The value of the element that a cursor is at as bsonraw_json prints it; its document or array is the first of max_depth levels.
- * BSONRAW_OK, and the text is at the front of text, with a 0 behind it; report->count is its bytes without that 0. BSONRAW_SMALL_BUFFER
+ * BSONRAW_OK, and the text is at the front of text, with a 0 after it; report->count is its bytes without that 0. BSONRAW_SMALL_BUFFER
  * where room is less than 1 + count, and what is in text isn't said; BSONRAW_FAULT, BSONRAW_TOO_DEEP and BSONRAW_NO_MEMORY as
  * bsonraw_json, and BSONRAW_BAD_OFFSET where it is at no element. The report has no path. It takes memory as bsonraw_json_write.
  *
@@ -1751,8 +1751,8 @@ BSONRAW_USE int32_t bsonraw_canonical_new(const uint8_t *bytes, size_t len, size
 BSONRAW_USE int32_t bsonraw_from_json_new(const char *text, size_t len, size_t max_bytes, size_t max_depth, uint8_t **document,
                                           struct bsonraw_json_report *report) BSONRAW_READS(1, 2);
 
-/* The next document of a text that has some one behind the other, with blanks and new lines between them, or nothing: as
- * bsonraw_from_json_new, from the byte *at on, which is 0 at first. With BSONRAW_OK *at is then behind the document, and else as it was;
+/* The next document of a text that has some, one after the other, with blanks and new lines between them, or nothing: as
+ * bsonraw_from_json_new, from the byte *at on, which is 0 at first. With BSONRAW_OK *at is then after the document, otherwise as it was;
  * BSONRAW_NONE where only blanks are left, and *at is len; BSONRAW_BAD_OFFSET where it is over len. Places in the report are of the whole
  * text.
  *
@@ -1772,7 +1772,7 @@ BSONRAW_USE int32_t bsonraw_from_json_next(const char *text, size_t len, size_t 
 
 /* ---- a builder that grows ---- */
 
-/* Memory for a document that is built, which grows. Each call returns buffer->status, which sticks as that of a builder:
+/* Memory for a document that is built, which grows. Each call returns buffer->status, which stays, as that of a builder does:
  * BSONRAW_NO_MEMORY, too; level.count is then the number of the element that was refused, from 0, in its level. A key is NULL in an array,
  * else BSONRAW_MISUSE, and a text in a document, else BSONRAW_NULL. So a level whose end was forgotten is seen: by the next key, or by
  * bsonraw_buffer_finish, which finishes the document, and returns BSONRAW_MISUSE while a level is open. With BSONRAW_OK the document is
@@ -1843,7 +1843,7 @@ int32_t bsonraw_buffer_iter(struct bsonraw_buffer *buffer, const struct bsonraw_
                             BSONRAW_READS(3, 4);
 
 /* Append the elements of a document, as they are. A stop, or bytes that are no document, are BSONRAW_FAULT or BSONRAW_NO_DOCUMENT, and
- * stick. */
+ * stay. */
 int32_t bsonraw_buffer_concat(struct bsonraw_buffer *buffer, const uint8_t *bytes, size_t len) BSONRAW_READS(2, 3);
 
 /* What becomes of the elements at a path, which is as that of bsonraw_get. */
@@ -1870,13 +1870,13 @@ struct bsonraw_change {
 /* Appends the elements of a document with changes, in one walk: O(n log m) steps for n elements of the levels that paths go through, and
  * m changes. All else is copied as it is, but that the elements of such an array are numbered anew.
  *   - Of a key that repeats in a level each element is changed, and each document with it is gone into.
- *   - A path that leads to no element changes nothing, but that a value to be set is appended there: behind the others, in the order of the
+ *   - A path that leads to no element changes nothing, but that a value to be set is appended there: after the others, in the order of the
  *     changes, with documents for the steps that are lacking; in an array as the next element, else BSONRAW_BAD_OFFSET. A value
  *     isn't set through an element that is neither a document nor an array: BSONRAW_OTHER_KIND.
  *   - What is removed from an array leaves no gap. Its elements aren't renamed: BSONRAW_MISUSE.
  *   - Whether the new key of a rename is there already isn't looked at. A value that has a fault isn't renamed: BSONRAW_FAULT.
- *   - No change is at the path of another one, or goes on behind it: BSONRAW_MISUSE.
- * These stick, as what a buffer refuses, a stop of a level that is gone into (BSONRAW_FAULT), bytes that are no document
+ *   - No change is at the path of another one, or goes on after it: BSONRAW_MISUSE.
+ * These stay, as what a buffer refuses does: a stop of a level that is gone into (BSONRAW_FAULT), bytes that are no document
  * (BSONRAW_NO_DOCUMENT), a kind that is none (BSONRAW_OTHER_KIND), and a path or a new key of NULL (BSONRAW_NULL). It takes memory for the
  * steps of all paths, under 300 bytes for each.
  *
@@ -1919,10 +1919,10 @@ int32_t bsonraw_buffer_copy_with(struct bsonraw_buffer *buffer, const uint8_t *b
 
 /* ---- documents from a file ---- */
 
-/* Documents one behind the other from a file descriptor or a FILE, of which one is in memory at a time. With BSONRAW_OK it is len bytes
+/* Documents one after the other from a file descriptor or a FILE, of which one is in memory at a time. With BSONRAW_OK it is len bytes
  * at bytes, up to the next call; offset is where it begins, as error.offset from where the stream began to read, which needn't be the
  * file's first byte. BSONRAW_NONE at the end. BSONRAW_NO_DOCUMENT, and error says why: where the last byte isn't 0
- * (BSONRAW_NOT_TERMINATED), the bytes are there, and the next call goes on behind them; where the length is under 5 or negative
+ * (BSONRAW_NOT_TERMINATED), the bytes are there, and the next call goes on after them; where the length is under 5 or negative
  * (BSONRAW_LENGTH_INCORRECT), nothing says where the next one begins. BSONRAW_CUT where the file ends within a document, of which len
  * bytes are there; BSONRAW_TOO_MANY_BYTES where the length is over max_bytes, which is 2147483647 unless it is set; BSONRAW_NO_MEMORY;
  * BSONRAW_NOT_READ. The next call goes on after BSONRAW_OK and BSONRAW_NOT_TERMINATED. After BSONRAW_NOT_READ it reads on from where

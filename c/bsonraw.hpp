@@ -250,14 +250,14 @@ public:
     }
 
 private:
-    // What a call puts into room, which is made larger where the call wants more; so many bytes behind it are left out again.
+    // What a call puts into room, which is made larger where the call needs more, also for `extra` bytes after it, which are left out again.
     template <class T, class Call>
-    result<T> filled(size_t behind, Call call) const {
+    result<T> filled(size_t extra, Call call) const {
         T room(size_ + 64, 0);
         bsonraw_report report = {};
         int32_t status = call(reinterpret_cast<uint8_t *>(room.data()), room.size(), &report);
         if (status == BSONRAW_SMALL_BUFFER) {
-            room.resize(report.count + behind);
+            room.resize(report.count + extra);
             status = call(reinterpret_cast<uint8_t *>(room.data()), room.size(), &report);
         }
         room.resize(status == BSONRAW_OK ? report.count : 0);
@@ -344,7 +344,7 @@ result<T> element::as() const {
 }
 
 // A key or a path, which a 0 ends: nullptr for a key in an array. A text with a 0 in it is none, and is passed on as one that is refused
-// with BSONRAW_FAULT. What has no 0 behind it is copied.
+// with BSONRAW_FAULT. What has no 0 after it is copied.
 class key_text {
 public:
     key_text(const char *text) noexcept : own_(), text_(text) {}
@@ -401,7 +401,7 @@ private:
     std::vector<bsonraw_change> changes_;
 };
 
-// A document that is built, and its memory. A status sticks: one look at the end is enough. A key is nullptr in an array. A buffer that was
+// A document that is built, and its memory. An error stays: one look at the end is enough. A key is nullptr in an array. A buffer that was
 // moved from refuses what is appended with BSONRAW_BAD_OFFSET, up to reset.
 class buffer {
 public:
@@ -492,7 +492,7 @@ private:
     bsonraw_buffer buffer_;
 };
 
-// Documents one behind the other from a file, which somebody else owns: see struct bsonraw_stream.
+// Documents one after the other from a file, which somebody else owns: see struct bsonraw_stream.
 class stream {
 public:
     explicit stream(std::FILE *file) noexcept { (void)bsonraw_stream_from_file(&stream_, file); }
@@ -505,7 +505,7 @@ public:
         int32_t status = bsonraw_stream_read(&stream_);
         return {status, view(stream_.bytes, stream_.len)};
     }
-    // Goes on behind damage: see bsonraw_stream_resync.
+    // Goes on after damage: see bsonraw_stream_resync.
     [[nodiscard]] int32_t resync(size_t max_bytes, size_t max_depth = 500) noexcept { return bsonraw_stream_resync(&stream_, max_bytes, max_depth); }
     void max_bytes(size_t most) noexcept { stream_.max_bytes = most; }
     uint64_t offset() const noexcept { return stream_.offset; }

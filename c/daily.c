@@ -352,7 +352,7 @@ static void walk_into(const struct search *s, const struct bsonraw_iter *in, con
         }
 }
 
-/* The fields that are open in a level, in front; and of each the mark of its step: the first eight bytes, and 0s behind them. */
+/* The fields that are open in a level, in front; and of each the mark of its step: the first eight bytes, and 0s after them. */
 struct open {
     struct bsonraw_field *fields[GROUP];
     uint64_t marks[GROUP];
@@ -589,7 +589,7 @@ static int32_t look_at_keys(const uint8_t *bytes, const struct bsonraw_token *to
 int32_t bsonraw_check_keys(const uint8_t *bytes, size_t len, size_t max_bytes, size_t max_depth, uint32_t flags,
                            struct bsonraw_report *report, uint64_t *path, size_t path_room) {
     struct bsonraw_token none, *tokens;
-    struct key_level *levels; /* with the tokens behind them, as each of these is in one level more at most */
+    struct key_level *levels; /* with the tokens after them, as each of these is in one level more at most */
     uint64_t no_path[1];
     size_t count;
     int32_t status;
@@ -779,17 +779,17 @@ static void put_length(uint8_t *to, size_t len) {
     memcpy(to, number.bytes, 4);
 }
 
-/* Makes a document for so many bytes of elements of this level, in an array if it is one. Where they go. */
+/* Makes a document for this many bytes of elements of this level, in an array if it is one. Where they go. */
 static uint8_t *document_for(struct json *j, uint32_t tag, size_t len) {
-    size_t front = tag == BSONRAW_TAG_ARRAY ? 10 : 4, behind = tag == BSONRAW_TAG_ARRAY ? 2 : 1;
-    uint8_t *document = grown(j, &j->document, front + len + behind);
+    size_t front = tag == BSONRAW_TAG_ARRAY ? 10 : 4, after = tag == BSONRAW_TAG_ARRAY ? 2 : 1;
+    uint8_t *document = grown(j, &j->document, front + len + after);
     if (document == NULL) return NULL;
-    put_length(document, front + len + behind);
+    put_length(document, front + len + after);
     if (tag == BSONRAW_TAG_ARRAY) {
         document[4] = BSONRAW_TAG_ARRAY, document[5] = 0;
         put_length(document + 6, len + 5);
     }
-    memset(document + front + len, 0, behind);
+    memset(document + front + len, 0, after);
     return document + front;
 }
 
@@ -806,15 +806,15 @@ static size_t print_made(struct json *j) {
     return j->status == BSONRAW_OK ? (size_t)report.count : 0;
 }
 
-/* Prints the elements of the document that was made, without what is around them and so many bytes at the end. */
+/* Prints the elements of the document that was made, without what is around them and this many bytes at the end. */
 static void print_elements(struct json *j, uint32_t tag, int is_first, size_t cut) {
     int is_array = tag == BSONRAW_TAG_ARRAY;
-    size_t front = is_array ? (j->indented ? 9 : 5) : 1, behind = is_array ? (j->indented ? 6 : 2) : (j->indented ? 2 : 1);
+    size_t front = is_array ? (j->indented ? 9 : 5) : 1, after = is_array ? (j->indented ? 6 : 2) : (j->indented ? 2 : 1);
     size_t len = print_made(j);
     if (j->status != BSONRAW_OK) return;
     if (!is_first) emit(j, ",", 1);
     j->depth--; /* of the levels around the elements one is in their own text */
-    emit_lines(j, j->text.bytes + front, len - front - behind - cut, (size_t)is_array);
+    emit_lines(j, j->text.bytes + front, len - front - after - cut, (size_t)is_array);
     j->depth++;
 }
 
@@ -1027,7 +1027,7 @@ static int32_t make_document(struct making *m, uint8_t *room, size_t room_len) {
     return status;
 }
 
-/* What a call makes, in new memory: at first of so many bytes, which are mostly enough, as to count them costs as much as to make them; and
+/* What a call makes, in new memory: at first of this many bytes, which are mostly enough, since to count them costs as much as to make them; and
  * else of as many as it then says. */
 static int32_t make_new(struct making *m, size_t room, uint8_t **made) {
     uint8_t *memory = room > 0 ? malloc(room) : NULL;
@@ -1081,7 +1081,7 @@ int32_t bsonraw_json_new(const uint8_t *bytes, size_t len, size_t max_bytes, siz
     return status;
 }
 
-/* A form is no longer than its document, but for the keys of arrays. */
+/* A form is no longer than its document, except for the keys of arrays. */
 int32_t bsonraw_canonical_new(const uint8_t *bytes, size_t len, size_t max_bytes, size_t max_depth, uint8_t **form, struct bsonraw_report *report) {
     struct making m = {.make = make_form, .bytes = bsonraw_some_bytes(bytes), .len = len, .max_bytes = max_bytes, .max_depth = max_depth};
     if (form == NULL) return BSONRAW_NULL;
@@ -1089,7 +1089,7 @@ int32_t bsonraw_canonical_new(const uint8_t *bytes, size_t len, size_t max_bytes
     return BSONRAW_LACKS(bytes, len) ? BSONRAW_NULL : make_of_document(&m, 1, form, report);
 }
 
-/* A document is rarely longer than twice its text, but for arrays of short numbers. */
+/* A document is rarely longer than twice its text, except for arrays of short numbers. */
 int32_t bsonraw_from_json_new(const char *text, size_t len, size_t max_bytes, size_t max_depth, uint8_t **document,
                               struct bsonraw_json_report *report) {
     static const struct bsonraw_json_report at_first = {0, 0, 1, 1, 0, 0};
@@ -1124,7 +1124,7 @@ static size_t object_end(const char *text, size_t len, size_t at) {
     return len;
 }
 
-/* Makes a place in the text behind this front one in the whole text. */
+/* Makes a place in the text after this front one in the whole text. */
 static void move_place(struct bsonraw_json_report *report, const char *front, size_t len) {
     uint64_t lines = 0, characters = 0;
     size_t at;
@@ -1186,7 +1186,7 @@ static int takes_key(struct bsonraw_buffer *buffer, const char *key) {
     return 0;
 }
 
-/* Makes room for so many bytes more, as far as a document may have them. */
+/* Makes room for this many bytes more, as far as a document may have them. */
 static int reserve(struct bsonraw_buffer *buffer, size_t more) {
     size_t len = buffer->level.len, wanted = more < LONGEST - len ? len + more : LONGEST, room;
     uint8_t *bytes;
@@ -1314,8 +1314,8 @@ static size_t put_decimal(uint32_t number, char *key) {
     return count;
 }
 
-/* Puts an element up to its payload, of so many bytes, where nothing can be refused: its key is ASCII, or made, and its level can be
- * ended behind it. Where the payload goes; else NULL, and the call of a builder has to see to it. */
+/* Puts an element up to its payload, of this many bytes, where nothing can be refused: its key is ASCII, or made, and its level can be
+ * ended after it. Where the payload goes; else NULL, and the call of a builder has to do it. */
 static uint8_t *put_front(struct bsonraw_buffer *buffer, uint32_t tag, const char *key, size_t payload_len) {
     struct bsonraw_builder *level;
     char number[11];

@@ -170,7 +170,7 @@ static int is_before(const struct edit *e, const struct bsonraw_change *one, con
     return first != second ? first < second : one < other;
 }
 
-/* Puts the change at this place below those that are behind it, in a heap of so many. */
+/* Puts the change at this place below those that are after it, in a heap of this many. */
 static void sift(const struct edit *e, size_t at, size_t count) {
     struct bsonraw_change *change = e->sorted[at];
     size_t below;
@@ -262,7 +262,7 @@ static int add_nodes(struct edit *e) {
     return 1;
 }
 
-/* The node of this step among those behind a node; NULL where there is none. */
+/* The node of this step among those after a node; NULL where there is none. */
 static struct node *find_step(const struct edit *e, const struct node *node, const char *step, size_t len) {
     size_t from = node->first, to = from + node->count;
     while (from < to) {
@@ -349,7 +349,7 @@ static void copy_element(struct edit *e, struct level *level) {
         (void)bsonraw_buffer_iter(e->buffer, &it, e->bytes, e->len);
 }
 
-/* Appends what a node makes where no element was at its step: its value, or a document of what is behind it. */
+/* Appends what a node makes where no element was at its step: its value, or a document of what is after it. */
 static void put_new(struct edit *e, struct level *level, const struct node *node) {
     char number[21];
     size_t at;

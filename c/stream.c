@@ -39,7 +39,7 @@ void bsonraw_stream_free(struct bsonraw_stream *stream) {
     stream->status = BSONRAW_NONE;
 }
 
-/* Makes room behind what was read: moves it to the front where that moves no more than was passed by, or takes twice the memory. */
+/* Makes room after what was read: moves it to the front where that moves no more than was passed by, or takes twice the memory. */
 static int32_t make_room(struct bsonraw_stream *stream) {
     size_t room = stream->room < STEP ? STEP : 2 * stream->room;
     uint8_t *memory;
@@ -57,7 +57,7 @@ static int32_t make_room(struct bsonraw_stream *stream) {
     return BSONRAW_OK;
 }
 
-/* Reads what comes next, of a FILE no more than is wanted: BSONRAW_NONE at the end. */
+/* Reads what comes next, of a FILE no more than is needed: BSONRAW_NONE at the end. */
 static int32_t read_on(struct bsonraw_stream *stream, size_t wanted) {
     uint8_t *to = stream->memory + stream->ends;
     size_t room = stream->room - stream->ends;
@@ -74,7 +74,7 @@ static int32_t read_on(struct bsonraw_stream *stream, size_t wanted) {
     return count == 0 ? BSONRAW_NONE : BSONRAW_OK;
 }
 
-/* Reads until so many bytes of the document are there. */
+/* Reads until this many bytes of the document are there. */
 static int32_t fill(struct bsonraw_stream *stream, size_t wanted) {
     int32_t status = BSONRAW_OK;
     while (status == BSONRAW_OK && stream->ends - stream->begins < wanted) {
@@ -129,14 +129,14 @@ int32_t bsonraw_stream_read(struct bsonraw_stream *stream) {
     return stream->status = next_document(stream);
 }
 
-/* ---- behind damage ---- */
+/* ---- after damage ---- */
 
-/* Whether these bytes say a length that a document of at most so many bytes may have. */
+/* Whether these bytes say a length that a document of at most this many bytes may have. */
 static int is_length(const uint8_t *bytes, size_t left, size_t most) {
     return left >= 4 && length_at(bytes) >= 5 && length_at(bytes) <= most;
 }
 
-/* Where documents go on in what was read, behind its first byte; what the searches cost is counted from the stream's first byte on. */
+/* Where documents go on in what was read, after its first byte; what the searches cost is counted from the stream's first byte on. */
 static int32_t search(struct bsonraw_stream *stream, size_t most, size_t max_depth, size_t *next) {
     struct bsonraw_reader reader = {0, 0, 0, {BSONRAW_MALFORMED, BSONRAW_LENGTH_INCORRECT, 0, 0, 0}};
     struct bsonraw_resync resync = {0, 0, 0, 0}, *all = &stream->resync;
@@ -160,7 +160,7 @@ static void pass(struct bsonraw_stream *stream, size_t count) {
     stream->offset += count;
 }
 
-/* Searches until where documents go on doesn't depend on what wasn't read yet: two documents behind it were. Where it may, what was
+/* Searches until where documents go on doesn't depend on what wasn't read yet: two documents after it were. Where it may, what was
  * searched is passed by, up to a place that says no length. */
 static int32_t search_on(struct bsonraw_stream *stream, size_t most, size_t max_depth) {
     size_t step = most < STEP ? STEP : most, wanted = 2 * most + step, next, left, at;

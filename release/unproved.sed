@@ -19,5 +19,5 @@ s/^ \* Tested\./ * It has no contract./
 s/^ \* bsonraw_iter_value is proved; the others, which call it, are tested\./ * bsonraw_iter_value has a contract, whose proof was not seen; the others call it./
 s/ and _cancel are proved; the others, which call bsonraw_append for a kind$/ and _cancel have contracts, whose proof was not seen; the others call bsonraw_append for a kind/
 s/^ \* each, are tested\./ * each./
-s/ one behind the other: proved -/ one behind the other -/
+s/ one after the other: proved -/ one after the other -/
 s/ from text: proved, but where and why a text is refused, which is tested -/ from text -/

@@ -73,7 +73,7 @@ static int string(struct element *e, size_t at, size_t end, size_t *size) {
     return 1;
 }
 
-/* Whether so many bytes are here. */
+/* Whether this many bytes are here. */
 static int fits(struct element *e, size_t at, size_t end, size_t size) {
     if (end - at >= size) return 1;
     fault(e, BSONRAW_PAST_END, size, end - at);
@@ -122,17 +122,17 @@ static int payload(struct element *e, size_t at, size_t end, size_t *size) {
 /* What is at this offset of a document that ends there. */
 static struct element element_at(size_t at, size_t end) {
     struct element e;
-    size_t behind;
+    size_t after_key;
     memset(&e, 0, sizeof e);
     if (at == end) return fault(&e, BSONRAW_OVERFLOWED, 0, 0), e;
     e.tag = b[at];
     if (at + 1 == end) return e.is_end = 1, e;
-    behind = zero(at + 1, end);
-    if (!is_utf8(at + 1, behind)) return e.kind = BSONRAW_NOT_UTF8, e;
+    after_key = zero(at + 1, end);
+    if (!is_utf8(at + 1, after_key)) return e.kind = BSONRAW_NOT_UTF8, e;
     e.has_key = 1;
     e.key = at + 1;
-    e.key_len = behind - at - 1;
-    e.payload = behind + 1;
+    e.key_len = after_key - at - 1;
+    e.payload = after_key + 1;
     payload(&e, e.payload, end, &e.payload_len);
     return e;
 }
@@ -225,7 +225,7 @@ static int is_at(const struct bsonraw_iter *it, const struct element *e) {
            it->payload_len == e->payload_len && it->next == e->payload + e->payload_len;
 }
 
-/* Whether the key of a cursor is the element's, or the stop's, with a 0 behind it; else an empty text. */
+/* Whether the key of a cursor is the element's, or the stop's, with a 0 after it; else an empty text. */
 static int has_key_of(const struct bsonraw_iter *it, const struct element *e, size_t len) {
     const char *key = bsonraw_iter_key(it, b, len);
     return e->has_key ? key == (const char *)b + e->key && key[e->key_len] == 0 : key[0] == 0;
@@ -321,7 +321,7 @@ static void compare_many(struct bsonraw_iter it, size_t room, size_t len) {
         struct element e;
         memset(entries, 7, sizeof entries);
         status = bsonraw_iter_next_many(&it, b, len, entries, room, &count);
-        expect(count <= room && entries[count].tag == 0x07070707, "what is behind the entries");
+        expect(count <= room && entries[count].tag == 0x07070707, "what is after the entries");
         for (i = 0; i < count; i++) {
             e = element_at(at, end);
             expect(e.kind == 0 && !e.is_end && entries[i].tag == e.tag && entries[i].key_at == e.key && entries[i].key_len == e.key_len &&
@@ -549,7 +549,7 @@ static void compare_flatten(uint32_t levels, size_t room, size_t path_room, size
     expect(status == (wanted.count <= room ? BSONRAW_OK : BSONRAW_SMALL_BUFFER) && r.count == wanted.count && r.path_len == 0 && r.cause == 0 &&
                r.has_key == 0 && r.key_at == len && r.key_len == 0 && is_zero_error(&r.error) && r.error.offset == 0, "a count of tokens");
     expect(memcmp(tokens, wanted.tokens, fit * sizeof *tokens) == 0, "tokens");
-    expect(tokens[fit].tag == 0x07070707 && tokens[fit + 1].inside == 0x07070707, "what is behind the tokens");
+    expect(tokens[fit].tag == 0x07070707 && tokens[fit + 1].inside == 0x07070707, "what is after the tokens");
 }
 
 /* Whether a report says only this count. */
@@ -624,7 +624,7 @@ static uint32_t breach_of_key(size_t first, const struct element *e, int in_arra
 }
 
 /* The first breach, as the format says it: its cause, or that a level is too deep; 0 where there is none. */
-static uint32_t judge_level(size_t first, size_t end, int in_array, uint32_t depth, uint32_t levels, size_t len) {
+static uint32_t check_level(size_t first, size_t end, int in_array, uint32_t depth, uint32_t levels, size_t len) {
     size_t at = first + 4, inner;
     unsigned number = 0;
     uint32_t why;
@@ -643,7 +643,7 @@ static uint32_t judge_level(size_t first, size_t end, int in_array, uint32_t dep
         if (e.tag == 11 && !do_ascend(zero(e.payload, at) + 1, at - 1)) return BSONRAW_OPTIONS;
         inner = inside_of(&e);
         if (inner > 0 && levels == 1) return wanted.status = BSONRAW_TOO_DEEP;
-        why = inner > 0 ? judge_level(inner, at, e.tag == 4, depth + 1, levels - 1, len) : 0;
+        why = inner > 0 ? check_level(inner, at, e.tag == 4, depth + 1, levels - 1, len) : 0;
         if (why) return why;
     }
 }
@@ -654,7 +654,7 @@ static void compare_check(uint32_t levels, size_t path_room, size_t len) {
     uint32_t why;
     int32_t status;
     wanted.path_len = 0;
-    why = judge_level(0, len, 0, 0, levels, len);
+    why = check_level(0, len, 0, 0, levels, len);
     for (i = 0; i < 64; i++) steps[i] = 77;
     status = bsonraw_check(b, len, len, levels, &r, steps, path_room);
     if (why == 0) {
@@ -753,10 +753,10 @@ static void compare_form(uint32_t levels, size_t path_room, size_t len) {
     else expect(status == wanted.status && r.count == 0 && r.cause == 0 && is_place(&r, steps, path_room, len), "why there is no form");
     expect(memcmp(room, form, fit) == 0, "a form");
     for (i = fit; i < form_len + 8 && room[i] == 7;) i++;
-    expect(i == form_len + 8, "what is behind a form");
+    expect(i == form_len + 8, "what is after a form");
 }
 
-/* A level as it is built of its elements up to a stop: as they are, but for the keys of an array; how many they are. */
+/* A level as it is built of its elements up to a stop: as they are, except for the keys of an array; how many they are. */
 static unsigned write_built(size_t first, size_t end, int in_array) {
     size_t at = first + 4, begins = form_len;
     unsigned number = 0;
@@ -831,7 +831,7 @@ static void compare_built(struct bsonraw_iter it, size_t len) {
                to.tag == 3, "how long a built document is");
     if (status == BSONRAW_OK) expect(memcmp(built, form, form_len) == 0, "a built document");
     for (i = status == BSONRAW_OK ? form_len : room; i < form_len + 8 && built[i] == 7;) i++;
-    expect(i == form_len + 8, "what is behind a built document");
+    expect(i == form_len + 8, "what is after a built document");
 }
 
 /* More bytes than allowed are told before all else. */

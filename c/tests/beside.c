@@ -8,7 +8,7 @@
 #include <stdio.h>
 #include <string.h>
 
-static unsigned long wrong, elements, not_utf8, not_terminated, behind_a_code;
+static unsigned long wrong, elements, not_utf8, not_terminated, after_a_code;
 
 static void expect(int is_so, const char *what) {
     size_t i;
@@ -19,11 +19,11 @@ static void expect(int is_so, const char *what) {
 }
 
 /* Whether a code with scope is before this offset, at some level, or holds it. */
-static int is_behind_a_code(const struct bsonraw_iter *level, uint64_t offset) {
+static int is_after_a_code(const struct bsonraw_iter *level, uint64_t offset) {
     struct bsonraw_iter it = *level, child;
     while (bsonraw_iter_next(&it, made, made_len) == BSONRAW_OK && it.key_at <= offset + 1) {
         if (it.tag == BSONRAW_TAG_JAVASCRIPT_WITH_SCOPE) return 1;
-        if (bsonraw_iter_recurse(&it, made, made_len, &child) == BSONRAW_OK && is_behind_a_code(&child, offset)) return 1;
+        if (bsonraw_iter_recurse(&it, made, made_len, &child) == BSONRAW_OK && is_after_a_code(&child, offset)) return 1;
     }
     return 0;
 }
@@ -31,8 +31,8 @@ static int is_behind_a_code(const struct bsonraw_iter *level, uint64_t offset) {
 /* Counts the rule of libbson's by which it takes a document with this fault. */
 static void explain(const struct bsonraw_iter *whole, const struct bsonraw_error *error) {
     if (error->kind == BSONRAW_NOT_UTF8) not_utf8++; /* it takes it, though it is asked to look at UTF-8 */
-    else if (is_behind_a_code(whole, error->offset)) behind_a_code++; /* it ends its look at a code with scope */
-    else if (error->reason == BSONRAW_NESTED_NOT_TERMINATED) not_terminated++; /* it looks for no 0 behind a nested document */
+    else if (is_after_a_code(whole, error->offset)) after_a_code++; /* it ends its look at a code with scope */
+    else if (error->reason == BSONRAW_NESTED_NOT_TERMINATED) not_terminated++; /* it looks for no 0 after a nested document */
     else expect(0, "libbson takes the fault");
 }
 
@@ -104,7 +104,7 @@ int main(void) {
         make_next();
         compare();
     }
-    printf("100000 documents are taken as by libbson, but for %lu with a text that isn't UTF-8, %lu behind a code with scope and %lu with a "
-           "nested document without its 0; %lu elements are the same\n", not_utf8, behind_a_code, not_terminated, elements);
+    printf("100000 documents are taken as by libbson, except %lu with a text that isn't UTF-8, %lu after a code with scope and %lu with a "
+           "nested document without its 0; %lu elements are the same\n", not_utf8, after_a_code, not_terminated, elements);
     return wrong != 0 || elements == 0;
 }

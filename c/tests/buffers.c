@@ -50,7 +50,7 @@ static int is_left(struct mapped m, size_t len) {
     return 1;
 }
 
-/* How many bytes a call wants for its form; a text has a 0 behind it, which isn't counted. */
+/* How many bytes a call needs for its form; a text has a 0 after it, which isn't counted. */
 static size_t wanted(call *run, const struct whole *told) {
     return (size_t)told->report.count + (run == call_json && told->status == BSONRAW_OK);
 }
@@ -123,14 +123,14 @@ static int is_document(const struct document *d) {
 }
 
 /* A cursor at an offset before the first element or past the end is told, and no other. */
-static void judges_offsets(const struct document *d) {
+static void checks_offsets(const struct document *d) {
     struct bsonraw_iter begun, it;
     expect(bsonraw_iter_init(&begun, d->bytes, d->len) == BSONRAW_OK, d->name, "a document isn't begun");
     for (size_t at = 0; at < d->len + 3; at++) {
         it = begun;
         it.next = (uint32_t)at;
         int is_bad = bsonraw_iter_next(&it, d->bytes, d->len) == BSONRAW_BAD_OFFSET;
-        expect(is_bad == (at < 4 || at > d->len), d->name, "an offset is judged wrong");
+        expect(is_bad == (at < 4 || at > d->len), d->name, "an offset is checked wrongly");
     }
     it = begun;
     it.next = 4294967295u;
@@ -163,7 +163,7 @@ static void refuses(const uint8_t *bytes, size_t len, uint32_t reason, const cha
 }
 
 /* A document one byte short and one over is none. */
-static void judges_lengths(const struct document *d, enum edge edge) {
+static void checks_lengths(const struct document *d, enum edge edge) {
     struct mapped longer = map(d->len + 1, edge), shorter = map_copy(d->bytes, d->len - 1, edge);
     memcpy(longer.bytes, d->bytes, d->len);
     longer.bytes[d->len] = 0;
@@ -174,7 +174,7 @@ static void judges_lengths(const struct document *d, enum edge edge) {
 }
 
 /* A limit of just the document's bytes is kept to, and one byte less isn't; nor is one of no levels. */
-static void judges_limits(const struct document *d) {
+static void checks_limits(const struct document *d) {
     uint8_t room = 0;
     struct bsonraw_report r;
     uint64_t path[1] = {7};
@@ -236,11 +236,11 @@ static void look_at(const struct document *d) {
     for (enum edge edge = AT_FRONT; edge <= AT_END; edge++) {
         reads_its_bytes(d, edge);
         finds(d, edge);
-        if (is_document(d)) judges_lengths(d, edge);
+        if (is_document(d)) checks_lengths(d, edge);
     }
     if (!is_document(d)) return;
-    judges_offsets(d);
-    judges_limits(d);
+    checks_offsets(d);
+    checks_limits(d);
 }
 
 int main(void) {

@@ -172,8 +172,8 @@ static void look_at_examples(void) {
         for (size_t len = 0; len < e->len; len++) {
             status = build(e, len);
             expect(status == BSONRAW_SMALL_BUFFER && b.status == status, e->name, "a smaller room is enough");
-            expect(b.len == e->len, e->name, "another length is wanted of a smaller room");
-            expect(is_left(len), e->name, "a byte behind a smaller room is written");
+            expect(b.len == e->len, e->name, "another length is needed of a smaller room");
+            expect(is_left(len), e->name, "a byte after a smaller room is written");
         }
         status = build(e, e->len);
         expect(status == BSONRAW_OK && memcmp(room, e->bytes, e->len) == 0, e->name, "the exact room isn't enough");
@@ -186,7 +186,7 @@ static void refused(const char *name, int32_t status, int32_t returned) {
     uint8_t bytes[LARGE];
     memcpy(bytes, room, sizeof room);
     expect(returned == status && b.status == status, name, "it isn't refused, or for another reason");
-    expect(bsonraw_append_null(&b, room, sizeof room, BSONRAW_KEY("n")) == status, name, "the status doesn't stick");
+    expect(bsonraw_append_null(&b, room, sizeof room, BSONRAW_KEY("n")) == status, name, "the status doesn't stay");
     expect(bsonraw_append_null(&b, room, 0, BSONRAW_KEY("n")) == status, name, "a small room changes the status");
     expect(bsonraw_append_array_begin(&b, room, sizeof room, BSONRAW_KEY("n"), &level) == status, name, "a level begins");
     expect(bsonraw_append_end(&b, room, sizeof room, &level) == status, name, "a level ends");

@@ -145,7 +145,7 @@ int main(void) {
         bytes += b.len;
         bson_destroy(&theirs);
     }
-    printf("%d documents of %lu elements and %lu bytes are built as by libbson, but for %d\n", DOCUMENTS,
+    printf("%d documents of %lu elements and %lu bytes are built as by libbson, except %d\n", DOCUMENTS,
            (unsigned long)elements, (unsigned long)bytes, wrong);
     return wrong != 0;
 }

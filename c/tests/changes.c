@@ -190,7 +190,7 @@ static uint32_t any(uint32_t below) {
 
 static const char *const keys[] = {"a", "b", "ab", "a-", "", "0", "1", "\303\251"};
 
-/* Elements of any kind, which hold others down to so many levels. */
+/* Elements of any kind, which hold others down to this many levels. */
 static void fill(struct bsonraw_buffer *b, int levels, int is_array) {
     uint32_t count = any(5);
     while (count-- > 0) {
@@ -204,8 +204,8 @@ static void fill(struct bsonraw_buffer *b, int levels, int is_array) {
     }
 }
 
-/* Whether a path begins with this one and a step more: what is behind that, or NULL. */
-static const char *behind(const char *path, const char *front, const char *step) {
+/* Whether a path begins with this one and a step more: what is after that, or NULL. */
+static const char *rest_of(const char *path, const char *front, const char *step) {
     size_t front_len = strlen(front), len = strlen(step);
     if (strncmp(path, front, front_len) != 0 || strncmp(path + front_len, step, len) != 0) return NULL;
     path += front_len + len;
@@ -235,7 +235,7 @@ static void slow_level(struct slow *s, struct bsonraw_buffer *b, const uint8_t *
         if (is_array) snprintf(decimal, sizeof decimal, "%u", (unsigned)number), step = decimal, key = NULL;
         number++;
         for (at = 0; at < s->count; at++) {
-            const char *rest = behind(s->changes[at].path, front, step);
+            const char *rest = rest_of(s->changes[at].path, front, step);
             if (rest == NULL) continue;
             is_met[at] = 1;
             if (*rest == 0) change = &s->changes[at];
@@ -274,8 +274,8 @@ static void slow_new(struct slow *s, struct bsonraw_buffer *b, const char *front
         snprintf(path, sizeof path, "%s%s.", front, step);
         snprintf(decimal, sizeof decimal, "%u", (unsigned)number++);
         if (is_array && strcmp(step, decimal) != 0) s->has_end = 1;
-        for (other = 0; other < s->count; other++) done[other] |= behind(s->changes[other].path, front, step) != NULL;
-        if (*behind(s->changes[at].path, front, step) == 0) {
+        for (other = 0; other < s->count; other++) done[other] |= rest_of(s->changes[other].path, front, step) != NULL;
+        if (*rest_of(s->changes[at].path, front, step) == 0) {
             bsonraw_buffer_int32(b, is_array ? NULL : step, (int32_t)at);
         } else {
             bsonraw_buffer_begin_document(b, is_array ? NULL : step);
@@ -285,9 +285,9 @@ static void slow_new(struct slow *s, struct bsonraw_buffer *b, const char *front
     }
 }
 
-/* Whether two paths are one, or one goes on behind the other. */
+/* Whether two paths are one, or one goes on after the other. */
 static int is_conflict(const char *one, const char *other) {
-    return behind(one, "", other) != NULL || behind(other, "", one) != NULL;
+    return rest_of(one, "", other) != NULL || rest_of(other, "", one) != NULL;
 }
 
 static void look_at_any(void) {

@@ -26,7 +26,7 @@ static void is_text(const char *text, const char *wanted) {
     expect(strcmp(text, wanted) == 0, wanted, text);
 }
 
-/* The numbers of each reason that has some, behind its words. */
+/* The numbers of each reason that has some, after its words. */
 static void look_at_numbers(void) {
     static const char *const texts[] = {
         "no reason", "a document of under five bytes", "a document's length is wrong", "no final 0", "no element and no final 0",
@@ -143,7 +143,7 @@ static void look_at_control_characters(void) {
     is_text(text, "/0:\"\\u009bm\\u007f\\u009f\302\240\\u001f\\u0080\340\244\200\\b\\u000b\"");
 }
 
-/* A fault at the end of so many levels, each of which is under the empty key, but for the first with a null in front. */
+/* A fault at the end of this many levels, each of which is under the empty key, except for the first with a null in front. */
 static void look_at_levels(uint32_t levels, const char *wanted) {
     struct bsonraw_buffer b;
     struct bsonraw_report r;
@@ -329,7 +329,7 @@ static void look_at_new_documents(void) {
     is(bsonraw_from_json_new("{}", 2, 11, 1, NULL, &r), BSONRAW_NULL, "no place for a document");
 }
 
-/* Documents one behind the other in a text, and where the first one that is none is wrong. */
+/* Documents one after the other in a text, and where the first one that is none is wrong. */
 static void look_at_texts_in_a_row(void) {
     static const char text[] = " {\"a\":1}{\"}\\\"{\":{}}\n\t{}\r\n  {\"\303\251\": tru}{}";
     static const char *const wanted[] = {"\14\0\0\0\20a\0\1\0\0\0\0", "\17\0\0\0\3}\"{\0\5\0\0\0\0", "\5\0\0\0"};
@@ -347,14 +347,14 @@ static void look_at_texts_in_a_row(void) {
     at = 0;
     is(bsonraw_from_json_next("{}\303\251[", 5, &at, 99, 9, &document, &r), BSONRAW_OK, "a document before others");
     free(document);
-    is(bsonraw_from_json_next("{}\303\251[", 5, &at, 99, 9, &document, &r), BSONRAW_FAULT, "another text behind a document");
-    expect(at == 2 && r.json_reason == BSONRAW_JSON_EXPECTED_DOCUMENT && r.line == 1 && r.column == 3 && r.offset == 2, "another text behind a document", "another place");
+    is(bsonraw_from_json_next("{}\303\251[", 5, &at, 99, 9, &document, &r), BSONRAW_FAULT, "another text after a document");
+    expect(at == 2 && r.json_reason == BSONRAW_JSON_EXPECTED_DOCUMENT && r.line == 1 && r.column == 3 && r.offset == 2, "another text after a document", "another place");
     is(bsonraw_from_json_next("{}}", 3, &at, 99, 9, &document, &r), BSONRAW_FAULT, "a brace");
     is(bsonraw_from_json_next("{} {\n x", 7, &at, 99, 9, &document, &r), BSONRAW_FAULT, "no key in the next line");
     expect(r.line == 2 && r.column == 2 && r.offset == 6, "no key in the next line", "another place");
     at = 8;
-    is(bsonraw_from_json_next("{\"\303\251\":1}{x", 10, &at, 99, 9, &document, &r), BSONRAW_FAULT, "no key behind a letter of two bytes");
-    expect(r.line == 1 && r.column == 9 && r.offset == 9, "no key behind a letter of two bytes", "another place");
+    is(bsonraw_from_json_next("{\"\303\251\":1}{x", 10, &at, 99, 9, &document, &r), BSONRAW_FAULT, "no key after a letter of two bytes");
+    expect(r.line == 1 && r.column == 9 && r.offset == 9, "no key after a letter of two bytes", "another place");
     at = 2;
     is(bsonraw_from_json_next("{} {\"", 5, &at, 99, 9, &document, &r), BSONRAW_FAULT, "a text that is cut");
     expect(r.json_reason == BSONRAW_JSON_END_OF_TEXT && r.column == 6, "a text that is cut", "another place");
@@ -790,8 +790,8 @@ static void look_at_copies(void) {
     bsonraw_buffer_init(&b);
     bsonraw_buffer_concat(&b, one, sizeof one);
     bsonraw_buffer_concat(&b, two, sizeof two);
-    is(bsonraw_buffer_finish(&b), BSONRAW_OK, "one behind the other");
-    has(&b, both, sizeof both, "one behind the other");
+    is(bsonraw_buffer_finish(&b), BSONRAW_OK, "one after the other");
+    has(&b, both, sizeof both, "one after the other");
     bsonraw_buffer_reset(&b);
     bsonraw_buffer_copy_with(&b, one, sizeof one, two, sizeof two);
     is(bsonraw_buffer_finish(&b), BSONRAW_OK, "one laid over the other");
@@ -833,11 +833,11 @@ static void look_at_stream(struct bsonraw_stream *s) {
     is(bsonraw_stream_read(s), BSONRAW_NO_DOCUMENT, "no final 0");
     is(s->error.reason, BSONRAW_NOT_TERMINATED, "no final 0");
     is((int64_t)s->error.offset, 3 * sizeof sample, "no final 0");
-    is(bsonraw_stream_read(s), BSONRAW_OK, "a document behind it");
-    is((int64_t)s->offset, 3 * sizeof sample + 5, "a document behind it");
+    is(bsonraw_stream_read(s), BSONRAW_OK, "a document after it");
+    is((int64_t)s->offset, 3 * sizeof sample + 5, "a document after it");
 }
 
-/* How a file ends: with these bytes behind what is sound. */
+/* How a file ends: with these bytes after what is sound. */
 static void ends(const uint8_t *end, size_t len, int32_t status, size_t there, size_t max_bytes, const char *name) {
     uint8_t bytes[4 * sizeof sample + 64];
     struct bsonraw_stream s;
@@ -899,7 +899,7 @@ static void look_at_streams(void) {
     bsonraw_stream_free(&s);
     is(bsonraw_stream_from_file(&s, NULL), BSONRAW_NULL, "a file of NULL");
     is(bsonraw_stream_read(&s), BSONRAW_NULL, "a file of NULL");
-    /* 300000 bytes of which each is x, as a binary, behind sixteen small documents */
+    /* 300000 bytes of which each is x, as a binary, after sixteen small documents */
     memset(large, 'x', 300000);
     memcpy(large, "\340\223\4\0\5\0\324\223\4\0\0", 11), large[299999] = 0;
     file = tmpfile();

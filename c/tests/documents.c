@@ -31,7 +31,7 @@ static int digit(int character) {
     return -1;
 }
 
-/* Reads a name and the blank behind it; 0 at the end of the input. */
+/* Reads a name and the blank after it; 0 at the end of the input. */
 static int read_name(struct document *to) {
     size_t len = 0;
     int character;

@@ -482,7 +482,7 @@ static const char *const cut[] = {
     "{\"x\":{\"$timestamp\":{\"t\":",
 };
 
-/* Wrappers with another member behind or before theirs. */
+/* Wrappers with another member after or before theirs. */
 static const struct {
     const char *text;
     unsigned wrapper;

@@ -12,7 +12,7 @@
 #define FAR (((size_t)1 << 32) + 19) /* more than 32 bits say */
 #define LEVELS 2000000u
 #define STACK (256u * 1024)
-#define ROOM (16u * 1024 * 1024) /* for a document of so many levels, its form or its text */
+#define ROOM (16u * 1024 * 1024) /* for a document of this many levels, its form or its text */
 
 static int status;
 

@@ -141,7 +141,7 @@ static int32_t call_flatten(const struct document *d, uint8_t *form, size_t form
     return status;
 }
 
-/* Where documents go on behind damage in front of this one, whose report is the reader's place and what the search cost. */
+/* Where documents go on after damage in front of this one, whose report is the reader's place and what the search cost. */
 static int32_t call_resync(const struct document *d, uint8_t *form, size_t form_len, struct bsonraw_report *report, uint64_t *path,
                            size_t path_room) {
     static uint8_t bytes[3 * ROOM];
@@ -286,13 +286,13 @@ static int32_t call_text_len(const struct document *d, uint8_t *form, size_t for
     return call_json(d, form, 0, report, path, path_room);
 }
 
-/* Whether a call that was made took at most so many bytes. */
+/* Whether a call that was made took at most this many bytes. */
 static void took(size_t before, size_t most, const char *name) {
     expect(peak - before <= most, name, "it takes more memory");
     peak = before;
 }
 
-/* Nulls in the innermost of so many levels, whose indented text has as many times their bytes. It is counted, and given in pieces, in
+/* Nulls in the innermost of this many levels, whose indented text has as many times their bytes. It is counted, and given in pieces, in
  * little memory; where a room is too small, no more is taken than twice that besides. */
 static void look_at_text(size_t levels, size_t count) {
     const size_t len = 5 + (levels - 1) * 7 + count * 2, outer = (levels - 1) * 6 + levels * 2 + 2 * (levels - 1) * levels;

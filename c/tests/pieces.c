@@ -61,7 +61,7 @@ static void compare(const struct document *d, uint32_t canonical, uint32_t inden
     expect(bsonraw_json_write(d->bytes, d->len, 1 << 24, LEVELS, FLAGS(canonical, indented), NULL, NULL, &r, path, STEPS) == BSONRAW_OK && r.count == p.room, d->name, "it is counted otherwise");
     p.stop_at = p.count, p.count = p.len = 0;
     expect(bsonraw_json_write(d->bytes, d->len, 1 << 24, LEVELS, FLAGS(canonical, indented), keep, &p, &r, path, STEPS) == 77, d->name, "a stop isn't returned");
-    expect(p.count == p.stop_at && r.count == 0, d->name, "it goes on behind a stop");
+    expect(p.count == p.stop_at && r.count == 0, d->name, "it goes on after a stop");
     compare_new(d, canonical, indented, BSONRAW_OK, &wanted, text);
     free(text);
     free(p.text);
@@ -124,7 +124,7 @@ static uint32_t random_number(void) {
 
 static int left; /* how many elements a document may have */
 
-/* Appends so many elements of random kinds, of which a few hold others, down to so many levels. */
+/* Appends this many elements of random kinds, of which a few hold others, down to that many levels. */
 static void fill(struct bsonraw_buffer *b, int levels, uint32_t count, int is_array) {
     static const char text[] = "a \"text\" of\nseveral lines\t\\, which is repeated: a \"text\" of\nseveral lines";
     struct bsonraw_buffer scope;

@@ -49,7 +49,7 @@ static const struct row rows[] = {
 #define STRINGS "\2\14\15\16" /* of the pointer, the string in front */
 #define DOCUMENTS "\3\4"
 
-/* What is behind the key "k" up to the document's end, under each of these tags: the first fault, or none. */
+/* What is after the key "k" up to the document's end, under each of these tags: the first fault, or none. */
 struct payload {
     const char *tags, *bytes;
     size_t len;
@@ -222,7 +222,7 @@ static void look_at(const struct row *row, const char *name) {
 }
 
 /* The document of this tag, the key "k" and this payload, which is of under 200 bytes: its first fault, or that it has none. */
-static void look_behind(char tag, const struct payload *payload) {
+static void look_past_key(char tag, const struct payload *payload) {
     char bytes[256] = {0}, name[64];
     struct row row = {bytes, payload->len + 7, MALFORMED, payload->reason, payload->number, payload->left, "k"};
     struct bsonraw_report report;
@@ -245,17 +245,17 @@ static void look_behind(char tag, const struct payload *payload) {
 static void look_at_payloads(void) {
     static const char zeros[32];
     for (size_t at = 0; at < sizeof payloads / sizeof *payloads; at++)
-        for (const char *tag = payloads[at].tags; *tag != 0; tag++) look_behind(*tag, &payloads[at]);
+        for (const char *tag = payloads[at].tags; *tag != 0; tag++) look_past_key(*tag, &payloads[at]);
     for (size_t at = 0; at < sizeof sizes / sizeof *sizes; at++)
         for (size_t len = 0; len <= sizes[at].size + 1; len++) {
             struct payload payload = {"", zeros, len, BSONRAW_PAST_END, sizes[at].size, len};
             if (len == sizes[at].size) payload = (struct payload){"", zeros, len, BSONRAW_OVERFLOWED, 0, 0};
             if (len > sizes[at].size) payload = (struct payload){"", zeros, len, SOUND, 0, 0};
-            look_behind(sizes[at].tag, &payload);
+            look_past_key(sizes[at].tag, &payload);
         }
     for (size_t tag = 0; tag < 256; tag++) {
         struct payload payload = {"", zeros, 0, BSONRAW_INVALID_TAG, tag, 0};
-        if (tag == 0 || (19 < tag && tag != 127 && tag != 255)) look_behind((char)tag, &payload);
+        if (tag == 0 || (19 < tag && tag != 127 && tag != 255)) look_past_key((char)tag, &payload);
     }
 }
 

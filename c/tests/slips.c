@@ -28,12 +28,12 @@ static void ends_as(const char *bytes, size_t bytes_len, const char *name) {
 
 #define ENDS_AS(literal, name) ends_as(literal, sizeof(literal) - 1, name)
 
-/* A refusal sticks, up to the end. */
-static void sticks(int32_t status, int32_t wanted, const char *name) {
+/* A refusal stays, up to the end. */
+static void stays(int32_t status, int32_t wanted, const char *name) {
     is(status, wanted, name);
     is(bsonraw_append_null(&b, room, len, BSONRAW_KEY("n")), wanted, name);
     is(bsonraw_builder_end(&b, room, len), wanted, name);
-    expect(b.status == wanted, name, "it doesn't stick");
+    expect(b.status == wanted, name, "it doesn't stay");
 }
 
 static void look_at_levels(void) {
@@ -51,7 +51,7 @@ static void look_at_levels(void) {
     is(bsonraw_append_int32(&outer, room, 12, BSONRAW_KEY("a"), 1), BSONRAW_SMALL_BUFFER, "a small room");
     is(bsonraw_append_end(&b, room, 12, &outer), BSONRAW_SMALL_BUFFER, "a small room");
     is(bsonraw_builder_end(&b, room, 12), BSONRAW_SMALL_BUFFER, "a small room");
-    expect(b.len == 20, "a small room", "another length is wanted");
+    expect(b.len == 20, "a small room", "another length is needed");
 }
 
 static void look_at_slips(void) {
@@ -60,47 +60,47 @@ static void look_at_slips(void) {
     struct bsonraw_iter it;
     is(bsonraw_iter_init_find(&it, a, sizeof a, BSONRAW_KEY("a")), BSONRAW_OK, "an element");
     begin();
-    sticks(bsonraw_append_null(&b, room, len, BSONRAW_KEY("n")), BSONRAW_MISUSE, "an append while a level is open");
+    stays(bsonraw_append_null(&b, room, len, BSONRAW_KEY("n")), BSONRAW_MISUSE, "an append while a level is open");
     begin();
     is(bsonraw_append_int32(&b, room, len, BSONRAW_KEY("n"), 1), BSONRAW_MISUSE, "the builder around a level");
     is(bsonraw_append_end(&outer, room, len, &inner), BSONRAW_OK, "a level in it");
-    sticks(bsonraw_append_end(&b, room, len, &outer), BSONRAW_MISUSE, "the end of the level");
+    stays(bsonraw_append_end(&b, room, len, &outer), BSONRAW_MISUSE, "the end of the level");
     begin();
-    sticks(bsonraw_builder_end(&b, room, len), BSONRAW_MISUSE, "the end while a level is open");
+    stays(bsonraw_builder_end(&b, room, len), BSONRAW_MISUSE, "the end while a level is open");
     begin();
-    sticks(bsonraw_append_document_begin(&b, room, len, BSONRAW_KEY("n"), &copy), BSONRAW_MISUSE, "a second level");
+    stays(bsonraw_append_document_begin(&b, room, len, BSONRAW_KEY("n"), &copy), BSONRAW_MISUSE, "a second level");
     begin();
-    sticks(bsonraw_append_end(&b, room, len, &inner), BSONRAW_MISUSE, "the end of a level in a level");
+    stays(bsonraw_append_end(&b, room, len, &inner), BSONRAW_MISUSE, "the end of a level in a level");
     begin();
-    sticks(bsonraw_append_end(&b, room, len, &outer), BSONRAW_MISUSE, "the end of a level with an open level");
+    stays(bsonraw_append_end(&b, room, len, &outer), BSONRAW_MISUSE, "the end of a level with an open level");
     begin();
     copy = inner;
     (void)bsonraw_append_end(&outer, room, len, &inner);
     is(bsonraw_append_end(&outer, room, len, &copy), BSONRAW_MISUSE, "an end twice");
-    sticks(bsonraw_append_end(&b, room, len, &outer), BSONRAW_MISUSE, "the end of the level around it");
+    stays(bsonraw_append_end(&b, room, len, &outer), BSONRAW_MISUSE, "the end of the level around it");
     begin();
     (void)bsonraw_append_end(&outer, room, len, &inner);
     is(bsonraw_append_null(&inner, room, len, BSONRAW_NO_KEY), BSONRAW_BAD_OFFSET, "an append to a level that was ended");
     is(bsonraw_append_end(&b, room, len, &outer), BSONRAW_OK, "the level around it");
     ENDS_AS("\34\0\0\0\20a\0\1\0\0\0\3o\0\15\0\0\0\4i\0\5\0\0\0\0\0\0", "what it leaves");
-    sticks(bsonraw_append_null(&b, room, len, BSONRAW_KEY("n")), BSONRAW_BAD_OFFSET, "an append after the end");
+    stays(bsonraw_append_null(&b, room, len, BSONRAW_KEY("n")), BSONRAW_BAD_OFFSET, "an append after the end");
     begin();
-    sticks(bsonraw_append_iter(&b, room, len, &it, a, sizeof a), BSONRAW_MISUSE, "a copy while a level is open");
+    stays(bsonraw_append_iter(&b, room, len, &it, a, sizeof a), BSONRAW_MISUSE, "a copy while a level is open");
     begin();
     is(bsonraw_append_cancel(&b, &inner), BSONRAW_MISUSE, "another level is taken back");
     begin();
-    sticks(bsonraw_append_cancel(&b, NULL), BSONRAW_NULL, "no level is taken back");
+    stays(bsonraw_append_cancel(&b, NULL), BSONRAW_NULL, "no level is taken back");
     bsonraw_builder_begin(&b, room, len);
-    sticks(bsonraw_append_array_begin(&b, room, len, BSONRAW_KEY("\0"), &outer), BSONRAW_FAULT, "a level whose key has a 0");
+    stays(bsonraw_append_array_begin(&b, room, len, BSONRAW_KEY("\0"), &outer), BSONRAW_FAULT, "a level whose key has a 0");
     bsonraw_builder_begin(&b, room, len);
     (void)!bsonraw_builder_end(&b, room, len);
-    sticks(bsonraw_builder_end(&b, room, len), BSONRAW_BAD_OFFSET, "the end twice");
+    stays(bsonraw_builder_end(&b, room, len), BSONRAW_BAD_OFFSET, "the end twice");
     begin();
     is(bsonraw_append_utf8(&inner, room, len, BSONRAW_NO_KEY, BSONRAW_KEY("ok")), BSONRAW_OK, "an element");
     is(bsonraw_append_utf8(&inner, room, len, BSONRAW_NO_KEY, BSONRAW_KEY("\xff")), BSONRAW_FAULT, "a text that isn't UTF-8");
     expect(inner.count == 1, "which was refused", "another number");
     is(bsonraw_append_end(&outer, room, len, &inner), BSONRAW_FAULT, "the level around it");
-    sticks(bsonraw_append_end(&b, room, len, &outer), BSONRAW_FAULT, "the document");
+    stays(bsonraw_append_end(&b, room, len, &outer), BSONRAW_FAULT, "the document");
 }
 
 /* A level that was taken back, where another one begins later at the offset at which it ended. */
@@ -115,7 +115,7 @@ static void look_at_old_levels(void) {
         bsonraw_append_null(&b, room, len, BSONRAW_KEY(""));
         bsonraw_append_document_begin(&b, room, len, BSONRAW_KEY(""), &inner);
         expect(inner.begins == old.begins, "an old level", "it isn't at that offset");
-        sticks(by_end ? bsonraw_append_end(&b, room, len, &old) : bsonraw_append_cancel(&b, &old), BSONRAW_MISUSE, "an old level");
+        stays(by_end ? bsonraw_append_end(&b, room, len, &old) : bsonraw_append_cancel(&b, &old), BSONRAW_MISUSE, "an old level");
     }
 }
 
@@ -196,7 +196,7 @@ static void look_at_small_rooms(void) {
         expect(b.tag == BSONRAW_TAG_DOCUMENT, "the level is taken back", "another tag");
         bsonraw_append_null(&b, room, len, BSONRAW_KEY("n"));
         is(bsonraw_builder_end(&b, room, len), was_small ? BSONRAW_SMALL_BUFFER : BSONRAW_OK, "the document");
-        expect(b.len == 20, "the document", "another length is wanted");
+        expect(b.len == 20, "the document", "another length is needed");
         expect(was_small || memcmp(room, "\24\0\0\0\20number\0\1\0\0\0\12n\0", 20) == 0, "the document", "other bytes");
     }
     begin();
@@ -209,7 +209,7 @@ static void look_at_small_rooms(void) {
     bsonraw_append_null(&outer, room, 4, BSONRAW_NO_KEY);
     is(bsonraw_append_end(&b, room, 4, &outer), BSONRAW_SMALL_BUFFER, "a level in no room");
     is(bsonraw_builder_end(&b, room, 4), BSONRAW_SMALL_BUFFER, "a document in no room");
-    expect(b.len == 19 && b.tag == BSONRAW_TAG_DOCUMENT, "a document in no room", "another length is wanted");
+    expect(b.len == 19 && b.tag == BSONRAW_TAG_DOCUMENT, "a document in no room", "another length is needed");
 }
 
 /* A level whose end was forgotten, and keys that are given where none is taken, or aren't where one is. */
@@ -393,29 +393,29 @@ static void look_at_null_in_builders(void) {
     is(bsonraw_builder_begin(&b, NULL, 0), BSONRAW_SMALL_BUFFER, "no room");
     is(bsonraw_append_utf8(&b, NULL, 0, NULL, 0, NULL, 0), BSONRAW_SMALL_BUFFER, "an empty text in no room");
     is(bsonraw_builder_end(&b, NULL, 0), BSONRAW_SMALL_BUFFER, "no room");
-    expect(b.len == 12, "no room", "another length is wanted");
+    expect(b.len == 12, "no room", "another length is needed");
     is(bsonraw_builder_begin(&b, NULL, 1), BSONRAW_NULL, "a room");
     bsonraw_builder_begin(&b, room, len);
     is(bsonraw_builder_end(&b, NULL, 1), BSONRAW_NULL, "a room");
     begin();
     is(bsonraw_append_end(&outer, NULL, 1, &inner), BSONRAW_NULL, "a room");
     bsonraw_builder_begin(&b, room, len);
-    sticks(bsonraw_append_null(&b, room, len, NULL, 1), BSONRAW_NULL, "a key");
+    stays(bsonraw_append_null(&b, room, len, NULL, 1), BSONRAW_NULL, "a key");
     bsonraw_builder_begin(&b, room, len);
-    sticks(bsonraw_append_utf8(&b, room, len, BSONRAW_KEY("a"), NULL, 1), BSONRAW_NULL, "a text");
+    stays(bsonraw_append_utf8(&b, room, len, BSONRAW_KEY("a"), NULL, 1), BSONRAW_NULL, "a text");
     bsonraw_builder_begin(&b, room, len);
-    sticks(bsonraw_append_oid(&b, room, len, BSONRAW_KEY("a"), NULL), BSONRAW_NULL, "an ObjectId");
+    stays(bsonraw_append_oid(&b, room, len, BSONRAW_KEY("a"), NULL), BSONRAW_NULL, "an ObjectId");
     bsonraw_builder_begin(&b, room, len);
-    sticks(bsonraw_append_array_begin(&b, room, len, NULL, 1, &outer), BSONRAW_NULL, "the key of a level");
+    stays(bsonraw_append_array_begin(&b, room, len, NULL, 1, &outer), BSONRAW_NULL, "the key of a level");
     bsonraw_builder_begin(&b, room, len);
-    sticks(bsonraw_append_array_begin(&b, room, len, BSONRAW_KEY("a"), NULL), BSONRAW_NULL, "a level");
+    stays(bsonraw_append_array_begin(&b, room, len, BSONRAW_KEY("a"), NULL), BSONRAW_NULL, "a level");
     begin();
     is(bsonraw_append_end(&outer, room, len, NULL), BSONRAW_NULL, "a level");
     bsonraw_builder_begin(&b, room, len);
-    sticks(bsonraw_append_iter(&b, room, len, NULL, EMPTY), BSONRAW_NULL, "a cursor");
+    stays(bsonraw_append_iter(&b, room, len, NULL, EMPTY), BSONRAW_NULL, "a cursor");
     bsonraw_builder_begin(&b, room, len);
     is(bsonraw_iter_init(&it, EMPTY), BSONRAW_OK, "init");
-    sticks(bsonraw_append_iter(&b, room, len, &it, NULL, 5), BSONRAW_NULL, "bytes");
+    stays(bsonraw_append_iter(&b, room, len, &it, NULL, 5), BSONRAW_NULL, "bytes");
     is(bsonraw_append_end(NULL, room, len, &b), BSONRAW_NULL, "a builder");
     is(bsonraw_append_null(NULL, room, len, BSONRAW_KEY("a")), BSONRAW_NULL, "a builder");
 }

@@ -1,4 +1,4 @@
-/* Damaged files: behind damage a stream goes on where a reader of all bytes in memory does, whatever of the file it has in memory; and of a
+/* Damaged files: after damage a stream goes on where a reader of all bytes in memory does, whatever of the file it has in memory; and of a
  * large file with some lengths damaged it keeps all but a few documents. */
 #include "documents.h"
 
@@ -31,7 +31,7 @@ static void put_length(size_t at, uint32_t number) {
     for (i = 0; i < 4; i++) data[at + (size_t)i] = (uint8_t)(number >> 8 * i);
 }
 
-/* Puts a document of about so many bytes behind the others. */
+/* Puts a document of about this many bytes after the others. */
 static void put_document(size_t size) {
     uint8_t id[12], *at = data + len;
     size_t i;
@@ -144,7 +144,7 @@ static void look_at_damage(void) {
     expect(all > 12, "damaged files", "too few are looked at in full");
 }
 
-/* Where the first search ends, a length that may be is in front of two documents, and another one is behind it: it isn't believed, since the
+/* Where the first search ends, a length that may be is in front of two documents, and another one is after it: it isn't believed, since the
  * damage is before. */
 static void look_at_length(void) {
     size_t at = 65536, count, i;
@@ -240,9 +240,9 @@ static void look_at_cuts(void) {
         bsonraw_stream_from_file(&s, file);
         is(bsonraw_stream_read(&s), BSONRAW_OK, "a document before a cut");
         is(bsonraw_stream_read(&s), BSONRAW_CUT, "a cut");
-        is(bsonraw_stream_resync(&s, 100, 9), BSONRAW_OK, "behind a cut");
-        is(bsonraw_stream_read(&s), BSONRAW_NONE, "behind a cut");
-        is((int64_t)s.offset, (int64_t)len, "behind a cut");
+        is(bsonraw_stream_resync(&s, 100, 9), BSONRAW_OK, "after a cut");
+        is(bsonraw_stream_read(&s), BSONRAW_NONE, "after a cut");
+        is((int64_t)s.offset, (int64_t)len, "after a cut");
         bsonraw_stream_free(&s);
         fclose(file);
     }

@@ -9,7 +9,7 @@ int fork(void);
 int waitpid(int process, int *status, int options);
 void _exit(int status);
 
-/* Whether a process ends well that reads so many bytes from here on. */
+/* Whether a process ends well that reads this many bytes from here on. */
 static int is_touched(const uint8_t *bytes, size_t len) {
     struct bsonraw_iter it;
     int status, process = fork();
@@ -106,7 +106,7 @@ static int use(int call, uint8_t *bytes, size_t len) {
     return 1;
 }
 
-/* Whether a process ends well that calls this of so many bytes. */
+/* Whether a process ends well that calls this with this many bytes. */
 static int is_used(int call, uint8_t *bytes, size_t len) {
     int status, process = fork();
     if (process == 0) _exit(!use(call, bytes, len));

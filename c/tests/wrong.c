@@ -39,10 +39,10 @@ uint32_t bsonraw_version(void) {
     return right_version();
 }
 
-/* 1: a byte behind the document is read. */
+/* 1: a byte after the document is read. */
 int32_t bsonraw_iter_init(struct bsonraw_iter *iter, const uint8_t *bytes, size_t len) {
-    const volatile uint8_t *behind = bytes + len;
-    if (MISTAKE == 1 && *behind == 1) len++;
+    const volatile uint8_t *after = bytes + len;
+    if (MISTAKE == 1 && *after == 1) len++;
     return right_iter_init(iter, bytes, len);
 }
 
@@ -57,7 +57,7 @@ int32_t bsonraw_iter_init_find(struct bsonraw_iter *iter, const uint8_t *bytes, 
     return status;
 }
 
-/* 3: a byte behind the form is written. 4: a part of the form is written where it doesn't fit. 20: the form is the document. */
+/* 3: a byte after the form is written. 4: a part of the form is written where it doesn't fit. 20: the form is the document. */
 int32_t bsonraw_canonical(const uint8_t *bytes, size_t len, size_t max_bytes, size_t max_depth, uint8_t *form, size_t form_len,
                           struct bsonraw_report *report, uint64_t *path, size_t path_room) {
     int32_t status = right_canonical(bytes, len, max_bytes, max_depth, form, form_len, report, path, path_room);
@@ -67,7 +67,7 @@ int32_t bsonraw_canonical(const uint8_t *bytes, size_t len, size_t max_bytes, si
     return status;
 }
 
-/* 23: a byte behind the text and its 0 is written. 24: the flags are swapped. 25: only 1 sets a flag.
+/* 23: a byte after the text and its 0 is written. 24: the flags are swapped. 25: only 1 sets a flag.
  * 26: the text passes through memory that all threads share. */
 int32_t bsonraw_json(const uint8_t *bytes, size_t len, size_t max_bytes, size_t max_depth, uint32_t canonical,
                      uint32_t indented, uint8_t *text, size_t text_len, struct bsonraw_report *report, uint64_t *path,
@@ -132,7 +132,7 @@ int32_t bsonraw_iter_find(struct bsonraw_iter *iter, const uint8_t *bytes, size_
     return right_iter_find(iter, bytes, len, key, MISTAKE == 10 && key_len > 3 ? 3 : key_len);
 }
 
-/* 11: the reader goes on behind a length that isn't sound. */
+/* 11: the reader goes on after a length that isn't sound. */
 int32_t bsonraw_reader_read(struct bsonraw_reader *reader, const uint8_t *bytes, size_t len) {
     uint64_t next = reader->next;
     int32_t status = right_reader_read(reader, bytes, len);
@@ -150,7 +150,7 @@ int32_t bsonraw_reader_resync(struct bsonraw_reader *reader, const uint8_t *byte
     return status;
 }
 
-/* 34: a byte behind the document is written. 35: columns are counted from 0. 36: out of memory is a fault. */
+/* 34: a byte after the document is written. 35: columns are counted from 0. 36: out of memory is a fault. */
 int32_t bsonraw_from_json(const uint8_t *text, size_t len, size_t max_bytes, size_t max_depth, uint8_t *document, size_t document_len,
                           struct bsonraw_json_report *report) {
     int32_t status = right_from_json(text, len, max_bytes, max_depth, document, document_len, report);
@@ -160,7 +160,7 @@ int32_t bsonraw_from_json(const uint8_t *text, size_t len, size_t max_bytes, siz
     return status;
 }
 
-/* 12: the room is called full where the document ends. 28: an entry behind the room is written. */
+/* 12: the room is called full where the document ends. 28: an entry after the room is written. */
 int32_t bsonraw_iter_next_many(struct bsonraw_iter *iter, const uint8_t *bytes, size_t len, struct bsonraw_entry *entries,
                                size_t room, uint64_t *count) {
     int32_t status = right_iter_next_many(iter, bytes, len, entries, room, count);
@@ -200,7 +200,7 @@ int32_t bsonraw_builder_begin(struct bsonraw_builder *builder, uint8_t *room, si
     return status;
 }
 
-/* 15: the final 0 is put behind a room that is full. */
+/* 15: the final 0 is put after a room that is full. */
 int32_t bsonraw_builder_end(struct bsonraw_builder *builder, uint8_t *room, size_t room_len) {
     return right_builder_end(builder, room, MISTAKE == 15 ? room_len + 1 : room_len);
 }
@@ -247,7 +247,7 @@ int32_t bsonraw_append_cancel(struct bsonraw_builder *builder, struct bsonraw_bu
     return status;
 }
 
-/* 18: a token that has another inside says one less. 19: a number of the path is written behind the room. */
+/* 18: a token that has another inside says one less. 19: a number of the path is written after the room. */
 int32_t bsonraw_flatten(const uint8_t *bytes, size_t len, size_t max_bytes, size_t max_depth, struct bsonraw_token *tokens,
                         size_t room, struct bsonraw_report *report, uint64_t *path, size_t path_room) {
     int32_t status = right_flatten(bytes, len, max_bytes, max_depth, tokens, room, report, path, path_room);
@@ -268,7 +268,7 @@ int32_t right_decimal128_from_text(const uint8_t *text, size_t text_len, uint8_t
 int32_t right_date_time_to_text(int64_t millis, char *text);
 int32_t right_date_time_from_text(const uint8_t *text, size_t text_len, int64_t *millis);
 
-/* 37: the digits have no 0 behind them. */
+/* 37: the digits have no 0 after them. */
 int32_t bsonraw_oid_to_hex(const uint8_t *id, char *hex) {
     int32_t status = right_oid_to_hex(id, hex);
     if (MISTAKE == 37) hex[24] = '0';
@@ -286,7 +286,7 @@ uint32_t bsonraw_oid_time(const uint8_t *id) {
     return MISTAKE == 39 ? time << 16 | time >> 16 : time;
 }
 
-/* 40: the text has no 0 behind it. */
+/* 40: the text has no 0 after it. */
 int32_t bsonraw_decimal128_to_text(const uint8_t *decimal, char *text) {
     int32_t status = right_decimal128_to_text(decimal, text);
     if (MISTAKE == 40 && status == BSONRAW_OK) text[strlen(text)] = '0', text[BSONRAW_DECIMAL128_TEXT - 1] = 0;

@@ -22,7 +22,7 @@ pub fn run<R: Read, W: Write>(alloc: Global, command: &str, reader: &mut R, writ
     ensures read_first { IsCommand command.now →
         Keeps (W.contents writer.old) (W.contents writer.new) ⊎ IsAtEnd (R.remaining reader.new) }
 
-    // An unknown command is told how the program is used, whatever the reader holds.
+    // For an unknown command the usage is printed, whatever the reader holds.
     ensures usage { ¬ IsCommand command.now → result ≢ 5 →
         (result ≡ 3) × Appends (W.contents writer.old) (W.contents writer.new) usage_line }
     ensures unread { ¬ IsCommand command.now → reader.new ≡ reader.old }

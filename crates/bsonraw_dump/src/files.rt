@@ -1,5 +1,5 @@
 //! The files of a run: its inputs, how far their reading has come, what they look like that aren't dumps; the output, which
-//! takes the place of another; and what is told of them on standard error.
+//! takes the place of another; and what is reported of them on standard error.
 #![tactic(auto)]
 
 pub mod findings;

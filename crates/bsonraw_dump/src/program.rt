@@ -177,7 +177,7 @@ impl<'a> Fill<'a> for Run<'a> {
     }
 }
 
-/// Runs the command over each input, and tells a failure.
+/// Runs the command over each input, and reports a failure.
 fn each<'a, D: Write, W: Write>(
     rt: &HostRuntime,
     run: &Run<'a>,

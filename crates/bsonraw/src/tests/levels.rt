@@ -52,7 +52,7 @@ fn push_head(alloc: Global, text: &mut String, level: Level, len: u32) -> Result
     Ok(())
 }
 
-/// The text of so many levels: the innermost is empty, and each other holds the next alone.
+/// The text of this many levels: the innermost is empty, and each other holds the next alone.
 fn levels(alloc: Global, level: Level, count: u32) -> Result<String, AllocError> {
     let mut text = String::new(alloc);
     for inside in (1..count).rev() {
@@ -67,7 +67,7 @@ fn levels(alloc: Global, level: Level, count: u32) -> Result<String, AllocError>
     Ok(text)
 }
 
-/// Whether a text of so many bytes begins with these digits, and a command prints this of it.
+/// Whether a text of this many bytes begins with these digits, and a command prints this of it.
 fn is_answered(
     alloc: Global,
     command: &str,

@@ -84,7 +84,7 @@ fn key_text(alloc: Global, key: &[u8]) -> Result<String, AllocError> {
     }
 }
 
-/// A tag, a key, a payload, and the rest behind it.
+/// A tag, a key, a payload, and the rest after it.
 #[derive(Clone, Copy)]
 struct Frame<'a> {
     tag: u8,
@@ -96,9 +96,9 @@ struct Frame<'a> {
 /// The first frame among all ways to cut the bytes.
 fn first_frame(bytes: &[u8]) -> Option<Frame<'_>> {
     for key_len in 0..bytes.len() {
-        if let Some((tag, key, behind)) = cut_key(bytes, key_len) {
-            for payload_len in 0..=behind.len() {
-                if let Some((payload, rest)) = cut_payload(tag, behind, payload_len) {
+        if let Some((tag, key, after)) = cut_key(bytes, key_len) {
+            for payload_len in 0..=after.len() {
+                if let Some((payload, rest)) = cut_payload(tag, after, payload_len) {
                     return Some(Frame {
                         tag,
                         key,
@@ -112,25 +112,25 @@ fn first_frame(bytes: &[u8]) -> Option<Frame<'_>> {
     None
 }
 
-/// A tag, a key of this length, and what is behind its 0.
+/// A tag, a key of this length, and what is after its 0.
 fn cut_key(bytes: &[u8], len: usize) -> Option<(u8, &[u8], &[u8])> {
     let (tag, text) = bytes.split_first()?;
     let (key, text) = text.split_at_checked(len)?;
-    let (nul, behind) = text.split_first()?;
+    let (nul, after) = text.split_first()?;
     let is_key = *nul == 0 && !key.contains(&0) && is_utf8(key);
-    is_key.then_some((*tag, key, behind))
+    is_key.then_some((*tag, key, after))
 }
 
 /// A payload of this length, and the rest.
-fn cut_payload(tag: u8, behind: &[u8], len: usize) -> Option<(&[u8], &[u8])> {
-    let (payload, rest) = behind.split_at_checked(len)?;
-    has_shape(tag, payload, behind).then_some((payload, rest))
+fn cut_payload(tag: u8, after: &[u8], len: usize) -> Option<(&[u8], &[u8])> {
+    let (payload, rest) = after.split_at_checked(len)?;
+    has_shape(tag, payload, after).then_some((payload, rest))
 }
 
 /// What a payload looks like.
 #[derive(Clone, Copy)]
 enum Shape {
-    /// so many bytes
+    /// this many bytes
     Bytes(usize),
     /// a length, a text and a 0
     Text,
@@ -140,7 +140,7 @@ enum Shape {
     Level,
     /// a length, a subtype and bytes
     Binary,
-    /// a pattern and options, each with a 0 behind it
+    /// a pattern and options, each with a 0 after it
     Regex,
     /// framed by its length alone
     CodeWithScope,
@@ -165,8 +165,8 @@ fn shape_of(tag: u8) -> Option<Shape> {
     })
 }
 
-/// Whether this is a payload of the tag, where `behind` are the payload and the rest.
-fn has_shape(tag: u8, payload: &[u8], behind: &[u8]) -> bool {
+/// Whether this is a payload of the tag, where `after` are the payload and the rest.
+fn has_shape(tag: u8, payload: &[u8], after: &[u8]) -> bool {
     match shape_of(tag) {
         Some(Shape::Bytes(len)) => payload.len() == len,
         Some(Shape::Text) => is_text(payload),
@@ -180,7 +180,7 @@ fn has_shape(tag: u8, payload: &[u8], behind: &[u8]) -> bool {
             _ => false,
         },
         Some(Shape::Regex) => is_regex(payload),
-        Some(Shape::CodeWithScope) => begins_with_number(behind, payload.len()),
+        Some(Shape::CodeWithScope) => begins_with_number(after, payload.len()),
         None => false,
     }
 }
@@ -205,16 +205,16 @@ fn is_text(payload: &[u8]) -> bool {
 
 /// Whether the payload is two texts in UTF-8, each with its 0.
 fn is_regex(payload: &[u8]) -> bool {
-    let Some((pattern, behind)) = split_at_nul(payload) else {
+    let Some((pattern, after)) = split_at_nul(payload) else {
         return false;
     };
-    let Some((options, behind)) = split_at_nul(behind) else {
+    let Some((options, after)) = split_at_nul(after) else {
         return false;
     };
-    is_utf8(pattern) && is_utf8(options) && behind.is_empty()
+    is_utf8(pattern) && is_utf8(options) && after.is_empty()
 }
 
-/// The bytes up to the first 0, and those behind it.
+/// The bytes up to the first 0, and those after it.
 fn split_at_nul(bytes: &[u8]) -> Option<(&[u8], &[u8])> {
     let mut parts = bytes.splitn(2, |byte| *byte == 0);
     Some((parts.next()?, parts.next()?))
@@ -244,12 +244,12 @@ fn end_of(left: &[u8]) -> End<'_> {
         return End::Malformed(None);
     };
     // a document ends in a 0, so that one follows
-    let Some((key, behind)) = split_at_nul(text) else {
+    let Some((key, after)) = split_at_nul(text) else {
         return End::Malformed(None);
     };
     if !is_utf8(key) {
         End::Utf8(None)
-    } else if *tag == 0x0B && has_text_not_utf8(behind) {
+    } else if *tag == 0x0B && has_text_not_utf8(after) {
         End::Utf8(Some(key))
     } else {
         End::Malformed(Some(key))
@@ -257,12 +257,12 @@ fn end_of(left: &[u8]) -> End<'_> {
 }
 
 /// Whether a pattern that has its 0 isn't UTF-8, or it is and options that have their 0 aren't.
-fn has_text_not_utf8(behind: &[u8]) -> bool {
-    let Some((pattern, behind)) = split_at_nul(behind) else {
+fn has_text_not_utf8(after: &[u8]) -> bool {
+    let Some((pattern, after)) = split_at_nul(after) else {
         return false;
     };
     !is_utf8(pattern)
-        || match split_at_nul(behind) {
+        || match split_at_nul(after) {
             Some((options, _)) => !is_utf8(options),
             None => false,
         }

@@ -46,7 +46,7 @@ const LISTINGS: &[Row] = &[
     (SCOPE_WITH_A_WRONG_HEADER, 0, "0f 63 15\nend\n"),
     (KEY_NOT_UTF8, 1, "fault utf8 none\n"),
     (PATTERN_NOT_UTF8, 1, "fault utf8 61\n"),
-    // a regular expression with no 0, one and two behind its key
+    // a regular expression with no 0, one and two after its key
     ("07 00 00 00 0B 72 00", 1, "fault malformed 72\n"),
     ("08 00 00 00 0B 72 00 00", 1, "fault malformed 72\n"),
     (

@@ -15,7 +15,7 @@ const LISTING: &[u8] = b"02 6869 10\nend\n";
 
 const CANONICAL: &[u8] = b"canonical\n";
 
-/// Gives one byte a read, and fails after so many reads.
+/// Gives one byte a read, and fails after this many reads.
 #[derive(Drop)]
 struct SlowReader<'a> {
     left: &'a [u8],
@@ -39,7 +39,7 @@ impl Read for SlowReader<'_> {
     }
 }
 
-/// Takes one byte a write, and fails after so many calls, of which a flush is one.
+/// Takes one byte a write, and fails after this many calls, of which a flush is one.
 #[derive(Drop)]
 struct SlowWriter {
     taken: Vec<u8>,
@@ -73,7 +73,7 @@ impl Write for SlowWriter {
     }
 }
 
-/// Whether a command that may read and write so often ends with this status, takes so many bytes of the greeting, and writes this.
+/// Whether a command that may read and write so often ends with this status, takes this many bytes of the greeting, and writes this.
 fn is_run(
     alloc: Global,
     command: &str,

@@ -92,7 +92,7 @@ fn portion<'a>(alloc: Global, command: CommandBuilder<'a>) -> CommandBuilder<'a>
 /// A command that reads FILEs.
 fn reading<'a>(alloc: Global, command: CommandBuilder<'a>) -> CommandBuilder<'a> {
     let help =
-        "Goes on behind an unsound length, at the next place where two sound documents begin";
+        "Continues after an unsound length, at the next place where two sound documents begin";
     limits(alloc, portion(alloc, command))
         .arg(switch(alloc, "resync", help))
         .arg(files(alloc, "Dumps; nothing or -: standard input"))
@@ -148,8 +148,8 @@ fn picks<'a>(alloc: Global) -> CommandBuilder<'a> {
 
 /// The command that reads texts.
 fn texts<'a>(alloc: Global) -> CommandBuilder<'a> {
-    let about = "Writes the documents of texts of MongoDB Extended JSON v2, one behind the other";
-    let keep_going = "Goes on behind a fault, and leaves out its document";
+    let about = "Writes the documents of texts of MongoDB Extended JSON v2, one after the other";
+    let keep_going = "Continues after a fault, and leaves out its document";
     findings(alloc, CommandBuilder::new(alloc, "bson", about))
         .arg(output(alloc))
         .arg(switch(alloc, "keep-going", keep_going))
@@ -168,7 +168,7 @@ fn fields<'a>(alloc: Global) -> CommandBuilder<'a> {
     )
 }
 
-/// The command that judges documents.
+/// The command that checks documents.
 fn checks<'a>(alloc: Global) -> CommandBuilder<'a> {
     let about = "Names each document that isn't canonical, and counts";
     reading(
@@ -185,7 +185,7 @@ fn lists<'a>(alloc: Global) -> CommandBuilder<'a> {
 
 /// The command that counts documents.
 fn counts<'a>(alloc: Global) -> CommandBuilder<'a> {
-    let about = "Counts documents and bytes by lengths alone, and judges none";
+    let about = "Counts documents and bytes by their lengths alone, and checks none";
     reading(
         alloc,
         findings(alloc, CommandBuilder::new(alloc, "count", about)),
@@ -235,7 +235,7 @@ fn with_json<'a>(alloc: Global, line: CommandBuilder<'a>) -> CommandBuilder<'a> 
 
 /// The command line as a whole, of this version.
 pub fn command_line<'a>(alloc: Global, version: &'a str) -> Result<clap::Command<'a>, AllocError> {
-    let about = "Checks dumps: BSON documents one behind the other";
+    let about = "Checks dumps: BSON documents one after the other";
     let line = CommandBuilder::of_program(alloc, "bsonraw-dump", version, about);
     with_json(alloc, with_copies(alloc, with_reports(alloc, line))).finish()
 }

@@ -53,7 +53,7 @@ impl<'a> Reading<'a> {
         }
     }
 
-    /// What is told of an input that could be read on, and how.
+    /// What is reported of an input that could be read on, and how.
     pub fn way_on(self) -> &'static str
         ensures { result.now ≡ says.way_on self.entry }
     {

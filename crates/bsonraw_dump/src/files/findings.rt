@@ -1,4 +1,4 @@
-//! Findings that are told while an output is written.
+//! Findings that are reported while an output is written.
 #![tactic(auto)]
 
 ghost use Rattle.std.specs.Prelude.{◌≡◌};

@@ -33,7 +33,7 @@ impl Read for Source<'_> {
 pub struct Unread<'a> {
     /// what stands for their names; no other input is named so
     pub names: &'a [String],
-    /// what is told of each
+    /// what is reported of each
     pub words: &'a str,
 }
 
@@ -52,7 +52,7 @@ impl Unread<'_> {
 #[derive(Drop)]
 pub struct Files<'a> {
     pub rt: &'a HostRuntime,
-    /// how it is told what goes wrong with them
+    /// how errors of reading them are reported
     pub style: Style,
     /// whether it is shown how far the reading has come
     pub shows: bool,

@@ -24,10 +24,10 @@ const LONGEST: usize = 255;
 
 /// A run that fills a file.
 pub trait Fill<'a> {
-    /// How it is told what goes wrong.
+    /// How errors are reported.
     fn style(&self) -> Style;
 
-    /// What is told of an input that could be read on, and how.
+    /// What is reported of an input that could be read on, and how.
     fn way_on(&self) -> &'static str;
 
     /// Runs, and writes all into the file.
@@ -81,7 +81,7 @@ fn written<'a, F: Fill<'a>>(rt: &HostRuntime, run: &F, name: &str) -> io::Result
     Ok(run.fill(rt, &mut data).status)
 }
 
-/// Writes into a file beside it, with the same mode, owner and group, which takes its place where all went well but for damage.
+/// Writes into a file beside it, with the same mode, owner and group, which takes its place if nothing but damage went wrong.
 fn replaced<'a, F: Fill<'a>>(
     rt: &HostRuntime,
     run: &F,
@@ -166,7 +166,7 @@ fn filled<'a, F: Fill<'a>>(
     Ok(done)
 }
 
-/// Gives a file the owner and the group of the one whose place it takes, and tells where it can't.
+/// Gives a file the owner and the group of the one whose place it takes, and reports if it can't.
 fn keep_owner(rt: &HostRuntime, style: Style, name: &str, file: &File, old: &Metadata) {
     let kept = fchown(file, None, Some(old.gid())).and_then(|()| fchown(
         file,

@@ -8,7 +8,7 @@ use std::io;
 use std::io::Write;
 use std::time::{Duration, Instant};
 
-/// A writer that is flushed with each write, or with the first one of each second. A flush that fails is told by the next call: what
+/// A writer that is flushed with each write, or with the first one of each second. A flush that fails is reported by the next call: what
 /// came before it was taken.
 #[derive(Drop)]
 pub struct Prompt<'a, W> {

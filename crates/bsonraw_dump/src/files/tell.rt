@@ -15,7 +15,7 @@ use std::alloc::{AllocError, Global};
 use std::io;
 use std::io::Write;
 
-/// Tells what goes wrong with a file, and after how many bytes, if some were read. Where even that fails, nothing is told.
+/// Reports what goes wrong with a file, and after how many bytes, if some were read. If even that fails, nothing is reported.
 pub fn tell(rt: &HostRuntime, style: Style, name: &str, at: Option<u64>, error: &io::Error) {
     match told(rt, style, name, at, error) {
         Ok(line) => put(rt, &line),

@@ -1,4 +1,4 @@
-//! Shows on standard error how far the reading of an input has come, where that is a terminal, and tells once what an input looks
+//! Shows on standard error how far the reading of an input has come, where that is a terminal, and says once what an input looks
 //! like that isn't a dump.
 #![tactic(auto)]
 
@@ -27,7 +27,7 @@ pub struct About {
     pub name: Option<String>,
     /// how many bytes it has, if that is known
     pub size: Option<u64>,
-    /// how it is told what it looks like
+    /// how it is reported what it looks like
     pub style: Style,
     /// whether it is shown how far the reading has come
     pub shows: bool,
@@ -77,7 +77,7 @@ impl<'a, R> Watched<'a, R> {
         }
     }
 
-    /// Looks at what was read: tells what the first bytes look like, and shows how many came, at the end of the input nothing.
+    /// Looks at what was read: says what the first bytes look like, and shows how many came, at the end of the input nothing.
     fn look(&mut self, read: &[u8])
         ensures { self.new.reader ≡ self.old.reader }
     {
@@ -120,7 +120,7 @@ impl<'a, R> Watched<'a, R> {
         }
     }
 
-    /// How much was read, how fast and, if that can be told, how long it will take.
+    /// How much was read, how fast and, if that can be known, how long it will take.
     fn progress(&self) -> Result<String, AllocError> {
         let alloc = self.rt.alloc();
         let millis = match self.begun.map(|begun| begun.elapsed(self.rt)) {
