@@ -302,13 +302,15 @@ fuzz() {
 compile_as_shown() {
     command -v pkg-config >/dev/null || return 0
     blocks README.md
-    cp "$work/blocks/readme_1.c" "$work/keys.c"
-    sed -n "s|~/.local|$prefix|g; /^cc keys\.c/p" README.md docs/C.md >"$work/lines"
-    [ "$(wc -l <"$work/lines")" = 3 ] || fails "README and docs/C.md don't have three lines that compile keys.c"
+    cp "$work/blocks/readme_1.c" "$work/field.c"
+    sed -n "s|~/.local|$prefix|g; /^cc field\.c/p" README.md docs/C.md >"$work/lines"
+    [ "$(wc -l <"$work/lines")" = 2 ] || fails "README and docs/C.md don't have two lines that compile field.c"
     while read -r line; do
         rm -f "$work/a.out"
         (cd "$work" && PKG_CONFIG_PATH=$prefix/lib/pkgconfig sh -c "$line" </dev/null) || fails "this doesn't compile: $line"
-        [ "$("$work/a.out" <"$work/greeting")" = "02 hi" ] || fails "the greeting's elements aren't printed after: $line"
+        [ "$("$work/a.out" <"$work/greeting")" = "y'all" ] || fails "the greeting's text isn't printed after: $line"
+        [ "$(printf '\011\0\0\0\010a\0\2\0' | "$work/a.out" 2>&1; echo $?)" = 'a fault at /0:"a": a boolean is neither 0 nor 1
+1' ] || fails "damage isn't printed after: $line"
     done <"$work/lines"
 }
 

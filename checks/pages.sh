@@ -30,7 +30,7 @@ pages='README.md examples/README.md CONTRIBUTING.md docs/*.md'
 failed=0
 
 # The files that the commands name.
-python3 -B checks/pages.py blocks c "$work" README.md && cp "$work/readme_1.c" keys.c && mkdir -p dump/shop || exit 1
+python3 -B checks/pages.py blocks c "$work" README.md && cp "$work/readme_1.c" field.c && mkdir -p dump/shop || exit 1
 for name in greeting nested; do xxd -r -p "examples/$name.hex" >"dump/shop/$name.bson" || exit 1; done
 cat dump/shop/*.bson | gzip >orders.bson.gz || exit 1
 

@@ -188,7 +188,7 @@ GIVES = {
     "bsonraw_dump": "the program for dumps: command line, files",
     "bsonraw_c": "the library for C, and so for Python and Rust",
     "bson_uses": "proved callers, to copy from",
-    "reader": "the program of README, to copy",
+    "reader": "the program of RATTLE.md, to copy",
 }
 
 
