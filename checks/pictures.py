@@ -134,10 +134,10 @@ def crates_wrongs(path):
     wanted = make.crates_graph()
     top = ElementTree.parse(path).getroot()
     drawn = {it.text for it in top.iter(f"{SVG}title")} - {"The crates, and what each gives to those above it"}
-    names = set(re.findall(r"^(\w+) \[fillcolor", wanted, re.M))
+    names = set(re.findall(r"^(?:subgraph )?(\w+) (?:\[fillcolor|\{)", wanted, re.M))
     edges = {it.replace(" ", "") for it in re.findall(r"^\w+ -> \w+$", wanted, re.M)}
     said = {it.text for it in top.iter(f"{SVG}text") if it.text} - {make.CRATES_LABEL}
-    texts = {unescape(it) for it in re.findall(r">([^<>\n]+)<", wanted)}
+    texts = {unescape(it) for it in re.findall(r">([^<>\n]+)<", wanted)} | set(make.LAYERS)
     yield from (f"crates.svg: {it} is wrong or missing" for it in sorted((names | edges) ^ drawn))
     yield from (f"crates.svg: {it!r} is wrong or missing" for it in sorted(texts ^ said))
 

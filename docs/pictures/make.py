@@ -124,7 +124,7 @@ def bytes_picture():
 
 # ---- a damaged dump ------------------------------------------------------------------------------------------------------
 
-SEARCHED = "behind a length that can't be right, each place is looked at until documents go on"
+SEARCHED = "after a length that can't be right, each place is looked at until documents go on"
 
 
 def rescue_picture():
@@ -169,7 +169,7 @@ def rescue_picture():
 GIVES = {
     "bson_model": "owned values, the ordered tree",
     "raw_view": "views, elements, values, faults",
-    "key_set": "the keys of a level, told apart",
+    "key_set": "which keys of a level are the same",
     "raw_tree": "trees, encodings, first faults, breaches",
     "raw_form": "canonical forms and tokens; no tree",
     "raw_resync": "where documents go on in a damaged dump",
@@ -190,6 +190,16 @@ GIVES = {
     "bson_uses": "proved callers, to copy from",
     "reader": "the program of RATTLE.md, to copy",
 }
+
+
+# The layers, from the lowest up, and what is in each.
+LAYERS = {
+    "Core": "bson_model raw_view key_set raw_tree raw_form raw_bson raw_shelf",
+    "Extended JSON": "values_to_json bson_json values_from_json bytes_from_json bson_from_json json_round_trip",
+    "Dumps": "raw_resync dump_io dump_commands dump_runs bsonraw_dump",
+    "C, and over it Python and Rust": "bsonraw_c python rust",
+}
+OVER_C = {"python": "the package for Python", "rust": "the crate for Rust"}  # what is over the C library, and no crate of Rattle
 
 
 def crates_of():
@@ -222,13 +232,13 @@ def edges_of(crates):
 
 
 def colour_of(name):
-    return BLUE if name.startswith("bsonraw") else GREY if name in ("bson_uses", "reader") else GREEN
+    return BLUE if name.startswith("bsonraw") or name in OVER_C else GREY if name in ("bson_uses", "reader") else GREEN
 
 
 def label_of(name, kit):
     """What a crate's box says: its name, what it gives, and the libraries of the kit that it uses."""
     rows = [f'<b><font face="DejaVu Sans Mono" point-size="14">{name}</font></b>']
-    rows += [f'<font point-size="12">{escape(row)}</font>' for row in textwrap.wrap(GIVES[name], 23)]
+    rows += [f'<font point-size="12">{escape(row)}</font>' for row in textwrap.wrap({**GIVES, **OVER_C}[name], 23)]
     if kit:
         rows += [f'<font point-size="10">{escape(row)}</font>' for row in textwrap.wrap(f"with the kit's {', '.join(kit)}", 28)]
     return "<br/>".join(rows)
@@ -238,22 +248,22 @@ CRATES_LABEL = "An arrow goes to the crate that uses the one where it begins."
 
 
 def crates_graph():
-    """The crates as dot reads them; an edge goes from a crate to one that uses it."""
+    """The crates as dot reads them, in layers; an edge goes from a crate to one that uses it."""
     crates = crates_of()
+    edges = sorted(edges_of(crates)) + [(name, "bsonraw_c") for name in OVER_C]
     lines = [
         "digraph crates {",
-        f'graph [rankdir=BT, bgcolor=transparent, nodesep=0.2, ranksep=0.4, margin=0.1, pad=0.2, label="{CRATES_LABEL}", labelloc=b, '
-        f'fontname="DejaVu Sans", fontsize=12, fontcolor="{TEXT}"]',
+        f'graph [rankdir=BT, newrank=true, bgcolor=transparent, nodesep=0.2, ranksep=0.4, margin=0.1, pad=0.2, label="{CRATES_LABEL}", '
+        f'labelloc=b, fontname="DejaVu Sans", fontsize=12, fontcolor="{TEXT}"]',
         'node [shape=box, style=filled, color=transparent, fontname="DejaVu Sans", fontcolor=white, margin="0.1,0.08"]',
         f'edge [color="{TEXT}", arrowsize=0.7]',
     ]
-    for name, below in crates.items():
-        kit = [it for it in below if it not in crates]
+    for name in [*crates, *OVER_C]:
+        kit = [it for it in crates.get(name, []) if it not in crates]
         lines.append(f'{name} [fillcolor="{colour_of(name)}", label=<{label_of(name, kit)}>]')
-    edges = sorted(edges_of(crates))
+    for number, (layer, names) in enumerate(LAYERS.items()):
+        lines.append(f'subgraph cluster_{number} {{ label="{layer}"; labelloc=t; labeljust=l; style=dashed; color="{TEXT}"; {"; ".join(names.split())} }}')
     lines += [f"{below} -> {name}" for name, below in edges]
-    tops = [name for name in crates if not any(below == name for _, below in edges)]
-    lines.append(f"{{rank=same; {'; '.join(tops)}}}")
     return "\n".join([*lines, "}", ""])
 
 
@@ -304,6 +314,10 @@ BARS = [
     ("Validation of a typical document", "instructions an element", "Reading", "validation, typical", ["This library", "libbson"]),
     ("Decoding of a typical document, from Python", "microseconds a call", "From Python", "`decode`, typical", ["`bsonraw`", "MongoDB's package"]),
 ]
+SPEED_REMARKS = [
+    "Shorter is faster. Instructions are shown, since they don't depend on what else a machine does; SPEED.md has the times beside them.",
+    "Going over elements and looking up, libbson doesn't check that keys are UTF-8; bson_validate looks for no repeated key.",
+]
 NAMES = {"`bsonraw`": "This library", "instructions": "This library", PEER: "libbson"}
 COLOURS = {"This library": BLUE, "Rust crate": BROWN, "libbson": GREEN, "C by hand": GREY, "MongoDB's package": GREEN}
 
@@ -311,8 +325,10 @@ COLOURS = {"This library": BLUE, "Rust crate": BROWN, "libbson": GREEN, "C by ha
 def speed_picture():
     picture = Picture("Speed beside the Rust crate, libbson, C by hand and MongoDB's package for Python: shorter is faster", 900)
     left, right, y = 190, 800, 30
-    picture.text(24, y, "Shorter is faster. Going over elements and looking up, libbson judges no key as UTF-8; bson_validate looks for no repeated key.", size=12)
-    y += 30
+    for remark in SPEED_REMARKS:
+        picture.text(24, y, remark, size=12)
+        y += 18
+    y += 12
     for title, unit, section, row, columns in BARS:
         values = [1.0 if column == PEER else figures(section, row, [column])[0] for column in columns]
         picture.text(24, y, title, size=14, bold=True)
