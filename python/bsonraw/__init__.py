@@ -13,7 +13,7 @@
 
 Whole documents: `decode` and `encode`; `canonical`, `check` and `first_fault`;
 `to_json`, `from_json` and `loads`. Parts of one: `find` by a path, `get` by a key, `elements` of one
-level, `walk` of all. Dumps, which are documents one behind the other:
+level, `walk` of all. Dumps, which are documents one after the other:
 `documents` cuts them, `decode_all` and `decode_iter` read them, `columns` has them as a table,
 `canonical_all` brings them to their forms, and `partitions` says where to cut
 one for many workers.
@@ -24,7 +24,7 @@ int, so that it stays one when it is written again. The other kinds of BSON
 have small classes here. MongoDB's own are taken by `encode`, and given by
 `decode(data, types="bson")`.
 
-Data is any bytes-like object whose bytes lie one behind the other: bytes,
+Data is any bytes-like object whose bytes lie one after the other: bytes,
 bytearray, memoryview, mmap, an array. A bytes object, or a view of one, is
 not copied. Others may write any other buffer meanwhile, so that a document of
 one is copied first. A call over more than 64 KiB lets go of the interpreter's
@@ -199,7 +199,7 @@ def _whole_of(source: Any) -> bytes:
 
 
 def documents(source: Source, *, max_bytes: int = MAX_BYTES, resync: bool = False) -> Documents:
-    """The documents of a dump, one behind the other, each with its offset.
+    """The documents of a dump, one after the other, each with its offset.
 
     The dump is a file that is open for reading bytes, or a buffer. Each comes
     as a bytes object; of a pipe or a socket as soon as its last byte is there.
@@ -212,9 +212,9 @@ def documents(source: Source, *, max_bytes: int = MAX_BYTES, resync: bool = Fals
     that is open for text, raises TypeError at the call.
 
     With resync=True only documents without damage are given, at most 500
-    levels deep, and none of these errors is raised: behind damage it goes on
+    levels deep, and none of these errors is raised: after damage it goes on
     where documents do, which is where one without damage begins, and another
-    or the end is behind it. What was passed over is what no offset covers.
+    or the end is after it. What was passed over is what no offset covers.
     A file is read whole for that, and a buffer that isn't bytes is copied.
     """
     if resync:
@@ -246,7 +246,7 @@ def decode_all(
     with a fault, with the offset in the dump. With errors="skip" such a
     document is left out, and the next one follows; a call for errors is given
     the BsonError of each, and goes on. Where no document can be cut, it ends.
-    With resync=True, too, it goes on behind damage where `documents` does, also
+    With resync=True, too, it goes on after damage where `documents` does, also
     where no document can be cut, or where the length of a damaged one would
     have others passed over.
     """
@@ -400,13 +400,13 @@ def canonical_all(
 
 
 def partitions(data: Buffer, size: int) -> Tuple[List[int], Optional[BsonError]]:
-    """Where a dump is cut into parts of so many bytes or a little more.
+    """Where a dump is cut into parts of this many bytes or a little more.
 
     Each part is of whole documents. There is the offset of each, and the end
     of the last one; beside these the error where no document can be cut, which
     ends the last part, or None.
 
-    Only the documents' lengths are read. data[a:b] of two offsets one behind
+    Only the documents' lengths are read. data[a:b] of two offsets one after
     the other is a dump for `canonical_all`.
     """
     return _native.partitions(data, size)

@@ -218,7 +218,7 @@ def breach(cause: int, path: Tuple[int, ...], keys: Tuple[str, ...], offset: int
 class Forms(NamedTuple):
     """The canonical forms of a dump's documents.
 
-    data: the forms, one behind the other: a dump.
+    data: the forms, one after the other: a dump.
     ends: where each form ends in it.
     starts: where the document of each form begins, from the dump's first byte
     on.

@@ -80,7 +80,7 @@ class Symbol(str):
 
 
 class _Counter:
-    """What new ids have behind their time: five bytes of a process, and a number that each raises by one.
+    """What new ids have after their time: five bytes of a process, and a number that each raises by one.
 
     It has no lock: a fork while another thread holds one would leave it locked in the child. next() of a count is one step.
     """

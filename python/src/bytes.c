@@ -1,4 +1,4 @@
-/* The bytes that a caller hands in: of any object that has a buffer whose bytes lie one behind the other. */
+/* The bytes that a caller hands in: of any object that has a buffer whose bytes lie one after the other. */
 #include "native.h"
 
 #include <time.h>

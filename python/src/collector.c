@@ -1,5 +1,5 @@
-/* Python's cyclic garbage collector, which looks through new containers once in so many. Those of a dump's documents are no garbage, and
- * to look through them costs more than to make them. So it is off while they are made, but for nobody to see: it is on again wherever
+/* Python's cyclic garbage collector, which looks through new containers each time that many are there. Those of a dump's documents are no garbage, and
+ * to look through them costs more than to make them. So it is off while they are made, but nobody sees that: it is on again wherever
  * other threads, or code of others, may run. */
 #include "native.h"
 

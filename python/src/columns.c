@@ -9,7 +9,7 @@ struct column {
     size_t count;
 };
 
-/* A step of paths, with those behind it. */
+/* A step of paths, with those after it. */
 struct step {
     const uint8_t *key; /* which the path keeps */
     size_t len;
@@ -28,7 +28,7 @@ struct columns {
     struct column *at;
     size_t count, room;
     size_t document; /* how many documents are before the one that is read */
-    size_t next;     /* the number of the column that the next key is most likely in: the one behind the last key's */
+    size_t next;     /* the number of the column that the next key is most likely in: the one after the last key's */
     struct step first; /* in front of all paths */
 };
 
@@ -139,7 +139,7 @@ static void free_steps(struct step *step) {
     PyMem_Free(step->next);
 }
 
-/* The step with this key behind another one, which is added where it isn't there; NULL with an error set. */
+/* The step with this key after another one, which is added where it isn't there; NULL with an error set. */
 static struct step *next_step(struct step *of, PyObject *key) {
     struct step *step;
     size_t len, number;

@@ -9,13 +9,13 @@
 #define MIDDLE 36
 #define MOST_IN_SLOT (8 + MIDDLE + 8)
 #define MOST 255
-#define SELDOM 8 /* into a set that is full, one of so many new keys is put, so that keys that never come again cost little */
-#define MANY_NEW 64     /* behind so many keys in a row that aren't kept */
-#define LOOKED_UP 16    /* one of so many is looked up, until one is kept */
+#define SELDOM 8 /* into a set that is full, one in this many new keys is put, so that keys that never come again cost little */
+#define MANY_NEW 64     /* after this many keys in a row that aren't kept */
+#define LOOKED_UP 16    /* one in this many is looked up, until one is kept */
 
 struct slot {
     PyObject *text;
-    uint64_t front; /* the first eight bytes; of a shorter key its bytes come last, behind 0 */
+    uint64_t front; /* the first eight bytes; of a shorter key its bytes come last, after 0 */
     uint64_t end;   /* the last eight bytes of a key of over eight */
     uint32_t len;   /* 0 where no key is here */
     uint8_t middle[MIDDLE]; /* of a key of 17 to 52 the bytes from the ninth on; of a longer one the address of all, in its text */
@@ -41,7 +41,7 @@ static int is_ascii(const uint8_t *at, size_t len) {
 
 #define COPIED 64
 
-/* Makes a copy of a text of eight to so many bytes, which begins at a multiple of eight. Whether it is ASCII. Python's decoder would go one by
+/* Makes a copy of a text of eight to this many bytes, which begins at a multiple of eight. Whether it is ASCII. Python's decoder would go one by
  * one through those in front of one. */
 INLINE int ascii_copy(uint64_t copy[COPIED / 8], const uint8_t *at, size_t len) {
     uint64_t eight = (uint64_t)le_i64(at + len - 8), all = eight;
@@ -74,7 +74,7 @@ static inline int is_passed_over(struct state *state) { return state->in_a_row >
 
 #define ODD 0x9E3779B97F4A7C15u
 
-/* What is behind a key of one to eight bytes goes out of its front. */
+/* What is after a key of one to eight bytes goes out of its front. */
 static inline uint64_t front_of(uint64_t eight, size_t len) { return eight << (64 - 8 * len); }
 
 static inline struct slot *set_of_short(const struct state *state, uint64_t front) { return state->tables->slots[front * ODD >> 54]; }
@@ -155,7 +155,7 @@ NOT_INLINE PyObject *last_key(struct state *state, const uint8_t *at, size_t len
     return short_key(state, bytes, len);
 }
 
-/* The text of a key, from whose first byte on so many are left, to the end of all bytes. */
+/* The text of a key, from whose first byte on this many are left, to the end of all bytes. */
 INLINE PyObject *key_at(struct state *state, const uint8_t *at, size_t len, size_t left) {
     if (len - 1 >= MOST || is_passed_over(state)) return utf8(state, at, len);
     if (len > 8) return long_key(state, at, len);
@@ -296,7 +296,7 @@ struct level {
     PyObject *object;
     PyObject *code;                  /* the text of the code whose scope it is; or NULL */
     struct bsonraw_token of;         /* the element whose value it is; its depth is NO_ELEMENT where it is of none */
-    const struct bsonraw_token *end; /* the token behind it */
+    const struct bsonraw_token *end; /* the token after it */
     enum { DICT, LIST, PAIRS } kind;
 };
 
@@ -471,7 +471,7 @@ static PyObject *nested_of(const struct maker *maker, const struct bsonraw_token
 #ifndef MANY_BYTES
 #define MANY_BYTES 524288 /* of more, a level is read by a cursor in any case */
 #endif
-#define FEW_BYTES (MANY_BYTES / 128) /* and of so many at most by its tokens, with all that is inside */
+#define FEW_BYTES (MANY_BYTES / 128) /* and of this many at most by its tokens, with all that is inside */
 #define ENTRIES 32
 
 /* A level whose elements are read. */
@@ -604,7 +604,7 @@ INLINE int take_entry(const struct maker *maker, struct levels *levels, struct c
 
 /* ---- elements in a row ---- */
 
-#define ROW 256 /* behind so many a level's keys aren't looked up: they are mostly its own */
+#define ROW 256 /* after this many a level's keys aren't looked up: they are mostly its own */
 
 /* Where the key ends that begins there, if it is ASCII: at its 0; else NULL. At the end is a 0. Of a key of fewer bytes than COPIED, and eight
  * more in front of the end, the copy has all. */
@@ -641,8 +641,8 @@ INLINE size_t payload_len(uint8_t tag, const uint8_t *at, size_t left) {
     }
 }
 
-/* Puts the values of elements of this kind into a level as long as they come with keys of ASCII, at most so many: 0, or -1, with no error
- * set where a string isn't UTF-8. Such an element needs no judge. The cursor goes on behind them. */
+/* Puts the values of elements of this kind into a level as long as they come with keys of ASCII, at most this many: 0, or -1, with no error
+ * set where a string isn't UTF-8. Such an element needs no check. The cursor goes on after them. */
 INLINE int take_row_of(const struct maker *maker, const struct level *level, struct cursor *cursor, uint8_t tag) {
     struct bsonraw_iter *iter = &cursor->iter;
     const int is_new = cursor->in_rows >= ROW;

@@ -1,4 +1,4 @@
-/* Documents one behind the other, cut out of a buffer or out of the blocks of a file. */
+/* Documents one after the other, cut out of a buffer or out of the blocks of a file. */
 #include "dumps.h"
 
 void documents_end(Documents *all) {
@@ -38,7 +38,7 @@ static int documents_clear(PyObject *self) {
 
 /* ---- blocks of a file ---- */
 
-/* Room for so many bytes behind those that aren't given yet, which move to the front. */
+/* Room for this many bytes after those that aren't given yet, which move to the front. */
 static int make_room(Documents *all, size_t more) {
     size_t passed = all->next, kept = all->block.len - passed;
     if (all->room_len - kept < more || all->room == NULL) {
@@ -165,7 +165,7 @@ static PyObject *cut_out(Documents *all, size_t at, size_t len) {
     return both;
 }
 
-/* Cuts the next document without damage; where there is some, it goes on behind it. */
+/* Cuts the next document without damage; where there is some, it goes on after it. */
 static enum cut next_sound(Documents *all, size_t *at, size_t *len) {
     for (;;) {
         struct bsonraw_report report;

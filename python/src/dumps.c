@@ -35,7 +35,7 @@ static int passed_over(const struct options *options) {
     return result == NULL ? -1 : 0;
 }
 
-/* Where no document was cut: 1 to go on behind it, 0 at the end, -1 with an error set. */
+/* Where no document was cut: 1 to go on after it, 0 at the end, -1 with an error set. */
 static int without_document(Documents *all, const struct options *options, enum cut cut, size_t at, size_t len) {
     if (cut == CUT_NONE) return 0;
     if (cut == CUT_FAILED) return -1;

@@ -1,4 +1,4 @@
-/* Dumps: documents one behind the other. */
+/* Dumps: documents one after the other. */
 #ifndef BSONRAW_DUMPS_H
 #define BSONRAW_DUMPS_H
 
@@ -21,7 +21,7 @@ typedef struct {
     uint8_t *copy; /* of a document that others may write */
     size_t copy_len;
     struct breath breath;
-    struct bsonraw_resync resync; /* what it cost so far to find where documents go on behind damage */
+    struct bsonraw_resync resync; /* what it cost so far to find where documents go on after damage */
     int resyncs, is_at_end, is_busy;
 } Documents;
 
@@ -38,19 +38,19 @@ enum cut {
 enum cut cut_next(const uint8_t *at, size_t left, size_t max_bytes, size_t *len);
 uint32_t cut_reason(enum cut cut);
 
-/* Cuts the next document, and goes on behind it. Of a file, no block is read for a document that is too large. */
+/* Cuts the next document, and goes on after it. Of a file, no block is read for a document that is too large. */
 enum cut next_cut(Documents *all, size_t *at, size_t *len);
-/* Goes on behind a document that is too large: 1; 0 where it isn't there whole; -1 with an error set. */
+/* Goes on after a document that is too large: 1; 0 where it isn't there whole; -1 with an error set. */
 int documents_pass(Documents *all, size_t len);
 PyObject *cut_error(const Documents *all, enum cut cut);
-/* Goes on where documents do behind damage at this place of a buffer: 0, or -1 with an error set. */
+/* Goes on where documents do after damage at this place of a buffer: 0, or -1 with an error set. */
 int documents_resync(Documents *all, size_t at, size_t max_depth);
 
 Documents *documents_of(const struct state *state, PyObject *documents); /* NULL with an error set */
 int documents_begin(Documents *all);
 void documents_end(Documents *all);
 
-/* Takes a document, which begins so many bytes from the dump's first one: 0, or -1 with an error set. */
+/* Takes a document, which begins this many bytes from the dump's first one: 0, or -1 with an error set. */
 typedef int document_taker(void *to, const struct bytes *document, const struct options *options, uint64_t before);
 /* Has each of the rest of the documents taken. */
 int take_each(Documents *all, const struct options *options, document_taker *take, void *to);

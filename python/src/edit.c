@@ -325,7 +325,7 @@ static int put_match(struct editing *all, const struct matches *level, const str
     return change->kind == INNER ? put_inside(all, level, match) : put_again(out, change->value_at + 1, change->value_len - 1);
 }
 
-/* What comes behind the elements of a level: the steps that none of them has. */
+/* What comes after the elements of a level: the steps that none of them has. */
 static int put_added(struct editing *all, uint32_t level, uint64_t count, int is_array) {
     uint32_t number;
     for (number = all->changes[level].first; number != NONE; number = all->changes[number].next) {

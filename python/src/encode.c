@@ -27,7 +27,7 @@ static int put_cstring(struct out *out, PyObject *text) {
     return put(out, at, (size_t)len + 1);
 }
 
-/* Options in ascending order, as BSON wants them. */
+/* Options in ascending order, as BSON asks. */
 static int put_options(struct out *out, PyObject *text) {
     PyObject *all = PyUnicode_Check(text) ? PySequence_List(text) : NULL, *none = NULL, *sorted = NULL;
     int status = -1;

@@ -129,7 +129,7 @@ static PyObject *keys_along(const struct bytes *bytes, const uint64_t *path, siz
     return all;
 }
 
-/* The path of what was told, whole: where it had no room, the call is made again. NULL without memory. */
+/* The path of what was found, whole: where it had no room, the call is made again. NULL without memory. */
 static uint64_t *whole_path(const struct bytes *bytes, const struct told *told) {
     size_t room = (size_t)told->report.path_len;
     uint64_t *path = PyMem_Calloc(room + 1, sizeof *path);
@@ -179,7 +179,7 @@ static int path_to(const struct bytes *bytes, size_t offset, PyObject *stop_key,
     }
 }
 
-/* The two paths one behind the other. Takes the second. */
+/* The two paths one after the other. Takes the second. */
 static PyObject *behind(PyObject *first, PyObject *second) {
     PyObject *front = first == NULL || second == NULL ? NULL : PyList_AsTuple(first);
     PyObject *both = front == NULL ? NULL : PySequence_Concat(front, second);
@@ -188,7 +188,7 @@ static PyObject *behind(PyObject *first, PyObject *second) {
     return both;
 }
 
-/* Path and keys of what was told; both NULL with an error set. */
+/* Path and keys of what was found; both NULL with an error set. */
 static void place_of(const struct bytes *bytes, const struct told *told, PyObject **numbers, PyObject **keys) {
     size_t len = (size_t)told->report.path_len;
     uint64_t *path = whole_path(bytes, told);

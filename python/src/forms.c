@@ -20,7 +20,7 @@ struct forms {
     struct bytes bytes;
     size_t max_bytes, max_depth, before;
     struct bsonraw_reader reader;
-    uint8_t *at; /* the forms so far, one behind the other */
+    uint8_t *at; /* the forms so far, one after the other */
     size_t len, room, wanted;
     struct form *each;
     size_t count, each_room;
@@ -58,7 +58,7 @@ static uint64_t hash_of(const uint8_t *at, size_t len) {
     return mixed(hash, last);
 }
 
-/* Notes the form of a document, which is behind those so far. */
+/* Notes the form of a document, which is after those so far. */
 static int note_form(struct forms *all, size_t start, size_t document_len, size_t len) {
     struct form *each = one_more(all->each, all->count, &all->each_room, sizeof *each);
     const uint8_t *at = all->at + all->len;
@@ -263,7 +263,7 @@ static int note_cut(struct cuts *cuts, uint64_t at) {
     return DONE;
 }
 
-/* Notes the first offset of each part of so many bytes or a little more, and the end of the last one. Others may write the
+/* Notes the first offset of each part of this many bytes or a little more, and the end of the last one. Others may write the
  * bytes meanwhile: each length is read once. */
 static int cut_all(struct cuts *cuts, const struct bytes *bytes, size_t size, enum cut *last) {
     size_t start = 0, end = 0, len;

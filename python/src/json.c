@@ -37,7 +37,7 @@ static int write_text(const struct bytes *bytes, struct told *told, const struct
     return told->status == BSONRAW_OK ? 0 : -1;
 }
 
-/* The text, whose levels are of two spaces, with levels of so many. */
+/* The text, whose levels are of two spaces, with levels of this many. */
 static PyObject *with_indent(const uint8_t *text, size_t len, int width) {
     const uint8_t *from = text, *end = text + len;
     PyObject *wider;

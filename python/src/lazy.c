@@ -9,7 +9,7 @@ typedef struct {
     int was_asked, is_indexed; /* which it is at the second look-up */
     struct bsonraw_entry *entries;
     PyObject *numbers; /* by key the number of its first entry */
-    int is_whole;      /* no stop is behind the last entry */
+    int is_whole;      /* no stop is after the last entry */
 } Lazy;
 
 /* ---- its bytes ---- */

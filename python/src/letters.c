@@ -17,7 +17,7 @@ static inline uint32_t le_u16(const uint8_t *at) {
     return number;
 }
 
-/* Puts letters: the place behind them; NULL where something isn't UTF-8. Letters of one script come in runs, each of which has a loop of
+/* Puts letters: the place after them; NULL where something isn't UTF-8. Letters of one script come in runs, each of which has a loop of
  * its own. */
 static wchar_t *by_runs(wchar_t *to, const uint8_t *at, const uint8_t *end) {
     const uint8_t *before = NULL;
@@ -90,7 +90,7 @@ WITH_BLOCKS static inline __m128i is_wrong(const uint8_t *at) {
     return either(either(_mm_xor_si128(is_inner(here), must_be_inner), no_first), no_second);
 }
 
-/* The letters that begin at eight bytes, each of which is given in 16 bits, as are the two behind each. */
+/* The letters that begin at eight bytes, each of which is given in 16 bits, as are the two after each. */
 WITH_BLOCKS static inline __m128i letters_of(__m128i first, __m128i second, __m128i third) {
     const __m128i six = _mm_set1_epi16(0x3f), middle = _mm_slli_epi16(_mm_and_si128(second, six), 6);
     const __m128i of_two = either(_mm_slli_epi16(_mm_and_si128(first, _mm_set1_epi16(0x1f)), 6), _mm_and_si128(second, six));
@@ -107,10 +107,10 @@ WITH_BLOCKS static inline wchar_t *put_letters(const struct letters *how, wchar_
     return to + how->counts[set];
 }
 
-/* Puts the letters of a text: the place behind them. Done is how many bytes they are: all, or those in front of the first block with a
+/* Puts the letters of a text: the place after them. Done is how many bytes they are: all, or those in front of the first block with a
  * letter of four bytes or something that isn't UTF-8, and of the letter that ends in it. */
 WITH_BLOCKS static wchar_t *by_blocks(const struct letters *how, wchar_t *wide, const uint8_t *text, size_t len, size_t *done) {
-    uint8_t copy[BLOCK + ROOM + 3 * BLOCK]; /* zeros are before and behind the text */
+    uint8_t copy[BLOCK + ROOM + 3 * BLOCK]; /* zeros are before and after the text */
     const __m128i zero = _mm_setzero_si128();
     const uint8_t *at = copy + BLOCK, *begin = at, *end = at + len;
     wchar_t *to = wide;
@@ -154,7 +154,7 @@ static unsigned beyond_ascii(const uint8_t *at) {
 }
 
 /* Whether a text takes less time by its letters: a short one, and a longer one which doesn't begin with few that aren't ASCII; nor, by runs,
- * behind what is ASCII, with three letters of three bytes, as Chinese does: of a run of either Python's decoder is the faster one. */
+ * after what is ASCII, with three letters of three bytes, as Chinese does: of a run of either Python's decoder is the faster one. */
 static int is_for_letters(const struct letters *letters, const uint8_t *at, size_t len) {
     const uint8_t *end = at + len;
     if (len <= SHORT || len > ROOM) return len <= SHORT;

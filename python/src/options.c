@@ -130,7 +130,7 @@ static int read_pairs_hook(struct options *options, PyObject *given) {
     return read_call(given, "object_pairs_hook", &options->pairs_hook);
 }
 
-/* What becomes of faults: they are raised, or passed over, or a call is told of each. */
+/* What becomes of faults: they are raised, or passed over, or a call gets each. */
 static int read_errors(struct options *options, PyObject *given) {
     options->errors = NULL;
     if (is_text(given, "strict")) return 0;

@@ -1,4 +1,4 @@
-/* Bytes that are written one behind the other. */
+/* Bytes that are written one after the other. */
 #ifndef BSONRAW_OUT_H
 #define BSONRAW_OUT_H
 

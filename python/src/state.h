@@ -77,7 +77,7 @@ struct text_room {
     size_t len;
 };
 
-/* Of eight letters, those whose bits are set: where the bytes of each are, one behind the other; and how many they are. */
+/* Of eight letters, those whose bits are set: where the bytes of each are, one after the other; and how many they are. */
 #define BLOCK_OF_LETTERS 16
 struct letters {
     uint8_t places[256][BLOCK_OF_LETTERS];

@@ -70,7 +70,7 @@ static PyObject *document_of(const struct bytes *text, size_t max_bytes, size_t 
     return Py_BuildValue("(sK)", what_is_wrong(status, &report), (unsigned long long)report.offset);
 }
 
-/* from_json(text, max_bytes, max_depth): the document that bytes of UTF-8 write; or what is wrong, and behind how many bytes. */
+/* from_json(text, max_bytes, max_depth): the document that bytes of UTF-8 write; or what is wrong, and after how many bytes. */
 PyObject *py_from_json(PyObject *module, PyObject *const *args, Py_ssize_t count) {
     struct bytes text;
     size_t max_bytes, max_depth;

@@ -5,7 +5,7 @@
 
 /* ---- room ---- */
 
-/* Room for so many bytes more, where the next ones go; NULL with an error set. */
+/* Room for this many bytes more, where the next ones go; NULL with an error set. */
 static inline uint8_t *more(struct room *room, size_t len) {
     if (room->at == NULL || room->size - room->len < len) {
         size_t size = 2 * room->size + len + 64;
@@ -19,7 +19,7 @@ static inline uint8_t *more(struct room *room, size_t len) {
     return room->at + room->len - len;
 }
 
-/* Puts zeros behind what is there. */
+/* Puts zeros after what is there. */
 static int put_zeros(struct room *room, size_t len) {
     uint8_t *at = more(room, len);
     if (at != NULL) memset(at, 0, len);
@@ -84,7 +84,7 @@ void typed_drop(struct typed *typed) {
     }
 }
 
-/* Begins a kind, behind places without a value. */
+/* Begins a kind, after places without a value. */
 static int begin(struct typed *typed, enum typed_kind kind) {
     typed->kind = kind;
     if (kind == OF_TEXT) return put_zeros(&typed->ends, 8 * (typed->count + 1));
@@ -120,7 +120,7 @@ static int to_doubles(struct typed *typed) {
     return 1;
 }
 
-/* An int, behind ints or doubles. */
+/* An int, after ints or doubles. */
 static int put_int(struct typed *typed, int64_t number) {
     double value = (double)number;
     if (typed->kind == OF_INT64) return put_eight(&typed->values, &number) < 0 ? -1 : count_one(typed, 1);

@@ -24,7 +24,7 @@ struct typed {
 void typed_free(struct typed *typed);
 int typed_skip(struct typed *typed); /* A place without a value: 0, or -1 with an error set. */
 void typed_drop(struct typed *typed); /* Takes the last place away. */
-/* Puts the value of a token behind the others, or for a null a place without one: 1; 0 where it isn't of their kind; -1 with an
+/* Puts the value of a token after the others, or for a null a place without one: 1; 0 where it isn't of their kind; -1 with an
  * error set. */
 int typed_put(struct typed *typed, const uint8_t *bytes, const struct bsonraw_token *token);
 size_t typed_size(enum typed_kind kind); /* of a value; 0 of a text */

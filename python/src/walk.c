@@ -3,7 +3,7 @@
 
 struct step {
     uint32_t document_at, document_len;
-    size_t end; /* the number of the token behind the level */
+    size_t end; /* the number of the token after the level */
     PyObject *path; /* of the document that the level is in */
     uint32_t number;
     int is_array;

@@ -129,7 +129,7 @@ def with_repeats(data: bytes) -> bytes:
 
 
 def all_made(seed: int, count: int) -> Iterator[bytes]:
-    """So many documents, half of them of those kinds that MongoDB's package keeps, half of them loose, some with repeated
+    """This many documents, half of them of those kinds that MongoDB's package keeps, half of them loose, some with repeated
     keys, and every second one damaged."""
     rng = random.Random(seed)
     makers = [Maker(rng, tags, is_loose) for tags in (KEPT, ALL) for is_loose in (False, True)]

@@ -3,7 +3,7 @@
     speed.py [--seconds N] [--frame] [DOCUMENT..]
 
 Each figure is the least of many short samples of the processor's time, so that other work of the machine counts little. --seconds is
-for a row, 0.5 where it is left out. --frame makes a DataFrame of 1,000,000 documents, too, which wants pandas. A DOCUMENT is a file with one.
+for a row, 0.5 where it is left out. --frame makes a DataFrame of 1,000,000 documents, too, which needs pandas. A DOCUMENT is a file with one.
 """
 
 import argparse
@@ -264,7 +264,7 @@ def frame() -> None:
 
 
 def shared(work: Callable[[bytes], Any], made: List[bytes], count: int) -> Tuple[float, float]:
-    """The seconds, and those of processors, that so many threads take for these documents."""
+    """The seconds, and those of processors, that this many threads take for these documents."""
     todo = list(made)
 
     def run() -> None:

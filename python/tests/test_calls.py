@@ -316,7 +316,7 @@ class Limits(unittest.TestCase):
         self.assertEqual(bsonraw.encode(bsonraw.decode(scoped)), scoped)
 
     def test_large_documents(self) -> None:
-        """Which are read in another way than others: each part has its value, and the first fault is told."""
+        """Which are read in another way than others: each part has its value, and the first fault is returned."""
         made = [data for data in all_made(29, 1200) if len(data) > 4 and int.from_bytes(data[:4], "little") == len(data) and not data[-1]]
         sound = [data for data in made if bsonraw.first_fault(data) is None]
         scoped = bsonraw.encode({"s": [bsonraw.Code("f", {"x": [1, {"y": 2}]})]})
@@ -570,7 +570,7 @@ class Threads(unittest.TestCase):
             call()
             return counted[0] - before
 
-        # The lock changes hands once before a call and once behind it in any case.
+        # The lock changes hands once before a call and once after it in any case.
         thread = threading.Thread(target=count)
         thread.start()
         try:

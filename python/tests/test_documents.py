@@ -172,7 +172,7 @@ def canon(data: bytes) -> str:
 
 
 def of_levels(count: int) -> bytes:
-    """So many documents, each but the innermost holding the next under the empty key."""
+    """This many documents, each but the innermost holding the next under the empty key."""
     data = bytes.fromhex("0500000000")
     for _ in range(count - 1):
         data = (len(data) + 7).to_bytes(4, "little") + b"\x03\0" + data + b"\0"
@@ -235,7 +235,7 @@ class Worked(unittest.TestCase):
         with self.assertRaises(BsonError) as caught:
             bsonraw.get(stopping, "x")
         self.assertEqual((caught.exception.reason, caught.exception.key), (Reason.OVERFLOWED, None))
-        # a code with scope of length 3: what is behind it begins inside its length
+        # a code with scope of length 3: what is after it begins inside its length
         swallowing = bytes.fromhex("0f000000 0f6100 03000008 6200 01 00")
         with self.assertRaises(BsonError) as caught:
             bsonraw.get(swallowing, "a")

@@ -1,4 +1,4 @@
-"""Documents one behind the other: cut out of buffers and files, decoded all at once, with damage among them."""
+"""Documents one after the other: cut out of buffers and files, decoded all at once, with damage among them."""
 
 import gc
 import gzip

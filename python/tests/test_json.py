@@ -344,7 +344,7 @@ def document_of(values: plain.Values, is_canonical: bool) -> Any:
 
 
 def same(found: Any, wanted: Any) -> bool:
-    """Whether a text that was read is what is wanted: a float is any text that reads back as it."""
+    """Whether a text that was read is what is expected: a float is any text that reads back as it."""
     if isinstance(wanted, float):
         is_number = isinstance(found, str) and any(mark in found for mark in ".e")
         return is_number and struct.pack("<d", float(found)) == struct.pack("<d", wanted)

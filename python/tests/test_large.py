@@ -16,7 +16,7 @@ INSIDE = b"\x03k\0"
 
 
 def outcome(data: bytes, **options: Any) -> Tuple[Any, ...]:
-    """The value, or what is told of the fault, its offset from the end on."""
+    """The value, or what is said of the fault, its offset from the end on."""
     try:
         return (repr(bsonraw.decode(data, **options)),)
     except BsonError as error:
@@ -164,7 +164,7 @@ def numbers(rng: random.Random, is_array: bool, damage: bool) -> bytes:
 
 
 def sequences() -> Iterator[bytes]:
-    """UTF-8 and what is nearly that: each first byte with those behind it at their borders, alone and in other texts."""
+    """UTF-8 and what is nearly that: each first byte with those after it at their borders, alone and in other texts."""
     seconds = (b"", b"\x7f", b"\x80", b"\x8f", b"\x90", b"\x9f", b"\xa0", b"\xbf", b"\xc0")
     thirds = (b"", b"\x41", b"\x80", b"\xbf")
     for first, second, third in itertools.product(range(0x7E, 0x100), seconds, thirds):

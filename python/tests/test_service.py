@@ -277,7 +277,7 @@ class Held(unittest.TestCase):
             read(source)
             return counted[0] - before
 
-        # The lock changes hands once before a call and once behind it in any case.
+        # The lock changes hands once before a call and once after it in any case.
         thread = threading.Thread(target=count)
         thread.start()
         try:

@@ -1,4 +1,4 @@
-//! Prints what is in the documents of standard input, one behind the other, and what it makes of them. Written for the module
+//! Prints what is in the documents of standard input, one after the other, and what it makes of them. Written for the module
 //! `raw` of the crate `bson`, of which it needs nothing else: only its line `use` names another crate.
 
 use bsonraw::raw::{self, ErrorKind, RawArrayBuf, RawBsonRef, RawDocument, RawDocumentBuf, ValueAccessErrorKind};

@@ -7,7 +7,7 @@
 //! - A pointer to a struct or to a number is that of a reference, so it is aligned, and points to a `repr(C)` struct whose fields
 //!   are those of the header (`bsonraw-sys/tests/header.rs`), and of the library: see [`LAYOUT`]. Any fields may be handed over.
 //!
-//! What the library returns is used without a second look where [`text`] shows what it judged to be UTF-8, and where [`append`] and [`grown`]
+//! What the library returns is used without a second look where [`text`] shows what it checked to be UTF-8, and where [`append`] and [`grown`]
 //! let a buffer grow over what it wrote. All other offsets are used to slice, which is checked.
 
 #![allow(unsafe_code)]
@@ -201,7 +201,7 @@ impl<'a> Value<'a> {
         &self.document[self.value.text_at as usize..][..self.value.text_len as usize]
     }
 
-    /// The second part: a scope, or the id behind a namespace.
+    /// The second part: a scope, or the id after a namespace.
     #[inline]
     pub(crate) fn more(&self) -> &'a [u8] {
         &self.document[self.value.more_at as usize..][..self.value.more_len as usize]
@@ -232,7 +232,7 @@ fn whole(document: &[u8]) -> bsonraw_iter {
 pub(crate) struct Steps<'a> {
     document: &'a [u8],
     cursor: bsonraw_iter,
-    /// Where it goes on: with the block that is there, or as the library said behind it.
+    /// Where it goes on: with the block that is there, or as the library said after it.
     status: i32,
     taken: usize,
     count: usize,
@@ -335,7 +335,7 @@ pub(crate) fn find_descendant<'a>(
     found(document, &cursor, status)
 }
 
-/// Appends an element by its parts to the document that the bytes are, or the array, for which the library is given room for so many
+/// Appends an element by its parts to the document that the bytes are, or the array, for which the library is given room for this many
 /// more. With any status but `BSONRAW_OK` nothing is changed.
 #[inline]
 pub(crate) fn append(
@@ -369,7 +369,7 @@ pub(crate) fn read(reader: &mut bsonraw_reader, bytes: &[u8]) -> i32 {
     unsafe { bsonraw_reader_read(reader, bytes.as_ptr(), bytes.len()) }
 }
 
-/// Goes on behind damage.
+/// Goes on after damage.
 pub(crate) fn resync(
     reader: &mut bsonraw_reader,
     bytes: &[u8],
@@ -404,7 +404,7 @@ fn reported(mut call: impl FnMut(&mut bsonraw_report, &mut [u64]) -> i32) -> Rep
     Report { status, said, path }
 }
 
-/// An empty buffer with room for so many items, if there is memory for it.
+/// An empty buffer with room for this many items, if there is memory for it.
 fn buffer<T>(room: usize) -> Option<Vec<T>> {
     let mut made = Vec::new();
     made.try_reserve_exact(room).ok()?;
@@ -415,7 +415,7 @@ fn buffer<T>(room: usize) -> Option<Vec<T>> {
 ///
 /// # Safety
 ///
-/// So many items are there.
+/// This many items are there.
 unsafe fn grown<T>(mut made: Vec<T>, count: usize) -> Vec<T> {
     debug_assert!(count <= made.capacity());
     // SAFETY: as the caller says.
@@ -423,7 +423,7 @@ unsafe fn grown<T>(mut made: Vec<T>, count: usize) -> Vec<T> {
     made
 }
 
-/// Makes a call that fills a room, and makes it again where more room is wanted, with some behind it. The items that it put there;
+/// Makes a call that fills a room, and makes it again where more room is needed, with some after it. The items that it put there;
 /// none, where it fails. Without memory for the room the report says so.
 ///
 /// # Safety
@@ -530,7 +530,7 @@ pub(crate) fn flatten(bytes: &[u8], max_bytes: usize, max_depth: usize) -> (Repo
     (report, flats)
 }
 
-/// `bsonraw_json`, and the text without the 0 behind it.
+/// `bsonraw_json`, and the text without the 0 after it.
 pub(crate) fn json(
     bytes: &[u8],
     max_bytes: usize,

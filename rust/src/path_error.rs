@@ -19,7 +19,7 @@ macro_rules! path_error {
         pub enum ErrorKind {
             /// Bytes can't be read or written.
             Io(std::sync::Arc<std::io::Error>),
-            /// Bytes, or what is to be appended, aren't as the format wants them.
+            /// Bytes, or what is to be appended, aren't as the format asks.
             Raw(crate::raw::ErrorKind),
             /// Another reason, in words.
             Custom(String),

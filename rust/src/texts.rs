@@ -47,7 +47,7 @@ pub enum JsonReason {
     ExpectedComma,
     /// No value is where one has to be.
     ExpectedValue,
-    /// The text goes on behind the document.
+    /// The text goes on after the document.
     TextBehind,
     /// No number as JSON writes them.
     BadNumber,

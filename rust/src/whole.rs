@@ -1,4 +1,4 @@
-//! Calls over all levels of a document, within limits; and documents one behind the other.
+//! Calls over all levels of a document, within limits; and documents one after the other.
 //!
 //! ```
 //! use bsonraw::whole::{Cause, ProblemKind};
@@ -189,7 +189,7 @@ pub struct JsonStyle {
     pub indented: bool,
 }
 
-/// An element of any level. That it has a value, and each in it, is judged already.
+/// An element of any level. That it has a value, and each in it, is checked already.
 #[derive(Clone, Copy, Debug)]
 pub struct Token<'a> {
     /// The element.
@@ -289,17 +289,17 @@ impl RawDocument {
     }
 }
 
-/// What a search behind damage found.
+/// What a search after damage found.
 #[derive(Clone, Copy, Debug, Eq, PartialEq)]
 #[non_exhaustive]
 pub struct Resync {
-    /// The length of the damaged document is believed, and what is behind it is next.
+    /// The length of the damaged document is believed, and what is after it is next.
     pub is_believed: bool,
     /// A place wasn't looked at, since that could have cost too much.
     pub left_out: bool,
 }
 
-/// Documents one behind the other, as in a dump, each with the offset where it begins. Damage inside of one isn't looked at. Behind one
+/// Documents one after the other, as in a dump, each with the offset where it begins. Damage inside of one isn't looked at. After one
 /// whose length is sound and whose last byte isn't 0 it goes on; where a length isn't sound, nothing says where the next begins.
 ///
 /// ```
@@ -323,9 +323,9 @@ impl<'a> Documents<'a> {
         Documents { bytes, reader: bsonraw_reader::default(), work: bsonraw_resync::default(), is_behind: false }
     }
 
-    /// Goes on where documents do behind damage: behind the document that came last, or where none was. They go on where one
-    /// without damage, within the limits, begins and another or the end is behind it. The length of the damaged one is believed
-    /// but where they go on inside it, and the first of them reaches its end or nothing goes on behind it. Where no document
+    /// Goes on where documents do after damage: after the document that came last, or where none was. They go on where one
+    /// without damage, within the limits, begins and another or the end is after it. The length of the damaged one is believed
+    /// but where they go on inside it, and the first of them reaches its end or nothing goes on after it. Where no document
     /// came yet, or all did, nothing is changed.
     ///
     /// ```

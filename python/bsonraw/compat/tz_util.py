@@ -7,7 +7,7 @@ utc = timezone.utc
 
 
 def FixedOffset(offset: Union[float, timedelta], name: str) -> timezone:  # noqa: N802: a class in MongoDB's package
-    """The zone of so many minutes from UTC."""
+    """The zone of this many minutes from UTC."""
     return timezone(offset if isinstance(offset, timedelta) else timedelta(minutes=offset), name)
 
 

@@ -94,7 +94,7 @@ fn numbers_are_those_of_the_header() {
     }
 }
 
-/// The size of a type of the header, which is its alignment too but for the struct in others.
+/// The size of a type of the header, which is its alignment too except for the struct in others.
 fn c_size(of: &str) -> usize {
     match of {
         "u8" => 1,
@@ -172,7 +172,7 @@ fn structs_are_those_of_the_header() {
 fn functions_are_those_of_the_header() {
     let mut said = Vec::new();
     for part in parts(&header()) {
-        // behind the arguments may be which of them are memory with a length
+        // after the arguments may be which of them are memory with a length
         let whole = part.strip_suffix(");").and_then(|part| part.split(") BSONRAW_").next());
         let Some((head, arguments)) = whole.and_then(|whole| whole.split_once('(')) else {
             continue;

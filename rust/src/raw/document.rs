@@ -21,7 +21,7 @@ use crate::{DateTime, Timestamp};
 /// # Ok::<(), Box<dyn std::error::Error>>(())
 /// ```
 ///
-/// Damage is told of where it is met, and not before:
+/// Damage is an error of the call that meets it, and not before:
 ///
 /// ```
 /// use bsonraw::raw::RawDocument;

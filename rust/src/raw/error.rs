@@ -24,7 +24,7 @@ pub type Result<T> = std::result::Result<T, Error>;
 #[derive(Clone, Debug, PartialEq)]
 #[non_exhaustive]
 pub enum ErrorKind {
-    /// Bytes, or what is to be appended, aren't as the format wants them.
+    /// Bytes, or what is to be appended, aren't as the format asks.
     #[non_exhaustive]
     MalformedValue {
         /// Why.

@@ -35,7 +35,7 @@ impl<'a> Iterator for RawIter<'a> {
 }
 
 impl RawIter<'_> {
-    /// Behind the last element: the error, if there is one.
+    /// After the last element: the error, if there is one.
     #[inline]
     fn end(&mut self) -> Option<Error> {
         let stop = self.steps.stop()?;
@@ -229,7 +229,7 @@ impl<'a> RawElement<'a> {
         })
     }
 
-    /// The value of a payload that isn't always one, as the library judges it.
+    /// The value of a payload that isn't always one, as the library checks it.
     #[inline(never)]
     fn judged(&self) -> Result<RawBsonRef<'a>> {
         let value = self.frame.value().map_err(|error| Error::of_value(&self.frame, &error))?;

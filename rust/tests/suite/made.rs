@@ -1,7 +1,7 @@
 //! 20,000 documents made at random, every second one damaged, beside a slow and plain reader of the format: the same elements,
 //! values, kinds and keys of errors, look-ups, first faults with their places, and what is made of them.
 //!
-//! Where `BSONRAW_MADE` names a file, the documents that begin with their length and end with a 0 are written there, one behind the other,
+//! Where `BSONRAW_MADE` names a file, the documents that begin with their length and end with a 0 are written there, one after the other,
 //! for programs that read them otherwise.
 
 use bsonraw::raw::{Error, ErrorKind, RawArray, RawArrayBuf, RawBsonRef, RawDocument, RawDocumentBuf};
@@ -103,7 +103,7 @@ fn look_up(document: &RawDocument, frames: &[Frame<'_>], stop: Option<&Fault>) {
 
 fn look_up_numbers(array: &RawArray, frames: &[Frame<'_>], stop: Option<&Fault>) {
     for number in 0..frames.len() + 2 {
-        // the fault is in the place of the element behind the last
+        // the fault is in the place of the element after the last
         let stop = stop.filter(|_| number == frames.len());
         assert!(is_found(frames.get(number), stop, array.get(number)));
         assert!(is_got(&array.get_i64(number), &array.get(number), |it| it.as_i64()));

@@ -118,7 +118,7 @@ impl Random {
     }
 }
 
-/// So many documents, every second one damaged, and some with each element twice.
+/// This many documents, every second one damaged, and some with each element twice.
 pub fn all(seed: u64, count: usize) -> impl Iterator<Item = Vec<u8>> {
     let mut random = Random::new(seed);
     (0..count).map(move |number| {

@@ -28,7 +28,7 @@ pub struct Frame<'a> {
     pub offset: usize,
 }
 
-/// The number in the first four bytes, if there are so many.
+/// The number in the first four bytes, if there are this many.
 fn number(data: &[u8]) -> Option<i64> {
     Some(i64::from(i32::from_le_bytes(data.get(..4)?.try_into().unwrap())))
 }

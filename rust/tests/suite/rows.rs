@@ -552,7 +552,7 @@ fn forms_and_breaches_are_those_of_worked_documents() {
     assert_eq!((place.path, place.offset, place.key), (vec![0, 1], 13, None));
 }
 
-/// So many levels, each but the innermost holding the next under the empty key.
+/// This many levels, each but the innermost holding the next under the empty key.
 pub fn levels(count: usize) -> RawDocumentBuf {
     (1..count).fold(RawDocumentBuf::new(), |inner, _| rawdoc! { "": inner })
 }
