@@ -60,7 +60,7 @@ def change(data: bytes, path: str, value: Any) -> Any:
 
 def print_json(path: str, out: io.StringIO) -> None:
     """Each document of a dump in a line of Extended JSON."""
-    from bson.json_util import RELAXED_JSON_OPTIONS, dumps  # which wants all of PyMongo
+    from bson.json_util import RELAXED_JSON_OPTIONS, dumps  # which needs all of PyMongo
 
     with open(path, "rb") as dump:
         for document in bson.decode_file_iter(dump):

@@ -2,10 +2,10 @@
 """Brings dumps of BSON documents to their canonical form and leaves out repeated documents, on the workers of Dask.
 
     dask_canonical.py DUMP.. -o FOLDER                  on this machine, a worker for each processor
-    dask_canonical.py DUMP.. -o FOLDER --workers 0      in this process alone, without Dask; --threads N for so many threads
+    dask_canonical.py DUMP.. -o FOLDER --workers 0      in this process alone, without Dask; --threads N for N threads
     dask_canonical.py DUMP.. -o FOLDER --scheduler tcp://10.0.0.1:8786
 
-A DUMP is a file of documents, one behind the other, or a folder, below which all *.bson are taken. FOLDER gets a dump of
+A DUMP is a file of documents, one after the other, or a folder, below which all *.bson are taken. FOLDER gets a dump of
 the same name for each, and report.json: how many documents there are, how many were canonical before, how many repeat an
 earlier one of any dump, and each fault with its file and offset. The result is the same, byte for byte, however many
 workers there are and whichever of them die.
@@ -96,7 +96,7 @@ class Part(NamedTuple):
 
     @property
     def behind(self) -> int:
-        """Where its own forms are said to begin: behind the dump, and not right behind it, so that no run is of both files."""
+        """Where its own forms are said to begin: after the dump, and not right after it, so that no run is of both files."""
         return self.dump.size + 1
 
 
@@ -134,7 +134,7 @@ def said(error: bsonraw.BsonError) -> str:
 
 
 def cut(path: str, size: int) -> Tuple[List[int], Optional[Fault]]:
-    """Where the blocks of a dump begin and the last one ends, each of so many bytes or a little more, and why that is before the
+    """Where the blocks of a dump begin and the last one ends, each of this many bytes or a little more, and why that is before the
     end of its file."""
     ends, error = bsonraw.partitions(mapped(path), size)
     return ends, None if error is None else (ends[-1], f"{said(error)}; the rest isn't read")
@@ -222,7 +222,7 @@ def bucket_of(part: Part, count: Count, bucket: int) -> Tuple[memoryview, memory
 
 
 def reader_of(part: Part) -> Callable[[int, int], memoryview]:
-    """Gives the bytes of forms side by side: of the dump, or, behind the dump's end, of the partition's own file."""
+    """Gives the bytes of forms side by side: of the dump, or, after the dump's end, of the partition's own file."""
     dump, own, behind = memoryview(mapped(part.dump.path)), memoryview(mapped(f"{part.files}.forms")), part.behind
     if len(dump) < part.dump.size:
         raise OSError(errno.EIO, "it became shorter meanwhile", part.dump.path)
@@ -267,7 +267,7 @@ def kept(offsets: Iterable[int], sizes: Iterable[int], repeated: Container[int])
 
 
 def keep(part: Part, count: Count, repeated: Iterable[int], result: str, offset: int) -> None:
-    """Writes the forms of a partition but for repeated ones to their place in the result."""
+    """Writes the forms of a partition except for repeated ones to their place in the result."""
     read = reader_of(part)
     with open(result, "r+b", buffering=AT_ONCE) as out:
         out.seek(offset)
@@ -405,7 +405,7 @@ class Written:
 
 
 def in_order(pool: ThreadPoolExecutor, blocks: Sequence[Tuple[str, int, int]], ahead: int) -> Iterator[Formed]:
-    """The forms of blocks in their order, of which so many are made ahead."""
+    """The forms of blocks in their order, of which this many are made ahead."""
     tasks: Deque["Future[Formed]"] = deque()
     for block in blocks:
         tasks.append(pool.submit(formed, *block))
@@ -444,7 +444,7 @@ def engine() -> Any:
 
 
 def grouped(ends: Sequence[int], size: int) -> Iterator[Tuple[int, ...]]:
-    """The blocks of each partition of so many bytes or a little more."""
+    """The blocks of each partition of this many bytes or a little more."""
     first = 0
     for last in range(1, len(ends)):
         if ends[last] - ends[first] >= size or last == len(ends) - 1:
@@ -503,7 +503,7 @@ def run_on(client: Any, dumps: Sequence[Dump], folder: Path, partition: int = PA
 
 
 def run_here(workers: int, dumps: Sequence[Dump], folder: Path, partition: int) -> Report:
-    """On so many worker processes of this machine."""
+    """On this many worker processes of this machine."""
     dask = engine()
     dask.config["distributed"]["worker"]["profile"]["enabled"] = False  # it looks at a worker's threads 100 times a second
     with dask.LocalCluster(

@@ -1,4 +1,4 @@
-/* Writes a document with as many orders as it is told. */
+/* Writes a document with as many orders as its argument says. */
 #include <bsonraw.h>
 #include <stdio.h>
 #include <stdlib.h>
