@@ -1,4 +1,4 @@
-/* Judges each document of a dump in memory by bsonraw_check: what `bsonraw-dump check` does, but for reading, counting and telling.
+/* Checks each document of a dump in memory by bsonraw_check: what `bsonraw-dump check` does, except for reading, counting and telling.
  *
  * usage: checked DUMP      prints the processor's seconds */
 #include <bsonraw.h>

@@ -11,7 +11,7 @@ static double now(void) {
     return (double)t.tv_sec * 1e9 + (double)t.tv_nsec;
 }
 
-/* of a call of run, in nanoseconds, by so many of them */
+/* of a call of run, in nanoseconds, by this many of them */
 static inline double time_of(void (*run)(void), double calls) {
     double begun = now(), left;
     for (left = calls; left > 0; left--) run();

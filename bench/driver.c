@@ -33,7 +33,7 @@ typedef struct {
 static document docs[16];
 static int n_docs;
 static uint8_t *keys, *buf;
-static size_t buf_len; /* what the operations are told: 0 while the clock runs */
+static size_t buf_len; /* what the operations are given: 0 while the clock runs */
 static size_t room;
 static int failures;
 

@@ -20,7 +20,7 @@ import bson
 from documents import boolean, document, int32, oid, rbytes, string, tweet
 
 SIZE = 100_000_000
-KINDS = 500  # so many documents of about 1,900 bytes, each again and again under another ObjectId
+KINDS = 500  # this many documents of about 1,900 bytes, each again and again under another ObjectId
 PATHS, FILTER = "created_at,user.screen_name", "{created_at, name: .user.screen_name}"  # two fields of these
 
 

@@ -18,7 +18,7 @@
 #define OP __attribute__((noinline, used)) static void
 #define SAMPLE 2e6 /* nanoseconds of the processor that a sample takes at least */
 #define SAMPLES 7
-#define MOST_TIME 2e9 /* after so many no further sample is taken */
+#define MOST_TIME 2e9 /* after this many no further sample is taken */
 
 struct bytes {
     uint8_t *at;

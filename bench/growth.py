@@ -25,7 +25,7 @@ HERE = Path(__file__).resolve().parent
 MIB = 1 << 20
 
 
-# ---- documents: each series makes one of so many bytes, keys or levels ----
+# ---- documents: each series makes one of this many bytes, keys or levels ----
 
 def record(rng, number):
     """One of 200 bytes, of many kinds, over three levels."""

@@ -1,9 +1,9 @@
 /* Writes the documents that cost the most of those known, to standard output.
  *
- * usage: worst random SIZE LEAST     up to SIZE bytes, of nulls under the shortest keys of at least so many bytes, in an order by chance
- *        worst sorted SIZE LEAST     the same, behind ten pairs of keys, of which each shares a mark: the keys are then put in order
+ * usage: worst random SIZE LEAST     up to SIZE bytes, of nulls under the shortest keys of at least this many bytes, in an order by chance
+ *        worst sorted SIZE LEAST     the same, after ten pairs of keys, of which each shares a mark: the keys are then put in order
  *        worst late SIZE LEAST       the same, before 180 keys that begin in eight places of the last table: all are put in order then
- *        worst levels COUNT          16 MiB of levels of so many keys in one another, the keys descending
+ *        worst levels COUNT          16 MiB of levels of this many keys in one another, the keys descending
  *        worst twins                 as much of levels of one key, which comes twice
  *
  * crates/key_set/src has the marks, and how many keys there is room for. */
@@ -68,7 +68,7 @@ static int by_share(const void *one, const void *other) {
     return a < b ? -1 : a > b;
 }
 
-/* How many pairs were put; their numbers are behind those that `random` uses. */
+/* How many pairs were put; their numbers are after those that `random` uses. */
 static void put_pairs(void) {
     struct hashed *tried = malloc(TRIED * sizeof *tried);
     uint32_t i, found = 0;
@@ -90,7 +90,7 @@ static void put_pairs(void) {
     if (found < PAIRS) exit(1);
 }
 
-/* Nulls under the shortest keys of at least so many bytes, in an order by chance, and how many. The last one has four bytes, as the first
+/* Nulls under the shortest keys of at least this many bytes, in an order by chance, and how many. The last one has four bytes, as the first
  * of a pair. */
 static size_t put_random(size_t least) {
     uint32_t *numbers = malloc(SIZE), first = least < 4 ? 0 : FOURS, count = 0, i;
@@ -107,7 +107,7 @@ static size_t put_random(size_t least) {
     return count;
 }
 
-/* Keys of four bytes whose marks begin in eight places of the table in which there is room for so many keys. */
+/* Keys of four bytes whose marks begin in eight places of the table in which there is room for this many keys. */
 static void put_crowd(size_t count) {
     uint64_t number = FOURS + 10000000, places = 1;
     uint8_t key[8];

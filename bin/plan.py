@@ -35,7 +35,7 @@ MEASURED_AT = 4
 MEMORY = 3_500_000_000
 """The most bytes that a check of one crate was seen to take."""
 BY_JOBS = {1: 1.0, 2: 0.65, 3: 0.52, 4: 0.45}
-"""How long a check takes with so many jobs, as a share of its time with one."""
+"""How long a check takes with this many jobs, as a share of its time with one."""
 AGAIN = ":again"
 FLAGS = {"library": "", "program": "--backend llvm", "staticlib": "--backend llvm --crate-type staticlib"}
 
@@ -104,7 +104,7 @@ def below(goals: List[str]) -> List[str]:
 
 
 def read(kit: str, name: str) -> str:
-    """A file of the kit; a kit that has none of this name is told by the others."""
+    """A file of the kit; a kit that has none of this name is known by the others."""
     file = Path(kit, name)
     return file.read_text() if file.exists() else ""
 
@@ -141,7 +141,7 @@ def is_built(kit: str, name: str) -> bool:
 
 
 def compiling(goal: str) -> float:
-    """What it costs to compile a program or the C library, in lines that are proved: little, but for the kit's clap, of which much is inlined."""
+    """What it costs to compile a program or the C library, in lines that are proved: little, except for the kit's clap, of which much is inlined."""
     crate = crate_of(goal)
     if crate.kind == "library":
         return 0

@@ -148,7 +148,7 @@ $well"
 skipped rust: cargo of 1.81 or later'
     makes with_skips
     tar -xOf "$work"/with_skips/*-linux.tar.gz --wildcards '*/PROVED' >"$work/said"
-    grep -qx 'skipped rust: cargo of 1.81 or later' "$work/said" && grep -q 'all is tested but for what is named as skipped' "$work/said" ||
+    grep -qx 'skipped rust: cargo of 1.81 or later' "$work/said" && grep -q 'all is tested except what is named as skipped' "$work/said" ||
         fails "PROVED doesn't say what was skipped"
     record "$work/copy" passed "$well"
     refuses "nothing says that bin/install proved it" --untested

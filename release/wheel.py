@@ -47,7 +47,7 @@ def wrongs(name: str, said: str) -> "list[str]":
     needed = re.findall(r"\(NEEDED\).*\[(.*)\]", said)
     private = re.findall(r" UND (_Py\w+)", said)
     return [f"{name} needs {library}" for library in needed if library not in LIBRARIES] + [
-        f"{name} wants {symbol}, which is no part of Python's stable interface" for symbol in private if symbol not in STABLE
+        f"{name} needs {symbol}, which is no part of Python's stable interface" for symbol in private if symbol not in STABLE
     ]
 
 
@@ -64,7 +64,7 @@ def digest(content: bytes) -> str:
 
 
 def renamed(files: "dict[str, Content]", version: str, marked: str, names: "list[str]") -> "dict[str, Content]":
-    """The files of the wheel of this version, on the platforms of these names, but for RECORD."""
+    """The files of the wheel of this version, on the platforms of these names, except for RECORD."""
     result = {}
     info = f"bsonraw-{marked}.dist-info/"
     for name, (content, mode) in files.items():
@@ -84,7 +84,7 @@ def tags(python: str, names: "list[str]") -> bytes:
 
 
 def of_programs(programs: "dict[str, bytes]", marked: str, names: "list[str]") -> "dict[str, Content]":
-    """The files of the wheel of the programs, but for RECORD."""
+    """The files of the wheel of the programs, except for RECORD."""
     info = f"bsonraw_programs-{marked}.dist-info/"
     metadata = f"Metadata-Version: 2.1\nName: bsonraw-programs\nVersion: {marked}\nSummary: The programs bsonraw and bsonraw-dump\nLicense: MIT\n"
     head = b"Wheel-Version: 1.0\nGenerator: release/wheel.py\nRoot-Is-Purelib: false\n"
