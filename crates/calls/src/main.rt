@@ -6,7 +6,7 @@
 //! `ok`; later lines use it. A call of `RawDocument` or `RawArray` takes a document's name, and its view or the array of its bytes.
 //!
 //! - A text is in quotes, where `\0`, `\"`, `\\` and `\xHH` stand for a character, also for a blank; `a*70` is 70 times the letter.
-//! - Bytes are hexadecimal digits, `-` for none; `00*16` is 16 times the byte. `nest 500 documents` makes so many levels.
+//! - Bytes are hexadecimal digits, `-` for none; `00*16` is 16 times the byte. `nest 500 documents` makes this many levels.
 //! - A value is the name of its variant and what it holds: `Int32 -1`, `Binary Generic 01`, `Timestamp TIME INCREMENT`; a document or an
 //!   array in it is a name, or bytes. In a tree it is pairs between braces, `{ "a" Int32 1 }`, or values between brackets.
 //!

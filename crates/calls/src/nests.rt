@@ -4,7 +4,7 @@ use crate::failure::Failure;
 use crate::words::Words;
 use std::alloc::Global;
 
-/// The bytes that each level but the innermost puts before the next one, behind its own header.
+/// The bytes that each level but the innermost puts before the next one, after its own header.
 fn front(kind: &str, inner: u32, bytes: &mut Vec<u8>) -> Result<(), Failure> {
     match kind {
         "documents" => Ok(bytes.extend_from_slice(&[3, 0])?),
@@ -28,7 +28,7 @@ fn growth(kind: &str) -> Result<u32, Failure> {
     }
 }
 
-/// So many levels, each but the innermost holding the next alone: documents under the empty key, arrays under the key 0, or the scopes
+/// This many levels, each but the innermost holding the next alone: documents under the empty key, arrays under the key 0, or the scopes
 /// of codes without text under the empty key.
 pub fn nest(alloc: Global, words: &mut Words<'_, '_>) -> Result<Vec<u8>, Failure> {
     let levels = words.unsigned()?;

@@ -4,11 +4,11 @@ use std::alloc::AllocError;
 
 /// What has a written form.
 pub trait Shown {
-    /// Writes it behind the text.
+    /// Writes it after the text.
     fn show(&self, out: &mut String) -> Result<(), AllocError>;
 }
 
-/// So many bytes are written in full.
+/// This many bytes are written in full.
 const WHOLE: usize = 100;
 
 impl Shown for () {

@@ -5,7 +5,7 @@ use crate::shown_values::show_named;
 use raw_bson::{Bson, Document, JavaScriptCodeWithScope};
 use std::alloc::AllocError;
 
-/// So many levels of a tree are written.
+/// This many levels of a tree are written.
 const LEVELS: usize = 10;
 
 #[cycle(shown_trees)]

@@ -6,7 +6,7 @@ use crate::words::Words;
 use raw_bson::{Bson, DateTime, Decimal128, Document, JavaScriptCodeWithScope, ObjectId};
 use std::alloc::Global;
 
-/// So many levels of a tree are read.
+/// This many levels of a tree are read.
 pub const LEVELS: usize = 10;
 
 /// The document that the next words write: its pairs between braces.

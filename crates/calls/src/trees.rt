@@ -26,7 +26,7 @@ pub fn is_made(call: &str) -> bool {
     )
 }
 
-/// So many bytes, and so many levels.
+/// This many bytes, and this many levels.
 fn limits(words: &mut Words<'_, '_>) -> Result<Limits, Failure> {
     let bytes = words.number()?;
     let depth = words.number()?;

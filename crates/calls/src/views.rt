@@ -31,7 +31,7 @@ pub fn of_document(
     }
 }
 
-/// Writes the document at the front of bytes, and how many bytes are behind it.
+/// Writes the document at the front of bytes, and how many bytes are after it.
 fn split_first(bytes: &[u8], out: &mut String) -> Result<(), Failure> {
     match RawDocument::split_first(bytes) {
         Ok((document, behind)) => {

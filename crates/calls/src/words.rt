@@ -95,7 +95,7 @@ impl<'a, 'w> Words<'a, 'w> {
     }
 }
 
-/// Behind the bytes, those of a word: hexadecimal digits; or the digits of a byte, `*`, and how many of it; or `-` for none.
+/// After the bytes, those of a word: hexadecimal digits; or the digits of a byte, `*`, and how many of it; or `-` for none.
 fn push_bytes(bytes: &mut Vec<u8>, word: &str) -> Result<(), Failure> {
     if word == "-" {
         return Ok(());
@@ -154,7 +154,7 @@ enum Escape {
     Digit(u32),
 }
 
-/// What a character behind a backslash begins or stands for.
+/// What a character after a backslash begins or stands for.
 fn escaped(character: char) -> Result<(Escape, Option<char>), Failure> {
     match character {
         '0' => Ok((Escape::None, Some('\0'))),
@@ -164,7 +164,7 @@ fn escaped(character: char) -> Result<(Escape, Option<char>), Failure> {
     }
 }
 
-/// The next step of a text with escapes: what is known of an escape behind a character, and which character the text gets.
+/// The next step of a text with escapes: what is known of an escape after a character, and which character the text gets.
 fn step(escape: Escape, character: char) -> Result<(Escape, Option<char>), Failure> {
     match (escape, character) {
         (Escape::None, '\\') => Ok((Escape::Begun, None)),
