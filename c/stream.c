@@ -160,7 +160,7 @@ static void pass(struct bsonraw_stream *stream, size_t count) {
     stream->offset += count;
 }
 
-/* Searches until where documents go on doesn't depend on what wasn't read yet: two documents after it were. Where it may, what was
+/* Searches until where documents go on doesn't depend on what wasn't read yet: two documents behind it were. Where it may, what was
  * searched is passed by, up to a place that says no length. */
 static int32_t search_on(struct bsonraw_stream *stream, size_t most, size_t max_depth) {
     size_t step = most < STEP ? STEP : most, wanted = 2 * most + step, next, left, at;

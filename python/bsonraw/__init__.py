@@ -212,9 +212,9 @@ def documents(source: Source, *, max_bytes: int = MAX_BYTES, resync: bool = Fals
     that is open for text, raises TypeError at the call.
 
     With resync=True only documents without damage are given, at most 500
-    levels deep, and none of these errors is raised: after damage it goes on
+    levels deep, and none of these errors is raised: behind damage it goes on
     where documents do, which is where one without damage begins, and another
-    or the end is after it. What was passed over is what no offset covers.
+    or the end is behind it. What was passed over is what no offset covers.
     A file is read whole for that, and a buffer that isn't bytes is copied.
     """
     if resync:

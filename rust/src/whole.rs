@@ -323,9 +323,9 @@ impl<'a> Documents<'a> {
         Documents { bytes, reader: bsonraw_reader::default(), work: bsonraw_resync::default(), is_behind: false }
     }
 
-    /// Goes on where documents do after damage: after the document that came last, or where none was. They go on where one
-    /// without damage, within the limits, begins and another or the end is after it. The length of the damaged one is believed
-    /// but where they go on inside it, and the first of them reaches its end or nothing goes on after it. Where no document
+    /// Goes on where documents do behind damage: behind the document that came last, or where none was. They go on where one
+    /// without damage, within the limits, begins and another or the end is behind it. The length of the damaged one is believed
+    /// but where they go on inside it, and the first of them reaches its end or nothing goes on behind it. Where no document
     /// came yet, or all did, nothing is changed.
     ///
     /// ```
