@@ -309,7 +309,7 @@ compile_as_shown() {
         rm -f "$work/a.out"
         (cd "$work" && PKG_CONFIG_PATH=$prefix/lib/pkgconfig sh -c "$line" </dev/null) || fails "this doesn't compile: $line"
         [ "$("$work/a.out" <"$work/greeting")" = "y'all" ] || fails "the greeting's text isn't printed after: $line"
-        [ "$(printf '\011\0\0\0\010a\0\2\0' | "$work/a.out" 2>&1; echo $?)" = 'a fault at /0:"a": a boolean is neither 0 nor 1
+        [ "$(printf '\011\0\0\0\010a\0\2\0' | "$work/a.out" 2>&1; echo $?)" = 'a fault: a boolean is neither 0 nor 1, path /0:"a"
 1' ] || fails "damage isn't printed after: $line"
     done <"$work/lines"
 }
