@@ -262,7 +262,7 @@ def crates_graph():
         kit = [it for it in crates.get(name, []) if it not in crates]
         lines.append(f'{name} [fillcolor="{colour_of(name)}", label=<{label_of(name, kit)}>]')
     for number, (layer, names) in enumerate(LAYERS.items()):
-        lines.append(f'subgraph cluster_{number} {{ label="{layer}"; labelloc=t; labeljust=l; style=dashed; color="{TEXT}"; {"; ".join(names.split())} }}')
+        lines.append(f'subgraph cluster_{number} {{ label="{layer}"; labelloc=b; labeljust=r; margin=12; style=dashed; color="{TEXT}"; {"; ".join(names.split())} }}')
     lines += [f"{below} -> {name}" for name, below in edges]
     return "\n".join([*lines, "}", ""])
 
