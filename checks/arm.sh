@@ -5,7 +5,7 @@
 #   checks/arm.sh
 #
 #   - the programs of c/tests with both libraries: every buffer at its edges, each request for memory refused, the builder, threads, texts,
-#     reasons, numbers, JSON, where documents go on behind damage, and what is written in C for daily use; what a reader written from the
+#     reasons, numbers, JSON, where documents go on after damage, and what is written in C for daily use; what a reader written from the
 #     format alone says of 20,000 made and damaged documents; and with a mistake in the library, or in its heap, that is noticed;
 #   - c/tests/print.c prints of each document of the tests what bsonraw prints on x86-64, and examples/c/json_text.c the JSON of
 #     bsonraw-dump; the other programs of examples/c compile;
@@ -71,7 +71,7 @@ try_c() {
     done
 }
 
-# With a library that reads a byte behind a document, a test fails.
+# With a library that reads a byte after a document, a test fails.
 notices_a_mistake() {
     cp "$prefix/lib/libbsonraw.a" "$prefix/lib/wrong.a" || exit 1
     for name in $(sed -n '/---- daily use/q; /BSONRAW_\(INLINE\|LOCAL\)/!s/^[A-Za-z].* \(bsonraw_[a-z0-9_]*\)(.*/\1/p' c/bsonraw.h); do
@@ -121,7 +121,7 @@ look_at_output() {
     echo "$texts documents are printed as JSON as by the program on x86-64"
 }
 
-# Runs the tests of the Python package but for one, whose signal comes too late by an emulator.
+# Runs the tests of the Python package except for one, whose signal comes too late by an emulator.
 all_but_signals='
 import sys, unittest
 def tests(suite):

@@ -43,7 +43,7 @@ build() {
     link libbsonraw.a "$work/print" "$work/print.o"
 }
 
-# levels N: a document of so many levels, each but the innermost holding the next under the empty key
+# levels N: a document of this many levels, each but the innermost holding the next under the empty key
 levels() {
     awk -v n="$1" 'BEGIN {
         printf "levels:%d ", n

@@ -12,7 +12,7 @@ static u64 hash(u64 key) {
     return (u64)product ^ (u64)(product >> 64);
 }
 
-/* the key behind this one in which no byte is 0 or over 127 */
+/* the key after this one in which no byte is 0 or over 127 */
 static u64 next(u64 key) {
     for (int at = 0; at < 32; at += 8) {
         if ((key >> at & 127) < 127) return key + (1UL << at);

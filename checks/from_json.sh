@@ -2,7 +2,7 @@
 # from_json.sh [PREFIX]: documents come back from their text. 20,000 made documents are printed as Extended JSON and read again by the C
 # library under PREFIX; without it, bin/install puts one there first. checks/comes_back.c says what has to be the same. The documents are
 # those whose text has all of them: canonical ones, whose nested documents have no wrapper's key, whose NaNs are the default one and
-# whose decimals are canonical. One behind them has another NaN, and has to be told. The seed is drawn, and said; SEED sets it.
+# whose decimals are canonical. One after them has another NaN, and has to be reported. The seed is drawn, and said; SEED sets it.
 set -u
 
 cd "$(dirname "$(realpath "$0")")/.." || exit 1

@@ -38,7 +38,7 @@ static struct bytes next_document(void) {
     return document;
 }
 
-/* How many elements the outermost level has, each with its value where that is wanted. */
+/* How many elements the outermost level has, each with its value where that is needed. */
 static unsigned count(struct bytes document, int with_values) {
     struct bsonraw_iter iter;
     struct bsonraw_value value;

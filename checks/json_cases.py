@@ -37,7 +37,7 @@ def cases() -> List[Case]:
 
 
 def fits(made: str, wanted: str) -> bool:
-    """Whether this is the document in hex that is wanted, in which each dot stands for any digit."""
+    """Whether this is the document in hex that is expected, in which each dot stands for any digit."""
     return len(made) == len(wanted) and all(w in (m, ".") for m, w in zip(made, wanted))
 
 

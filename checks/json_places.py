@@ -80,7 +80,7 @@ class Reader:
         self.tokens: List[Tuple[int, int]] = []
 
     def next(self) -> bytes:
-        """The byte behind what is blank."""
+        """The byte after what is blank."""
         self.at += len(re.match(rb"[ \t\r\n]*", self.data[self.at :])[0])
         if self.at == len(self.data):
             raise Wrong(END, self.at)
@@ -157,7 +157,7 @@ class Reader:
         self.take(at + 1 - self.at)
 
     def character(self, at: int) -> int:
-        """What is behind the character or the escape there; an escape is wrong where it begins."""
+        """What is after the character or the escape there; an escape is wrong where it begins."""
         if at == len(self.data):
             raise Wrong(END, at)
         if self.data[at] < 32:

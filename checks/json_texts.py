@@ -1,9 +1,9 @@
 #!/usr/bin/env python3
 """Makes texts of Extended JSON for checks/texts.sh, and compares what three readers make of them.
 
-    json_texts.py made COUNT SEED                  so many texts, a line each: a rule, or none, a tab and the text
+    json_texts.py made COUNT SEED                  this many texts, a line each: a rule, or none, a tab and the text
     json_texts.py package TEXTS                    the document of each text by MongoDB's package in hex, or -
-    json_texts.py compare TEXTS OURS LIBBSON [PACKAGE]  whether all readers agree, but for what a rule says
+    json_texts.py compare TEXTS OURS LIBBSON [PACKAGE]  whether all readers agree, except for what a rule says
 
 Each text is made of one value that may have a rule, so that a rule says what each reader makes of it: the same document, or none.
 """

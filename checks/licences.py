@@ -3,7 +3,7 @@
     licences.py KIT FILE PART..
 
 Of a part that leaves the choice the licence MIT is meant. Lines may be broken and indented otherwise, and a text that each Debian has may
-be named in its place. A part for which the kit has no licence has to be named. What a part's sources quote or name is wanted, too.
+be named in its place. A part for which the kit has no licence has to be named. What a part's sources quote or name is needed, too.
 """
 
 import re

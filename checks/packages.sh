@@ -186,7 +186,7 @@ claims() {
     [ ! -s "$work/claims" ] || fails "of what is packed this isn't known: $(cat "$work/claims")"
 }
 
-# What is packed though no proof was seen says so, and nothing else of proofs; but for the way from a clone in the page on Python, and names.
+# What is packed though no proof was seen says so, and nothing else of proofs; except for the way from a clone in the page on Python, and names.
 try_unproved() {
     claims "$1" '\bprove[ds]\b|\bproofs?\b|\btested\b' 'was not seen|was seen|nothing (of that )?is proved|would be proved|PROVED says|/PROVED\b| PROVED$|proves and installs|unproved'
 }
@@ -313,7 +313,7 @@ lists_all() {
     sed '1,/^sha256 of what is shipped:$/d; s/^[^ ]*  //' "$2" | LC_ALL=C sort | diff - "$work/there" >&2 || fails "$2 doesn't list each file"
 }
 
-# Unpacks what was made, but for the wheels.
+# Unpacks what was made, except for the wheels.
 unpack() {
     prepare "$try" && tar -C "$try" -xf "$made"/*-linux.tar.gz || exit 1
     archive=$(echo "$try"/bsonraw-*-linux)
@@ -388,7 +388,7 @@ try_source() {
     finds_changes "$folder" "$folder/PROVED"
 }
 
-# What is made for ARM, but for what needs a machine that runs it.
+# What is made for ARM, except for what needs a machine that runs it.
 try_arm() {
     mkdir "$work/arm" && tar -C "$work/arm" -xf "$made_for_arm"/*.tar.gz || exit 1
     arm_archive=$(echo "$work"/arm/bsonraw-*-aarch64-linux)
@@ -480,7 +480,7 @@ try_wheels() {
     done
 }
 
-# files: all that is there, but for what is written as programs run and packages are installed
+# files: all that is there, except for what is written as programs run and packages are installed
 files() {
     (cd "$there" && find . -xdev \( -path ./proc -o -path ./sys -o -path ./dev -o -path ./try -o -path ./tmp -o -path ./run -o -path ./var/cache \
         -o -path ./var/log -o -path ./var/lib/apt -o -path './var/lib/dpkg/*-old' \) -prune -o -print) | LC_ALL=C sort

@@ -12,7 +12,7 @@
 A block in fences is Rattle (`rust`), which compiles.sh compiles; Rust (`rust,edition2021`, what is to
 be compiled alone `rust,no_run`, and what needs serde `rust,ignore`), which rust.sh runs; C, which c.sh compiles; Python, which is compiled here; or commands,
 which are run. `text` is a picture, or the output of the commands right before it. An indented block is so in the
-sources of a crate, but for comments and for how far it is indented, and a record is shown whole.
+sources of a crate, except for comments and for how far it is indented, and a record is shown whole.
 """
 
 import difflib
@@ -143,7 +143,7 @@ def lost_links(page: str, folder: Path) -> Iterator[str]:
 
 
 class Example(NamedTuple):
-    """Commands, and the output that the page shows right behind them."""
+    """Commands, and the output that the page shows right after them."""
 
     commands: str
     output: Optional[str]

@@ -1,6 +1,6 @@
 #!/bin/sh
-# The commands that the pages show do what the pages say, in a copy of this repository. A block `sh` with a block `text` behind it prints
-# that; a block that calls bin/bsonraw has one. Any other command has to end well, behind those of README, which install everything.
+# The commands that the pages show do what the pages say, in a copy of this repository. A block `sh` with a block `text` after it prints
+# that; a block that calls bin/bsonraw has one. Any other command has to end well, after those of README, which install everything.
 # pages.py says how. What was skipped, since a tool is missing, is said in the last line.
 #
 #   checks/pages.sh            with what bin/install built here, and `--unproved` left away, since checks/examples.sh tries that

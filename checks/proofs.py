@@ -38,7 +38,7 @@ def parts(statement):
 
 
 def split_binders(part):
-    """How many names the groups at the front of a part bind in parentheses, and what is left behind the groups."""
+    """How many names the groups at the front of a part bind in parentheses, and what is left after the groups."""
     names = 0
     while found := BINDER.match(part):
         if part[0] == "(":
@@ -60,7 +60,7 @@ def counted(statement):
 
 
 def whole(lines, at, indent):
-    """The end of what begins at a line: the first line behind it that isn't further in."""
+    """The end of what begins at a line: the first line after it that isn't further in."""
     behind = at + 1
     while behind < len(lines) and re.match(indent + " +[^ ]", lines[behind]):
         behind += 1
@@ -68,7 +68,7 @@ def whole(lines, at, indent):
 
 
 def lemmas(lines):
-    """Yields each name that is defined behind its statement: its first line and the line behind its last, the name, the
+    """Yields each name that is defined after its statement: its first line and the line after its last, the name, the
     statement, and how many arguments the modules around it add."""
     around = []
     for at, line in enumerate(lines):
@@ -118,7 +118,7 @@ def over_limits(files, folder, limits):
     counts = Counter()
     for path, lines in files.items():
         crate, kind = path.relative_to(folder).parts[:2]
-        # (the last line of a file ends in a line feed, behind which nothing is)
+        # (the last line of a file ends in a line feed, after which nothing is)
         counts[crate] += (len(lines) - 1) * (kind == "proofs")
     for crate, count in sorted(counts.items()):
         if count > allowed.get(crate, 0):

@@ -10,7 +10,7 @@ cd "$(dirname "$(realpath "$0")")/.." || exit 1
 work=$(mktemp -d) || exit 1
 trap 'rm -rf "$work"' EXIT
 
-# What a Python lacks that the build wants.
+# What a Python lacks that the build needs.
 lacks() {
     "$1" - 2>/dev/null <<'END' || echo "$1 of 3.8 or later"
 import os, sys, sysconfig
@@ -91,7 +91,7 @@ if ! tests "$work/relinked" test_large; then
     echo "python: texts are other ones on processors without blocks of bytes" >&2
     exit 1
 fi
-# The source archive has all that a build wants, and its own tests pass, in a folder where nothing else is. The version is known without the
+# The source archive has all that a build needs, and its own tests pass, in a folder where nothing else is. The version is known without the
 # library.
 cmp LICENSE python/LICENSE >&2 || exit 1
 if [ "$(cd python && BSONRAW_PREFIX=/nowhere "$python" setup.py --version 2>/dev/null)" != "$(cat VERSION)" ]; then

@@ -1,4 +1,4 @@
-/* texts ours|places|libbson FILE: the document of each line's text behind its tab in hex, or - where that reader gives none; with
+/* texts ours|places|libbson FILE: the document of each line's text after its tab in hex, or - where that reader gives none; with
  * places our reader, which says @, the reason and the offset there. */
 #define _GNU_SOURCE
 #include <bson/bson.h>
