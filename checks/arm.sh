@@ -48,7 +48,7 @@ run() {
 # The documents that tests in Rattle share, those of c/tests/documents.txt, each with a fault, and the examples: a name and hex digits a
 # line.
 documents() {
-    LC_ALL=C awk -f c/tests/documents.awk crates/view_fixtures/src/documents.rt
+    LC_ALL=C awk -f c/tests/documents.awk crates/bson_tests/src/fixtures/documents.rt
     cat c/tests/documents.txt
     for document in examples/*.hex; do
         echo "$(basename "$document") $(tr -d ' \r\n' <"$document" | tr '[:upper:]' '[:lower:]')"

@@ -62,7 +62,7 @@ documents() {
     levels 40
     levels 500
     levels 501
-    LC_ALL=C awk -f c/tests/documents.awk crates/view_fixtures/src/documents.rt
+    LC_ALL=C awk -f c/tests/documents.awk crates/bson_tests/src/fixtures/documents.rt
     cat c/tests/documents.txt
     for document in examples/*.hex; do
         echo "$(basename "$document") $(tr -d ' \r\n' <"$document" | tr '[:upper:]' '[:lower:]')"

@@ -256,7 +256,7 @@ class Calls:
         lines = [line.split() for line in (crates / "calls/stdin").read_text(encoding="utf-8").splitlines()]
         made = [line[2:] if line[1:2] == ["="] else line for line in lines if line and line[0] != "#"]
         self.lines = {line[0] for line in made} | {" ".join(line[:2]) for line in made}
-        folders = [*crates.glob("*_tests"), crates / "view_fixtures", crates / "calls"]
+        folders = [*crates.glob("*_tests"), crates / "calls"]
         tests = [path.read_text(encoding="utf-8") for folder in folders for path in sorted((folder / "src").rglob("*.rt"))]
         self.tests = "\n".join(re.sub(r"//.*", "", text) for text in tests)
         self.examples = {crate: "\n".join(self.examples_of(crates / crate)) for crate in [*CRATES, "bson_uses"]}

@@ -15,7 +15,7 @@ rows() {
 
 # misses SCRIPT FILE: an example without a place is found in files of which sed has changed this one by this script
 misses() {
-    rm -rf "$work/changed" && mkdir "$work/changed" && git ls-files -z checks crates/calls crates/view_tests crates/bson_tests crates/uses_tests crates/bsonraw \
+    rm -rf "$work/changed" && mkdir "$work/changed" && git ls-files -z checks crates/calls crates/bson_tests crates/bsonraw \
         python/tests | xargs -0 cp --parents -t "$work/changed" || exit 1
     sed -i "$1" "$work/changed/$2"
     cmp -s "$2" "$work/changed/$2" && echo "rows: nothing of $2 is changed by: $1" >&2 && exit 1
@@ -30,7 +30,7 @@ misses 's/^# tag zero$/# tag 0/' crates/calls/stdout
 misses 's/^list 1 06 00 00 00 00 00$/list 1 06 00 00 00 00 01/' checks/answers.txt
 misses 's/^interior NUL, and the length limit | calls$/interior NUL, and the length limit/' checks/rows.txt
 misses '/^nested stop | /d' checks/rows.txt
-misses 's/fn rows_or_out_of_memory/fn rows_and_out_of_memory/' crates/view_tests/src/memory/look_ups.rt
+misses 's/fn rows_or_out_of_memory/fn rows_and_out_of_memory/' crates/bson_tests/src/memory/look_ups.rt
 misses '/def rows_of_streams/,/^def wrong_rows/s/read_by_bytes/at_once/' checks/answers.py
 
 rows . >"$work/rows" || exit 1

@@ -207,7 +207,7 @@ def crates_of():
     crates = {}
     for line in (ROOT / "crates.txt").read_text().splitlines():
         found = re.match(r"([a-z_]+)[^:]*: *(.*)", line)
-        if found and not re.search(r"_tests$|_fixtures$|^calls$", found[1]):
+        if found and not re.search(r"_tests$|^calls$", found[1]):
             crates[found[1]] = found[2].split()
     return crates
 

@@ -4,10 +4,16 @@
 mod asserts;
 pub(crate) mod buffers;
 pub(crate) mod copies;
+pub(crate) mod errors;
+mod from_json;
 mod kinds;
+mod look_ups;
 mod no_memory;
+pub(crate) mod pairs;
 mod parts;
 mod requests;
+mod shelf;
+mod to_json;
 pub(crate) mod trees;
 pub(crate) mod validation;
 pub(crate) mod writing;

@@ -4,7 +4,7 @@
 //! Begin at `Shelf::put` in `shelf.rt`. `specs/Shelves.antt` defines a shelf and what a put does;
 //! `proofs/Stored.antt` adds one document to a shelf.
 //!
-//! The crate is over `raw_bson`, and only `bson_uses` and `uses_tests` rest on it.
+//! The crate is over `raw_bson`, and only `bson_uses` and `bson_tests` use it.
 #![tactic(auto)]
 
 mod put_error;

@@ -265,7 +265,7 @@ fn are_form(checks: Checks, made: &std::result::Result<Vec<u8>, AllocError>) -> 
     }
 }
 
-/// Whether so many levels around the innermost are.
+/// Whether `levels` levels around the innermost are.
 pub(crate) fn are_levels_form(checks: Checks, levels: usize) -> bool {
     let_go!(
         made = nested(checks.alloc, &[UNDER_THE_EMPTY_KEY], levels, EMPTY);

@@ -1,6 +1,5 @@
 //! Copies of errors.
 use crate::fixtures::*;
-use crate::required::view;
 use bson_model::DoubleBits;
 use raw_view::{Error, RawBsonRef, RawDocument, ValueAccessError, ValueAccessResult};
 use std::alloc::AllocError;

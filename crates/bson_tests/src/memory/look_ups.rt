@@ -1,6 +1,5 @@
 //! Look-ups and iteration.
 use crate::fixtures::*;
-use crate::required::{view, view_of_array};
 use crate::tables::{rows_of_getters, rows_to_a_key};
 use raw_view::{
     RawArray, RawBsonRef, RawDocument, Result, ValueAccessErrorKind, ValueAccessResult,

@@ -13,14 +13,14 @@ const LIMITS: Limits = Limits {
 fn are_written(bytes: &[u8], digits: &str) -> bool {
     let mut rest = digits.as_bytes();
     for byte in bytes {
-        let [high, low, behind @ ..] = rest else {
+        let [high, low, after @ ..] = rest else {
             return false;
         };
         let mut found = [0];
         if hex::decode_to_slice([*high, *low].as_slice(), &mut found).is_err() || found != [*byte] {
             return false;
         }
-        rest = behind;
+        rest = after;
     }
     rest.is_empty()
 }

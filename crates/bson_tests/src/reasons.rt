@@ -1,7 +1,6 @@
 //! The texts of reasons. `c/tests/reasons.c` has documents with each.
 
-use crate::fixtures::has_texts;
-use crate::required::require_row;
+use crate::fixtures::{has_texts, require_row};
 use raw_view::Reason;
 
 /// Each reason with its texts.

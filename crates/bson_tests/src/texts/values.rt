@@ -1,7 +1,6 @@
 //! What is printed of errors, of kinds, of bytes and of parts of values.
 
 use crate::fixtures::*;
-use crate::required::{require_row, view, view_of_array};
 use bson_model::NoMemory;
 use raw_view::{
     ElementType, Error, ErrorKind, RawArray, RawDbPointerRef, RawDocument, ValueAccessErrorKind,

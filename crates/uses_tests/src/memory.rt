@@ -1,6 +1,0 @@
-//! Tests that `bin/test` runs alone, with each request for memory failing in turn. Each call returns what it
-//! returns with ample memory, or out of memory where that is possible.
-
-mod from_json;
-mod shelf;
-mod to_json;
