@@ -182,3 +182,8 @@ pub fn tell_words(rt: &HostRuntime, style: Style, words: &str) {
         }
     }
 }
+
+/// Clears the line of a terminal that shows how far the reading has come.
+pub fn clear_line(rt: &HostRuntime) {
+    let _shown = rt.stderr().write_all(b"\x1b[K");
+}
