@@ -2,7 +2,7 @@
 #![tactic(auto)]
 
 use crate::files::guess::{FRONT, hint_at};
-use crate::files::tell::tell;
+use crate::files::tell::{tell, tell_text};
 use crate::files::watch::{About, Progress, Watched};
 use dump_io::input::inputs::Inputs;
 use dump_io::lines::style::Style;
@@ -43,14 +43,16 @@ pub struct Unread<'a> {
 }
 
 impl<'a> Unread<'a> {
-    /// Why this input isn't opened, if it isn't.
-    fn why(self, name: &str) -> Option<&'a str> {
+    /// What is told of this input, if it isn't opened: of packed files only of the first.
+    fn words_of(self, name: &str) -> Option<&'a str> {
         if has(self.names, name) {
             Some(self.words)
-        } else if self.is_packed(name) {
+        } else if !self.is_packed(name) {
+            None
+        } else if self.packed.first().is_some_and(|first| first.as_str() == name) {
             Some(self.packed_words)
         } else {
-            None
+            Some("")
         }
     }
 
@@ -59,11 +61,6 @@ impl<'a> Unread<'a> {
             .packed
             .binary_search_by(|packed| packed.as_str().cmp(name));
         found.is_ok()
-    }
-
-    /// Whether this is a packed file that isn't the first one, with which all of them are told.
-    fn is_told(self, name: &str) -> bool {
-        self.is_packed(name) && self.packed.first().is_some_and(|first| first.as_str() != name)
     }
 }
 
@@ -157,8 +154,8 @@ impl<'a> Inputs for Files<'a> {
     type Input = Source<'a>;
 
     fn open(&self, name: &str) -> io::Result<Source<'a>> {
-        if let Some(words) = self.unread.why(name) {
-            return Err(io::Error::other(words));
+        if self.unread.words_of(name).is_some() {
+            return Err(io::Error::other("not read"));
         }
         if self.written.is_some() && node_of(self.rt, place_of(name)) == self.written {
             return Err(io::Error::other("this file is the output as well"));
@@ -178,8 +175,10 @@ impl<'a> Inputs for Files<'a> {
     }
 
     fn tell(&self, name: &str, at: Option<u64>, error: &io::Error) {
-        if !self.unread.is_told(name) {
-            tell(self.rt, self.style, name, at, error);
+        match self.unread.words_of(name) {
+            Some("") => (),
+            Some(words) => tell_text(self.rt, self.style, name, words),
+            None => tell(self.rt, self.style, name, at, error),
         }
     }
 }

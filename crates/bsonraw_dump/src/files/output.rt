@@ -5,7 +5,7 @@ ghost use Rattle.std.specs.Prelude.{◌≡◌};
 ghost use Rattle.bsonraw_dump.specs.files.Endings.{unwritten_status};
 
 use crate::command_line::listing;
-use crate::files::tell::{tell, tell_lack};
+use crate::files::tell::{tell, tell_lack, tell_text};
 use dump_io::input::done::{Done, Lack};
 use dump_io::input::status::Status;
 use dump_io::lines::failure::Failure;
@@ -177,8 +177,8 @@ fn is_left(name: &str, other: &str) -> bool {
 fn tell_size(rt: &HostRuntime, style: Style, path: &str) -> Result<(), AllocError> {
     if let Ok(about) = fs::metadata(rt, path) {
         let len = about.len();
-        let words = format!(in rt.alloc(); "{len} bytes, of a run that is under way, or was ended from outside: it may be removed then")?;
-        tell(rt, style, path, None, &io::Error::other(words.as_str()));
+        let words = format!(in rt.alloc(); "{len} bytes of another run; if that was ended, remove the file")?;
+        tell_text(rt, style, path, words.as_str());
     }
     Ok(())
 }

@@ -15,6 +15,14 @@ use std::alloc::{AllocError, Global};
 use std::io;
 use std::io::Write;
 
+/// Tells these words of a file. Where even that fails, nothing is told.
+pub fn tell_text(rt: &HostRuntime, style: Style, name: &str, text: &str) {
+    match line_of(rt.alloc(), style, name, None, text) {
+        Ok(line) => put(rt, &line),
+        Err(_) => tell_words(rt, style, "not enough memory"),
+    }
+}
+
 /// Tells what goes wrong with a file, and after how many bytes, if some were read. Where even that fails, nothing is told.
 pub fn tell(rt: &HostRuntime, style: Style, name: &str, at: Option<u64>, error: &io::Error) {
     match told(rt, style, name, at, error) {
