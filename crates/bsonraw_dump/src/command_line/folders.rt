@@ -46,10 +46,11 @@ impl Found {
                 }
                 Ok(())
             }
-            None => self.dumps.push(String::from_str(
-                rt.alloc(),
-                folder.strip_suffix('/').unwrap_or(folder),
-            )?),
+            None => {
+                let name = folder.strip_suffix('/').unwrap_or(folder);
+                self.dumps.push(String::from_str(rt.alloc(), name)?)?;
+                Ok(())
+            }
         }
     }
 
@@ -62,7 +63,8 @@ impl Found {
             Err(_) if name.ends_with(b".bson") || !name.contains(&b'.') => {
                 let shown = String::from_utf8_lossy(rt.alloc(), name)?;
                 self.unread
-                    .push(format!(in rt.alloc(); "{folder}{shown} isn't UTF-8")?)
+                    .push(format!(in rt.alloc(); "{folder}{shown} isn't UTF-8")?)?;
+                Ok(())
             }
             Err(_) => Ok(()),
         }
@@ -71,12 +73,10 @@ impl Found {
     /// Adds what has this path. A link to a folder isn't followed.
     fn add_path(&mut self, rt: &HostRuntime, path: String) -> Result<(), AllocError> {
         if path.ends_with(".bson") {
-            return self.dumps.push(path);
-        }
-        if path.ends_with(".bson.gz") {
-            return self.packed.push(path);
-        }
-        if fs::symlink_metadata(rt, path.as_str()).is_ok_and(|about| about.is_dir()) {
+            self.dumps.push(path)?;
+        } else if path.ends_with(".bson.gz") {
+            self.packed.push(path)?;
+        } else if fs::symlink_metadata(rt, path.as_str()).is_ok_and(|about| about.is_dir()) {
             self.folders.push(format!(in rt.alloc(); "{path}/")?)?;
         }
         Ok(())

@@ -150,15 +150,14 @@ fn beside(rt: &HostRuntime, place: &str) -> Result<String, AllocError> {
 
 /// Tells of each file that a run of this program left beside this place, as one does that is ended from outside.
 fn tell_left(rt: &HostRuntime, style: Style, place: &str) -> Result<(), AllocError> {
-    let begins = place.rfind('/').map_or(0, |at| at + 1);
-    let (folder, name) = place.split_at(begins);
-    let names = listing(rt, if folder.is_empty() { "./" } else { folder })?;
-    for other in names.unwrap_or(Vec::new(rt.alloc())).split(|byte| *byte == 0) {
-        if let Ok(other) = str::from_utf8(other) {
-            if is_left(name, other) {
-                let path = format!(in rt.alloc(); "{folder}{other}")?;
-                tell_size(rt, style, path.as_str())?;
-            }
+    let (folder, name) = place.rsplit_once('/').unwrap_or((".", place));
+    let folder = format!(in rt.alloc(); "{folder}/")?;
+    let names = listing(rt, folder.as_str())?.unwrap_or(Vec::new(rt.alloc()));
+    for other in names.split(|byte| *byte == 0) {
+        let other = str::from_utf8(other).unwrap_or("");
+        if is_left(name, other) {
+            let path = format!(in rt.alloc(); "{folder}{other}")?;
+            tell_size(rt, style, path.as_str())?;
         }
     }
     Ok(())
