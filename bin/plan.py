@@ -171,9 +171,12 @@ class Step(NamedTuple):
         return (self.cost - self.compiled) * BY_JOBS[jobs] + self.compiled
 
 
-def share(slots: int, others: int, ready: int) -> int:
-    """How many jobs a check has that begins: the processors that neither other checks have, nor those that are ready wait for; one at least."""
-    return max(1, min(slots - others - ready, max(BY_JOBS)))
+def share(slots: int, others: int, ready: int, is_first: bool) -> int:
+    """How many jobs a check has that begins: of all that are ready the first, with the longest chain after it, has the processors that neither
+    other checks have nor those that are ready wait for, and two at least; each of the others has one."""
+    if not is_first:
+        return 1
+    return max(min(2, slots // 2), 1, min(slots - others - ready, max(BY_JOBS)))
 
 
 def planned(goals: List[str], is_first: bool = False) -> List[Step]:
@@ -203,7 +206,7 @@ def finish(steps: List[Step], slots: int, rate: float, running: List[Running]) -
         ready = [it for it in left if not open_goals.intersection(it.waits)]
         begin = ready[: slots - len(running)]
         for at, step in enumerate(begin, 1):
-            jobs = share(slots, sum(it.jobs for it in running), len(ready) - at)
+            jobs = share(slots, sum(it.jobs for it in running), len(ready) - at, at == 1)
             heapq.heappush(running, Running(now + rate * step.span(jobs), step.goal, jobs))
             left.remove(step)
         now, goal, _ = heapq.heappop(running)
@@ -270,8 +273,8 @@ def begin(work: Path, slots: int, goal: str) -> int:
     """Notes that a step begins; returns how many jobs it has."""
     state = State(work)
     others = sum(state.jobs[it.goal] for it in state.under_way() if it.goal != goal)
-    ready = [it for it in state.waiting() if it.goal != goal and state.ended.keys() >= set(it.waits)]
-    found = share(slots, others, len(ready))
+    ready = [it.goal for it in state.waiting() if state.ended.keys() >= set(it.waits)]
+    found = share(slots, others, len(ready) - 1, ready[:1] == [goal])
     (work / "begun" / goal).write_text(str(found))
     return found
 

@@ -69,7 +69,19 @@ put_programs() {
     for name in $programs; do
         put=$2/bin/$(echo "$name" | tr _ -)
         install -m 644 "$root/man/$(basename "$put").1" "$2/share/man/man1" || return 1
+        [ "$name" != bsonraw_dump ] || put_completions "$2/share" || return 1
         "$1" --strip-all "$(program_of "$name")" "$put" && put_commit "$put" && chmod 755 "$put" || return 1
+    done
+}
+
+# Where shells look for how words are completed, below share
+completions="bash-completion/completions zsh/site-functions fish/vendor_completions.d"
+
+# put_completions FOLDER: what bash, zsh and fish complete of the words of bsonraw-dump
+put_completions() {
+    for folder in $completions; do
+        case $folder in bash*) file=bsonraw-dump ;; zsh*) file=_bsonraw-dump ;; *) file=bsonraw-dump.fish ;; esac
+        mkdir -p "$1/$folder" && python3 -B "$root/release/completions.py" "${folder%%[-/]*}" >"$1/$folder/$file" && chmod 644 "$1/$folder/$file" || return 1
     done
 }
 

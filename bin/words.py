@@ -92,9 +92,11 @@ class Program:
         """The options of a command, by their long and short names."""
         found = {}
         part = self.texts[f"{command} --help".strip()].text.partition("\nOptions:\n")[2]
-        for short, long, value in re.findall(r"(?m)^ +(?:(-\w), )?(--[\w-]+)( <\w+>)?", part):
-            option = Option(long, long + value, bool(value))
-            found.update({name: option for name in (short, long) if name})
+        for short, long, value, words in re.findall(r"(?m)^ +(?:(-\w), )?(--[\w-]+)( <\w+>)?(.*)", part):
+            for name in (short, long, *re.findall(r"(?<=[ ,])--[\w-]+(?=[,\]])", words.partition("[aliases:")[2])):
+                if name:
+                    full = name if name.startswith("--") else long
+                    found[name] = Option(full, full + value, bool(value))
         return found
 
     def required(self, command: str) -> int:

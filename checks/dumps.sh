@@ -633,7 +633,7 @@ run 'a file that is cut off, listed' 3 list cut6
 wants '"-":0: 12 bytes
   "a": Int32: 1
 ' 'bsonraw-dump: "missing": No such file or directory (os error 2)
-bsonraw-dump: "folder": no *.bson in it; name a database'"'"'s folder, or: gzip -dc FILE | bsonraw-dump ..
+bsonraw-dump: "folder": no *.bson in it, or in a folder below it
 '
 gzip -c one | gzip -dc | run 'a gzip pipe and files that cannot be read, listed' 3 list missing folder - || failed=1
 wants '"two\nlines":0: 12 bytes
@@ -825,7 +825,7 @@ $(of folder 0 0 0 0 0 0 0 1)
 $(of sound.bson 3 29 0 0 0 0 0 0)
 $(counted 3 29 0 0 0 0 0 2)
 " 'bsonraw-dump: "missing": No such file or directory (os error 2)
-bsonraw-dump: "folder": no *.bson in it; name a database'"'"'s folder, or: gzip -dc FILE | bsonraw-dump ..
+bsonraw-dump: "folder": no *.bson in it, or in a folder below it
 '
 run 'files that cannot be read' 3 check missing folder sound.bson
 wants '"two\nlines":12: cut off: only 6 bytes of a document: 6 bytes not read, --resync goes on

@@ -35,8 +35,11 @@ lib/libbsonraw.so
 lib/libbsonraw.so.${version%%.*}
 lib/libbsonraw.so.$version
 lib/pkgconfig/bsonraw.pc
+share/bash-completion/completions/bsonraw-dump
+share/fish/vendor_completions.d/bsonraw-dump.fish
 share/man/man1/bsonraw.1
 share/man/man3/bsonraw.3
+share/zsh/site-functions/_bsonraw-dump
 END
     # all but the pages that only show another
     (cd "$prefix" && find . ! -type d -exec grep -L '^\.so man3/' {} +) | sed 's|^\./||' | sort >"$work/files"
@@ -77,6 +80,7 @@ try_parts() {
         (cd "$work/part" && find . ! -type d ! -name bsonraw.pc -exec cmp {} "$prefix/{}" \;) >&2 || fails "with $part it installs something else than without"
         case $part in
         --library) (cd "$prefix" && find include lib share/man/man3 ! -type d) ;;
+        *-dump) (cd "$prefix" && find bin/bsonraw-dump share/man/man1/bsonraw-dump.1 share/bash-completion share/fish share/zsh ! -type d) ;;
         *) printf 'bin/%s\nshare/man/man1/%s.1\n' "${part#* }" "${part#* }" ;;
         esac | sort >"$work/wanted"
         (cd "$work/part" && find . ! -type d) | sed 's|^\./||' | sort | diff "$work/wanted" - >&2 || fails "with $part other files are there"

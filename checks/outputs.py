@@ -2,6 +2,7 @@
 
 import os
 import pty
+import re
 import shutil
 import signal
 import subprocess
@@ -122,14 +123,11 @@ def try_folders(runs: Runs) -> None:
     os.symlink("dumps", runs.path("link"))
     if runs.run("sound", "link")[:2] != (0, ONE + TWICE + EMPTY):
         fails("a link to a folder", runs.run("sound", "link"))
-    words = "no *.bson in it; name a database's folder, or: gzip -dc FILE | bsonraw-dump .."
     os.mkdir(runs.path("none"))
-    os.mkdir(runs.path("gzip"))
-    runs.put("gzip/a.bson.gz", b"\x1f\x8b\x08\0\0\0\0\0\0\3")
-    for folder in ("none", "gzip"):
-        status, out, err = runs.run("sound", folder, "one")
-        if (status, out) != (3, ONE) or not err.startswith(f'bsonraw-dump: "{folder}": {words}\n'):
-            fails("a folder without a dump", status, out, err)
+    status, out, err = runs.run("sound", "none", "one")
+    if (status, out) != (3, ONE) or not err.startswith('bsonraw-dump: "none": no *.bson in it, or in a folder below it\n'):
+        fails("a folder without a dump", status, out, err)
+    try_trees(runs)
     status, out, err = runs.run("bson", "dumps")
     if (status, out) != (3, b"") or not err.startswith('bsonraw-dump: "dumps": a folder isn\'t read; name the files in it\n'):
         fails("a folder of texts", status, out, err)
@@ -149,6 +147,38 @@ def try_folders(runs: Runs) -> None:
         fails("a file that is named as another in a folder is told", runs.run("sound", "odd", "odd/\ufffd.bson isn't UTF-8"))
 
 
+def try_trees(runs: Runs) -> None:
+    """Folders in a folder, as mongodump writes them."""
+    for name, data in (("b/z.bson", ONE), ("b.bson", EMPTY), ("a/c/d.bson", TWICE), ("a/x.metadata.json", b"{}"), ("b/empty/x.txt", b"")):
+        os.makedirs(os.path.dirname(runs.path("tree/" + name)), exist_ok=True)
+        runs.put("tree/" + name, data)
+    os.symlink("..", runs.path("tree/a/up"))
+    if runs.run("sound", "tree")[:2] != (0, TWICE + EMPTY + ONE):
+        fails("a tree of folders", runs.run("sound", "tree"))
+    for name in ("b/z.bson.gz", "a/x.bson.gz", "a/c/y.bson.gz"):
+        runs.put("tree/" + name, b"\x1f\x8b\x08\0\0\0\0\0\0\3")
+    way = "use: find FOLDER -name '*.bson.gz' | while read -r f; do gzip -dc \"$f\" | bsonraw-dump"
+    status, out, err = runs.run("sound", "tree")
+    line = f'bsonraw-dump: "tree/a/c/y.bson.gz": not read, nor are 2 others; {way} sound; done\n'
+    if (status, out) != (3, TWICE + EMPTY + ONE) or not err.startswith(line) or err.count("bson.gz\": not read") != 1 or "files not read to the end: 3\n" not in err:
+        fails("packed files of folders", status, out, err)
+    os.mkdir(runs.path("gzip"))
+    runs.put("gzip/a.bson.gz", b"\x1f\x8b\x08\0\0\0\0\0\0\3")
+    status, out, err = runs.run("pick", "a", "gzip", "one")
+    if status != 3 or not err.startswith(f'bsonraw-dump: "gzip/a.bson.gz": not read; {way} pick PATHS; done\n'):
+        fails("a packed file alone", status, out, err)
+    # a folder that can't be read is told; root reads each
+    os.mkdir(runs.path("tree/locked"))
+    os.chmod(runs.path("tree/locked"), 0)
+    if os.geteuid() and 'bsonraw-dump: "tree/locked": Permission denied' not in runs.run("sound", "tree")[2]:
+        fails("a folder that can't be read", runs.run("sound", "tree"))
+    os.chmod(runs.path("tree/locked"), 0o700)
+    # a folder whose name isn't UTF-8 can't be looked into
+    os.mkdir(runs.path(b"tree/\xff"))
+    if 'bsonraw-dump: "tree/\ufffd isn\'t UTF-8": not read' not in runs.run("sound", "tree")[2]:
+        fails("a folder in a folder whose name isn't UTF-8", runs.run("sound", "tree"))
+
+
 def try_hints(runs: Runs) -> None:
     for name, data, wanted in (
         ("x.gz", b"\x1f\x8b\x08\0\0\0\0\0\0\3" + b"\x63" * 40, "looks like gzip, not a dump: gzip -dc FILE | bsonraw-dump .."),
@@ -157,15 +187,23 @@ def try_hints(runs: Runs) -> None:
         ("x.array", b' [\n{"a":1}]\n', "looks like JSON, not a dump: bsonraw-dump bson FILE, or mongoimport, reads it"),
         ("x.mark", b'\xef\xbb\xbf{"a":1}\n', "looks like JSON, not a dump: tail -c +4 FILE | bsonraw-dump bson"),
         ("x.mark", b'\xef\xbb\xbf [\r\n{"a":1}]\n', "looks like JSON, not a dump: tail -c +4 FILE | bsonraw-dump bson"),
-        ("x.txt", b"id,name\n1,Ada\n", "looks like text, not a dump"),
+        ("x.txt", b"id,name\n1,Ada\n", "looks like text, not a dump; --resync looks for documents in it"),
+        ("x.hex", b"13000000 0268690006000000\n", "looks like hex digits, not a dump: xxd -r -p FILE | bsonraw-dump .., or bsonraw"),
         ("x.utf16", b"\xff\xfe" + '{"a":1}'.encode("utf-16-le"), "looks like text in UTF-16, not a dump"),
         ("x.utf16", b"\xfe\xff" + '{"a":1}'.encode("utf-16-be"), "looks like text in UTF-16, not a dump"),
         ("x.archive", b"\x6d\xe2\x99\x81" + ONE, "looks like an archive: mongorestore --archive=FILE, then mongodump"),
     ):
         runs.put(name, data)
+        line = f'bsonraw-dump: "{name}": {wanted}\n'
         status, out, err = runs.run("check", name)
-        if status == 0 or err != f'bsonraw-dump: "{name}": {wanted}\n':
+        if (status, err) != (3, line) or b"unsound" in out or b"files not read to the end: 1\n" not in out:
             fails("what a file looks like", name, status, out, err)
+        status, out, err = runs.run("check", "--resync", name)
+        if (status, err) != (3, line) or b"bytes passed over: %d," % len(data) not in out:
+            fails("what a file looks like that is read on", name, status, out, err)
+        status, out, err = runs.run("check", input=data)
+        if status != 3 or err != line.replace(name, "-") or b"unsound length" not in out:
+            fails("what standard input looks like", name, status, out, err)
     # a document of 559903 bytes begins as gzip does
     document = (559903).to_bytes(4, "little") + b"\5\0" + (559903 - 12).to_bytes(4, "little") + bytes(559903 - 10)
     for data in (ONE, document, b"", b"\5"):
@@ -184,6 +222,20 @@ def try_same_file(runs: Runs) -> None:
             status, _, err = runs.run(*words, out=out, stdin=given)
         if status != 3 or ": this file is the output as well\n" not in err or runs.get("same") != ONE:
             fails("a file that is read and written", status, err)
+
+
+def try_left(runs: Runs) -> None:
+    """A temporary file that an earlier run left is told, and stays; others of like names aren't."""
+    runs.put("left.bson.4711.tmp", TWICE)
+    for name in ("left.bson.x.tmp", "left.bson..tmp", "left.bson.4711.tmp2", "another.bson.1.tmp"):
+        runs.put(name, ONE)
+    status, _, err = runs.run("sound", "-o", "left.bson", "one")
+    wanted = f'left.bson.4711.tmp": {len(TWICE)} bytes of another run; if that was ended, remove the file'
+    told = [it for it in err.split("\n") if "another run" in it]
+    if status != 0 or runs.get("left.bson") != ONE or runs.get("left.bson.4711.tmp") != TWICE or len(told) != 1 or not told[0].endswith(wanted):
+        fails("a temporary file that was left", status, err)
+    for name in [it for it in runs.beside() if it.startswith(("left", "another"))] + ["left.bson.4711.tmp2"]:
+        os.remove(runs.path(name))
 
 
 def try_output(runs: Runs) -> None:
@@ -307,10 +359,11 @@ def try_findings_come(runs: Runs) -> None:
     run.communicate()
 
 
-def on_terminal(runs: Runs, streams: Tuple[str, ...], *words: str) -> Tuple[int, bytes]:
-    """The status of a run whose streams of these names are a terminal, and what is written there."""
+def on_terminal(runs: Runs, streams: Tuple[str, ...], *words: str, kind: str = "xterm") -> Tuple[int, bytes]:
+    """The status of a run whose streams of these names are a terminal of this kind, and what is written there."""
     terminal, side = pty.openpty()
-    given: Dict[str, Any] = {name: side if name in streams else subprocess.DEVNULL for name in ("stdout", "stderr")}
+    given: Dict[str, Any] = {"env": {**os.environ, "TERM": kind}}
+    given.update({name: side if name in streams else subprocess.DEVNULL for name in ("stdout", "stderr")})
     run = subprocess.Popen([runs.program, *words], cwd=runs.folder, stdin=subprocess.DEVNULL, **given)
     os.close(side)
     shown = b""
@@ -340,6 +393,17 @@ def try_terminals(runs: Runs) -> None:
         fails("JSON on a terminal that shows progress", status, shown[-200:])
     if b'\x1b[K"million": ' not in on_terminal(runs, ("stderr",), "json", "million")[1]:
         fails("progress beside JSON in a file")
+    if b"\x1b" in on_terminal(runs, ("stderr",), "json", "million", kind="dumb")[1]:
+        fails("progress on a terminal that has no escapes")
+    # how much of both files was read: of the first one a half at most
+    shown = on_terminal(runs, ("stderr",), "json", "million", "million")[1]
+    if [int(it) for it in re.findall(rb": (\d+) %", shown)] != [34, 69]:
+        fails("progress of two files", shown)
+    # a finding is on a line without progress
+    runs.put("late", ONE * 1_000_000 + b"\5\0\0\0\1")
+    shown = on_terminal(runs, ("stdout", "stderr"), "check", "late")[1]
+    if not re.search(rb'\x1b\[K"late": 69 %[^\r\n]*\r\x1b\[K(\x1b\[K)?"late":12000000: ', shown):
+        fails("a finding after progress", shown)
     os.rename(runs.path("million"), runs.path("mil\x1b[31m\nlion"))
     shown = on_terminal(runs, ("stderr",), "check", "mil\x1b[31m\nlion")[1]
     if b'\x1b[K"mil\\u001b[31m\\nlion": ' not in shown or b"\x1b[31m" in shown or b"\n" in shown:
@@ -351,7 +415,7 @@ def main(words: List[str]) -> int:
         os.chmod(folder, 0o755)
         runs = Runs(words[0], folder)
         for trial in (
-            try_names, try_words, try_folders, try_hints, try_same_file, try_output, try_small_disk, try_signals, try_findings_come, try_findings_go,
+            try_names, try_words, try_folders, try_hints, try_same_file, try_left, try_output, try_small_disk, try_signals, try_findings_come, try_findings_go,
             try_terminals,
         ):
             trial(runs)

@@ -4,11 +4,15 @@
 mod args;
 mod builder;
 mod commands;
+mod folders;
 mod names;
 mod reading;
 mod task;
+mod words;
 
 pub use commands::printing_of;
-pub use names::{Words, copied, expanded, given_words};
+pub use folders::listing;
+pub use names::{copied, expanded};
 pub use reading::Reading;
 pub use task::{Task, parsed};
+pub use words::{Words, given_words};

@@ -8,4 +8,4 @@ pub mod inputs;
 pub mod output;
 pub mod prompt;
 pub mod tell;
-mod watch;
+pub mod watch;

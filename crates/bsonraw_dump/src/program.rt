@@ -5,10 +5,11 @@ use crate::command_line::{
     Reading, Task, Words, copied, expanded, given_words, parsed, printing_of,
 };
 use crate::files::findings::Findings;
-use crate::files::inputs::{Files, Unread, are_one, node_of};
+use crate::files::inputs::{Files, Unread, are_one, node_of, size_of};
 use crate::files::output::{BLOCK, Fill, into_file};
 use crate::files::prompt::Prompt;
 use crate::files::tell::{tell, tell_words};
+use crate::files::watch::Progress;
 use crate::version::VERSION;
 use dump_io::input::done::{Done, Lack};
 use dump_io::input::status::Status;
@@ -18,6 +19,7 @@ use dump_io::lines::style::Style;
 use dump_runs::{run_all, run_texts};
 use std::alloc::{AllocError, Global};
 use std::fs::File;
+use std::env;
 use std::io;
 use std::io::{BufWriter, ErrorKind, IsTerminal, Write};
 
@@ -93,11 +95,27 @@ fn with_words(rt: &HostRuntime, task: &Task<'_>, words: &Words) -> Status {
     with_names(rt, task, words).unwrap_or(Status::Memory)
 }
 
-/// How a file is read whose name isn't UTF-8.
-fn way_of(alloc: Global, words: &Words) -> Result<String, AllocError> {
+/// The command that was given, as it is typed.
+fn typed(alloc: Global, words: &Words) -> Result<String, AllocError> {
     let command = words.words.get(1).map_or("..", |word| word.as_str());
     let paths = if command == "pick" { " PATHS" } else { "" };
-    format!(in alloc; "not read; use: bsonraw-dump {command}{paths} < FILE")
+    format!(in alloc; "bsonraw-dump {command}{paths}")
+}
+
+/// How a file is read whose name isn't UTF-8.
+fn way_of(alloc: Global, typed: &str) -> Result<String, AllocError> {
+    format!(in alloc; "not read; use: {typed} < FILE")
+}
+
+/// How the packed files of a folder are read, of which there are `count`.
+fn way_of_packed(alloc: Global, typed: &str, count: usize) -> Result<String, AllocError> {
+    let others = count.saturating_sub(1);
+    let more = if others > 0 {
+        format!(in alloc; ", nor are {others} others")?
+    } else {
+        String::new(alloc)
+    };
+    format!(in alloc; "not read{more}; use: find FOLDER -name '*.bson.gz' | while read -r f; do gzip -dc \"$f\" | {typed}; done")
 }
 
 /// Does a task whose inputs are named as on the command line.
@@ -106,7 +124,9 @@ fn with_names(rt: &HostRuntime, task: &Task<'_>, words: &Words) -> Result<Status
         Reading::Dumps(_) => expanded(rt, &task.inputs)?,
         Reading::Texts(_) => copied(rt, &task.inputs)?,
     };
-    let way = way_of(rt.alloc(), words)?;
+    let typed = typed(rt.alloc(), words)?;
+    let way = way_of(rt.alloc(), typed.as_str())?;
+    let way_of_packed = way_of_packed(rt.alloc(), typed.as_str(), names.packed.len())?;
     let mut inputs = Vec::new(rt.alloc());
     for name in &names.names {
         inputs.push(name.as_str())?;
@@ -123,6 +143,8 @@ fn with_names(rt: &HostRuntime, task: &Task<'_>, words: &Words) -> Result<Status
             unread: Unread {
                 names: &names.unread,
                 words: way.as_str(),
+                packed: &names.packed,
+                packed_words: way_of_packed.as_str(),
             },
         },
     ))
@@ -145,13 +167,16 @@ fn start(rt: &HostRuntime, run: &Run<'_>) -> Status {
     match run.reading.command().map(printing_of) {
         Some(printing) if printing.soon => {
             let is_file = node_of(rt, "/dev/stdout").is_some();
-            let mut out = Prompt::new(rt, out, !is_file);
+            let clears = is_shown(rt, run.reading.style());
+            let mut out = Prompt::new(rt, out, !is_file, clears);
             each(rt, run, &mut io::sink(), &mut out).status
         }
         Some(printing) if !printing.documents => each(rt, run, &mut io::sink(), &mut out).status,
         _ => {
             let mut findings = Findings {
+                rt,
                 writer: rt.stderr(),
+                clears: is_shown(rt, run.reading.style()),
                 is_apart: !are_one(rt, "/dev/stdout", "/dev/stderr"),
             };
             each(rt, run, &mut out, &mut findings).status
@@ -170,7 +195,9 @@ impl<'a> Fill<'a> for Run<'a> {
 
     fn fill(&self, rt: &HostRuntime, data: &mut BufWriter<File>) -> Done<'a> {
         let mut findings = Findings {
+            rt,
             writer: rt.stderr(),
+            clears: is_shown(rt, self.reading.style()),
             is_apart: true,
         };
         each(rt, self, data, &mut findings)
@@ -184,7 +211,10 @@ fn each<'a, D: Write, W: Write>(
     data: &mut D,
     report: &mut W,
 ) -> Done<'a> {
-    let inputs = files_of(&*rt, &*run);
+    let shows = shows_progress(rt, run);
+    let size = if shows { size_of(rt, &run.inputs) } else { None };
+    let progress = Progress::new(rt, shows, size);
+    let inputs = files_of(&*rt, &*run, &progress);
     let done = match run.reading {
         Reading::Dumps(job) => run_all(rt.alloc(), job, &inputs, &run.inputs, data, report),
         Reading::Texts(job) => run_texts(rt.alloc(), job, &inputs, &run.inputs, data, report),
@@ -195,33 +225,45 @@ fn each<'a, D: Write, W: Write>(
     done
 }
 
-fn files_of<'a>(rt: &'a HostRuntime, run: &'a Run<'_>) -> Files<'a> {
-    let is_redirected = run.output.is_none();
+/// Whether it is shown how far the reading has come: not where documents or lines are written to the same terminal.
+fn shows_progress(rt: &HostRuntime, run: &Run<'_>) -> bool {
     let is_soon = match run.reading.command() {
         Some(command) => printing_of(command).soon,
         None => false,
     };
-    let is_apart = is_soon || !is_redirected || !rt.stdout().is_terminal();
+    let is_apart = is_soon || run.output.is_some() || !rt.stdout().is_terminal();
+    is_apart && is_shown(rt, run.reading.style())
+}
+
+fn files_of<'a>(
+    rt: &'a HostRuntime,
+    run: &'a Run<'_>,
+    progress: &'a Progress<'a>,
+) -> Files<'a> {
     Files {
         rt,
         style: run.reading.style(),
-        shows: is_apart
-            && rt.stderr().is_terminal()
-            && !matches!(run.reading.style(), Style::Quiet),
+        progress,
         most: match run.reading {
             Reading::Dumps(job) => Some(job.limits.bytes.max(most_allowed().bytes)),
             Reading::Texts(_) => None,
         },
-        written: if is_redirected {
-            node_of(rt, "/dev/stdout")
-        } else {
-            None
+        written: match run.output {
+            None => node_of(rt, "/dev/stdout"),
+            Some(_) => None,
         },
-        unread: Unread {
-            names: run.unread.names,
-            words: run.unread.words,
+        unread: run.unread,
+        goes_on: match run.reading {
+            Reading::Dumps(job) => job.resync,
+            Reading::Texts(job) => job.keep_going,
         },
     }
+}
+
+/// Whether standard error is a terminal that can write over a line, where lines are asked for.
+fn is_shown(rt: &HostRuntime, style: Style) -> bool {
+    let is_dumb = env::var(rt, "TERM").is_ok_and(|kind| kind.as_str() == "dumb");
+    rt.stderr().is_terminal() && !is_dumb && !matches!(style, Style::Quiet)
 }
 
 /// Tells why a run failed. A pipe whose reader is gone ends it quietly.

@@ -70,6 +70,11 @@ IsMarked s = Begins (0xEF ∷ 0xBB ∷ 0xBF ∷ []) s
 abbrev pub IsMarkedJson : List ℕ → Type 0
 IsMarkedJson s = IsMarked s × All IsPlain (drop 3 s) × OpensJson (drop 3 s)
 
+-- a digit of a number in base 16, or white space
+abbrev pub IsDigitOrSpace : ℕ → Type 0
+IsDigitOrSpace byte = ((0x30 ≤ byte) × (byte ≤ 0x39)) ⊎ ((0x41 ≤ byte) × (byte ≤ 0x46)) ⊎ ((0x61 ≤ byte) × (byte ≤ 0x66))
+    ⊎ (byte ≡ 9) ⊎ (byte ≡ 10) ⊎ (byte ≡ 13) ⊎ (byte ≡ 0x20)
+
 -- what a file looks like that begins so, and what helps
 abbrev pub LooksLike : List ℕ → List ℕ → Type 0
 LooksLike s words =
@@ -79,7 +84,8 @@ LooksLike s words =
     ⊎ (IsUtf16 s × (words ≡ codes "looks like text in UTF-16, not a dump"))
     ⊎ (IsMarkedJson s × (words ≡ codes "looks like JSON, not a dump: tail -c +4 FILE | bsonraw-dump bson"))
     ⊎ (All IsPlain s × OpensJson s × (words ≡ codes "looks like JSON, not a dump: bsonraw-dump bson FILE, or mongoimport, reads it"))
-    ⊎ (All IsPlain s × (¬ OpensJson s) × (words ≡ codes "looks like text, not a dump"))
+    ⊎ (All IsDigitOrSpace s × (words ≡ codes "looks like hex digits, not a dump: xxd -r -p FILE | bsonraw-dump .., or bsonraw"))
+    ⊎ (All IsPlain s × (¬ OpensJson s) × (¬ All IsDigitOrSpace s) × (words ≡ codes "looks like text, not a dump; --resync looks for documents in it"))
 
 -- it looks like none of these
 abbrev pub LooksLikeNothing : List ℕ → Type 0

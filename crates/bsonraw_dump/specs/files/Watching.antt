@@ -1,5 +1,5 @@
 -- Readers that are looked at while they are read.
-use Rattle.std.specs.Prelude.{◌≡◌, ◌^◌, ◌∷◌, ◌++◌, ℕ, List, [], None, codes}
+use Rattle.std.specs.Prelude.{◌≡◌, ◌∷◌, ◌++◌, ℕ, List, [], codes, false}
 use Rattle.dump_io.specs.lines.Quoting.{quoted}
 use Rattle.bsonraw_dump.specs.declared.files.watch.About.{About}
 use Rattle.bsonraw_dump.specs.declared.files.watch.Watched.{Watched}
@@ -8,13 +8,11 @@ use Rattle.bsonraw_dump.specs.declared.files.watch.Watched.{Watched}
 abbrev pub reader_of : {R : Type 0} → Watched R → R
 reader_of w = w.reader
 
--- Nothing of this reader was read, of which this is known. How far the reading has come is first shown after 8 MiB.
+-- Nothing of this reader was read, of which this is known.
 pub record IsUnread {R : Type 0} (reader : R) (about : About) (w : Watched R) : Type 0 where
   pub same : w.reader ≡ reader
   pub known : w.about ≡ about
-  pub none_read : w.count ≡ 0
-  pub first_shown : w.next ≡ 2 ^ 23
-  pub not_begun : w.begun ≡ None
+  pub not_begun : w.is_begun ≡ false
 
 -- The line that shows how far the reading of an input has come: in place of the one before it, its name in quotes, then these words. The
 -- next line goes over it.

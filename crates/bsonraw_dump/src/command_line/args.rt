@@ -109,7 +109,7 @@ fn printing<'a>(alloc: Global, command: CommandBuilder<'a>) -> CommandBuilder<'a
     let indent = "Prints a line for each member, indented by two spaces a level";
     command
         .arg(switch(alloc, "canonical", canonical))
-        .arg(switch(alloc, "indent", indent))
+        .arg_or_none(switch(alloc, "indent", indent).visible_alias("pretty"))
 }
 
 /// The command that writes each canonical form once.

@@ -42,6 +42,16 @@ impl<'a> CommandBuilder<'a> {
         }
     }
 
+    /// The same of an argument for which there may be no memory.
+    pub(crate) fn arg_or_none(self, arg: Result<Arg<'a>, AllocError>) -> CommandBuilder<'a> {
+        match arg {
+            Ok(arg) => self.arg(arg),
+            Err(error) => CommandBuilder {
+                command: Err(error),
+            },
+        }
+    }
+
     pub(crate) fn subcommand(self, inner: CommandBuilder<'a>) -> CommandBuilder<'a> {
         CommandBuilder {
             command: with_inner(self.command, inner.command),

@@ -4,15 +4,19 @@
 ghost use Rattle.std.specs.Prelude.{◌≡◌};
 ghost use Rattle.bsonraw_dump.specs.files.Findings.{FailsAs};
 
+use crate::files::tell::clear_line;
 use std::io;
 use std::io::{ErrorKind, Write};
 
 /// A writer of findings. If they go elsewhere than the output, a pipe of theirs that has no reader fails as any other writer does: the
 /// output, which isn't whole then, may have one.
 #[derive(Drop)]
-pub struct Findings<W> {
+pub struct Findings<'a, W> {
+    pub rt: &'a HostRuntime,
     /// Where findings go.
     pub writer: W,
+    /// Whether a line of standard error may be on the screen, which is cleared first.
+    pub clears: bool,
     /// Whether that is elsewhere than the output.
     pub is_apart: bool,
 }
@@ -27,10 +31,13 @@ fn failure(is_apart: bool, error: io::Error) -> io::Error
     error
 }
 
-impl<W: Write> Write for Findings<W> {
+impl<W: Write> Write for Findings<'_, W> {
     ghost contents = { λ findings. W.contents findings.writer };
 
     fn write(&mut self, buf: &[u8]) -> io::Result<usize> {
+        if self.clears {
+            clear_line(self.rt);
+        }
         match self.writer.write(buf) {
             Ok(len) => Ok(len),
             Err(error) => Err(failure(self.is_apart, error)),

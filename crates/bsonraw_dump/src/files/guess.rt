@@ -1,15 +1,15 @@
 //! What a file is that is no dump, as far as its first bytes tell.
 #![tactic(auto)]
 
-ghost use Rattle.std.specs.Prelude.{◌≡◌, ◌++◌, List, MatchBool, MatchOption, None, drop, ℕ};
+ghost use Rattle.std.specs.Prelude.{◌≡◌, ◌++◌, List, MatchBool, MatchOption, None, Some, drop, ℕ};
 ghost use Rattle.std.specs.List.{All};
 ghost use Rattle.std.specs.Option.{option_copied};
-ghost use Rattle.bsonraw_dump.specs.files.Guess.{Begins, Hints, HintsAtText, IsArchive, IsGzip, IsMarked, IsMarkedJson, IsPlain, IsTag, IsUtf16, IsZstd, LooksLike, LooksLikeNothing, MayBegin, MayFollow, OpensJson, OpensWell, front_of};
+ghost use Rattle.bsonraw_dump.specs.files.Guess.{Begins, Hints, HintsAt, HintsAtText, IsArchive, IsDigitOrSpace, IsGzip, IsMarked, IsMarkedJson, IsPlain, IsTag, IsUtf16, IsZstd, LooksLike, LooksLikeNothing, MayBegin, MayFollow, OpensJson, OpensWell, front_of};
 
 use raw_view::ElementType;
 
 /// How many bytes are looked at.
-const FRONT: usize = 64;
+pub const FRONT: usize = 64;
 
 fn front(read: &[u8]) -> &[u8]
     ensures { result.now ≡ front_of read.now }
@@ -97,6 +97,19 @@ fn is_text(front: &[u8]) -> bool
     front.iter().all(|byte| is_plain(*byte))
 }
 
+fn is_digit_or_space(byte: u8) -> bool
+    ensures { MatchBool result (IsDigitOrSpace byte) (¬ IsDigitOrSpace byte) }
+{
+    matches!(byte, b'0'..=b'9' | b'A'..=b'F' | b'a'..=b'f' | b'\t' | b'\n' | b'\r' | b' ')
+}
+
+/// Whether all of it are digits in base 16, or white space.
+fn is_hex(front: &[u8]) -> bool
+    ensures { MatchBool result (All IsDigitOrSpace front.now) (¬ All IsDigitOrSpace front.now) }
+{
+    front.iter().all(|byte| is_digit_or_space(*byte))
+}
+
 /// Whether an object or an array of JSON begins so.
 fn opens_json(front: &[u8]) -> bool
     ensures { MatchBool result (OpensJson front.now) (¬ OpensJson front.now) }
@@ -106,11 +119,11 @@ fn opens_json(front: &[u8]) -> bool
 
 /// What is after the byte order mark.
 #[tactic(auto, using(std::proofs::lemmas::List::drop_all))]
-fn behind_mark(front: &[u8]) -> &[u8]
+fn after_mark(front: &[u8]) -> &[u8]
     ensures { result.now ≡ drop 3 front.now }
 {
     match front.split_first_chunk::<3>() {
-        Some((_, behind)) => behind,
+        Some((_, after)) => after,
         None => &[],
     }
 }
@@ -119,8 +132,8 @@ fn behind_mark(front: &[u8]) -> &[u8]
 fn is_marked_json(front: &[u8]) -> bool
     ensures { MatchBool result (IsMarkedJson front.now) (¬ IsMarkedJson front.now) }
 {
-    let behind = behind_mark(front);
-    is_marked(front) && is_text(behind) && opens_json(behind)
+    let after = after_mark(front);
+    is_marked(front) && is_text(after) && opens_json(after)
 }
 
 /// What a file looks like that begins so, and what helps.
@@ -137,17 +150,19 @@ fn look(front: &[u8]) -> Option<&'static str>
         Some("looks like text in UTF-16, not a dump")
     } else if is_marked_json(front) {
         Some("looks like JSON, not a dump: tail -c +4 FILE | bsonraw-dump bson")
+    } else if is_hex(front) {
+        Some("looks like hex digits, not a dump: xxd -r -p FILE | bsonraw-dump .., or bsonraw")
     } else if !is_text(front) {
         None
     } else if opens_json(front) {
         Some("looks like JSON, not a dump: bsonraw-dump bson FILE, or mongoimport, reads it")
     } else {
-        Some("looks like text, not a dump")
+        Some("looks like text, not a dump; --resync looks for documents in it")
     }
 }
 
 /// What a file looks like that begins so, and what helps; `None` if it may be a dump of documents of at most `most` bytes.
-pub fn hint(most: usize, read: &[u8]) -> Option<&'static str>
+fn hint(most: usize, read: &[u8]) -> Option<&'static str>
     ensures hints { Hints most read.now (option_copied result) }
     ensures none { (d r more : List ℕ) → OpensWell most d → read.now ++ more ≡ d ++ r → result ≡ None }
 {
@@ -160,7 +175,7 @@ pub fn hint(most: usize, read: &[u8]) -> Option<&'static str>
 }
 
 /// What a file looks like that begins so, and what helps; `None` if it may be text in UTF-8.
-pub fn text_hint(read: &[u8]) -> Option<&'static str>
+fn text_hint(read: &[u8]) -> Option<&'static str>
     ensures { HintsAtText read.now (option_copied result) }
 {
     if is_gzip(read) {
@@ -171,5 +186,16 @@ pub fn text_hint(read: &[u8]) -> Option<&'static str>
         Some("begins with a byte order mark: tail -c +4 FILE | bsonraw-dump bson")
     } else {
         None
+    }
+}
+
+/// What an input looks like that begins so, if that isn't what it has to be: a dump of documents of at most `most` bytes, or text.
+pub fn hint_at(most: Option<usize>, read: &[u8]) -> Option<&'static str>
+    ensures hints { HintsAt most read.now (option_copied result) }
+    ensures none { (m : ℕ) (d r more : List ℕ) → most ≡ Some m → OpensWell m d → read.now ++ more ≡ d ++ r → result ≡ None }
+{
+    match most {
+        Some(most) => hint(most, read),
+        None => text_hint(read),
     }
 }

@@ -1,8 +1,9 @@
 //! The files of a run, as its inputs.
 #![tactic(auto)]
 
-use crate::files::tell::tell;
-use crate::files::watch::{About, Watched};
+use crate::files::guess::{FRONT, hint_at};
+use crate::files::tell::{tell, tell_text};
+use crate::files::watch::{About, Progress, Watched};
 use dump_io::input::inputs::Inputs;
 use dump_io::lines::style::Style;
 use std::fs::File;
@@ -28,24 +29,43 @@ impl Read for Source<'_> {
     }
 }
 
-/// Inputs that can't be opened, as their names aren't UTF-8.
+/// Inputs that aren't opened: their names aren't UTF-8, or they are packed files of a folder.
 #[derive(Clone, Copy)]
 pub struct Unread<'a> {
-    /// what stands for their names; no other input is named so
+    /// what stands for the names that aren't UTF-8; no other input is named so
     pub names: &'a [String],
-    /// what is reported of each
+    /// what is reported of each of these
     pub words: &'a str,
+    /// the names of packed files, in order
+    pub packed: &'a [String],
+    /// what is reported of all of these, once
+    pub packed_words: &'a str,
 }
 
-impl Unread<'_> {
-    fn has(self, name: &str) -> bool {
-        for unread in self.names {
-            if unread.as_str() == name {
-                return true;
-            }
+impl<'a> Unread<'a> {
+    /// What is reported of this input, if it isn't opened: of packed files only of the first.
+    fn words_of(self, name: &str) -> Option<&'a str> {
+        if has(self.names, name) {
+            Some(self.words)
+        } else if !self.is_packed(name) {
+            None
+        } else if self.packed.first().is_some_and(|first| first.as_str() == name) {
+            Some(self.packed_words)
+        } else {
+            Some("")
         }
-        false
     }
+
+    fn is_packed(self, name: &str) -> bool {
+        let found = self
+            .packed
+            .binary_search_by(|packed| packed.as_str().cmp(name));
+        found.is_ok()
+    }
+}
+
+fn has(names: &[String], name: &str) -> bool {
+    names.iter().any(|other| other.as_str() == name)
 }
 
 /// The files of a run.
@@ -54,10 +74,12 @@ pub struct Files<'a> {
     pub rt: &'a HostRuntime,
     /// how errors of reading them are reported
     pub style: Style,
-    /// whether it is shown how far the reading has come
-    pub shows: bool,
+    /// how far their reading has come
+    pub progress: &'a Progress<'a>,
     /// how many bytes a document has at most, if they are dumps
     pub most: Option<usize>,
+    /// whether a file is read that doesn't look like what it has to be
+    pub goes_on: bool,
     /// the file that is written by redirection, if it is one, which isn't read
     pub written: Option<Node>,
     /// which of them can't be opened
@@ -73,6 +95,24 @@ pub fn node_of(rt: &HostRuntime, name: &str) -> Option<Node> {
     about.is_file().then_some((about.dev(), about.ino()))
 }
 
+/// How many bytes the files of these names have, if each is a file; `-` is standard input.
+pub fn size_of(rt: &HostRuntime, names: &[&str]) -> Option<u64> {
+    let mut size: u64 = 0;
+    for name in names {
+        let about = fs::metadata(rt, place_of(name)).ok()?;
+        if !about.is_file() {
+            return None;
+        }
+        size = size.saturating_add(about.len());
+    }
+    Some(size)
+}
+
+/// Where what has this name is.
+fn place_of(name: &str) -> &str {
+    if name == "-" { "/dev/stdin" } else { name }
+}
+
 /// Whether these are names of one file, pipe or device.
 pub fn are_one(rt: &HostRuntime, name: &str, other: &str) -> bool {
     match (fs::metadata(rt, name), fs::metadata(rt, other)) {
@@ -82,16 +122,10 @@ pub fn are_one(rt: &HostRuntime, name: &str, other: &str) -> bool {
 }
 
 impl<'a> Files<'a> {
-    fn about(&self, name: &str, place: &str) -> About {
-        let size = match fs::metadata(self.rt, place) {
-            Ok(about) if about.is_file() => Some(about.len()),
-            _ => None,
-        };
+    fn about(&self, name: &str) -> About {
         About {
             name: String::from_str(self.rt.alloc(), name).ok(),
-            size,
             style: self.style,
-            shows: self.shows,
             most: self.most,
         }
     }
@@ -99,10 +133,20 @@ impl<'a> Files<'a> {
     /// Why a folder isn't read: one that has dumps is these, where dumps are read.
     fn why_no_folder(&self) -> io::Error {
         io::Error::other(match self.most {
-            Some(_) =>
-                "no *.bson in it; name a database's folder, or: gzip -dc FILE | bsonraw-dump ..",
+            Some(_) => "no *.bson in it, or in a folder below it",
             None => "a folder isn't read; name the files in it",
         })
+    }
+
+    /// Why this file isn't read, if it looks like something else and isn't read then.
+    fn why_not(&self, name: &str) -> Option<&'static str> {
+        if self.goes_on || node_of(self.rt, name).is_none() {
+            return None;
+        }
+        let mut file = File::open(self.rt, name).ok()?;
+        let mut room = [0; FRONT];
+        let len = file.read(&mut room).ok()?;
+        hint_at(self.most, &room[..len.min(FRONT)])
     }
 }
 
@@ -110,25 +154,31 @@ impl<'a> Inputs for Files<'a> {
     type Input = Source<'a>;
 
     fn open(&self, name: &str) -> io::Result<Source<'a>> {
-        if self.unread.has(name) {
-            return Err(io::Error::other(self.unread.words));
+        if self.unread.words_of(name).is_some() {
+            return Err(io::Error::other("not read"));
         }
-        let place = if name == "-" { "/dev/stdin" } else { name };
-        if self.written.is_some() && node_of(self.rt, place) == self.written {
+        if self.written.is_some() && node_of(self.rt, place_of(name)) == self.written {
             return Err(io::Error::other("this file is the output as well"));
         }
-        let about = self.about(name, place);
+        let about = self.about(name);
         if name == "-" {
-            return Ok(Source::Input(Watched::new(self.rt, self.rt.stdin(), about)));
+            return Ok(Source::Input(Watched::new(self.rt, self.rt.stdin(), about, self.progress)));
         }
         let file = File::open(self.rt, name)?;
         if fs::metadata(self.rt, name).is_ok_and(|about| about.is_dir()) {
             return Err(self.why_no_folder());
         }
-        Ok(Source::File(Watched::new(self.rt, file, about)))
+        if let Some(words) = self.why_not(name) {
+            return Err(io::Error::other(words));
+        }
+        Ok(Source::File(Watched::new(self.rt, file, about, self.progress)))
     }
 
     fn tell(&self, name: &str, at: Option<u64>, error: &io::Error) {
-        tell(self.rt, self.style, name, at, error);
+        match self.unread.words_of(name) {
+            Some("") => (),
+            Some(words) => tell_text(self.rt, self.style, name, words),
+            None => tell(self.rt, self.style, name, at, error),
+        }
     }
 }

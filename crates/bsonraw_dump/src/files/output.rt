@@ -4,7 +4,8 @@
 ghost use Rattle.std.specs.Prelude.{◌≡◌};
 ghost use Rattle.bsonraw_dump.specs.files.Endings.{unwritten_status};
 
-use crate::files::tell::{tell, tell_lack};
+use crate::command_line::listing;
+use crate::files::tell::{tell, tell_lack, tell_text};
 use dump_io::input::done::{Done, Lack};
 use dump_io::input::status::Status;
 use dump_io::lines::failure::Failure;
@@ -14,7 +15,7 @@ use std::fs::{File, Metadata, OpenOptions};
 use std::io::BufWriter;
 use std::os::fd::AsRawFd;
 use std::os::unix::fs::{MetadataExt, fchown};
-use std::{fs, io, process};
+use std::{fs, io, process, str};
 
 /// How many bytes are written at a time.
 pub const BLOCK: usize = 1 << 18;
@@ -95,6 +96,7 @@ fn replaced<'a, F: Fill<'a>>(
         Ok(place) => format!(in rt.alloc(); "{}", place.display())?,
         Err(_) => String::from_str(rt.alloc(), name)?,
     };
+    tell_left(rt, run.style(), place.as_str())?;
     let beside = beside(rt, place.as_str())?;
     let file = match File::create_new(rt, beside.as_str()) {
         Ok(file) => file,
@@ -144,6 +146,40 @@ fn beside(rt: &HostRuntime, place: &str) -> Result<String, AllocError> {
     let len = place.len().min(begins.saturating_add(most));
     let front = &place[..place.floor_char_boundary(len)];
     format!(in rt.alloc(); "{front}{end}")
+}
+
+/// Tells of each file that a run of this program left beside this place, as one does that is ended from outside.
+fn tell_left(rt: &HostRuntime, style: Style, place: &str) -> Result<(), AllocError> {
+    let (folder, name) = place.rsplit_once('/').unwrap_or((".", place));
+    let folder = format!(in rt.alloc(); "{folder}/")?;
+    let names = listing(rt, folder.as_str())?.unwrap_or(Vec::new(rt.alloc()));
+    for other in names.split(|byte| *byte == 0) {
+        let other = str::from_utf8(other).unwrap_or("");
+        if is_left(name, other) {
+            let path = format!(in rt.alloc(); "{folder}{other}")?;
+            tell_size(rt, style, path.as_str())?;
+        }
+    }
+    Ok(())
+}
+
+/// Whether a run that is ended from outside leaves a file of this name beside one with that name: a number and `.tmp` are after it.
+fn is_left(name: &str, other: &str) -> bool {
+    let number = other
+        .strip_prefix(name)
+        .and_then(|end| end.strip_prefix('.'))
+        .and_then(|end| end.strip_suffix(".tmp"));
+    number.is_some_and(|number| !number.is_empty() && number.bytes().all(|byte| byte.is_ascii_digit()))
+}
+
+/// Tells of a file that was left.
+fn tell_size(rt: &HostRuntime, style: Style, path: &str) -> Result<(), AllocError> {
+    if let Ok(about) = fs::metadata(rt, path) {
+        let len = about.len();
+        let words = format!(in rt.alloc(); "{len} bytes of another run; if that was ended, remove the file")?;
+        tell_text(rt, style, path, words.as_str());
+    }
+    Ok(())
 }
 
 /// Writes all into the file, which is on the disk at the end.

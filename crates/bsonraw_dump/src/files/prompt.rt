@@ -4,6 +4,7 @@
 ghost use Rattle.std.specs.Prelude.{◌≡◌};
 ghost use Rattle.bsonraw_dump.specs.files.Writers.{IsUnwritten};
 
+use crate::files::tell::clear_line;
 use std::io;
 use std::io::Write;
 use std::time::{Duration, Instant};
@@ -15,19 +16,22 @@ pub struct Prompt<'a, W> {
     rt: &'a HostRuntime,
     writer: W,
     often: bool,
+    /// whether a line of standard error may be on the screen, which is cleared first
+    clears: bool,
     last: Option<Instant>,
     failed: Option<io::Error>,
 }
 
 impl<'a, W> Prompt<'a, W> {
     /// The writer, flushed with each write if it is `often`, else once a second.
-    pub fn new(rt: &'a HostRuntime, writer: W, often: bool) -> Prompt<'a, W>
-        ensures { IsUnwritten writer often result }
+    pub fn new(rt: &'a HostRuntime, writer: W, often: bool, clears: bool) -> Prompt<'a, W>
+        ensures { IsUnwritten writer often clears result }
     {
         Prompt {
             rt,
             writer,
             often,
+            clears,
             last: None,
             failed: None,
         }
@@ -60,6 +64,9 @@ impl<W: Write> Write for Prompt<'_, W> {
     fn write(&mut self, buf: &[u8]) -> io::Result<usize> {
         if let Some(error) = self.failed.take() {
             return Err(error);
+        }
+        if self.clears {
+            clear_line(self.rt);
         }
         let len = self.writer.write(buf)?;
         if self.is_due() {

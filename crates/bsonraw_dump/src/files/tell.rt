@@ -15,6 +15,14 @@ use std::alloc::{AllocError, Global};
 use std::io;
 use std::io::Write;
 
+/// Prints these words of a file. If even that fails, nothing is printed.
+pub fn tell_text(rt: &HostRuntime, style: Style, name: &str, text: &str) {
+    match line_of(rt.alloc(), style, name, None, text) {
+        Ok(line) => put(rt, &line),
+        Err(_) => tell_words(rt, style, "not enough memory"),
+    }
+}
+
 /// Reports what goes wrong with a file, and after how many bytes, if some were read. If even that fails, nothing is reported.
 pub fn tell(rt: &HostRuntime, style: Style, name: &str, at: Option<u64>, error: &io::Error) {
     match told(rt, style, name, at, error) {
@@ -181,4 +189,9 @@ pub fn tell_words(rt: &HostRuntime, style: Style, words: &str) {
             let _told = eprintln!(rt; "{{\"error\":\"{words}\"}}");
         }
     }
+}
+
+/// Clears the line of a terminal that shows how far the reading has come.
+pub fn clear_line(rt: &HostRuntime) {
+    let _shown = rt.stderr().write_all(b"\x1b[K");
 }
