@@ -235,11 +235,11 @@ fn shows_progress(rt: &HostRuntime, run: &Run<'_>) -> bool {
     is_apart && is_shown(rt, run.reading.style())
 }
 
-fn files_of<'a>(
+fn files_of<'a, 'b>(
     rt: &'a HostRuntime,
-    run: &'a Run<'_>,
-    progress: &'a Progress<'a>,
-) -> Files<'a> {
+    run: &'b Run<'_>,
+    progress: &'b Progress<'a>,
+) -> Files<'a, 'b> {
     Files {
         rt,
         style: run.reading.style(),

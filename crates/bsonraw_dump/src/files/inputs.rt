@@ -13,14 +13,14 @@ use std::{fs, io};
 
 /// A file, or standard input.
 #[derive(Drop)]
-pub enum Source<'a> {
+pub enum Source<'a, 'b> {
     /// a file
-    File(Watched<'a, File>),
+    File(Watched<'a, 'b, File>),
     /// standard input
-    Input(Watched<'a, Stdin>),
+    Input(Watched<'a, 'b, Stdin>),
 }
 
-impl Read for Source<'_> {
+impl Read for Source<'_, '_> {
     fn read(&mut self, buf: &mut [u8]) -> io::Result<usize> {
         match self {
             Source::File(file) => file.read(buf),
@@ -70,12 +70,12 @@ fn has(names: &[String], name: &str) -> bool {
 
 /// The files of a run.
 #[derive(Drop)]
-pub struct Files<'a> {
+pub struct Files<'a, 'b> {
     pub rt: &'a HostRuntime,
     /// how errors of reading them are reported
     pub style: Style,
     /// how far their reading has come
-    pub progress: &'a Progress<'a>,
+    pub progress: &'b Progress<'a>,
     /// how many bytes a document has at most, if they are dumps
     pub most: Option<usize>,
     /// whether a file is read that doesn't look like what it has to be
@@ -83,7 +83,7 @@ pub struct Files<'a> {
     /// the file that is written by redirection, if it is one, which isn't read
     pub written: Option<Node>,
     /// which of them can't be opened
-    pub unread: Unread<'a>,
+    pub unread: Unread<'b>,
 }
 
 /// What makes two names those of one file: its device and its number there.
@@ -121,7 +121,7 @@ pub fn are_one(rt: &HostRuntime, name: &str, other: &str) -> bool {
     }
 }
 
-impl<'a> Files<'a> {
+impl Files<'_, '_> {
     fn about(&self, name: &str) -> About {
         About {
             name: String::from_str(self.rt.alloc(), name).ok(),
@@ -150,10 +150,10 @@ impl<'a> Files<'a> {
     }
 }
 
-impl<'a> Inputs for Files<'a> {
-    type Input = Source<'a>;
+impl<'a, 'b> Inputs for Files<'a, 'b> {
+    type Input = Source<'a, 'b>;
 
-    fn open(&self, name: &str) -> io::Result<Source<'a>> {
+    fn open(&self, name: &str) -> io::Result<Source<'a, 'b>> {
         if self.unread.words_of(name).is_some() {
             return Err(io::Error::other("not read"));
         }

@@ -109,23 +109,23 @@ pub struct About {
 
 /// A reader that shows how many bytes it gave.
 #[derive(Drop)]
-pub struct Watched<'a, R> {
+pub struct Watched<'a, 'b, R> {
     rt: &'a HostRuntime,
     reader: R,
     about: About,
-    progress: &'a Progress<'a>,
+    progress: &'b Progress<'a>,
     /// whether it was read
     is_begun: bool,
 }
 
-impl<'a, R> Watched<'a, R> {
+impl<'a, 'b, R> Watched<'a, 'b, R> {
     /// The reader of an input of which nothing was read.
     pub fn new(
         rt: &'a HostRuntime,
         reader: R,
         about: About,
-        progress: &'a Progress<'a>,
-    ) -> Watched<'a, R>
+        progress: &'b Progress<'a>,
+    ) -> Watched<'a, 'b, R>
         ensures { IsUnread reader about result }
     {
         Watched {
@@ -137,23 +137,21 @@ impl<'a, R> Watched<'a, R> {
         }
     }
 
-    /// Looks at what was read: says what the first bytes look like, and shows how many came.
+    /// Looks at what was read, and notes that the input is begun.
     fn look(&mut self, read: &[u8])
         ensures { self.new.reader ≡ self.old.reader }
     {
-        let name = self.about.name.as_ref().map_or("", |name| name.as_str());
-        if !self.is_begun {
-            self.tell_hint(name, read);
-        }
-        self.progress.add(name, read.len());
+        self.show(read);
         self.is_begun = true;
     }
 
-    /// Says what the input looks like, if it begins so and that isn't what it has to be.
-    fn tell_hint(&self, name: &str, read: &[u8]) {
-        if let Some(words) = hint_at(self.about.most, read) {
+    /// Says what the first bytes look like, if that isn't what the input has to be, and shows how many bytes came.
+    fn show(&self, read: &[u8]) {
+        let name = self.about.name.as_ref().map_or("", |name| name.as_str());
+        if let (false, Some(words)) = (self.is_begun, hint_at(self.about.most, read)) {
             tell(self.rt, self.about.style, name, None, &io::Error::other(words));
         }
+        self.progress.add(name, read.len());
     }
 }
 
@@ -177,7 +175,7 @@ fn per_second(count: u64, millis: u64) -> u64
     u64::try_from(rate).unwrap_or(u64::MAX)
 }
 
-impl<R: Read> Read for Watched<'_, R> {
+impl<R: Read> Read for Watched<'_, '_, R> {
     ghost remaining = { λ w. R.remaining (reader_of w) };
 
     fn read(&mut self, buf: &mut [u8]) -> io::Result<usize> {
