@@ -9,7 +9,7 @@
 #
 # Where BSONRAW_BESIDE names a folder in which cargo has built a crate `bson` with the module `raw` (target/release/deps), a program
 # written for that module prints the same with it of the made documents. Where BSONRAW_RAW names a folder with the files of that module,
-# the 33 examples in their comments do here what they say; rust/tests/suite/examples.rs has what they show in other words.
+# the 33 examples in their comments do here what they say; rust/tests/suite/examples.rs has a test for each, in other words.
 set -u
 cd "$(dirname "$(realpath "$0")")/.." || exit 1
 work=$(mktemp -d) || exit 1
@@ -81,6 +81,7 @@ look_at bsonraw-sys
 in_crate cargo doc --no-deps || fails "the crate's pages aren't made without a warning"
 in_crate sh -c 'cd bsonraw-sys && cargo test' || fails "the declarations aren't those of the header"
 BSONRAW_MADE="$work/made" in_crate cargo test || fails "the crate's tests fail"
+[ "$(grep -c '^test examples::.* \.\.\. ok$' "$work/said")" = 33 ] || fails "rust/tests/suite/examples.rs hasn't a test for each of 33 examples"
 echo "rust: $(passed) tests and examples by $(rustc --version | cut -d ' ' -f 1,2)"
 
 # Pages and checks need no library: where docs.rs says that it makes pages, and where none is found.
@@ -154,7 +155,7 @@ if [ -n "${BSONRAW_RAW-}" ]; then
     [ "$(passed)" = 33 ] || fails "$(passed) examples of the crate bson are there, not 33"
     echo "rust: 33 examples of the crate bson"
 else
-    skip "the 33 examples of the crate bson (BSONRAW_RAW; what they show is in rust/tests/suite/examples.rs)"
+    skip "the 33 examples of the crate bson as they are (BSONRAW_RAW; rust/tests/suite/examples.rs has them in other words)"
 fi
 
 # tells NAME COMMAND..: whether a program for the crate bson, with other lines `use`, prints what checks/rust/NAME.txt has

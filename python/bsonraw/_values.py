@@ -201,6 +201,11 @@ class Timestamp(_Ordered):
 
     def __new__(cls, time: Union[int, datetime], inc: int) -> Timestamp:
         seconds = _seconds(time) if isinstance(time, datetime) else time
+        for part in (seconds, inc):
+            if not isinstance(part, int):
+                raise TypeError(f"a Timestamp is made of ints, or a datetime and an int, not of {type(part).__name__}")
+            if not 0 <= part < 1 << 32:
+                raise ValueError(f"a part of a Timestamp is from 0 to {(1 << 32) - 1}, not {part}")
         return super().__new__(cls, inc.to_bytes(4, "little") + seconds.to_bytes(4, "little"))
 
     @property
@@ -266,7 +271,9 @@ def _decimal(raw: bytes) -> Decimal:
 
 
 class Decimal128(Raw):
-    """A decimal of 34 digits, from its text, a decimal.Decimal, or the 16 bytes of BSON. Equal where these are.
+    """A decimal of 34 digits, from its text, a decimal.Decimal, the 16 bytes of BSON, or their two numbers, the higher one first.
+
+    Equal where the bytes are.
 
     Raises decimal.Inexact or decimal.Overflow for what it can't hold, and
     ValueError for a NaN with a number.
@@ -275,9 +282,12 @@ class Decimal128(Raw):
     __slots__ = ()
     _type_marker = 19
 
-    def __new__(cls, value: Union[bytes, str, Decimal]) -> Decimal128:
+    def __new__(cls, value: Union[bytes, str, Decimal, Tuple[int, int]]) -> Decimal128:
         if isinstance(value, str):
             value = Decimal(value)
+        elif isinstance(value, tuple) and len(value) == 2:
+            high, low = value
+            value = struct.pack("<QQ", low, high)
         raw = _decimal_bytes(value) if isinstance(value, Decimal) else _bytes_of(value, "a Decimal128")
         if len(raw) != 16:
             raise ValueError(f"a Decimal128 has 16 bytes, not {len(raw)}")
@@ -330,6 +340,8 @@ class Regex(Pair):
     _type_marker = 11
 
     def __new__(cls, pattern: str, flags: Union[str, int] = "") -> Regex:
+        if not isinstance(pattern, str) or not isinstance(flags, (str, int)):
+            raise TypeError(f"a Regex is made of a str and a str or an int, not of {type(pattern).__name__} and {type(flags).__name__}")
         return super().__new__(cls, pattern, options_of(flags) if isinstance(flags, int) else flags)
 
     @classmethod
@@ -366,9 +378,18 @@ class Regex(Pair):
         return again(self, Regex, self.pattern, self.options)
 
 
-def _standard(uuid_representation: int, instead: str) -> None:
-    if uuid_representation != 4:
-        raise TypeError(f"uuid_representation is STANDARD, 4, and not {uuid_representation!r}: in its place use {instead}")
+def _uuid_subtype(uuid_representation: int) -> int:
+    """The subtype that a representation of UUIDs has."""
+    if uuid_representation not in (3, 4, 5, 6):
+        raise ValueError(f"a representation of UUIDs is from 3 to 6, not {uuid_representation!r}")
+    return 4 if uuid_representation == 4 else 3
+
+
+def _turned(data: bytes, uuid_representation: int) -> bytes:
+    """The bytes of a UUID in the order of a representation, or back: programs in Java (5) and C# (6) wrote them in their own."""
+    if uuid_representation == 5:
+        return data[7::-1] + data[:7:-1]
+    return uuids.UUID(bytes_le=data).bytes if uuid_representation == 6 else data
 
 
 class Binary(bytes):
@@ -386,16 +407,17 @@ class Binary(bytes):
 
     @classmethod
     def from_uuid(cls, uuid: uuids.UUID, uuid_representation: int = 4) -> Binary:
-        """The Binary of subtype 4 of a UUID; of MongoDB's representations that is STANDARD, and another one raises TypeError."""
-        _standard(uuid_representation, "Binary(uuid.bytes, subtype)")
-        return cls(uuid.bytes, 4)
+        """The Binary of a UUID: of subtype 4, or in one of MongoDB's representations of old, which are 3, 5 and 6, of subtype 3."""
+        subtype = _uuid_subtype(uuid_representation)
+        if not isinstance(uuid, uuids.UUID):
+            raise TypeError(f"this is a {type(uuid).__name__}, not a uuid.UUID")
+        return cls(_turned(uuid.bytes, uuid_representation), subtype)
 
     def as_uuid(self, uuid_representation: int = 4) -> uuids.UUID:
-        """The UUID of a Binary of subtype 4."""
-        _standard(uuid_representation, "uuid.UUID(bytes=binary.data)")
-        if self.subtype != 4:
-            raise ValueError(f"a Binary of subtype {self.subtype} isn't a UUID")
-        return uuids.UUID(bytes=bytes(self))
+        """The UUID of a Binary of subtype 4; in one of MongoDB's representations of old of one of subtype 3."""
+        if self.subtype != _uuid_subtype(uuid_representation):
+            raise ValueError(f"a Binary of subtype {self.subtype} isn't a UUID of representation {uuid_representation}")
+        return uuids.UUID(bytes=_turned(bytes(self), uuid_representation))
 
     @property
     def data(self) -> bytes:

@@ -4,18 +4,18 @@
 #include "native.h"
 
 /* Not where hooks are: what they made may run code of its own when it is freed. */
-int collector_hold(const struct options *options) {
+int collector_hold_of_dump(const struct options *options) {
     struct state *state = options->state;
-    if (state->is_held || !options->is_of_dump || options->hook != NULL || options->pairs_hook != NULL) return 0;
+    if (state->is_held || options->hook != NULL || options->pairs_hook != NULL) return 0;
     collector_resume(state, 1);
     return state->is_held;
 }
 
-void collector_free(struct state *state, int was_held) {
+void collector_end(struct state *state) {
 #if PY_VERSION_HEX >= 0x030A0000
-    if (was_held && state->is_held) PyGC_Enable();
+    if (state->is_held) PyGC_Enable();
 #endif
-    if (was_held) state->is_held = 0;
+    state->is_held = 0;
 }
 
 int collector_pause(struct state *state) {

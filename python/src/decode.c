@@ -831,7 +831,8 @@ CALL(py_decode) {
     PyObject *data, *object = NULL;
     if (options_read(module, &OF_DECODE, &options, &data, args, count, names) < 0) return NULL;
     if (bytes_open(options.state, &bytes, data) == 0) {
-        object = in_type(&options, decoded_as(&bytes, &options, 0, BSONRAW_TAG_DOCUMENT));
+        object = decoded_as(&bytes, &options, 0, BSONRAW_TAG_DOCUMENT);
+        if (options.into != NULL) object = in_type(&options, object);
         bytes_close(&bytes);
     }
     options_end(&options);

@@ -68,7 +68,7 @@ static int put_bool(struct out *out, PyObject *value) {
 }
 
 /* Of a datetime or a DatetimeMS. */
-static int put_time(struct out *out, PyObject *value) {
+INLINE int put_time(struct out *out, PyObject *value) {
     int64_t millis;
     if (!is_datetime(out->state, value)) return put_wide(out, value);
     return millis_of(out->state, value, &millis) < 0 ? -1 : put_i64(out, millis);
@@ -204,7 +204,7 @@ INLINE int next_element(struct out *out, struct level *level, PyObject **value) 
     return put(out, &tag, 1) < 0 || put_cstring(out, key) < 0 ? -1 : 1;
 }
 
-static int end_level(struct out *out, struct levels *levels) {
+INLINE int end_level(struct out *out, struct levels *levels) {
     struct level *level = &levels->at[--levels->count];
     uint8_t end = 0;
     int status = put(out, &end, 1) < 0 || end_length(out, level->from) < 0 ? -1 : 0;
@@ -243,9 +243,8 @@ static int put_raw_document(struct out *out, const struct levels *levels, PyObje
 /* Of a RawDocument, which is written as one, but isn't gone into. */
 #define RAW_DOCUMENT (0x100 | BSONRAW_TAG_DOCUMENT)
 
-/* The tag of values of one of the package's own classes; 0 of another class. */
-static int own_tag_of(const struct classes *classes, const PyTypeObject *type) {
-    if (type == classes->int64) return BSONRAW_TAG_INT64;
+/* The tag of values of one of the package's own classes but Int64; 0 of another class. */
+INLINE int own_tag_of(const struct classes *classes, const PyTypeObject *type) {
     if (type == classes->object_id) return BSONRAW_TAG_OBJECT_ID;
     if (type == classes->decimal128) return BSONRAW_TAG_DECIMAL128;
     if (type == classes->timestamp) return BSONRAW_TAG_TIMESTAMP;
@@ -269,6 +268,7 @@ INLINE int tag_of(const struct state *state, PyObject *value) {
     if (type == &PyUnicode_Type) return BSONRAW_TAG_STRING;
     if (type == &PyLong_Type) return BSONRAW_TAG_INT32;
     if (type == &PyFloat_Type) return BSONRAW_TAG_DOUBLE;
+    if (type == state->classes.int64) return BSONRAW_TAG_INT64;
     if (value == Py_None) return BSONRAW_TAG_NULL;
     if (type == &PyBool_Type) return BSONRAW_TAG_BOOLEAN;
     if (type == &PyDict_Type) return BSONRAW_TAG_DOCUMENT;

@@ -59,9 +59,12 @@ int bytes_open_view(const struct state *state, struct bytes *bytes, PyObject *da
 
 /* 0, or -1 with an error set. Each opened one has to be closed. */
 static inline int bytes_open(const struct state *state, struct bytes *bytes, PyObject *data) {
+    char *at;
+    Py_ssize_t len;
     if (!PyBytes_CheckExact(data)) return bytes_open_view(state, bytes, data);
-    bytes->at = (const uint8_t *)PyBytes_AsString(data);
-    bytes->len = (size_t)PyBytes_Size(data);
+    PyBytes_AsStringAndSize(data, &at, &len); /* of bytes it raises nothing */
+    bytes->at = (const uint8_t *)at;
+    bytes->len = (size_t)len;
     bytes->copy = NULL;
     bytes->is_fixed = 1;
     bytes->has_view = 0;
@@ -220,8 +223,15 @@ PyObject *in_types(struct state *state, PyObject *types, uint32_t tag, PyObject 
 /* ---- collector.c ---- */
 
 /* While containers of a dump's document are made: whether this call has the collector off, which ends with it. */
-int collector_hold(const struct options *options);
-void collector_free(struct state *state, int was_held);
+int collector_hold_of_dump(const struct options *options);
+void collector_end(struct state *state);
+
+static inline int collector_hold(const struct options *options) { return options->is_of_dump ? collector_hold_of_dump(options) : 0; }
+
+static inline void collector_free(struct state *state, int was_held) {
+    if (was_held) collector_end(state);
+}
+
 /* Around what lets go of the interpreter's lock, or runs code of others, in between. */
 int collector_pause(struct state *state);
 void collector_resume(struct state *state, int was_held);

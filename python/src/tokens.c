@@ -18,24 +18,33 @@ void tokens_free(struct state *state, struct tokens *tokens) {
     tokens->room = 0;
 }
 
-static inline int32_t flatten(const struct tokens *tokens, const struct bytes *bytes, struct told *told) {
-    return bsonraw_flatten(bytes->at, bytes->len, told->max_bytes, told->max_depth, tokens->at, tokens->room, &told->report,
+static inline int32_t flatten(const struct tokens *tokens, const struct bytes *bytes, const struct options *options, struct told *told) {
+    return bsonraw_flatten(bytes->at, bytes->len, options->max_bytes, options->max_depth, tokens->at, tokens->room, &told->report,
                            told->path, PATH_ROOM);
 }
 
 /* Without the interpreter's lock. */
-NOT_INLINE int32_t flatten_alone(const struct tokens *tokens, const struct bytes *bytes, struct told *told) {
-    int was_held = collector_pause(told->state);
+NOT_INLINE int32_t flatten_alone(const struct tokens *tokens, const struct bytes *bytes, const struct options *options, struct told *told) {
+    int was_held = collector_pause(options->state);
     int32_t status;
     Py_BEGIN_ALLOW_THREADS
-    status = flatten(tokens, bytes, told);
+    status = flatten(tokens, bytes, options, told);
     Py_END_ALLOW_THREADS
-    collector_resume(told->state, was_held);
+    collector_resume(options->state, was_held);
     return status;
 }
 
-static int32_t flatten_into(const struct tokens *tokens, const struct bytes *bytes, struct told *told) {
-    return LETS_GO(bytes) ? flatten_alone(tokens, bytes, told) : flatten(tokens, bytes, told);
+static int32_t flatten_into(const struct tokens *tokens, const struct bytes *bytes, const struct options *options, struct told *told) {
+    return LETS_GO(bytes) ? flatten_alone(tokens, bytes, options, told) : flatten(tokens, bytes, options, told);
+}
+
+/* Sets the error that was told, and gives the tokens back: -1. */
+NOT_INLINE int refused(struct tokens *tokens, const struct bytes *bytes, const struct options *options, uint64_t before, struct told *told) {
+    told_begin(told, options);
+    told->before = before;
+    set_error_of(bytes, told);
+    tokens_free(options->state, tokens);
+    return -1;
 }
 
 int tokens_read(struct tokens *tokens, const struct bytes *bytes, const struct options *options, uint64_t before) {
@@ -45,19 +54,13 @@ int tokens_read(struct tokens *tokens, const struct bytes *bytes, const struct o
     *tokens = options->state->tokens;
     options->state->tokens.at = NULL;
     options->state->tokens.room = 0;
-    told_begin(&told, options);
-    told.before = before;
     if (tokens->room < wanted && is_sound && make_room(tokens, wanted) < 0) return -1;
-    told.status = flatten_into(tokens, bytes, &told);
+    told.status = flatten_into(tokens, bytes, options, &told);
     if (told.status == BSONRAW_SMALL_BUFFER) {
         if (make_room(tokens, (size_t)told.report.count) < 0) return -1;
-        told.status = flatten_into(tokens, bytes, &told);
+        told.status = flatten_into(tokens, bytes, options, &told);
     }
-    if (told.status != BSONRAW_OK) {
-        set_error_of(bytes, &told);
-        tokens_free(options->state, tokens);
-        return -1;
-    }
+    if (told.status != BSONRAW_OK) return refused(tokens, bytes, options, before, &told);
     tokens->count = (size_t)told.report.count;
     return 0;
 }

@@ -1,4 +1,4 @@
-"""Measures ten daily jobs of examples/daily_bsonraw.py beside those of daily_mongodb.py, and prints a table with the lines of each.
+"""Measures eight daily jobs of examples/daily_bsonraw.py beside those of daily_mongodb.py, and prints a table with the lines of each.
 
     jobs.py [DOCUMENTS [ROUNDS]]
 

@@ -2,6 +2,7 @@
 
 import copy
 import datetime
+import decimal
 import io
 import pickle
 import re
@@ -15,6 +16,7 @@ import bsonraw.compat as compat
 from bsonraw.compat import json_util
 from bsonraw.compat.binary import UuidRepresentation
 from bsonraw.compat.codec_options import CodecOptions, DatetimeConversion, TypeCodec, TypeRegistry
+from bsonraw.compat.decimal128 import create_decimal128_context
 from bsonraw.compat.errors import BSONError, InvalidBSON, InvalidDocument, InvalidId
 from bsonraw.compat.raw_bson import DEFAULT_RAW_BSON_OPTIONS, RawBSONDocument
 from bsonraw.compat.son import SON
@@ -25,6 +27,7 @@ try:
     import bson
     from bson import json_util as their_json
     from bson.codec_options import CodecOptions as TheirOptions
+    from bson.raw_bson import RawBSONDocument as TheirRaw
 except ImportError:
     bson = None  # type: ignore[assignment]
     their_json = None  # type: ignore[assignment]
@@ -121,8 +124,26 @@ class Codecs(unittest.TestCase):
         self.assertEqual((type(document), type(document["a"]), document["a"]["b"], document.raw), (RawBSONDocument, RawBSONDocument, WHEN.replace(tzinfo=None), data))
         self.assertEqual((list(document), len(document), document == RawBSONDocument(data), compat.encode(document)), (["a", "c"], 2, True, data))
         self.assertEqual(compat.decode(compat.encode({"x": document})), {"x": compat.decode(data)})
+        within = compat.encode({"l": [1, {"a": 1}, [[{"b": [{}]}], b"x", None]]})
+        listed = compat.decode(within, DEFAULT_RAW_BSON_OPTIONS)["l"]
+        inner = listed[2][0][0]
+        self.assertEqual([type(one) for one in (listed[1], inner, inner["b"][0])], [RawBSONDocument] * 3)
+        self.assertEqual((listed[0], listed[1]["a"], listed[2][1:], inner.raw), (1, 1, [b"x", None], compat.encode({"b": [{}]})))
+        if bson is not None:
+            theirs = bson.decode(within, TheirOptions(document_class=TheirRaw))["l"]
+            self.assertEqual([theirs[1].raw, theirs[2][0][0].raw, theirs[2][1:]], [listed[1].raw, inner.raw, listed[2][1:]])
+        deep: Any = compat.encode({"x": 1})
+        for _ in range(5_000):
+            deep = framed(b"\4a\0" + deep)
+        self.assertEqual(len(RawBSONDocument(deep)["a"]), 1)
         many = compat.encode({f"k{number}": number for number in range(30_000)})
         self.assertEqual(dict(RawBSONDocument(many)), compat.decode(many))
+
+    def test_decimals(self) -> None:
+        with decimal.localcontext(create_decimal128_context()) as context:
+            rounded = compat.Decimal128(context.create_decimal("1.2345678901234567890123456789012345"))
+        self.assertEqual(str(rounded), "1.234567890123456789012345678901234")  # ties to even
+        self.assertEqual(str(compat.Decimal128(create_decimal128_context().create_decimal(".13.1"))), "NaN")
 
     def test_errors(self) -> None:
         for call, error in (
@@ -208,10 +229,22 @@ class Json(unittest.TestCase):
             for name in ("encode", "decode", "decode_all", "decode_iter", "decode_file_iter", "is_valid", "has_c", "BSON", "SON", "DBRef", "Code", "CodecOptions", "ObjectId"):
                 self.assertTrue(hasattr(bson, name) and name in compat.__all__ and name not in left_out, name)
 
+    def test_what_no_value_is_made_of(self) -> None:
+        """MongoDB's package, from version 3.11 on, raises errors of the same classes."""
+        modules: List[Any] = [compat] if bson is None else [compat, bson]
+        for package in modules:
+            for error, name, given in (
+                (TypeError, "Regex", (5,)), (TypeError, "Regex", ("a", 1.5)), (TypeError, "Timestamp", ("x", 1)), (TypeError, "Timestamp", (1, None)),
+                (ValueError, "Timestamp", (-1, 1)), (ValueError, "Timestamp", (1, 1 << 32)), (TypeError, "Code", (5,)), (TypeError, "DBRef", (5, 1)),
+                (TypeError, "CodecOptions", (5,)), (TypeError, "CodecOptions", (list,)), (ValueError, "Binary", (b"", 300)), (TypeError, "Binary", (b"", "x")),
+            ):
+                self.assertRaises(error, getattr(package, name), *given)
+
     def test_options(self) -> None:
         options = CodecOptions(document_class=SON, tz_aware=True)
         self.assertEqual(options.with_options(tz_aware=False), CodecOptions(document_class=SON))
         self.assertEqual((pickle.loads(pickle.dumps(options)), UuidRepresentation.STANDARD), (options, 4))
+        self.assertIs(CodecOptions(document_class=Dict[str, Any]).document_class, dict)
         for wrong in ({"tz_aware": 1}, {"type_registry": 5}):
             self.assertRaises(TypeError, CodecOptions, **wrong)
         for wrong in ({"uuid_representation": 9}, {"unicode_decode_error_handler": "ignore"}):

@@ -172,14 +172,28 @@ class Keywords(unittest.TestCase):
             ("Regex", {"pattern": "a", "flags": re.I | re.M}), ("Regex.from_native", {"regex": re.compile(b"a", re.M)}), ("Regex", {"pattern": "a"}),
             ("Binary", {"data": b"a", "subtype": 5}), ("Binary.from_uuid", {"uuid": unique, "uuid_representation": 4}), ("Code", {"code": "f", "scope": {"a": 1}}),
             ("Code", {"code": "f", "scope": {"a": 1}, "b": 2}), ("Code", {"code": "f", "b": 2}), ("Decimal128", {"value": "1.5"}),
-            ("Decimal128.from_bid", {"value": Decimal128("2").bid}),
+            ("Decimal128.from_bid", {"value": Decimal128("2").bid}), ("Decimal128", {"value": (0x3040 << 48, 15)}),
         ):
             ours, theirs = operator.attrgetter(name)(bsonraw), bson and operator.attrgetter(name.replace("Decimal128", "decimal128.Decimal128"))(bson)
             self.assertEqual(ours(**given), theirs(**given) if theirs else ours(**given), name)
-        self.assertEqual(Binary.from_uuid(unique).as_uuid(uuid_representation=4), unique)
-        with self.assertRaisesRegex(TypeError, r"use Binary\(uuid.bytes, subtype\)"):
-            Binary.from_uuid(unique, 3)
-        self.assertRaisesRegex(TypeError, "STANDARD", Binary(unique.bytes, 3).as_uuid, 3)
+
+    def test_uuids_in_each_representation(self) -> None:
+        value = uuid.UUID("00112233-4455-6677-8899-aabbccddeeff")
+        for representation, subtype, written in (
+            (3, 3, "00112233445566778899aabbccddeeff"), (4, 4, "00112233445566778899aabbccddeeff"),
+            (5, 3, "7766554433221100ffeeddccbbaa9988"), (6, 3, "33221100554477668899aabbccddeeff"),
+        ):
+            binary = Binary.from_uuid(uuid=value, uuid_representation=representation)
+            self.assertEqual((binary.hex(), binary.subtype, binary.as_uuid(uuid_representation=representation)), (written, subtype, value))
+            if bson is not None:
+                self.assertEqual(binary, bson.Binary.from_uuid(value, representation))
+            for other in (4,) if subtype == 3 else (3, 5, 6):
+                self.assertRaises(ValueError, binary.as_uuid, other)
+        for wrong in (0, 2, 7):
+            self.assertRaises(ValueError, Binary.from_uuid, value, wrong)
+            self.assertRaises(ValueError, Binary(value.bytes, 4).as_uuid, wrong)
+        self.assertRaises(ValueError, Binary(b"short", 4).as_uuid)
+        self.assertRaises(TypeError, Binary.from_uuid, str(value))
 
     def test_calls(self) -> None:
         data, options = bsonraw.encode({"a.b": 1}), object()
@@ -314,11 +328,9 @@ class Classes(unittest.TestCase):
     def test_what_is_made_of_something_else(self) -> None:
         for make in (
             lambda: ObjectId(12), lambda: Binary(5, 0), lambda: Decimal128([0] * 16), lambda: Decimal128(5), lambda: ObjectId([0] * 12),
-            lambda: Code(5), lambda: Binary("text", 0),
+            lambda: Code(5), lambda: Binary("text", 0), lambda: Regex("x", ["im", "a"]), lambda: Regex("x", None), lambda: Regex(b"x"),
         ):
             self.assertRaises(TypeError, make)
-        self.assertRaises(TypeError, bsonraw.encode, {"k": Regex("x", ["im", "a"])})
-        self.assertRaises(TypeError, bsonraw.encode, {"k": Regex("x", None)})
 
     def test_places_in_errors_of_encode(self) -> None:
         deep: Any = {}

@@ -139,6 +139,10 @@ impl Bson {
         "The boolean, to be changed, if it is one." as_bool_mut -> bool = Boolean;
         "The number, to be changed, if it is one of 32 bits." as_i32_mut -> i32 = Int32;
         "The number, to be changed, if it is one of 64 bits." as_i64_mut -> i64 = Int64;
+        "The id, to be changed, if it is one." as_object_id_mut -> ObjectId = ObjectId;
+        "The time, to be changed, if it is one in milliseconds." as_datetime_mut -> DateTime = DateTime;
+        "The text, to be changed, if it is a symbol." as_symbol_mut -> String = Symbol;
+        "The timestamp, to be changed, if it is one." as_timestamp_mut -> Timestamp = Timestamp;
     }
 
     /// Whether it is null.
@@ -193,6 +197,12 @@ impl From<u32> for Bson {
 
 impl<T: Clone + Into<Bson>> From<&T> for Bson {
     fn from(value: &T) -> Bson {
+        value.clone().into()
+    }
+}
+
+impl<T: Clone + Into<Bson>> From<&mut T> for Bson {
+    fn from(value: &mut T) -> Bson {
         value.clone().into()
     }
 }

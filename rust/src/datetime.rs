@@ -69,6 +69,20 @@ impl DateTime {
         DateTime(millis)
     }
 
+    /// What makes a time of its parts.
+    ///
+    /// ```
+    /// use bsonraw::DateTime;
+    ///
+    /// let time = DateTime::builder().year(2012).month(12).day(24).hour(12).minute(15).build()?;
+    /// assert_eq!(time.try_to_rfc3339_string()?, "2012-12-24T12:15:00Z");
+    /// assert!(DateTime::builder().year(2023).month(2).day(29).build().is_err());
+    /// # Ok::<(), bsonraw::datetime::Error>(())
+    /// ```
+    pub fn builder() -> DateTimeBuilder {
+        DateTimeBuilder::default()
+    }
+
     /// How many milliseconds it is.
     #[inline]
     pub const fn timestamp_millis(self) -> i64 {
@@ -141,6 +155,74 @@ fn halves(text: &str) -> (&str, &str) {
     let text = text.trim_end_matches('Z');
     let (before, fraction) = text.split_once('.').unwrap_or((text, ""));
     (before, fraction.trim_end_matches('0'))
+}
+
+/// Makes a time in UTC of its parts. The year, the month and the day have to be given; the others are 0 if they aren't.
+///
+/// ```compile_fail,E0599
+/// bsonraw::DateTime::builder().year(2012).month(12).build();
+/// ```
+#[derive(Clone, Copy, Debug, Default)]
+pub struct DateTimeBuilder<Y = (), M = (), D = ()> {
+    year: Y,
+    month: M,
+    day: D,
+    hour: u8,
+    minute: u8,
+    second: u8,
+    millisecond: u16,
+}
+
+impl<Y, M, D> DateTimeBuilder<Y, M, D> {
+    /// The year, from 0 to 9999.
+    pub fn year(self, year: i32) -> DateTimeBuilder<i32, M, D> {
+        let DateTimeBuilder { month, day, hour, minute, second, millisecond, .. } = self;
+        DateTimeBuilder { year, month, day, hour, minute, second, millisecond }
+    }
+
+    /// The month, from 1 to 12.
+    pub fn month(self, month: u8) -> DateTimeBuilder<Y, u8, D> {
+        let DateTimeBuilder { year, day, hour, minute, second, millisecond, .. } = self;
+        DateTimeBuilder { year, month, day, hour, minute, second, millisecond }
+    }
+
+    /// The day of the month, from 1 on.
+    pub fn day(self, day: u8) -> DateTimeBuilder<Y, M, u8> {
+        let DateTimeBuilder { year, month, hour, minute, second, millisecond, .. } = self;
+        DateTimeBuilder { year, month, day, hour, minute, second, millisecond }
+    }
+
+    /// The hour, from 0 to 23.
+    pub fn hour(self, hour: u8) -> DateTimeBuilder<Y, M, D> {
+        DateTimeBuilder { hour, ..self }
+    }
+
+    /// The minute, from 0 to 59.
+    pub fn minute(self, minute: u8) -> DateTimeBuilder<Y, M, D> {
+        DateTimeBuilder { minute, ..self }
+    }
+
+    /// The second, from 0 to 59.
+    pub fn second(self, second: u8) -> DateTimeBuilder<Y, M, D> {
+        DateTimeBuilder { second, ..self }
+    }
+
+    /// The millisecond, from 0 to 999.
+    pub fn millisecond(self, millisecond: u16) -> DateTimeBuilder<Y, M, D> {
+        DateTimeBuilder { millisecond, ..self }
+    }
+}
+
+impl DateTimeBuilder<i32, u8, u8> {
+    /// The time of these parts. It fails if a part isn't as said, or the month has no such day.
+    pub fn build(self) -> Result<DateTime> {
+        let DateTimeBuilder { year, month, day, hour, minute, second, millisecond } = self;
+        let text = format!("{year:04}-{month:02}-{day:02}T{hour:02}:{minute:02}:{second:02}.{millisecond:03}Z");
+        if hour > 23 || minute > 59 || second > 59 || millisecond > 999 {
+            return Err(Error::InvalidTimestamp { message: format!("there is no such time: {text}") });
+        }
+        DateTime::parse_rfc3339_str(text)
+    }
 }
 
 impl FromStr for DateTime {

@@ -23,6 +23,7 @@
 #![deny(unsafe_code)]
 #![warn(missing_debug_implementations, missing_docs)]
 
+pub mod binary;
 mod bson;
 pub mod datetime;
 pub mod de;
@@ -36,8 +37,11 @@ mod path_error;
 pub mod raw;
 mod read;
 pub mod ser;
+#[cfg(feature = "serde")]
+pub mod serde_helpers;
 pub mod spec;
 mod texts;
+pub mod uuid;
 mod values;
 pub mod whole;
 #[cfg(feature = "serde")]
@@ -57,6 +61,7 @@ pub use raw::{
 pub use ser::to_vec;
 #[cfg(feature = "serde")]
 pub use ser::{to_bson, to_document, to_raw_document_buf};
+pub use uuid::{Uuid, UuidRepresentation};
 pub use values::{Binary, DbPointer, JavaScriptCodeWithScope, Regex, Timestamp};
 
 /// The version of the library that is linked in: 20000 for 2.0.0.

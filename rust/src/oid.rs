@@ -84,19 +84,31 @@ impl ObjectId {
         let seconds = (DateTime::now().timestamp_millis() / 1000) as u32;
         let source = source();
         // A child of this process has another number, so its ids are others.
-        let process = source.hashes.hash_one(std::process::id()).to_le_bytes();
-        let number = source.count.fetch_add(1, Ordering::Relaxed).to_be_bytes();
-        let mut id = [0; 12];
-        id[..4].copy_from_slice(&seconds.to_be_bytes());
-        id[4..9].copy_from_slice(&process[..5]);
-        id[9..].copy_from_slice(&number[1..]);
-        ObjectId { id }
+        let [a, b, c, d, e, ..] = source.hashes.hash_one(std::process::id()).to_le_bytes();
+        let [_, counter @ ..] = source.count.fetch_add(1, Ordering::Relaxed).to_be_bytes();
+        ObjectId::from_parts(seconds, [a, b, c, d, e], counter)
     }
 
     /// The id of these bytes.
     #[inline]
     pub const fn from_bytes(bytes: [u8; 12]) -> ObjectId {
         ObjectId { id: bytes }
+    }
+
+    /// The id of these seconds from 1970 on, this process and this number, one after the other.
+    ///
+    /// ```
+    /// use bsonraw::oid::ObjectId;
+    ///
+    /// let id = ObjectId::from_parts(0x507f_1f77, [0xbc, 0xf8, 0x6c, 0xd7, 0x99], [0x43, 0x90, 0x11]);
+    /// assert_eq!(id.to_hex(), "507f1f77bcf86cd799439011");
+    /// ```
+    pub fn from_parts(seconds_since_epoch: u32, process_id: [u8; 5], counter: [u8; 3]) -> ObjectId {
+        let mut id = [0; 12];
+        id[..4].copy_from_slice(&seconds_since_epoch.to_be_bytes());
+        id[4..9].copy_from_slice(&process_id);
+        id[9..].copy_from_slice(&counter);
+        ObjectId { id }
     }
 
     /// The bytes of the id.

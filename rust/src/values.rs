@@ -49,7 +49,6 @@ impl fmt::Display for Binary {
 const DIGITS: &[u8; 64] = b"ABCDEFGHIJKLMNOPQRSTUVWXYZabcdefghijklmnopqrstuvwxyz0123456789+/";
 
 /// The bytes that a text of Base64 writes.
-#[cfg(feature = "serde")]
 pub(crate) fn from_base64(text: &str) -> Option<Vec<u8>> {
     let digits = text.trim_end_matches('=');
     if text.len() % 4 != 0 || text.len() - digits.len() > 2 {
@@ -126,6 +125,13 @@ pub struct JavaScriptCodeWithScope {
     pub code: String,
     /// The variables.
     pub scope: Document,
+}
+
+/// The code alone.
+impl fmt::Display for JavaScriptCodeWithScope {
+    fn fmt(&self, f: &mut fmt::Formatter<'_>) -> fmt::Result {
+        f.write_str(&self.code)
+    }
 }
 
 /// A namespace with an id.

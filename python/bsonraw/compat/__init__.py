@@ -12,6 +12,7 @@ what differs.
 
 from __future__ import annotations
 
+from datetime import datetime, timezone
 from typing import Any, Iterator, List, Mapping, Optional
 
 from .. import _native
@@ -45,6 +46,8 @@ from ._options import (
 )
 
 InvalidBSON = BsonError
+EPOCH_AWARE = datetime(1970, 1, 1, tzinfo=timezone.utc)
+EPOCH_NAIVE = datetime(1970, 1, 1)
 BSON_MAX_BYTES = 0x7FFFFFFF
 """How many bytes a document may have that is read."""
 
@@ -59,6 +62,8 @@ __all__ = [
     "DatetimeConversion",
     "DatetimeMS",
     "Decimal128",
+    "EPOCH_AWARE",
+    "EPOCH_NAIVE",
     "Int64",
     "InvalidBSON",
     "InvalidDocument",

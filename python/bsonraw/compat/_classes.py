@@ -3,12 +3,10 @@
 from __future__ import annotations
 
 import copy
-import uuid
-from typing import Any, Dict, Iterator, Mapping, Optional, Tuple
+from typing import Any, Dict, Iterator, List, Mapping, Optional, Tuple
 
 from .._edit import RawDocument
 from .._native import elements
-from .._values import Binary
 
 
 class SON(Dict[str, Any]):
@@ -128,25 +126,6 @@ def reference_of(value: Dict[str, Any]) -> Any:
     return DBRef(value["$ref"], value["$id"], value.get("$db"), rest)
 
 
-# ---- UUIDs of old ----------------------------------------------------------------------------------------------------
-
-
-def as_uuid(binary: Binary, representation: int) -> uuid.UUID:
-    """The UUID of a binary of 16 bytes."""
-    data = binary.data
-    if representation == 5:
-        return uuid.UUID(bytes=data[7::-1] + data[:7:-1])
-    return uuid.UUID(bytes_le=data) if representation == 6 else uuid.UUID(bytes=data)
-
-
-def from_uuid(value: uuid.UUID, representation: int) -> Binary:
-    """The binary that a UUID is written as."""
-    data = value.bytes
-    if representation == 5:
-        return Binary(data[7::-1] + data[:7:-1], 3)
-    return Binary(value.bytes_le, 3) if representation == 6 else Binary(data, 3 if representation == 3 else 4)
-
-
 # ---- bytes -----------------------------------------------------------------------------------------------------------
 
 
@@ -174,11 +153,30 @@ class RawBSONDocument(Mapping[str, Any]):
 
             options: Any = self._options
             call, _ = asked(options.with_options(document_class=dict))
-            self._values = {
-                one.key: RawBSONDocument(one.payload, self._options) if one.kind == 3 else one.decode(max_bytes=0x7FFFFFFF, **call)
-                for one in elements(self._raw)
-            }
+            self._values = {one.key: self._value(one, call) for one in elements(self._raw)}
         return self._values
+
+    def _value(self, one: Any, call: Dict[str, Any]) -> Any:
+        if one.kind == 3:
+            return RawBSONDocument(one.payload, self._options)
+        return self._values_of(one.payload, call) if one.kind == 4 else one.decode(max_bytes=0x7FFFFFFF, **call)
+
+    def _values_of(self, array: Any, call: Dict[str, Any]) -> List[Any]:
+        """The values of an array, of any depth."""
+        made: List[Any] = []
+        open_ones = [(made, elements(array))]
+        while open_ones:
+            into, rest = open_ones[-1]
+            one = next(rest, None)
+            if one is None:
+                open_ones.pop()
+            elif one.kind == 4:
+                inner: List[Any] = []
+                into.append(inner)
+                open_ones.append((inner, elements(one.payload)))
+            else:
+                into.append(self._value(one, call))
+        return made
 
     def items(self) -> Any:
         return self._inflated().items()

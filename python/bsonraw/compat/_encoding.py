@@ -8,8 +8,8 @@ from typing import Any, Callable, Mapping, Optional
 from .. import _native
 from .._edit import RawDocument
 from .._types import BSONError, BsonError
-from .._values import Pairs
-from ._classes import RawBSONDocument, from_uuid
+from .._values import Binary, Pairs
+from ._classes import RawBSONDocument
 from ._options import CodecOptions
 
 
@@ -55,7 +55,7 @@ def _changer(options: CodecOptions) -> Optional[Callable[[Any], Any]]:
         encoder = encoders.get(type(value))
         if encoder is not None:
             return encoder(value)
-        return from_uuid(value, representation) if representation not in (0, 4) and isinstance(value, uuid.UUID) else value
+        return Binary.from_uuid(value, representation) if representation not in (0, 4) and isinstance(value, uuid.UUID) else value
 
     return change
 

@@ -7,12 +7,12 @@ import uuid
 from datetime import datetime, timezone, tzinfo
 from enum import IntEnum
 from functools import lru_cache
-from typing import Any, Callable, Dict, Iterable, NamedTuple, Optional, Tuple
+from typing import Any, Callable, Dict, Iterable, MutableMapping, NamedTuple, Optional, Tuple
 
 from .._native import Int64
 from .._types import BsonError, ElementType, ErrorKind
 from .._values import Binary, Code, DatetimeMS, Decimal128, ObjectId, Pairs, Regex, Timestamp
-from ._classes import DBRef, as_uuid, reference_of
+from ._classes import DBRef, reference_of
 
 _EPOCH = datetime(1970, 1, 1, tzinfo=timezone.utc)
 _MOST = datetime.max.replace(microsecond=999000, tzinfo=timezone.utc)
@@ -148,8 +148,11 @@ class CodecOptions(_Fields):
         registry = TypeRegistry() if type_registry is None else type_registry
         if not isinstance(registry, TypeRegistry):
             raise TypeError("type_registry must be an instance of TypeRegistry")
+        kind = dict if document_class is None else getattr(document_class, "__origin__", document_class)
+        if not isinstance(kind, type) or not (issubclass(kind, MutableMapping) or getattr(kind, "_type_marker", None) == 101):
+            raise TypeError(f"document_class is dict, SON, RawBSONDocument or another class of mutable mappings, not {document_class!r}")
         how = DatetimeConversion(DatetimeConversion.DATETIME_AUTO if datetime_conversion is None else datetime_conversion)
-        return super().__new__(cls, document_class or dict, tz_aware, uuid_representation, "strict", tzinfo, registry, how)
+        return super().__new__(cls, kind, tz_aware, uuid_representation, "strict", tzinfo, registry, how)
 
     def with_options(self, **kwargs: Any) -> CodecOptions:
         """The same with some of them changed."""
@@ -214,7 +217,7 @@ def _binary_maker(representation: int) -> Callable[[bytes, int], Any]:
     def make(data: bytes, subtype: int) -> Any:
         binary = Binary(data, subtype)
         is_one = len(data) == 16 and subtype == (4 if representation == UuidRepresentation.STANDARD else 3)
-        return as_uuid(binary, representation) if is_one else binary
+        return binary.as_uuid(representation) if is_one else binary
 
     return make
 

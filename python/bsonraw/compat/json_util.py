@@ -27,7 +27,7 @@ from .._values import (
     Timestamp,
     Undefined,
 )
-from ._classes import SON, DBRef, as_uuid, from_uuid
+from ._classes import SON, DBRef
 from ._options import CodecOptions, UuidRepresentation
 
 _EPOCH = datetime(1970, 1, 1, tzinfo=timezone.utc)
@@ -187,7 +187,7 @@ def _legacy(obj: Any, options: JSONOptions) -> Any:
     if isinstance(obj, uuids.UUID):
         if not options.strict_uuid:
             return {"$uuid": obj.hex}
-        binary = from_uuid(obj, options.uuid_representation or 4)
+        binary = Binary.from_uuid(obj, options.uuid_representation or 4)
         return _of_binary(bytes(binary), binary.subtype, options)
     known = obj if type(obj) in _LEGACY else convert(obj)
     for kind, make in _LEGACY.items():
@@ -302,7 +302,7 @@ def _read_binary(document: Any, options: JSONOptions) -> Any:
 def _binary_of(data: bytes, subtype: int, options: JSONOptions) -> Any:
     representation = options.uuid_representation
     if len(data) == 16 and subtype in (3, 4) and representation and (subtype == 4) == (representation == UuidRepresentation.STANDARD):
-        return as_uuid(Binary(data, subtype), representation)
+        return Binary(data, subtype).as_uuid(representation)
     return data if subtype == 0 else Binary(data, subtype)
 
 

@@ -7,7 +7,7 @@ use crate::document::LEVELS;
 use crate::raw::{RawArrayBuf, RawBson, RawDocumentBuf};
 use crate::ser::{Error, Result};
 use crate::spec::BinarySubtype;
-use crate::Binary;
+use crate::{Binary, Uuid};
 
 /// Makes a value of at most `levels` levels.
 #[derive(Clone, Copy)]
@@ -117,12 +117,18 @@ impl ser::Serializer for Serializer {
         Ok(RawBson::String(variant.into()))
     }
 
-    /// The bytes of a document or an array are that.
+    /// The bytes of a document, an array or a UUID are that, and so is the text of a UUID.
     fn serialize_newtype_struct<T: Serialize + ?Sized>(self, name: &'static str, value: &T) -> Result<RawBson> {
         match (name, value.serialize(self)?) {
             (super::RAW_DOCUMENT, RawBson::Binary(binary)) => Ok(RawDocumentBuf::from_bytes(binary.bytes)?.into()),
             (super::RAW_ARRAY, RawBson::Binary(binary)) => {
                 Ok(RawArrayBuf::of_document(RawDocumentBuf::from_bytes(binary.bytes)?).into())
+            }
+            (super::UUID, RawBson::Binary(Binary { bytes, .. })) => {
+                Ok(Binary { subtype: BinarySubtype::Uuid, bytes }.into())
+            }
+            (super::UUID, RawBson::String(text)) => {
+                Ok(Uuid::parse_str(text).map_err(|error| Error::custom(error.to_string()))?.into())
             }
             (_, made) => Ok(made),
         }

@@ -10,7 +10,7 @@ use crate::oid::ObjectId;
 use crate::raw::{RawArray, RawArrayBuf, RawBinaryRef, RawBson, RawBsonRef, RawDbPointerRef, RawDocument};
 use crate::raw::{RawDocumentBuf, RawJavaScriptCodeWithScope, RawJavaScriptCodeWithScopeRef, RawRegexRef};
 use crate::spec::BinarySubtype;
-use crate::{Binary, Bson, DateTime, DbPointer, Decimal128, Document, JavaScriptCodeWithScope, Regex, Timestamp};
+use crate::{Binary, Bson, DateTime, DbPointer, Decimal128, Document, JavaScriptCodeWithScope, Regex, Timestamp, Uuid};
 
 /// That another value is there than is asked for.
 fn unexpected<E: de::Error>(wanted: &str, found: RawBsonRef<'_>) -> E {
@@ -150,6 +150,17 @@ serialize_as! {
     DbPointer, it RawDbPointerRef { namespace: &it.namespace, id: it.id };
 }
 
+/// In BSON a binary value, and where people read its text.
+impl Serialize for Uuid {
+    fn serialize<S: Serializer>(&self, serializer: S) -> Result<S::Ok, S::Error> {
+        if serializer.is_human_readable() {
+            serializer.serialize_newtype_struct(super::UUID, &self.to_string())
+        } else {
+            serializer.serialize_newtype_struct(super::UUID, &Bytes(&self.bytes()))
+        }
+    }
+}
+
 impl Serialize for Document {
     fn serialize<S: Serializer>(&self, serializer: S) -> Result<S::Ok, S::Error> {
         serializer.collect_map(self)
@@ -208,6 +219,17 @@ impl<'de> Deserialize<'de> for ObjectId {
             RawBsonRef::ObjectId(id) => Ok(id),
             RawBsonRef::String(hex) => ObjectId::parse_str(hex).map_err(de::Error::custom),
             other => Err(unexpected("an ObjectId", other)),
+        }
+    }
+}
+
+/// Of a binary value of a UUID, or of its text.
+impl<'de> Deserialize<'de> for Uuid {
+    fn deserialize<D: Deserializer<'de>>(deserializer: D) -> Result<Uuid, D::Error> {
+        match Value::deserialize(deserializer)?.as_ref() {
+            RawBsonRef::Binary(binary) => binary.to_binary().to_uuid().map_err(de::Error::custom),
+            RawBsonRef::String(text) => Uuid::parse_str(text).map_err(de::Error::custom),
+            other => Err(unexpected("a UUID", other)),
         }
     }
 }

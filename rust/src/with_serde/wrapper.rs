@@ -11,7 +11,7 @@ use crate::oid::ObjectId;
 use crate::raw::{RawBson, RawBsonRef, RawDocument, RawDocumentBuf, RawJavaScriptCodeWithScope};
 use crate::spec::BinarySubtype;
 use crate::values::{from_base64, Base64};
-use crate::{Binary, DateTime, DbPointer, Decimal128, Regex, Timestamp};
+use crate::{Binary, DateTime, DbPointer, Decimal128, Regex, Timestamp, Uuid};
 
 /// A wrapper, or a part of one.
 pub(super) enum Tree<'de> {
@@ -177,6 +177,7 @@ pub(super) fn unwrapped(key: &str, value: RawBsonRef<'_>) -> Option<RawBson> {
         "$numberDecimal" => RawBson::Decimal128(text?.parse().ok()?),
         "$numberDecimalBytes" => RawBson::Decimal128(Decimal128::from_bytes(value.as_binary()?.bytes.try_into().ok()?)),
         "$binary" => RawBson::Binary(binary_of(value.as_document()?)?),
+        "$uuid" => RawBson::from(Uuid::parse_str(text?).ok()?),
         "$regularExpression" => {
             let body = value.as_document()?;
             RawBson::RegularExpression(Regex::new(body.get_str("pattern").ok()?, body.get_str("options").ok()?))

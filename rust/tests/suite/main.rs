@@ -8,3 +8,4 @@ mod plain;
 mod printed;
 mod rows;
 mod texts;
+mod uuids;

@@ -48,6 +48,28 @@ fn times_have_texts_of_rfc_3339() {
 }
 
 #[test]
+fn times_are_made_of_their_parts() {
+    let on = |year, month, day| DateTime::builder().year(year).month(month).day(day);
+    for (made, millis) in [
+        (on(1970, 1, 1).build(), 0),
+        (on(2012, 12, 24).hour(12).minute(15).second(30).millisecond(501).build(), 1_356_351_330_501),
+        (on(2024, 2, 29).hour(23).minute(59).second(59).millisecond(999).build(), 1_709_251_199_999),
+        (DateTime::builder().hour(1).day(1).month(1).minute(2).year(0).build(), -62_167_215_480_000),
+    ] {
+        assert_eq!(made, Ok(DateTime::from_millis(millis)));
+    }
+    for (year, month, day) in
+        [(2023, 2, 29), (2023, 13, 1), (2023, 0, 1), (2023, 1, 0), (2023, 1, 100), (-1, 1, 1), (10_000, 1, 1)]
+    {
+        assert!(on(year, month, day).build().is_err());
+    }
+    let today = on(2023, 1, 1);
+    for wrong in [today.hour(24), today.minute(60), today.second(60), today.millisecond(1000)] {
+        assert!(matches!(wrong.build(), Err(Error::InvalidTimestamp { .. })));
+    }
+}
+
+#[test]
 fn times_are_those_of_the_clock() {
     let before = SystemTime::now();
     let now = DateTime::now();

@@ -3,7 +3,7 @@
 use bsonraw::oid::ObjectId;
 use bsonraw::spec::BinarySubtype;
 use bsonraw::{bson, doc, from_slice, rawdoc, to_raw_document_buf, Binary, Bson, DateTime, Document, RawBson};
-use bsonraw::{JavaScriptCodeWithScope, RawDocumentBuf, Regex, Timestamp};
+use bsonraw::{JavaScriptCodeWithScope, RawDocumentBuf, Regex, Timestamp, Uuid};
 use serde_json::{from_str, json, to_string, to_value, Value};
 
 use crate::maker;
@@ -65,6 +65,23 @@ fn values_are_written_and_read_as_extended_json() {
         }
         // and what the library reads of the text is the same
         assert_eq!(RawDocumentBuf::from_json(&to_string(&document).unwrap()).unwrap(), raw);
+    }
+}
+
+#[test]
+fn uuids_are_read_from_each_of_their_forms() {
+    let id = Uuid::from_bytes(*b"0123456789abcdef");
+    let binary = json!({ "$binary": { "base64": "MDEyMzQ1Njc4OWFiY2RlZg==", "subType": "04" } });
+    let text = json!("30313233-3435-3637-3839-616263646566");
+    assert_eq!(to_value(id).unwrap(), text);
+    assert_eq!(to_value(Bson::from(id)).unwrap(), binary);
+    for form in [binary, text.clone(), json!({ "$uuid": text })] {
+        assert_eq!(from_str::<Uuid>(&form.to_string()).unwrap(), id);
+    }
+    assert_eq!(from_str::<Bson>(&json!({ "$uuid": text }).to_string()).unwrap(), Bson::from(id));
+    let old = json!({ "$binary": { "base64": "MDEyMzQ1Njc4OWFiY2RlZg==", "subType": "03" } });
+    for wrong in [old, json!("3031"), json!(5), json!({ "$uuid": "3031" })] {
+        assert!(from_str::<Uuid>(&wrong.to_string()).is_err(), "{wrong}");
     }
 }
 

@@ -1,6 +1,7 @@
 //! Tests of the feature serde.
 
 mod bytes;
+mod helpers;
 mod json;
 #[path = "../../../tests/suite/maker.rs"]
 mod maker;

@@ -11,7 +11,7 @@ use bsonraw::{
     doc, from_slice, rawdoc, to_bson, to_raw_document_buf, to_vec, Array, Binary, Bson, DateTime, DbPointer,
 };
 use bsonraw::{Decimal128, Document, JavaScriptCodeWithScope, RawArray, RawArrayBuf, RawBson, RawBsonRef, RawDocument};
-use bsonraw::{RawDocumentBuf, Regex, Timestamp};
+use bsonraw::{RawDocumentBuf, Regex, Timestamp, Uuid};
 use serde::de::DeserializeOwned;
 use serde::{Deserialize, Serialize};
 
@@ -137,6 +137,7 @@ fn types_are_themselves_wherever_they_are() {
         of(ElementType::JavaScriptCodeWithScope),
     );
     is(Binary { subtype: BinarySubtype::Md5, bytes: vec![9] }, Binary { subtype: BinarySubtype::Md5, bytes: vec![9] });
+    is(Uuid::from_bytes([9; 16]), Binary { subtype: BinarySubtype::Uuid, bytes: vec![9; 16] });
     is(doc! { "b": null }, of(ElementType::EmbeddedDocument));
     is(rawdoc! { "b": null }, of(ElementType::EmbeddedDocument));
     is([1, 2].into_iter().collect::<RawArrayBuf>(), of(ElementType::Array));
