@@ -157,8 +157,8 @@ module _ (old new : Reader) where
       → new.document ≡ mid.document → TakesValue old new k (Token.begin_object ∷ Token.key wrapper ∷ [])
   wrapped_put {mid} {wrapper} {k} taken e same = record {
     made = λ out rest.
-        puts_wrapped (Rest out (levels_of old)) {old = old.source.tokens} k (bytes_of old) wrapper taken.json taken.says mid.source.tokens new.source.tokens taken.is
-        (taken.puts.in_range, taken.nul_free, taken.subtype) taken.tokens e
+        puts_wrapped (Rest out (levels_of old)) {old = old.source.tokens} k (bytes_of old) wrapper taken.json taken.says mid.source.tokens new.source.tokens
+        (taken.is, (taken.puts.in_range, taken.nul_free, taken.subtype)) taken.tokens e
         (rest_at {r = new} out (record {
           levels = ap (λ (d : Unfinished). d.levels.items) same ∙ taken.puts.levels;
           bytes = ap (λ (d : Unfinished). d.bytes.items) same ∙ taken.puts.bytes;
@@ -171,7 +171,7 @@ module _ (old new : Reader) where
   code_put {mid} k code e same puts = record {
     made = λ out rest.
         puts_wrapped (Rest out (levels_of old)) {old = old.source.tokens} k (bytes_of old) (codes "$code") (string code) (javascript_code code) (Token.end_object ∷ new.source.tokens) new.source.tokens
-        (inr (inr (inr (inr (inr (inr (inr (inr (inr (inr (inr (inl (refl, refl))))))))))))) (puts.in_range, tt, tt) e refl
+        ((inr (inr (inr (inr (inr (inr (inr (inr (inr (inr (inr (inl (refl, refl))))))))))))), (puts.in_range, tt, tt)) e refl
         (rest_at {r = new} out (record {
           levels = puts.levels ∙ ap (λ (d : Unfinished). d.levels.items) same;
           bytes = puts.bytes ∙ ap (λ (d : Unfinished). d.bytes.items ++ element_bytes k (single (javascript_code code))) same;

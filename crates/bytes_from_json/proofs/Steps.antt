@@ -245,13 +245,13 @@ module _ (On : Makes) where
       → ValueIn On k b (json_tokens j ++ ts)
   puts_leaf k b j l ts means readable on = (j, leaf l, ts, (means, readable), refl, on)
 
-  pub puts_wrapped : {old : List Token} (k b wrapper : List ℕ) (j : Json) (l : Leaf) (mid new : List Token) → IsWrapped wrapper j l → IsLeafReadable l → old ≡ json_tokens j ++ mid
+  pub puts_wrapped : {old : List Token} (k b wrapper : List ℕ) (j : Json) (l : Leaf) (mid new : List Token) → IsWrapped wrapper j l × IsLeafReadable l → old ≡ json_tokens j ++ mid
       → mid ≡ Token.end_object ∷ new → On (b ++ element_of (kind_of_leaf l) k (leaf_payload l)) new → ValueIn On k b (Token.begin_object ∷ Token.key wrapper ∷ old)
-  puts_wrapped {old} k b wrapper j l mid new is readable e f on = (
+  puts_wrapped {old} k b wrapper j l mid new is e f on = (
     object (one_member wrapper j),
     leaf l,
     new,
-    (inr (inl (l, is, refl)), readable),
+    (inr (inl (l, is.0, refl)), is.1),
     ap (λ (x : List Token). Token.begin_object ∷ Token.key wrapper ∷ x)
         (e ∙ ap (λ (x : List Token). json_tokens j ++ x) f ∙ sym (append_assoc (json_tokens j) (Token.end_object ∷ []) new)),
     on,

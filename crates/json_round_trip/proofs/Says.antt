@@ -60,13 +60,13 @@ module _ (layout : Layout) (depth : ℕ) (first : Bool) where
   pub no_item_printed : AreItemsPrinted first no_tree (end_text layout depth as_array first) no_items
   no_item_printed = record { spaced = items_end_text layout depth first; numbers = tt; say = refl; only = λ other e. e }
 
-  pub member_printed : (key shown others : List ℕ) (t : Tree) (es : Entries) (j : Json) (ms : Members) → NulFree key → IsPrinted t shown j → AreMembersPrinted false es others ms
+  pub member_printed : (key shown others : List ℕ) (t : Tree) (es : Entries) (j : Json) (ms : Members) → NulFree key × IsPrinted t shown j → AreMembersPrinted false es others ms
       → AreMembersPrinted first (entry_then key t es) (head_text layout depth as_document first key ++ (shown ++ others)) (member key j ms)
-  member_printed key shown others t es j ms free h k = record {
-    spaced = member_text layout depth first shown others key j ms h.spaced k.spaced;
-    numbers = (h.numbers, k.numbers);
-    say = (t, es, free, h.says, k.say, refl);
-    only = λ other (u, rest, nul_free, means, are, e). e ∙ (λ i. entry_then key (h.only u means i) (k.only rest are i));
+  member_printed key shown others t es j ms h k = record {
+    spaced = member_text layout depth first shown others key j ms h.1.spaced k.spaced;
+    numbers = (h.1.numbers, k.numbers);
+    say = (t, es, h.0, h.1.says, k.say, refl);
+    only = λ other (u, rest, free, means, are, e). e ∙ (λ i. entry_then key (h.1.only u means i) (k.only rest are i));
     keys = ap (λ (b : Bool). is_wrapper_key key || b) k.keys;
   }
 

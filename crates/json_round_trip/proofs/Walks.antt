@@ -99,7 +99,7 @@ module _ {layout : Layout} {depth : ℕ} {Nested : Sort → List ℕ → List �
         ms,
         subst (λ (x : List (List ℕ × Tree)). AreMembersPrinted first (entries x) text ms) (sym same)
             (subst (λ (x : List ℕ). AreMembersPrinted first (entry_then f.key t (entries rest)) x ms) (sym is)
-            (member_printed layout (suc depth) first f.key shown others t (entries rest) here.0 behind.0 at.key_nul_free here.1 behind.1)),
+            (member_printed layout (suc depth) first f.key shown others t (entries rest) here.0 behind.0 (at.key_nul_free, here.1) behind.1)),
       )
 
   items_printed : (s : List ℕ) (first : Bool) (frames : List Frame) (pairs : List (List ℕ × Tree)) (text : List ℕ) → AreBytes s × IsWalk s frames Done

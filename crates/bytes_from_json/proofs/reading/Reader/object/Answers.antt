@@ -17,7 +17,8 @@ returns-in_ok-check_free-in-None-clause-rest c =
     let plain : is_wrapper_key c.in-Key.first.now ≡ false = search rules in
     let first : c.args.self.now.source.tokens ≡ Token.key c.in-Key.first.now ∷ c.token.new.self.tokens = search rules in
     on_ok_two c.open_under.result
-    (λ level bytes. begun_opened _ _ c.args.key.now c.in-Key.first _ (c.check_free.ensures.text, c.in_ok-check_free-in-None.ensures.some) plain (record { levels = level; bytes = bytes; tokens = refl }) first) c.open_under.ensures.level
+    (λ level bytes. begun_opened _ _ c.args.key.now c.in-Key.first _ (c.check_free.ensures.text, c.in_ok-check_free-in-None.ensures.some)
+    plain (record { levels = level; bytes = bytes; tokens = refl }) first) c.open_under.ensures.level
     c.open_under.ensures.bytes
 
 pub returns-in_err-token-clause-none : goal.returns-in_err-token-clause-none

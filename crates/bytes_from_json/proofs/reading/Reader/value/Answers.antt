@@ -10,7 +10,8 @@ returns-in-String-clause-rest c = on_ok c.put.result
 
 pub returns-in-Number-clause-rest : goal.returns-in-Number-clause-rest
 returns-in-Number-clause-rest c = on_ok c.number.result
-    (λ p. value_as _ _ (search rules) (leaf_put _ _ c.args.key.now (json.number c.in-Number.text.now) (p.0, p.1, refl) (plain_free p.1) (plain_proper p.1) c.number.ensures.source p.2)) c.number.ensures.puts
+    (λ p. value_as _ _ (search rules)
+    (leaf_put _ _ c.args.key.now (json.number c.in-Number.text.now) (p.0, p.1, refl) (plain_free p.1) (plain_proper p.1) c.number.ensures.source p.2)) c.number.ensures.puts
 
 pub returns-in-BeginArray-clause-rest : goal.returns-in-BeginArray-clause-rest
 returns-in-BeginArray-clause-rest c = on_ok_two c.open_under.result
