@@ -114,10 +114,10 @@ mutual
   tree_read zero (array ts) p b d = absurd (omega (arith, d))
   tree_read (suc n) (array ts) p b d =
       let size : 5 + length (entries_bytes (numbered 0 ts)) ≤ max_length =
-          omega (arith, ap length (items_numbered 0 ts), length-framed (items_bytes 0 ts), length-tree_payload (array ts), b) in
+      omega (arith, ap length (items_numbered 0 ts), length-framed (items_bytes 0 ts), length-tree_payload (array ts), b) in
       let h : IsFrameRead (suc n) as_array (framed (items_bytes 0 ts)) =
-          subst (λ (x : List ℕ). IsFrameRead (suc n) as_array (framed x)) (items_numbered 0 ts)
-          (framed_read n as_array (numbered 0 ts) (items_read n 0 ts p (omega (arith, b)) (omega (arith, d))) size) in
+      subst (λ (x : List ℕ). IsFrameRead (suc n) as_array (framed x)) (items_numbered 0 ts)
+      (framed_read n as_array (numbered 0 ts) (items_read n 0 ts p (omega (arith, b)) (omega (arith, d))) size) in
       record {
         bytes = h.0.bytes;
         shape = λ r. h.0;

@@ -179,8 +179,7 @@ impl<'a> Reader<'a> {
             }
             Holder::ScopeBeforeCode(start) => {
                 let code = self.source.code()?;
-                self.document
-                    .insert_string(self.alloc, level.start, code)?;
+                self.document.insert_string(self.alloc, level.start, code)?;
                 self.document.set_len(start);
                 Ok(())
             }

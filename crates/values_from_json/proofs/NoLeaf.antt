@@ -44,7 +44,9 @@ no_min_key {ts} none = none_wrapped wrapper.MinKey ts (λ j l is rest e. none re
 pub no_max_key : {ts : List Token} → LacksToken ts (Token.number (codes "1")) → LacksLeaf (codes "$maxKey") ts
 no_max_key {ts} none = none_wrapped wrapper.MaxKey ts (λ j l is rest e. none rest (e ∙ ap (λ (x : Json). json_tokens x ++ rest) is.0))
 
-any_regex : (ts : List Token) → ((pattern options : List ℕ) → NulFree pattern → NulFree options → TakesNoTwo ts (codes "pattern") (json.string pattern) (codes "options") (json.string options)) → TakesNone IsRegex ts
+any_regex : (ts : List Token)
+    → ((pattern options : List ℕ) → NulFree pattern → NulFree options → TakesNoTwo ts (codes "pattern") (json.string pattern) (codes "options") (json.string options))
+    → TakesNone IsRegex ts
 any_regex ts none json.null l is rest e = is
 any_regex ts none (json.boolean b) l is rest e = is
 any_regex ts none (json.number s) l is rest e = is
