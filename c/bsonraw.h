@@ -1388,7 +1388,7 @@ enum bsonraw_json_reason {
     BSONRAW_JSON_MALFORMED = 16,        /* a wrapper's key, and no value of that wrapper */
     BSONRAW_JSON_INEXACT_DECIMAL = 17,  /* no Decimal128 is exactly this decimal */
     BSONRAW_JSON_NOT_UTF8 = 18,         /* the text isn't UTF-8 */
-    BSONRAW_JSON_UNSOUND = 19           /* the document has no sound envelope; no text is known to give this */
+    BSONRAW_JSON_UNSOUND = 19           /* reserved: no text gives this */
 };
 
 /* The objects that write a value which JSON has no words for, by their keys. */

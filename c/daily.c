@@ -119,7 +119,6 @@ static const char *json_reason_text(uint32_t reason) {
         "text behind the document", "not a number of JSON", "an integer of more than 64 bits", "a number beyond the greatest double",
         "a control character that is not escaped", "not an escape of JSON", "half a surrogate pair",
         "U+0000 in a key, a pattern or options", "no value of its wrapper", "a decimal that no Decimal128 is exactly", "not UTF-8",
-        "the bytes written are not a document",
     };
     return reason < sizeof texts / sizeof *texts ? texts[reason] : "no fault";
 }

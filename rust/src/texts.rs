@@ -65,8 +65,6 @@ pub enum JsonReason {
     InteriorNul,
     /// No Decimal128 is exactly this decimal.
     InexactDecimal,
-    /// The document has no sound envelope. No text is known to give this.
-    Unsound,
 }
 
 /// The keys of wrappers, by their numbers.
@@ -119,7 +117,8 @@ impl JsonReason {
                 let number = said.wrapper.saturating_sub(1) as usize;
                 JsonReason::Malformed(WRAPPERS.get(number).copied().unwrap_or_default())
             }
-            _ => JsonReason::Unsound,
+            // the reasons are those of bsonraw.h, and a &str is UTF-8
+            other => unreachable!("reason {other}"),
         }
     }
 }
@@ -147,7 +146,6 @@ impl fmt::Display for JsonReason {
             JsonReason::LoneSurrogate => "half a surrogate pair",
             JsonReason::InteriorNul => "U+0000 in a key, a pattern or options",
             JsonReason::InexactDecimal => "a decimal that no Decimal128 is exactly",
-            JsonReason::Unsound => "the bytes written are not a document",
         })
     }
 }

@@ -18,12 +18,11 @@ use std::alloc::Global;
 /// are. A decimal must equal a Decimal128. Members are in the order of the text, even with repeated keys; options
 /// are sorted. The document has a tree within the limits, so it has no fault at any level. The error is about the
 /// first token that is wrong, with its place; or it is out of memory. Unless its reason is `OutOfMemory`,
-/// `TooManyBytes`, `TooDeep`, `InteriorNul` or `Unsound`, the text writes no document. BSON 1.1, `document`.
+/// `TooManyBytes` or `TooDeep`, the text writes no document. BSON 1.1, `document`.
 ///
 /// Not in the contract: no depth of the text takes stack, the time is linear, and memory is taken for as many
-/// bytes as the text has, besides the document. A text with a code after its scope is read twice, and its codes
-/// are kept meanwhile. In such a text `TooManyBytes` may be placed at the opening brace of the scope, where the
-/// code is written, and not at the code.
+/// bytes as the text has, besides the document. A code after its scope is written before it: the bytes of the scope
+/// are moved, and so once for each such scope that they are in.
 /// ```
 /// let limits = Limits { bytes: 1000, depth: 10 };
 /// let document = from_json(alloc, "{\"a\": 1}", limits)?;

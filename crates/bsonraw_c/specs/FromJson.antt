@@ -48,7 +48,6 @@ reason_number reason.LoneSurrogate = 14
 reason_number reason.InteriorNul = 15
 reason_number (reason.Malformed _) = 16
 reason_number reason.InexactDecimal = 17
-reason_number reason.Unsound = 19
 
 -- the number of a wrapper
 abbrev pub wrapper_number : Wrapper → ℕ

@@ -182,7 +182,6 @@ fn number_of(reason: JsonReason) -> u32
         JsonReason::InteriorNul => 15,
         JsonReason::Malformed(_) => 16,
         JsonReason::InexactDecimal => 17,
-        JsonReason::Unsound => 19,
     }
 }
 

@@ -6,6 +6,7 @@ use Rattle.json.specs.Json as json
 use Rattle.json.specs.Token.{Token}
 use Rattle.json.specs.Tree.{json_tokens, items_tokens, members_tokens, depth}
 use Rattle.json.proofs.Printed.Trees.{value-json_tokens}
+use Rattle.bson_model.specs.Bytes.{NulFree}
 use Rattle.bson_model.specs.Leaf.{Leaf}
 use Rattle.bson_model.specs.Tree.{Tree, Entries}
 use Rattle.values_from_json.specs.Numbers.{IsPlain}
@@ -82,42 +83,42 @@ right_false true b e = absurd (false≢true (sym e))
 abbrev pub MemberThen : Holder → List Token → List Token → Type 0
 MemberThen h ts behind = (k : List ℕ) × (after : List Token) × (rest : List Token) × (ts ≡ Token.key k ∷ after) × MayBeIn h k × ValueThen after rest × InsideThen h rest behind
 
-of_members : (h : Holder) → ((k : List ℕ) → MayBeIn h k) → ((ts behind : List Token) → MembersThen ts behind → InsideThen h ts behind) → (ts behind : List Token) → MembersThen ts behind
+of_members : (h : Holder) → ((k : List ℕ) → NulFree k → MayBeIn h k) → ((ts behind : List Token) → MembersThen ts behind → InsideThen h ts behind) → (ts behind : List Token) → MembersThen ts behind
     → (ts ≡ Token.end_object ∷ behind) ⊎ MemberThen h ts behind
 of_members h may is ts behind (no_members, es, are, e) = inl e
-of_members h may is ts behind (member k j ms, es, (t, others, means, are, f), e) =
+of_members h may is ts behind (member k j ms, es, (t, others, free, means, are, f), e) =
     let rest = members_tokens ms ++ behind in
     inr (
       k,
       json_tokens j ++ rest,
       rest,
       e ∙ ap (λ (x : List Token). Token.key k ∷ x) (append_assoc (json_tokens j) (members_tokens ms) behind),
-      may k,
+      may k free,
       (j, t, means, refl),
       is rest behind (ms, others, are, refl),
     )
 
 of_ordinary : (ts behind : List Token) → OrdinaryThen ts behind → (ts ≡ Token.end_object ∷ behind) ⊎ MemberThen holder.Document ts behind
 of_ordinary ts behind (no_members, es, none, are, e) = inl e
-of_ordinary ts behind (member k j ms, es, none, (t, others, means, are, f), e) =
+of_ordinary ts behind (member k j ms, es, none, (t, others, free, means, are, f), e) =
     let rest = members_tokens ms ++ behind in
     inr (
       k,
       json_tokens j ++ rest,
       rest,
       e ∙ ap (λ (x : List Token). Token.key k ∷ x) (append_assoc (json_tokens j) (members_tokens ms) behind),
-      left_false (is_wrapper_key k) (has_wrapper_key ms) none,
+      (free, left_false (is_wrapper_key k) (has_wrapper_key ms) none),
       (j, t, means, refl),
       (ms, others, right_false (is_wrapper_key k) (has_wrapper_key ms) none, are, refl),
     )
 
 level_starts : (h : Holder) → HasMembers h → (ts behind : List Token) → InsideThen h ts behind → (ts ≡ Token.end_object ∷ behind) ⊎ MemberThen h ts behind
-level_starts holder.Text has ts behind inside = of_members holder.Text (λ k. tt) (λ x y i. i) ts behind inside
+level_starts holder.Text has ts behind inside = of_members holder.Text (λ k free. free) (λ x y i. i) ts behind inside
 level_starts holder.Document has ts behind inside = of_ordinary ts behind inside
 level_starts (holder.Begun first) has ts behind inside = absurd has
 level_starts (holder.Array items) has ts behind inside = absurd has
-level_starts (holder.Scope start) has ts behind inside = of_members (holder.Scope start) (λ k. tt) (λ x y i. i) ts behind inside
-level_starts (holder.ScopeBeforeCode start code) has ts behind inside = of_members (holder.ScopeBeforeCode start code) (λ k. tt) (λ x y i. i) ts behind inside
+level_starts (holder.Scope start) has ts behind inside = of_members (holder.Scope start) (λ k free. free) (λ x y i. i) ts behind inside
+level_starts (holder.ScopeBeforeCode start) has ts behind inside = of_members (holder.ScopeBeforeCode start) (λ k free. free) (λ x y i. i) ts behind inside
 
 unlike_key : {ts a b : List Token} {k : List ℕ} → ts ≡ Token.end_object ∷ a → ts ≡ Token.key k ∷ b → ⊥
 unlike_key e f = cc
@@ -207,7 +208,7 @@ module _ (k : List ℕ) (new ts behind : List Token) (e : ts ≡ Token.key k ∷
 
     pub ordinary : ObjectThen ts behind → (rest : List Token) × ValueThen new rest × OrdinaryThen rest behind
     ordinary (no_members, t, means, f) = absurd (unlike_key f e)
-    ordinary (member k' j ms, t, inl (es, none, (first, others, means, are, is), says), f) = (
+    ordinary (member k' j ms, t, inl (es, none, (first, others, free, means, are, is), says), f) = (
       members_tokens ms ++ behind,
       (j, first, means, value_behind k' j ms f),
       (ms, others, right_false (is_wrapper_key k') (has_wrapper_key ms) none, are, refl),
@@ -220,6 +221,18 @@ module _ (k : List ℕ) (new ts behind : List Token) (e : ts ≡ Token.key k ∷
     ordinary (member k' j (member m i no_members), t, inr (inr (inr (code, es, is, second, whole, other, says))), f) =
         absurd (no_wrapper k' j (member m i no_members) f (ap is_wrapper_key is))
     ordinary (member k' j (member m i (member n h ms)), t, inr (inr is), f) = absurd is
+
+    pub free_first : ObjectThen ts behind → NulFree k
+    free_first (no_members, t, means, f) = absurd (unlike_key f e)
+    free_first (member k' j ms, t, inl (es, none, (first, others, free, means, are, is), says), f) = subst NulFree (first_key k' j ms f) free
+    free_first (member k' j no_members, t, inr (inl (l, is, says)), f) = absurd (no_wrapper k' j no_members f (wrapped_key k' j l is))
+    free_first (member k' j (member m i ms), t, inr (inl is), f) = absurd is
+    free_first (member k' j no_members, t, inr (inr is), f) = absurd is
+    free_first (member k' j (member m i no_members), t, inr (inr (inl (code, es, is, second, other, whole, says))), f) =
+        absurd (no_wrapper k' j (member m i no_members) f (ap is_wrapper_key is))
+    free_first (member k' j (member m i no_members), t, inr (inr (inr (code, es, is, second, whole, other, says))), f) =
+        absurd (no_wrapper k' j (member m i no_members) f (ap is_wrapper_key is))
+    free_first (member k' j (member m i (member n h ms)), t, inr (inr is), f) = absurd is
 
 -- what follows the key of a wrapper
 

@@ -8,6 +8,7 @@ use Rattle.json.specs.declared.token.Token.{Token as Read}
 use Rattle.json.specs.declared.token.Token.TheVariants as read
 use Rattle.json.specs.Token.{Token}
 use Rattle.json.specs.Tree.{json_tokens, members_tokens}
+use Rattle.bson_model.specs.Bytes.{NulFree}
 use Rattle.bson_model.specs.Leaf.{Leaf}
 use Rattle.bson_model.specs.Tree.{Entries}
 use Rattle.values_from_json.specs.Meaning.{AreMembers, IsWhole, is_wrapper_key}
@@ -22,12 +23,12 @@ use Rattle.values_from_json.specs.declared.error.JsonReason.{JsonReason}
 use Rattle.bytes_from_json.specs.declared.levels.Holder.{Holder}
 use Rattle.bytes_from_json.specs.declared.levels.Holder.TheVariants as holder
 use Rattle.bytes_from_json.specs.declared.levels.Level.{Level}
-use Rattle.bytes_from_json.specs.declared.levels.Unfinished.{Unfinished}
+use Rattle.bytes_from_json.specs.declared.unfinished.Unfinished.{Unfinished}
 use Rattle.bytes_from_json.specs.declared.reading.Reader.{Reader}
 use Rattle.values_from_json.specs.declared.source.Source.{Source}
 use Rattle.values_from_json.specs.declared.wrapper.Wrapper.{Wrapper}
 use Rattle.values_from_json.specs.declared.wrapper.Wrapper.TheVariants as wrapper
-use Rattle.bytes_from_json.proofs.Ends.{LeafThen, ObjectThen, ScopeThen, Starts, WrapperValueThen, array_end_taken, empty_object, end_taken, item_next, key_taken, no_object, none_taken, ordinary, same_value, starts, wrapper_value}
+use Rattle.bytes_from_json.proofs.Ends.{LeafThen, ObjectThen, ScopeThen, Starts, WrapperValueThen, array_end_taken, empty_object, end_taken, free_first, item_next, key_taken, no_object, none_taken, ordinary, same_value, starts, wrapper_value}
 use Rattle.values_from_json.proofs.Face.{Writes, writes}
 use Rattle.bytes_from_json.proofs.Moments.{Whole}
 use Rattle.bytes_from_json.proofs.Steps.{innermost}
@@ -89,18 +90,18 @@ can_end r ls ts e f can =
 within : (r : Reader) (ls : List Level) (l : Level) (ts : List Token) → r.document.levels.items ≡ ls ++ l ∷ [] → CanEnd (l ∷ reverse ls) ts → CanEnd (levels_of r) ts
 within r ls l ts e can = subst (λ (x : List Level). CanEnd x ts) (sym (ap (λ (x : List Level). reverse x) e ∙ innermost ls l)) can
 
-plain_wrapper : (h : Holder) → ((start : ℕ) → h ≡ holder.Scope start → ⊥) → ((start : ℕ) (code : Bor (List ℕ)) → h ≡ holder.ScopeBeforeCode start code → ⊥)
+plain_wrapper : (h : Holder) → ((start : ℕ) → h ≡ holder.Scope start → ⊥) → ((start : ℕ) → h ≡ holder.ScopeBeforeCode start → ⊥)
     → (ts behind : List Token) → WrapperThen h ts behind → ts ≡ behind
 plain_wrapper holder.Text a b ts behind e = e
 plain_wrapper holder.Document a b ts behind e = e
 plain_wrapper (holder.Begun first) a b ts behind e = e
 plain_wrapper (holder.Array items) a b ts behind e = e
 plain_wrapper (holder.Scope start) a b ts behind e = absurd (a start refl)
-plain_wrapper (holder.ScopeBeforeCode start code) a b ts behind e = absurd (b start code refl)
+plain_wrapper (holder.ScopeBeforeCode start) a b ts behind e = absurd (b start refl)
 
-code_closes : {old new : List Token} {code : List ℕ} (start : ℕ) (c : Bor (List ℕ)) → old ≡ Token.key (codes "$code") ∷ Token.string code ∷ Token.end_object ∷ new → (behind : List Token)
-    → WrapperThen (holder.ScopeBeforeCode start c) old behind → new ≡ behind
-code_closes start c e behind (text, f) = cc
+code_closes : {old new : List Token} {code : List ℕ} (start : ℕ) → old ≡ Token.key (codes "$code") ∷ Token.string code ∷ Token.end_object ∷ new → (behind : List Token)
+    → WrapperThen (holder.ScopeBeforeCode start) old behind → new ≡ behind
+code_closes start e behind (text, f) = cc
 
 module _ (old new : Reader) where
   -- a value that is written whole, and one that is opened
@@ -182,7 +183,7 @@ module _ (old new : Reader) where
       → KeepsClosed old new l
   closed_keeps l levels is = record { kept = λ behind wrapper outer. can_end new _ behind levels (is behind wrapper) outer }
 
-  pub plain_keeps : (l : Level) → ((start : ℕ) → l.holder ≡ holder.Scope start → ⊥) → ((start : ℕ) (code : Bor (List ℕ)) → l.holder ≡ holder.ScopeBeforeCode start code → ⊥)
+  pub plain_keeps : (l : Level) → ((start : ℕ) → l.holder ≡ holder.Scope start → ⊥) → ((start : ℕ) → l.holder ≡ holder.ScopeBeforeCode start → ⊥)
       → new.document.levels.items ≡ old.document.levels.items → new.source.tokens ≡ old.source.tokens → KeepsClosed old new l
   plain_keeps l a b levels same = closed_keeps l levels (λ behind wrapper. same ∙ plain_wrapper l.holder a b old.source.tokens behind wrapper)
 
@@ -191,10 +192,10 @@ module _ (old new : Reader) where
   scope_keeps l start is levels e =
       closed_keeps l levels (λ behind wrapper. same_behind e (subst (λ (h : Holder). WrapperThen h old.source.tokens behind) is wrapper))
 
-  pub code_keeps : {code : List ℕ} (l : Level) (start : ℕ) (c : Bor (List ℕ)) → l.holder ≡ holder.ScopeBeforeCode start c → new.document.levels.items ≡ old.document.levels.items
+  pub code_keeps : {code : List ℕ} (l : Level) (start : ℕ) → l.holder ≡ holder.ScopeBeforeCode start → new.document.levels.items ≡ old.document.levels.items
       → old.source.tokens ≡ Token.key (codes "$code") ∷ Token.string code ∷ Token.end_object ∷ new.source.tokens → KeepsClosed old new l
-  code_keeps {code} l start c is levels e =
-      closed_keeps l levels (λ behind wrapper. code_closes start c e behind (subst (λ (h : Holder). WrapperThen h old.source.tokens behind) is wrapper))
+  code_keeps {code} l start is levels e =
+      closed_keeps l levels (λ behind wrapper. code_closes start e behind (subst (λ (h : Holder). WrapperThen h old.source.tokens behind) is wrapper))
 
 -- values that aren't next
 
@@ -232,6 +233,9 @@ empty_behind {ts} {new} e behind value = empty_object ts behind new (as_object t
 pub begun_behind : {ts new : List Token} (first : Bor (List ℕ)) → is_wrapper_key first.now ≡ false → ts ≡ Token.key first.now ∷ new → (behind : List Token)
     → ValueThen (Token.begin_object ∷ ts) behind → LevelThen (holder.Begun first) new behind
 begun_behind {ts} {new} first plain e behind value = (behind, ordinary first.now new ts behind e plain (as_object ts behind value), refl)
+
+pub no_free_key : {ts new : List Token} {first : List ℕ} → is_wrapper_key first ≡ false → ts ≡ Token.key first ∷ new → (NulFree first → ⊥) → LacksValue (Token.begin_object ∷ ts)
+no_free_key {ts} {new} {first} plain e none behind value = none (free_first first new ts behind e plain (as_object ts behind value))
 
 -- wrappers
 
@@ -356,9 +360,9 @@ scope_starts ts behind value = scope_of ts behind (as_wrapper wrapper.Scope ts b
 pub no_scope_before : {ts : List Token} → LacksToken ts Token.begin_object → LacksValue (Token.begin_object ∷ Token.key (codes "$scope") ∷ ts)
 no_scope_before {ts} none behind value = let (code, rest, e, members) = scope_starts ts behind value in none rest e
 
-pub before_code_begun : {ts new : List Token} (start : ℕ) (c : Bor (List ℕ)) → ts ≡ Token.begin_object ∷ new → (behind : List Token)
-    → ValueThen (Token.begin_object ∷ Token.key (codes "$scope") ∷ ts) behind → LevelThen (holder.ScopeBeforeCode start c) new behind
-before_code_begun {ts} {new} start c f behind value =
+pub before_code_begun : {ts new : List Token} (start : ℕ) → ts ≡ Token.begin_object ∷ new → (behind : List Token)
+    → ValueThen (Token.begin_object ∷ Token.key (codes "$scope") ∷ ts) behind → LevelThen (holder.ScopeBeforeCode start) new behind
+before_code_begun {ts} {new} start f behind value =
     let (code, rest, e, members) = scope_starts ts behind value in (
       Token.key (codes "$code") ∷ Token.string code ∷ Token.end_object ∷ behind,
       subst (λ (x : List Token). MembersThen x (Token.key (codes "$code") ∷ Token.string code ∷ Token.end_object ∷ behind)) (same_behind e f) members,
@@ -401,9 +405,9 @@ no_array_end {ts} {new} n e none behind (rest, inside, wrapper) = none behind (a
 pub no_scope_end : {ts : List Token} (h : Holder) (start : ℕ) → h ≡ holder.Scope start → LacksToken ts Token.end_object → LacksWrapper h ts
 no_scope_end {ts} h start is none behind wrapper = none behind (subst (λ (x : Holder). WrapperThen x ts behind) is wrapper)
 
-pub no_code_behind : {ts : List Token} (h : Holder) (start : ℕ) (c : Bor (List ℕ)) → h ≡ holder.ScopeBeforeCode start c
+pub no_code_behind : {ts : List Token} (h : Holder) (start : ℕ) → h ≡ holder.ScopeBeforeCode start
     → ((s : List ℕ) (rest : List Token) → ts ≡ Token.key (codes "$code") ∷ Token.string s ∷ Token.end_object ∷ rest → ⊥) → LacksWrapper h ts
-no_code_behind {ts} h start c is none behind wrapper =
+no_code_behind {ts} h start is none behind wrapper =
     let (s, e) = subst (λ (x : Holder). WrapperThen x ts behind) is wrapper in none s behind e
 
 -- the whole

@@ -3,3 +3,5 @@ mod Steps
 mod Moments
 mod Ends
 mod Keeps
+mod Placing
+mod Sound

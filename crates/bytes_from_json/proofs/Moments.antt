@@ -5,19 +5,21 @@ use Rattle.json.specs.Json.{Json, string, object}
 use Rattle.json.specs.Lex.{tokens as text_tokens}
 use Rattle.json.specs.Token.{Token}
 use Rattle.json.specs.Tree.{json_tokens, members_tokens}
+use Rattle.std.specs.Str.{IsUtf8}
 use Rattle.bson_model.specs.Leaf.{Leaf, int32, int64, javascript_code}
+use Rattle.bson_model.specs.Proper.{IsLeafNulFree, IsLeafSubtypeProper}
 use Rattle.bson_model.specs.Tree.{leaf}
 use Rattle.raw_view.specs.Frame.Format.{framed}
 use Rattle.raw_view.specs.Meaning.{RawValue, single}
 use Rattle.raw_tree.specs.Payload.{element_bytes, unset}
 use Rattle.values_from_json.specs.Meaning.{Means, is_wrapper_key}
-use Rattle.bytes_from_json.specs.Levels.{before_scope, headed, level_at, array_level, with_len, HasMembers, MayBeIn, bracket, behind_bracket, ended, Rest, ValueIn, levels_of, bytes_of, RestOf, TakesLevel, ClosesBracket, TakesValue, Puts, TakesLeaf, SaysBytes}
+use Rattle.bytes_from_json.specs.Levels.{before_scope, headed, level_at, array_level, with_len, with_string, HasMembers, IsClosed, IsKeyReadable, IsReadableDocument, MayBeIn, bracket, Rest, ValueIn, levels_of, bytes_of, RestOf, TakesLevel, ClosesBracket, TakesValue, Puts, TakesLeaf, SaysBytes}
 use Rattle.values_from_json.specs.Keys.{wrapper_key}
 use Rattle.bytes_from_json.specs.declared.levels.Holder.{Holder}
 use Rattle.bytes_from_json.specs.declared.levels.Holder.TheVariants as holder
 use Rattle.bytes_from_json.specs.declared.levels.Level.{Level}
 use Rattle.bytes_from_json.specs.declared.reading.Reader.{Reader}
-use Rattle.bytes_from_json.specs.declared.levels.Unfinished.{Unfinished}
+use Rattle.bytes_from_json.specs.declared.unfinished.Unfinished.{Unfinished}
 use Rattle.values_from_json.specs.declared.source.Source.{Source}
 use Rattle.bytes_from_json.specs.Texts.{IsWritten}
 use Rattle.values_from_json.specs.Numbers.{IsPlain, WritesInteger}
@@ -52,14 +54,14 @@ value_at {r} {b} {ts} ls l out k taken is value =
     subst (λ (x : List Level). ValueIn (Rest out x) k b (taken ++ ts)) (innermost ls l) three
 
 -- a level without a wrapper
-plain_holder : (h : Holder) → ((start : ℕ) → h ≡ holder.Scope start → ⊥) → ((start : ℕ) (code : Bor (List ℕ)) → h ≡ holder.ScopeBeforeCode start code → ⊥)
-    → (behind_bracket h ≡ []) × ((start : ℕ) (b : List ℕ) → ended h start b ≡ with_len start b)
-plain_holder holder.Text a b = (refl, λ start x. refl)
-plain_holder holder.Document a b = (refl, λ start x. refl)
-plain_holder (holder.Begun first) a b = (refl, λ start x. refl)
-plain_holder (holder.Array items) a b = (refl, λ start x. refl)
-plain_holder (holder.Scope start) a b = absurd (a start refl)
-plain_holder (holder.ScopeBeforeCode start code) a b = absurd (b start code refl)
+plain_holder : (h : Holder) → ((start : ℕ) → h ≡ holder.Scope start → ⊥) → ((start : ℕ) → h ≡ holder.ScopeBeforeCode start → ⊥)
+    → (start : ℕ) (b : List ℕ) → IsClosed h start b [] (with_len start b)
+plain_holder holder.Text a c start b = (refl, refl)
+plain_holder holder.Document a c start b = (refl, refl)
+plain_holder (holder.Begun first) a c start b = (refl, refl)
+plain_holder (holder.Array items) a c start b = (refl, refl)
+plain_holder (holder.Scope outer) a c start b = absurd (a outer refl)
+plain_holder (holder.ScopeBeforeCode outer) a c start b = absurd (c outer refl)
 
 module _ (old new : Reader) where
   -- an item of an array, after its first token
@@ -73,12 +75,12 @@ module _ (old new : Reader) where
   }
 
   -- a member, after its key
-  pub member_taken : {mid : Reader} {k : List ℕ} {ts : List Token} (l : Level) → HasMembers l.holder → MayBeIn l.holder k
+  pub member_taken : {mid : Reader} {k : List ℕ} {ts : List Token} (l : Level) → HasMembers l.holder → IsUtf8 k → MayBeIn l.holder k
       → IsAt mid (old.document.levels.items ++ l ∷ []) (bytes_of old) ts → old.source.tokens ≡ Token.key k ∷ ts → TakesValue mid new k [] → TakesLevel old new l
-  member_taken {mid} {k} {ts} l has may is e value = record {
+  member_taken {mid} {k} {ts} l has text may is e value = record {
     made = λ out rest.
         subst (λ (x : List Token). Rest out (l ∷ levels_of old) (bytes_of old) x) (sym e)
-        (takes_member (Rest out (levels_of old)) l.holder l.start k (bytes_of old) ts has may (value_at _ _ out k [] is (value.made out rest)));
+        (takes_member (Rest out (levels_of old)) l.holder l.start k (bytes_of old) ts has text may (value_at _ _ out k [] is (value.made out rest)));
   }
 
   -- the value of a key that was taken already
@@ -104,43 +106,50 @@ module _ (old new : Reader) where
         subst (λ (x : List Token). Rest out (l ∷ levels_of old) (bytes_of old) x) (sym e) two;
   }
 
-  pub closed : (l : Level) (ts : List Token) → IsAt new old.document.levels.items (ended l.holder l.start (bytes_of old ++ 0 ∷ [])) ts
-      → old.source.tokens ≡ behind_bracket l.holder ++ ts → ClosesBracket old new l
-  closed l ts is e = record {
+  pub closed : {b : List ℕ} (l : Level) (after ts : List Token) → IsClosed l.holder l.start (bytes_of old ++ 0 ∷ []) after b → IsAt new old.document.levels.items b ts
+      → old.source.tokens ≡ after ++ ts → ClosesBracket old new l
+  closed {b} l after ts ended is e = record {
     made = λ may out rest.
         subst (λ (x : List Token). Rest out (l ∷ levels_of old) (bytes_of old) (bracket l.holder ∷ x)) (sym e)
-        (level_closes (Rest out (levels_of old)) l.holder l.start (bytes_of old) ts may (rest_at {r = new} out is rest));
+        (level_closes (Rest out (levels_of old)) l.holder l.start (bytes_of old) ts after b may ended (rest_at {r = new} out is rest));
   }
 
-  pub plain_closed : (l : Level) → ((start : ℕ) → l.holder ≡ holder.Scope start → ⊥) → ((start : ℕ) (code : Bor (List ℕ)) → l.holder ≡ holder.ScopeBeforeCode start code → ⊥)
+  pub plain_closed : (l : Level) → ((start : ℕ) → l.holder ≡ holder.Scope start → ⊥) → ((start : ℕ) → l.holder ≡ holder.ScopeBeforeCode start → ⊥)
       → new.document.levels.items ≡ old.document.levels.items → bytes_of new ≡ with_len l.start (bytes_of old ++ 0 ∷ []) → new.source ≡ old.source → ClosesBracket old new l
-  plain_closed l a b levels bytes same =
-      let (none, plain) = plain_holder l.holder a b in
-      closed l old.source.tokens (record { levels = levels; bytes = bytes ∙ sym (plain l.start (bytes_of old ++ 0 ∷ [])); tokens = ap (λ (x : Source). x.tokens) same })
-      (sym (ap (λ (x : List Token). x ++ old.source.tokens) none))
+  plain_closed l a c levels bytes same =
+      closed l [] old.source.tokens (plain_holder l.holder a c l.start (bytes_of old ++ 0 ∷ []))
+      (record { levels = levels; bytes = bytes; tokens = ap (λ (x : Source). x.tokens) same }) refl
 
   pub scope_closed : {b : List ℕ} (l : Level) (start : ℕ) → l.holder ≡ holder.Scope start → new.document.levels.items ≡ old.document.levels.items
       → b ≡ with_len l.start (bytes_of old ++ 0 ∷ []) → bytes_of new ≡ with_len start b → old.source.tokens ≡ Token.end_object ∷ new.source.tokens → ClosesBracket old new l
-  scope_closed {b} l start is levels f bytes e = closed l new.source.tokens
-      (record { levels = levels; bytes = bytes ∙ ap (λ (x : List ℕ). with_len start x) f ∙ sym (ap (λ (h : Holder). ended h l.start (bytes_of old ++ 0 ∷ [])) is); tokens = refl })
-      (e ∙ sym (ap (λ (h : Holder). behind_bracket h ++ new.source.tokens) is))
+  scope_closed {b} l start is levels f bytes e =
+      closed l (Token.end_object ∷ []) new.source.tokens
+      (subst (λ (h : Holder). IsClosed h l.start (bytes_of old ++ 0 ∷ []) (Token.end_object ∷ []) (with_len start (with_len l.start (bytes_of old ++ 0 ∷ [])))) (sym is) (refl, refl))
+      (record { levels = levels; bytes = bytes ∙ ap (λ (x : List ℕ). with_len start x) f; tokens = refl }) e
 
-  pub code_closed : {b : List ℕ} (l : Level) (start : ℕ) (code : Bor (List ℕ)) → l.holder ≡ holder.ScopeBeforeCode start code → new.document.levels.items ≡ old.document.levels.items
-      → b ≡ with_len l.start (bytes_of old ++ 0 ∷ []) → bytes_of new ≡ with_len start b
-      → old.source.tokens ≡ Token.key (codes "$code") ∷ Token.string code.now ∷ Token.end_object ∷ new.source.tokens → ClosesBracket old new l
-  code_closed {b} l start code is levels f bytes e = closed l new.source.tokens
-      (record { levels = levels; bytes = bytes ∙ ap (λ (x : List ℕ). with_len start x) f ∙ sym (ap (λ (h : Holder). ended h l.start (bytes_of old ++ 0 ∷ [])) is); tokens = refl })
-      (e ∙ sym (ap (λ (h : Holder). behind_bracket h ++ new.source.tokens) is))
+  pub code_closed : {b c code : List ℕ} (l : Level) (start : ℕ) → l.holder ≡ holder.ScopeBeforeCode start → new.document.levels.items ≡ old.document.levels.items
+      → b ≡ with_len l.start (bytes_of old ++ 0 ∷ []) → IsUtf8 code → c ≡ with_string l.start code b → bytes_of new ≡ with_len start c
+      → old.source.tokens ≡ Token.key (codes "$code") ∷ Token.string code ∷ Token.end_object ∷ new.source.tokens → ClosesBracket old new l
+  code_closed {b} {c} {code} l start is levels f text g bytes e =
+      let after = Token.key (codes "$code") ∷ Token.string code ∷ Token.end_object ∷ [] in
+      let whole = with_len start (with_string l.start code (with_len l.start (bytes_of old ++ 0 ∷ []))) in
+      closed l after new.source.tokens (subst (λ (h : Holder). IsClosed h l.start (bytes_of old ++ 0 ∷ []) after whole) (sym is) (code, text, refl, refl))
+      (record {
+        levels = levels;
+        bytes = bytes ∙ ap (λ (x : List ℕ). with_len start x) g ∙ ap (λ (x : List ℕ). with_len start (with_string l.start code x)) f;
+        tokens = refl;
+      }) e
 
   -- values that hold no others
 
   pub value_as : {k : List ℕ} {taken others : List Token} → taken ≡ others → TakesValue old new k taken → TakesValue old new k others
   value_as {k} {taken} {others} e value = subst (λ (x : List Token). TakesValue old new k x) e value
 
-  pub leaf_put : {l : Leaf} (k : List ℕ) (j : Json) → Means j (leaf l) → new.source ≡ old.source → Puts old new k (single l) → TakesValue old new k (json_tokens j)
-  leaf_put {l} k j means same puts = record {
+  pub leaf_put : {l : Leaf} (k : List ℕ) (j : Json) → Means j (leaf l) → IsLeafNulFree l → IsLeafSubtypeProper l → new.source ≡ old.source → Puts old new k (single l)
+      → TakesValue old new k (json_tokens j)
+  leaf_put {l} k j means free proper same puts = record {
     made = λ out rest.
-        puts_leaf (Rest out (levels_of old)) k (bytes_of old) j l old.source.tokens means
+        puts_leaf (Rest out (levels_of old)) k (bytes_of old) j l old.source.tokens means (puts.in_range, free, proper)
         (rest_at {r = new} out (record { levels = puts.levels; bytes = puts.bytes; tokens = ap (λ (x : Source). x.tokens) same }) rest);
   }
 
@@ -148,7 +157,8 @@ module _ (old new : Reader) where
       → new.document ≡ mid.document → TakesValue old new k (Token.begin_object ∷ Token.key wrapper ∷ [])
   wrapped_put {mid} {wrapper} {k} taken e same = record {
     made = λ out rest.
-        puts_wrapped (Rest out (levels_of old)) {old = old.source.tokens} k (bytes_of old) wrapper taken.json taken.says mid.source.tokens new.source.tokens taken.is taken.tokens e
+        puts_wrapped (Rest out (levels_of old)) {old = old.source.tokens} k (bytes_of old) wrapper taken.json taken.says mid.source.tokens new.source.tokens
+        (taken.is, (taken.puts.in_range, taken.nul_free, taken.subtype)) taken.tokens e
         (rest_at {r = new} out (record {
           levels = ap (λ (d : Unfinished). d.levels.items) same ∙ taken.puts.levels;
           bytes = ap (λ (d : Unfinished). d.bytes.items) same ∙ taken.puts.bytes;
@@ -161,7 +171,7 @@ module _ (old new : Reader) where
   code_put {mid} k code e same puts = record {
     made = λ out rest.
         puts_wrapped (Rest out (levels_of old)) {old = old.source.tokens} k (bytes_of old) (codes "$code") (string code) (javascript_code code) (Token.end_object ∷ new.source.tokens) new.source.tokens
-        (inr (inr (inr (inr (inr (inr (inr (inr (inr (inr (inr (inl (refl, refl))))))))))))) e refl
+        ((inr (inr (inr (inr (inr (inr (inr (inr (inr (inr (inr (inl (refl, refl))))))))))))), (puts.in_range, tt, tt)) e refl
         (rest_at {r = new} out (record {
           levels = puts.levels ∙ ap (λ (d : Unfinished). d.levels.items) same;
           bytes = puts.bytes ∙ ap (λ (d : Unfinished). d.bytes.items ++ element_bytes k (single (javascript_code code))) same;
@@ -193,33 +203,33 @@ module _ (old new : Reader) where
       → TakesValue old new k (Token.begin_array ∷ [])
   array_opened k is = record { made = λ out rest. opens_array (Rest out (levels_of old)) k (bytes_of old) old.source.tokens (rest_within {r = new} _ _ out is rest) }
 
-  pub begun_opened : (k : List ℕ) (first : Bor (List ℕ)) (ts : List Token) → is_wrapper_key first.now ≡ false
+  pub begun_opened : (k : List ℕ) (first : Bor (List ℕ)) (ts : List Token) → IsKeyReadable first.now → is_wrapper_key first.now ≡ false
       → IsAt new (old.document.levels.items ++ level_at (holder.Begun first) (length (headed (bytes_of old) 3 k)) ∷ []) (headed (bytes_of old) 3 k ++ unset) ts
       → old.source.tokens ≡ Token.key first.now ∷ ts → TakesValue old new k (Token.begin_object ∷ [])
-  begun_opened k first ts plain is e = record {
+  begun_opened k first ts key plain is e = record {
     made = λ out rest.
         subst (λ (x : List Token). ValueIn (Rest out (levels_of old)) k (bytes_of old) (Token.begin_object ∷ x)) (sym e)
-        (opens_begun (Rest out (levels_of old)) k (bytes_of old) first ts plain (rest_within {r = new} _ _ out is rest));
+        (opens_begun (Rest out (levels_of old)) k (bytes_of old) first ts key plain (rest_within {r = new} _ _ out is rest));
   }
 
-  pub scope_opened : (k code : List ℕ) (ts : List Token)
+  pub scope_opened : (k code : List ℕ) (ts : List Token) → IsUtf8 code
       → IsAt new (old.document.levels.items ++ level_at (holder.Scope (length (headed (bytes_of old) 15 k))) (length (before_scope (bytes_of old) k code)) ∷ [])
       (before_scope (bytes_of old) k code ++ unset) ts
       → old.source.tokens ≡ Token.begin_object ∷ ts
       → TakesValue old new k (Token.begin_object ∷ Token.key (codes "$code") ∷ Token.string code ∷ Token.key (codes "$scope") ∷ [])
-  scope_opened k code ts is e = record {
+  scope_opened k code ts text is e = record {
     made = λ out rest.
         subst (λ (x : List Token). ValueIn (Rest out (levels_of old)) k (bytes_of old) (Token.begin_object ∷ Token.key (codes "$code") ∷ Token.string code ∷ Token.key (codes "$scope") ∷ x)) (sym e)
-        (opens_scope (Rest out (levels_of old)) k (bytes_of old) code ts (rest_within {r = new} _ _ out is rest));
+        (opens_scope (Rest out (levels_of old)) k (bytes_of old) code ts text (rest_within {r = new} _ _ out is rest));
   }
 
-  pub before_code_opened : (k : List ℕ) (code : Bor (List ℕ)) (ts : List Token)
-      → IsAt new (old.document.levels.items ++ level_at (holder.ScopeBeforeCode (length (headed (bytes_of old) 15 k)) code) (length (before_scope (bytes_of old) k code.now)) ∷ [])
-      (before_scope (bytes_of old) k code.now ++ unset) ts → old.source.tokens ≡ Token.begin_object ∷ ts → TakesValue old new k (Token.begin_object ∷ Token.key (codes "$scope") ∷ [])
-  before_code_opened k code ts is e = record {
+  pub before_code_opened : (k : List ℕ) (ts : List Token)
+      → IsAt new (old.document.levels.items ++ level_at (holder.ScopeBeforeCode (length (headed (bytes_of old) 15 k))) (length (headed (bytes_of old) 15 k ++ unset)) ∷ [])
+      ((headed (bytes_of old) 15 k ++ unset) ++ unset) ts → old.source.tokens ≡ Token.begin_object ∷ ts → TakesValue old new k (Token.begin_object ∷ Token.key (codes "$scope") ∷ [])
+  before_code_opened k ts is e = record {
     made = λ out rest.
         subst (λ (x : List Token). ValueIn (Rest out (levels_of old)) k (bytes_of old) (Token.begin_object ∷ Token.key (codes "$scope") ∷ x)) (sym e)
-        (opens_before_code (Rest out (levels_of old)) k (bytes_of old) code ts (rest_within {r = new} _ _ out is rest));
+        (opens_before_code (Rest out (levels_of old)) k (bytes_of old) ts (rest_within {r = new} _ _ out is rest));
   }
 
 -- a level that was opened after these bytes
@@ -253,8 +263,8 @@ pub reading_begun : {ls : List Level} {b : List ℕ} (r : Reader) (ts : List Tok
 reading_begun {ls} {b} r ts e f level bytes start = record {
   made = λ out h.
       let is : IsAt r (level_at holder.Text 0 ∷ []) unset r.source.tokens = opened_at holder.Text e f level bytes refl in
-      let (ms, es, behind, mean, tokens, (none, whole)) = opens_text (Rest out []) r.source.tokens (rest_at {r = r} out is h) in
-      (ms, es, mean, start ∙ ap (λ (x : List Token). Token.begin_object ∷ x) (tokens ∙ ap (λ (x : List Token). members_tokens ms ++ x) none ∙ append-nil (members_tokens ms)), whole);
+      let (ms, es, behind, mean, readable, tokens, (none, whole)) = opens_text (Rest out []) r.source.tokens (rest_at {r = r} out is h) in
+      (ms, es, mean, readable, start ∙ ap (λ (x : List Token). Token.begin_object ∷ x) (tokens ∙ ap (λ (x : List Token). members_tokens ms ++ x) none ∙ append-nil (members_tokens ms)), whole);
 }
 
 pub reading_goes_on : {old new : Reader} (ts : List Token) (all : Reader) (l : Level) → all.document.levels.items ≡ old.document.levels.items ++ l ∷ [] → bytes_of old ≡ bytes_of all
@@ -267,8 +277,22 @@ reading_goes_on {old} {new} ts all l levels bytes tokens whole takes = record {
       whole.made out (subst (λ (x : List Token). Rest out (levels_of all) (bytes_of all) x) tokens two);
 }
 
+pub says_readable : {ts : List Token} {b : List ℕ} → SaysBytes ts b → IsReadableDocument b
+says_readable {ts} {b} (ms, es, mean, readable, tokens, bytes) = (es, readable, bytes)
+
 pub written : {ts : List Token} {b d : List ℕ} (text : List ℕ) → SaysBytes ts b → ts ≡ text_tokens text → d ≡ b → IsWritten text d
-written {ts} {b} {d} text (ms, es, mean, tokens, bytes) e f = (es, (object ms, sym e ∙ tokens, mean), f ∙ bytes)
+written {ts} {b} {d} text (ms, es, mean, readable, tokens, bytes) e f = (es, (object ms, sym e ∙ tokens, mean), f ∙ bytes)
+
+-- a plain number has no C string and no subtype
+pub plain_free : {s : List ℕ} {l : Leaf} → IsPlain s l → IsLeafNulFree l
+plain_free {s} {l} (inl (z, w, fits, e)) = subst IsLeafNulFree (sym e) tt
+plain_free {s} {l} (inr (inl (z, w, large, fits, e))) = subst IsLeafNulFree (sym e) tt
+plain_free {s} {l} (inr (inr (fraction, (bits, w, e)))) = subst IsLeafNulFree (sym e) tt
+
+pub plain_proper : {s : List ℕ} {l : Leaf} → IsPlain s l → IsLeafSubtypeProper l
+plain_proper {s} {l} (inl (z, w, fits, e)) = subst IsLeafSubtypeProper (sym e) tt
+plain_proper {s} {l} (inr (inl (z, w, large, fits, e))) = subst IsLeafSubtypeProper (sym e) tt
+plain_proper {s} {l} (inr (inr (fraction, (bits, w, e)))) = subst IsLeafSubtypeProper (sym e) tt
 
 -- values of wrappers
 
@@ -285,15 +309,18 @@ pub puts_as : {old new : Reader} {k : List ℕ} {v w : RawValue} → Puts old ne
 puts_as {old} {new} {k} {v} {w} puts e = subst (λ (x : RawValue). Puts old new k x) e puts
 
 pub leaf_taken : {old mid new : Reader} {k : List ℕ} {l : Leaf} (w : Wrapper) → Takes (Writes w) old.source.tokens mid.source.tokens l → mid.document ≡ old.document
-    → new.source ≡ mid.source → Puts mid new k (single l) → TakesLeaf old new (wrapper_key w) k
-leaf_taken {old} {mid} {new} {k} {l} w (j, tokens, is) same source puts = record {
+    → new.source ≡ mid.source → IsLeafNulFree l → IsLeafSubtypeProper l → Puts mid new k (single l) → TakesLeaf old new (wrapper_key w) k
+leaf_taken {old} {mid} {new} {k} {l} w (j, tokens, is) same source free proper puts = record {
   json = j;
   says = l;
   is = wrapped w j l is;
+  nul_free = free;
+  subtype = proper;
   tokens = tokens ∙ ap (λ (x : List Token). json_tokens j ++ x) (sym (ap (λ (x : Source). x.tokens) source));
   puts = record {
     levels = puts.levels ∙ ap (λ (d : Unfinished). d.levels.items) same;
     bytes = puts.bytes ∙ ap (λ (d : Unfinished). d.bytes.items ++ element_bytes k (single l)) same;
+    in_range = puts.in_range;
   };
 }
 

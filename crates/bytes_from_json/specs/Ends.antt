@@ -34,7 +34,7 @@ InsideThen holder.Document ts behind = OrdinaryThen ts behind
 InsideThen (holder.Begun first) ts behind = (rest : List Token) × ValueThen ts rest × OrdinaryThen rest behind
 InsideThen (holder.Array items) ts behind = ItemsThen ts behind
 InsideThen (holder.Scope start) ts behind = MembersThen ts behind
-InsideThen (holder.ScopeBeforeCode start code) ts behind = MembersThen ts behind
+InsideThen (holder.ScopeBeforeCode start) ts behind = MembersThen ts behind
 
 -- what follows the bracket of a level inside its wrapper is next
 abbrev pub WrapperThen : Holder → List Token → List Token → Type 0
@@ -43,7 +43,7 @@ WrapperThen holder.Document ts behind = ts ≡ behind
 WrapperThen (holder.Begun first) ts behind = ts ≡ behind
 WrapperThen (holder.Array items) ts behind = ts ≡ behind
 WrapperThen (holder.Scope start) ts behind = ts ≡ end_object ∷ behind
-WrapperThen (holder.ScopeBeforeCode start code) ts behind = (text : List ℕ) × (ts ≡ key (codes "$code") ∷ string text ∷ end_object ∷ behind)
+WrapperThen (holder.ScopeBeforeCode start) ts behind = (text : List ℕ) × (ts ≡ key (codes "$code") ∷ string text ∷ end_object ∷ behind)
 
 -- the rest of a level and of its wrapper is next, followed by these tokens
 abbrev pub LevelThen : Holder → List Token → List Token → Type 0

@@ -7,7 +7,7 @@ use Rattle.bson_model.specs.Tree.{Entries, document}
 use Rattle.raw_tree.specs.Encoding.{encoding}
 use Rattle.values_from_json.specs.Meaning.{IsWhole}
 use Rattle.values_from_json.specs.declared.error.JsonReason.{JsonReason}
-use Rattle.values_from_json.specs.declared.error.JsonReason.TheVariants.{OutOfMemory, TooManyBytes, TooDeep, InteriorNul, Unsound}
+use Rattle.values_from_json.specs.declared.error.JsonReason.TheVariants.{OutOfMemory, TooManyBytes, TooDeep}
 
 -- the text is this JSON value (RFC 8259), however deep it is nested: its tokens are those of the value
 abbrev pub IsJsonText : List ℕ → Json → Type 0
@@ -25,12 +25,9 @@ IsWritten text bytes = (es : Entries) × Says text es × (bytes ≡ encoding (do
 abbrev pub SaysNone : List ℕ → Type 0
 SaysNone text = (es : Entries) → ¬ Says text es
 
--- The reasons that leave open whether a text writes a document: memory; the limits; U+0000, which ends keys, patterns and options in BSON;
--- and the one that no text is known to give.
+-- the reasons that leave open whether a text writes a document: memory and the limits
 abbrev pub LeavesOpen : JsonReason → Type 0
 LeavesOpen OutOfMemory = Unit {0}
 LeavesOpen TooManyBytes = Unit {0}
 LeavesOpen TooDeep = Unit {0}
-LeavesOpen InteriorNul = Unit {0}
-LeavesOpen Unsound = Unit {0}
 LeavesOpen _ = ⊥

@@ -1,23 +1,31 @@
 //! The bytes of a document with open levels.
-ghost use Rattle.std.specs.Prelude.{◌≡◌, ◌≤◌, ◌+◌, ◌++◌, ◌∷◌, [], length, vec_capacity, vec_len, IfErr, IfOk, OnOk, MatchOption};
+#![tactic(auto, using(crate::proofs::Placing::placed_more, crate::proofs::Placing::placed_last, crate::proofs::Placing::placed_others, crate::proofs::Placing::length_after))]
+
+ghost use Rattle.std.specs.Prelude.{◌≡◌, ◌≤◌, ◌+◌, ◌++◌, ◌∷◌, [], length, vec_capacity, vec_len, IfErr, IfOk, IfSome, OnOk, MatchOption};
+ghost use Rattle.std.specs.Str.{IsUtf8};
 ghost use Rattle.raw_view.specs.Frame.Format.{c_string as text_then, framed, string_payload};
 ghost use Rattle.raw_view.specs.Frame.Envelope.{IsEnvelope};
 ghost use Rattle.raw_view.specs.Frame.Kind.{tag_of};
 ghost use Rattle.raw_view.specs.Frame.Number.{max_length};
-ghost use Rattle.raw_tree.specs.Payload.{element_bytes, unset};
+ghost use Rattle.raw_tree.specs.Payload.{IsRawInRange, element_bytes, unset};
 ghost use Rattle.bson_model.specs.Tree.{Tree};
 ghost use Rattle.raw_view.specs.Meaning.Value.{value_of};
 ghost use Rattle.raw_tree.specs.WithinLimits.{ReadsWithin};
-ghost use Rattle.bytes_from_json.specs.Levels.{before_scope, headed, level_at, with_len};
+ghost use Rattle.bytes_from_json.specs.Levels.{IsReadAgain, IsReadableDocument, headed, level_at, with_len, with_string};
+ghost use Rattle.bytes_from_json.specs.Placed.{IsPlaced, code_start};
 ghost use Rattle.bytes_from_json.specs.Texts.{LeavesOpen};
 
+use crate::unfinished::Unfinished;
 use raw_tree::{
     BarrierKind, Limits, first_fault_within, payload_len, put_element, put_head, put_string,
-    set_len, total_len,
+    set_len,
 };
 use raw_view::{ElementType, RawBsonRef, RawDocument};
 use std::alloc::Global;
 use values_from_json::JsonReason;
+
+/// The most bytes that a document has.
+const MAX_LEN: usize = 0x7FFF_FFFF;
 
 /// What holds a level.
 #[derive(Clone, Copy)]
@@ -31,8 +39,8 @@ pub(crate) enum Holder<'a> {
     Array(usize),
     /// the scope of a code that came before it; the payload starts there
     Scope(usize),
-    /// the scope of a code that comes after it: where the payload starts, and what the code has to be
-    ScopeBeforeCode(usize, &'a str),
+    /// the scope of a code that comes after it; the payload starts there
+    ScopeBeforeCode(usize),
 }
 
 /// An open level.
@@ -43,19 +51,15 @@ pub(crate) struct Level<'a> {
     pub(crate) start: usize,
 }
 
-/// The bytes of a document that isn't complete yet.
-#[derive(Drop)]
-pub(crate) struct Unfinished<'a> {
-    bytes: Vec<u8>,
-    levels: Vec<Level<'a>>,
-    limits: Limits,
-}
-
 impl<'a> Unfinished<'a> {
     pub(crate) fn new(alloc: Global, limits: Limits) -> Unfinished<'a>
         ensures bytes { result.bytes.items ≡ [] }
         ensures levels { result.levels.items ≡ [] }
     {
+        let limits = Limits {
+            bytes: limits.bytes.min(MAX_LEN),
+            depth: limits.depth,
+        };
         Unfinished {
             bytes: Vec::new(alloc),
             levels: Vec::new(alloc),
@@ -67,6 +71,7 @@ impl<'a> Unfinished<'a> {
     pub(crate) fn pop(&mut self) -> Option<Level<'a>>
         ensures level { MatchOption result ((self.old.levels.items ≡ []) × (self.new.levels.items ≡ []))
             (λ level. self.old.levels.items ≡ self.new.levels.items ++ level ∷ []) }
+        ensures placed { IfSome result (IsPlaced (length self.new.bytes.items)) }
         ensures bytes { self.new.bytes.items ≡ self.old.bytes.items }
     {
         self.levels.pop()
@@ -74,6 +79,7 @@ impl<'a> Unfinished<'a> {
 
     /// Puts back a level that was removed.
     pub(crate) fn push(&mut self, level: Level<'a>) -> Result<(), JsonReason>
+        requires { IsPlaced (length self.old.bytes.items) level }
         ensures level { OnOk result (self.new.levels.items ≡ self.old.levels.items ++ level.entry ∷ []) }
         ensures bytes { self.new.bytes.items ≡ self.old.bytes.items }
         ensures reason { IfErr result LeavesOpen }
@@ -90,28 +96,24 @@ impl<'a> Unfinished<'a> {
         ensures levels { self.new.levels.items ≡ self.old.levels.items }
         ensures reason { IfErr result LeavesOpen }
     {
-        if self.bytes.extend_from_slice(bytes).is_err() {
-            return Err(JsonReason::OutOfMemory);
+        if bytes.len() > self.limits.bytes - self.bytes.len() {
+            return Err(JsonReason::TooManyBytes);
         }
-        if self.bytes.len() > self.limits.bytes {
-            Err(JsonReason::TooManyBytes)
-        } else {
-            Ok(())
+        match self.bytes.extend_from_slice(bytes) {
+            Ok(()) => Ok(()),
+            Err(_) => Err(JsonReason::OutOfMemory),
         }
     }
 
-    /// Makes room for `added` more bytes, if the limits allow it.
+    /// Makes room for `added` more bytes, if the limit allows them.
     fn make_room(&mut self, added: usize) -> Result<(), JsonReason>
         ensures bytes { self.new.bytes.items ≡ self.old.bytes.items }
         ensures room { OnOk result (vec_len self.new.bytes + added ≤ vec_capacity self.new.bytes) }
-        ensures fits { OnOk result (vec_len self.new.bytes + added ≤ max_length) }
+        ensures fits { OnOk result (vec_len self.new.bytes + added ≤ self.new.limits.bytes) }
         ensures levels { self.new.levels.items ≡ self.old.levels.items }
         ensures reason { IfErr result LeavesOpen }
     {
-        if total_len(self.bytes.len(), added).is_none() {
-            return Err(JsonReason::TooManyBytes);
-        }
-        if self.bytes.len() + added > self.limits.bytes {
+        if added > self.limits.bytes - self.bytes.len() {
             return Err(JsonReason::TooManyBytes);
         }
         match self.bytes.reserve(added) {
@@ -132,7 +134,8 @@ impl<'a> Unfinished<'a> {
     }
 
     /// Appends a string: its length, its text and a 0.
-    fn put_string(&mut self, text: &str) -> Result<(), JsonReason>
+    pub(crate) fn put_string(&mut self, text: &str) -> Result<(), JsonReason>
+        ensures text { IsUtf8 text.now }
         ensures bytes { OnOk result (self.new.bytes.items ≡ self.old.bytes.items ++ string_payload text.now) }
         ensures levels { self.new.levels.items ≡ self.old.levels.items }
         ensures reason { IfErr result LeavesOpen }
@@ -146,6 +149,7 @@ impl<'a> Unfinished<'a> {
     #[inline(always)]
     pub(crate) fn put_element(&mut self, key: &str, value: RawBsonRef<'_>) -> Result<(), JsonReason>
         ensures bytes { OnOk result (self.new.bytes.items ≡ self.old.bytes.items ++ element_bytes key.now (value_of value.entry)) }
+        ensures in_range { OnOk result (IsRawInRange (value_of value.entry)) }
         ensures levels { self.new.levels.items ≡ self.old.levels.items }
         ensures reason { IfErr result LeavesOpen }
     {
@@ -183,6 +187,7 @@ impl<'a> Unfinished<'a> {
         key: &str,
         holder: Holder<'a>,
     ) -> Result<(), JsonReason>
+        requires { code_start holder ≡ 0 }
         ensures bytes { OnOk result (self.new.bytes.items ≡ headed self.old.bytes.items (tag_of kind) key.now ++ unset) }
         ensures level { OnOk result (self.new.levels.items
             ≡ self.old.levels.items ++ level_at holder.entry (length (headed self.old.bytes.items (tag_of kind) key.now)) ∷ []) }
@@ -194,6 +199,7 @@ impl<'a> Unfinished<'a> {
 
     /// Opens a level.
     pub(crate) fn open(&mut self, holder: Holder<'a>) -> Result<(), JsonReason>
+        requires { code_start holder ≤ length self.old.bytes.items }
         ensures bytes { OnOk result (self.new.bytes.items ≡ self.old.bytes.items ++ unset) }
         ensures level { OnOk result (self.new.levels.items
             ≡ self.old.levels.items ++ level_at holder.entry (length self.old.bytes.items) ∷ []) }
@@ -204,57 +210,76 @@ impl<'a> Unfinished<'a> {
             holder,
             start: self.bytes.len(),
         };
-        self.push(level)?;
-        self.put(&[0; 4])
+        self.put(&[0; 4])?;
+        self.push(level)
     }
 
-    /// Appends what is before the scope of a code, under a key. Returns where the payload starts; its length isn't
-    /// set yet.
-    pub(crate) fn put_code_before_scope(
-        &mut self,
-        key: &str,
-        code: &str,
-    ) -> Result<usize, JsonReason>
+    /// Appends what is before the text of a code with scope, under a key. Returns where the payload starts; its
+    /// length isn't set yet.
+    pub(crate) fn put_code_head(&mut self, key: &str) -> Result<usize, JsonReason>
         ensures start { IfOk result (λ start. start ≡ length (headed self.old.bytes.items 15 key.now)) }
-        ensures bytes { OnOk result (self.new.bytes.items ≡ before_scope self.old.bytes.items key.now code.now) }
+        ensures bytes { OnOk result (self.new.bytes.items ≡ headed self.old.bytes.items 15 key.now ++ unset) }
         ensures levels { self.new.levels.items ≡ self.old.levels.items }
         ensures reason { IfErr result LeavesOpen }
     {
         self.put_head(ElementType::JavaScriptCodeWithScope, key)?;
         let start = self.bytes.len();
         self.put(&[0; 4])?;
-        self.put_string(code)?;
         Ok(start)
+    }
+
+    /// Puts a string between the first `at` bytes and the others.
+    pub(crate) fn insert_string(
+        &mut self,
+        alloc: Global,
+        at: usize,
+        text: &str,
+    ) -> Result<(), JsonReason>
+        requires { at ≤ length self.old.bytes.items }
+        ensures text { IsUtf8 text.now }
+        ensures bytes { OnOk result (self.new.bytes.items ≡ with_string at text.now self.old.bytes.items) }
+        ensures longer { OnOk result (length self.old.bytes.items ≤ length self.new.bytes.items) }
+        ensures levels { self.new.levels.items ≡ self.old.levels.items }
+        ensures reason { IfErr result LeavesOpen }
+    {
+        self.make_room(text.len().saturating_add(5))?;
+        let Ok(behind) = Vec::from_slice(alloc, &self.bytes[at..]) else {
+            return Err(JsonReason::OutOfMemory);
+        };
+        self.bytes.truncate(at);
+        put_string(&mut self.bytes, text);
+        match self.bytes.extend_from_slice(&behind) {
+            Ok(()) => Ok(()),
+            Err(_) => unreachable!(),
+        }
     }
 
     /// Ends a level that was removed.
     pub(crate) fn close(&mut self, level: Level<'a>) -> Result<(), JsonReason>
+        requires { IsPlaced (length self.old.bytes.items) level }
         ensures bytes { OnOk result (self.new.bytes.items ≡ with_len level.entry.start (self.old.bytes.items ++ 0 ∷ [])) }
+        ensures longer { OnOk result (length self.old.bytes.items ≤ length self.new.bytes.items) }
         ensures levels { self.new.levels.items ≡ self.old.levels.items }
         ensures reason { IfErr result LeavesOpen }
     {
         self.put(&[0])?;
-        self.set_len(level.start)
+        self.set_len(level.start);
+        Ok(())
     }
 
     /// Sets the four bytes at `start` to the number of bytes from there on.
-    pub(crate) fn set_len(&mut self, start: usize) -> Result<(), JsonReason>
-        ensures bytes { OnOk result (self.new.bytes.items ≡ with_len start self.old.bytes.items) }
+    pub(crate) fn set_len(&mut self, start: usize)
+        requires { start + 4 ≤ length self.old.bytes.items }
+        ensures bytes { self.new.bytes.items ≡ with_len start self.old.bytes.items }
+        ensures len { length self.new.bytes.items ≡ length self.old.bytes.items }
         ensures levels { self.new.levels.items ≡ self.old.levels.items }
-        ensures reason { IfErr result LeavesOpen }
     {
-        if self.bytes.len() < start.saturating_add(4) {
-            return Err(JsonReason::Unsound);
-        }
-        if self.bytes.len() - start > 0x7FFF_FFFF {
-            return Err(JsonReason::TooManyBytes);
-        }
         set_len(&mut self.bytes, start);
-        Ok(())
     }
 
     /// The bytes of the document, whose levels have all ended, if it is within these limits.
     pub(crate) fn finish(self, alloc: Global, limits: Limits) -> Result<Vec<u8>, JsonReason>
+        requires { IsReadableDocument self.bytes.items }
         ensures bytes { IfOk result (λ bytes. bytes.items ≡ self.entry.bytes.items) }
         ensures envelope { IfOk result (λ bytes. IsEnvelope bytes.items) }
         ensures sound { IfOk result (λ bytes. (t : Tree) × ReadsWithin limits bytes.items t) }
@@ -265,29 +290,23 @@ impl<'a> Unfinished<'a> {
     }
 }
 
-/// Whether these are the bytes of a document within the limits that has no fault at any level.
+/// Whether these bytes, which are those of a document without a fault, are within the limits.
 fn check(alloc: Global, bytes: &[u8], limits: Limits) -> Result<(), JsonReason>
+    requires { IsReadAgain bytes.now }
     ensures envelope { OnOk result (IsEnvelope bytes.now) }
     ensures sound { OnOk result ((t : Tree) × ReadsWithin limits bytes.now t) }
     ensures reason { IfErr result LeavesOpen }
 {
     let Ok(document) = RawDocument::from_bytes(bytes) else {
-        return Err(JsonReason::Unsound);
+        unreachable!()
     };
     match first_fault_within(alloc, document, limits) {
         Err(_) => Err(JsonReason::OutOfMemory),
         Ok(None) => Ok(()),
-        Ok(Some(barrier)) => Err(reason_of(barrier.kind)),
-    }
-}
-
-/// Why a document that was written isn't returned.
-fn reason_of(kind: BarrierKind) -> JsonReason
-    ensures { LeavesOpen result }
-{
-    match kind {
-        BarrierKind::TooManyBytes => JsonReason::TooManyBytes,
-        BarrierKind::TooDeep => JsonReason::TooDeep,
-        BarrierKind::Fault(_) => JsonReason::Unsound,
+        Ok(Some(barrier)) => match barrier.kind {
+            BarrierKind::TooManyBytes => Err(JsonReason::TooManyBytes),
+            BarrierKind::TooDeep => Err(JsonReason::TooDeep),
+            BarrierKind::Fault(_) => unreachable!(),
+        },
     }
 }

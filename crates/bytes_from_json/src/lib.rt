@@ -13,6 +13,7 @@
 mod levels;
 mod number;
 mod reading;
+mod unfinished;
 mod wrapped;
 
 pub use reading::document_bytes;

@@ -1,7 +1,8 @@
 //! Documents from text: one loop over the members of the innermost level.
 #![tactic(auto, using(crate::proofs::Left::one_taken, crate::proofs::Left::some_taken, crate::proofs::Keeps::only_open))]
 
-ghost use Rattle.std.specs.Prelude.{◌≡◌, ◌<◌, ◌≤◌, ◌∷◌, ◌⊎◌, [], IfErr, IfOk, IfSome, OnErr, OnOk};
+ghost use Rattle.std.specs.Prelude.{◌≡◌, ◌<◌, ◌≤◌, ◌∷◌, ◌⊎◌, [], length, IfErr, IfOk, OnErr, OnOk};
+ghost use Rattle.std.specs.Str.{IsUtf8};
 ghost use Rattle.json.specs.Reads.{token_of};
 ghost use Rattle.json.specs.Token.{begin_object};
 ghost use Rattle.bson_model.specs.Bytes.{NulFree};
@@ -11,19 +12,21 @@ ghost use Rattle.raw_view.specs.Meaning.Value.{value_of};
 ghost use Rattle.raw_tree.specs.WithinLimits.{ReadsWithin};
 ghost use Rattle.bytes_from_json.specs.Left.{left_of};
 ghost use Rattle.bytes_from_json.specs.Levels.{ClosesBracket, HasMembers, MayBeIn, Puts, SaysBytes, TakesLevel, TakesValue, array_level};
+ghost use Rattle.bytes_from_json.specs.Placed.{IsPlaced};
 ghost use Rattle.values_from_json.specs.Place.{IsPlaceIn};
 ghost use Rattle.bytes_from_json.specs.declared.levels.Holder.TheVariants.{Array};
 ghost use Rattle.bytes_from_json.specs.Ends.{KeepsClosed, KeepsLevel, KeepsValue, LacksLevel, LacksValue, LacksWhole, LacksWrapper};
 ghost use Rattle.bytes_from_json.specs.Texts.{IsWritten, LeavesOpen, SaysNone};
 
-use crate::levels::{Holder, Level, Unfinished};
+use crate::levels::{Holder, Level};
+use crate::unfinished::Unfinished;
 use itoa::Buffer;
 use json::{Reader as Tokens, Scratch, Token};
 use raw_tree::Limits;
 use raw_view::{ElementType, RawBsonRef};
 use std::alloc::Global;
 use values_from_json::{
-    Codes, JsonError, JsonReason, Source, Wanted, Wrapper, codes_of, error_at, wrapper_of_key,
+    JsonError, JsonReason, Source, Wanted, Wrapper, error_at, is_nul_free, wrapper_of_key,
 };
 
 /// A text and the document that is made of it.
@@ -32,10 +35,6 @@ pub(crate) struct Reader<'a> {
     pub(crate) alloc: Global,
     pub(crate) source: Source<'a>,
     pub(crate) document: Unfinished<'a>,
-    /// the codes that come after their scopes, once they were searched
-    pub(crate) codes: Option<Codes<'a>>,
-    /// whether they have to be searched
-    pub(crate) misses_codes: bool,
 }
 
 /// The bytes of the document that a text of MongoDB Extended JSON v2 writes, as described at `from_json` of
@@ -44,33 +43,6 @@ pub fn document_bytes(alloc: Global, text: &str, limits: Limits) -> Result<Vec<u
     ensures written { IfOk result (λ bytes. IsWritten text.now bytes.items) }
     ensures envelope { IfOk result (λ bytes. IsEnvelope bytes.items) }
     ensures sound { IfOk result (λ bytes. (t : Tree) × ReadsWithin limits bytes.items t) }
-    ensures place { IfErr result (IsPlaceIn text.now) }
-    ensures none { IfErr result (λ error. LeavesOpen error.reason ⊎ SaysNone text.now) }
-{
-    if let Some(bytes) = document_of(alloc, text, limits, None)? {
-        return Ok(bytes);
-    }
-    let Ok(codes) = codes_of(alloc, text) else {
-        return Err(error_at(JsonReason::OutOfMemory, text.as_bytes(), 0));
-    };
-    let codes = Some(Codes::new(&codes));
-    match document_of(alloc, text, limits, codes)? {
-        Some(bytes) => Ok(bytes),
-        None => Err(error_at(JsonReason::Unsound, text.as_bytes(), 0)),
-    }
-}
-
-/// The bytes of the document that a text writes, from its tokens; `None` if a code comes after its scope and codes
-/// were not searched.
-fn document_of<'a>(
-    alloc: Global,
-    text: &'a str,
-    limits: Limits,
-    codes: Option<Codes<'a>>,
-) -> Result<Option<Vec<u8>>, JsonError>
-    ensures written { IfOk result (λ found. IfSome found (λ bytes. IsWritten text.now bytes.items)) }
-    ensures envelope { IfOk result (λ found. IfSome found (λ bytes. IsEnvelope bytes.items)) }
-    ensures sound { IfOk result (λ found. IfSome found (λ bytes. (t : Tree) × ReadsWithin limits bytes.items t)) }
     ensures place { IfErr result (IsPlaceIn text.now) }
     ensures none { IfErr result (λ error. LeavesOpen error.reason ⊎ SaysNone text.now) }
 {
@@ -83,18 +55,13 @@ fn document_of<'a>(
         alloc,
         source: Source::new(text, tokens),
         document: Unfinished::new(alloc, limits),
-        codes,
-        misses_codes: false,
     };
     let outcome = reader.read();
-    if reader.misses_codes {
-        return Ok(None);
-    }
     let place = reader.source.place;
     let reason = match outcome {
         Err(reason) => reason,
         Ok(()) => match reader.document.finish(alloc, limits) {
-            Ok(bytes) => return Ok(Some(bytes)),
+            Ok(bytes) => return Ok(bytes),
             Err(reason) => reason,
         },
     };
@@ -121,6 +88,7 @@ impl<'a> Reader<'a> {
 
     /// Takes an item or a member of a level that was removed, or the end of the level.
     fn on_with(&mut self, level: Level<'a>) -> Result<(), JsonReason>
+        requires { IsPlaced (length self.old.document.bytes.items) level }
         ensures less { OnOk result (left_of self.new < left_of self.old) }
         ensures rest { OnOk result (TakesLevel self.old self.new level.entry) }
         ensures keeps { OnOk result (KeepsLevel self.old self.new level.entry) }
@@ -141,6 +109,7 @@ impl<'a> Reader<'a> {
 
     /// Takes an item of an array that starts at `start` and has `items` items, or its end.
     fn item(&mut self, start: usize, items: usize) -> Result<(), JsonReason>
+        requires { IsPlaced (length self.old.document.bytes.items) (array_level items start) }
         ensures less { OnOk result (left_of self.new < left_of self.old) }
         ensures rest { OnOk result (TakesLevel self.old self.new (array_level items start)) }
         ensures keeps { OnOk result (KeepsLevel self.old self.new (array_level items start)) }
@@ -165,7 +134,8 @@ impl<'a> Reader<'a> {
 
     /// Takes a member of a level that was removed, or the end of the level.
     fn member(&mut self, level: Level<'a>) -> Result<(), JsonReason>
-        requires { HasMembers level.holder }
+        requires members { HasMembers level.holder }
+        requires placed { IsPlaced (length self.old.document.bytes.items) level }
         ensures less { OnOk result (left_of self.new < left_of self.old) }
         ensures rest { OnOk result (TakesLevel self.old self.new level.entry) }
         ensures keeps { OnOk result (KeepsLevel self.old self.new level.entry) }
@@ -195,6 +165,7 @@ impl<'a> Reader<'a> {
 
     /// Ends a level that was removed, whose bracket was passed, and the wrapper that it is in.
     fn close(&mut self, level: Level<'a>) -> Result<(), JsonReason>
+        requires { IsPlaced (length self.old.document.bytes.items) level }
         ensures less { OnOk result (left_of self.new ≤ left_of self.old) }
         ensures rest { OnOk result (ClosesBracket self.old self.new level.entry) }
         ensures keeps { OnOk result (KeepsClosed self.old self.new level.entry) }
@@ -203,12 +174,14 @@ impl<'a> Reader<'a> {
         self.document.close(level)?;
         match level.holder {
             Holder::Scope(start) => {
-                self.document.set_len(start)?;
+                self.document.set_len(start);
                 self.source.end(Wrapper::Code)
             }
-            Holder::ScopeBeforeCode(start, code) => {
-                self.document.set_len(start)?;
-                self.source.code(code)
+            Holder::ScopeBeforeCode(start) => {
+                let code = self.source.code()?;
+                self.document.insert_string(self.alloc, level.start, code)?;
+                self.document.set_len(start);
+                Ok(())
             }
             _ => Ok(()),
         }
@@ -274,9 +247,9 @@ impl<'a> Reader<'a> {
 
 /// A key contains no U+0000, which would end it. In a document it isn't the key of a wrapper either.
 fn check_key(key: &str, holder: Holder<'_>) -> Result<(), JsonReason>
+    ensures text { IsUtf8 key.now }
     ensures some { OnOk result (MayBeIn holder.entry key.now) }
-    ensures none { OnErr result (MayBeIn holder.entry key.now → ¬ NulFree key.now) }
-    ensures others { IfErr result (λ reason. LeavesOpen reason ⊎ ¬ MayBeIn holder.entry key.now) }
+    ensures none { OnErr result (¬ MayBeIn holder.entry key.now) }
 {
     match holder {
         Holder::Document => match wrapper_of_key(key) {
@@ -289,13 +262,13 @@ fn check_key(key: &str, holder: Holder<'_>) -> Result<(), JsonReason>
 
 /// A key contains no U+0000, which would end it.
 fn check_free(key: &str) -> Result<(), JsonReason>
+    ensures text { IsUtf8 key.now }
     ensures some { OnOk result (NulFree key.now) }
     ensures none { OnErr result (¬ NulFree key.now) }
-    ensures reason { IfErr result LeavesOpen }
 {
-    if key.as_bytes().contains(&0) {
-        Err(JsonReason::InteriorNul)
-    } else {
+    if is_nul_free(key) {
         Ok(())
+    } else {
+        Err(JsonReason::InteriorNul)
     }
 }

@@ -1,13 +1,14 @@
 //! The values of wrappers, each after its first key, as bytes of the document.
 #![tactic(auto, using(crate::proofs::Left::one_taken, crate::proofs::Left::some_taken, crate::proofs::Left::leaf_less, crate::proofs::Keeps::only_open))]
 
-ghost use Rattle.std.specs.Prelude.{◌≤◌, ◌⊎◌, ◌∷◌, [], IfErr, OnOk, codes};
+ghost use Rattle.std.specs.Prelude.{◌≢◌, ◌≤◌, ◌⊎◌, ◌∷◌, [], IfErr, OnOk, codes};
 ghost use Rattle.json.specs.Token.{begin_object, key as key_token, string};
 ghost use Rattle.bytes_from_json.specs.Ends.{KeepsValue, LacksValue};
 ghost use Rattle.bytes_from_json.specs.Left.{left_of};
 ghost use Rattle.bytes_from_json.specs.Texts.{LeavesOpen};
 ghost use Rattle.bytes_from_json.specs.Levels.{TakesLeaf, TakesValue};
 ghost use Rattle.values_from_json.specs.Keys.{wrapper_key};
+ghost use Rattle.values_from_json.specs.declared.wrapper.Wrapper.TheVariants.{Code, Scope};
 ghost use Rattle.values_from_json.specs.Taken.{LacksLeaf};
 
 use crate::levels::Holder;
@@ -35,6 +36,8 @@ impl Reader<'_> {
 
     /// Takes the value of a wrapper that holds no others, and puts it under a key.
     fn leaf(&mut self, wrapper: Wrapper, key: &str) -> Result<(), JsonReason>
+        requires no_code { wrapper ≢ Code }
+        requires no_scope { wrapper ≢ Scope }
         ensures some { OnOk result (TakesLeaf self.old self.new (wrapper_key wrapper) key.now) }
         ensures none { IfErr result (λ reason. LeavesOpen reason ⊎ LacksLeaf (wrapper_key wrapper) self.old.source.tokens) }
     {
@@ -54,7 +57,7 @@ impl Reader<'_> {
             Wrapper::Undefined => self.undefined(key),
             Wrapper::MinKey => self.min_key(key),
             Wrapper::MaxKey => self.max_key(key),
-            Wrapper::Code | Wrapper::Scope => Err(JsonReason::Unsound),
+            Wrapper::Code | Wrapper::Scope => unreachable!(),
         }
     }
 
@@ -220,7 +223,8 @@ impl Reader<'_> {
         ensures none { IfErr result (λ reason. LeavesOpen reason ⊎ LacksValue (begin_object ∷ key_token (codes "$code") ∷ string code.now ∷ key_token (codes "$scope") ∷ self.old.source.tokens)) }
     {
         self.source.begin(Wrapper::Code)?;
-        let start = self.document.put_code_before_scope(key, code)?;
+        let start = self.document.put_code_head(key)?;
+        self.document.put_string(code)?;
         self.document.open(Holder::Scope(start))
     }
 
@@ -232,12 +236,7 @@ impl Reader<'_> {
         ensures none { IfErr result (λ reason. LeavesOpen reason ⊎ LacksValue (begin_object ∷ key_token (codes "$scope") ∷ self.old.source.tokens)) }
     {
         self.source.begin(Wrapper::Scope)?;
-        let Some(codes) = &mut self.codes else {
-            self.misses_codes = true;
-            return Err(JsonReason::Unsound);
-        };
-        let code = codes.take(self.source.place).unwrap_or("");
-        let start = self.document.put_code_before_scope(key, code)?;
-        self.document.open(Holder::ScopeBeforeCode(start, code))
+        let start = self.document.put_code_head(key)?;
+        self.document.open(Holder::ScopeBeforeCode(start))
     }
 }

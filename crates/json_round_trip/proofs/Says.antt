@@ -6,6 +6,7 @@ use Rattle.std.specs.Str.{bytes_eq}
 use Rattle.json.specs.Json.{Json, Items, Members, no_items, item, no_members, member}
 use Rattle.json.specs.Json as json
 use Rattle.json.specs.Tree.{json_tokens, items_tokens, members_tokens, HasNumbers, ItemsHaveNumbers, MembersHaveNumbers}
+use Rattle.bson_model.specs.Bytes.{NulFree}
 use Rattle.bson_model.specs.Leaf.{Leaf}
 use Rattle.bson_model.specs.Proper.{keys_in}
 use Rattle.bson_model.specs.Tree.{Tree, Trees, Entries, leaf, array, document, code_with_scope, no_tree, tree_then, no_entry, entry_then}
@@ -59,13 +60,13 @@ module _ (layout : Layout) (depth : ℕ) (first : Bool) where
   pub no_item_printed : AreItemsPrinted first no_tree (end_text layout depth as_array first) no_items
   no_item_printed = record { spaced = items_end_text layout depth first; numbers = tt; say = refl; only = λ other e. e }
 
-  pub member_printed : (key shown others : List ℕ) (t : Tree) (es : Entries) (j : Json) (ms : Members) → IsPrinted t shown j → AreMembersPrinted false es others ms
+  pub member_printed : (key shown others : List ℕ) (t : Tree) (es : Entries) (j : Json) (ms : Members) → NulFree key × IsPrinted t shown j → AreMembersPrinted false es others ms
       → AreMembersPrinted first (entry_then key t es) (head_text layout depth as_document first key ++ (shown ++ others)) (member key j ms)
   member_printed key shown others t es j ms h k = record {
-    spaced = member_text layout depth first shown others key j ms h.spaced k.spaced;
-    numbers = (h.numbers, k.numbers);
-    say = (t, es, h.says, k.say, refl);
-    only = λ other (u, rest, means, are, e). e ∙ (λ i. entry_then key (h.only u means i) (k.only rest are i));
+    spaced = member_text layout depth first shown others key j ms h.1.spaced k.spaced;
+    numbers = (h.1.numbers, k.numbers);
+    say = (t, es, h.0, h.1.says, k.say, refl);
+    only = λ other (u, rest, free, means, are, e). e ∙ (λ i. entry_then key (h.1.only u means i) (k.only rest are i));
     keys = ap (λ (b : Bool). is_wrapper_key key || b) k.keys;
   }
 

@@ -59,7 +59,7 @@ module _ {layout : Layout} {depth : ℕ} {Nested : Sort → List ℕ → List �
   value_printed f (raw.single l) text t at shown stands canonical back =
       let whole = sound f l at in
       let is : t ≡ leaf l = stands ∙ ap leaf (whole.2 canonical) in
-      let returning : IsReturningLeaf l = record { in_range = whole.0; options_ascend = canonical; subtype_proper = whole.1; comes_back = subst ComesBack is back } in
+      let returning : IsReturningLeaf l = record { in_range = whole.0; nul_free = whole.3; options_ascend = canonical; subtype_proper = whole.1; comes_back = subst ComesBack is back } in
       let found = inside.leaves l returning text shown in
       (found.0, subst (λ (x : Tree). IsPrinted x text found.0) (sym is) (leaf_printed l text found.0 found.1))
   value_printed f (raw.document d) text t at shown stands canonical back =
@@ -99,7 +99,7 @@ module _ {layout : Layout} {depth : ℕ} {Nested : Sort → List ℕ → List �
         ms,
         subst (λ (x : List (List ℕ × Tree)). AreMembersPrinted first (entries x) text ms) (sym same)
             (subst (λ (x : List ℕ). AreMembersPrinted first (entry_then f.key t (entries rest)) x ms) (sym is)
-            (member_printed layout (suc depth) first f.key shown others t (entries rest) here.0 behind.0 here.1 behind.1)),
+            (member_printed layout (suc depth) first f.key shown others t (entries rest) here.0 behind.0 (at.key_nul_free, here.1) behind.1)),
       )
 
   items_printed : (s : List ℕ) (first : Bool) (frames : List Frame) (pairs : List (List ℕ × Tree)) (text : List ℕ) → AreBytes s × IsWalk s frames Done

@@ -4,7 +4,7 @@ use Rattle.json.specs.Json.{Json}
 use Rattle.json.specs.Print.{print}
 use Rattle.json.specs.Tree.{json_tokens, HasNumbers}
 use Rattle.bson_model.specs.Leaf.{Leaf}
-use Rattle.bson_model.specs.Proper.{IsLeafInRange, DoLeafOptionsAscend, IsLeafSubtypeProper}
+use Rattle.bson_model.specs.Proper.{IsLeafInRange, IsLeafNulFree, DoLeafOptionsAscend, IsLeafSubtypeProper}
 use Rattle.bson_model.specs.Tree.{Tree, leaf}
 use Rattle.values_to_json.specs.Leaves.{IsLeafJson}
 use Rattle.values_to_json.specs.declared.style.Format.TheVariants.{Canonical}
@@ -21,6 +21,7 @@ pub record IsPrintedAs (l : Leaf) (text : List ℕ) (j : Json) : Type 0 where
 -- the leaf is one of a proper tree, and comes back
 pub record IsReturningLeaf (l : Leaf) : Type 0 where
   pub in_range : IsLeafInRange l
+  pub nul_free : IsLeafNulFree l
   pub options_ascend : DoLeafOptionsAscend l
   pub subtype_proper : IsLeafSubtypeProper l
   pub comes_back : LeafComesBack l

@@ -22,8 +22,7 @@ pub enum RoundTripError<'a> {
 /// Prints a document as MongoDB Extended JSON v2 in the canonical format, as `to_json` does, and reads the text
 /// again, as `from_json` does. A canonical document comes back byte by byte, unless it has a NaN other than the
 /// default one, a decimal that isn't canonical, or a nested document with the key of a wrapper. For a document
-/// that comes back, the error can only be a barrier, or have the reason `OutOfMemory`, `TooManyBytes`, `TooDeep`,
-/// `InteriorNul` or `Unsound`.
+/// that comes back, the error can only be a barrier, or have the reason `OutOfMemory`, `TooManyBytes` or `TooDeep`.
 /// ```
 /// let document = RawDocument::from_bytes(b"\x10\0\0\0\x12a\0\x01\0\0\0\0\0\0\0\0")?;
 /// let again = round_trip(alloc, document, Layout::Indented, Limits { bytes: 1000, depth: 10 }).map_err(|_| NoMemory)?;

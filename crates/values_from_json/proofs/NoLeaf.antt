@@ -5,6 +5,7 @@ use Rattle.json.specs.Json.{Json}
 use Rattle.json.specs.Json as json
 use Rattle.json.specs.Token.{Token}
 use Rattle.json.specs.Tree.{json_tokens}
+use Rattle.bson_model.specs.Bytes.{NulFree}
 use Rattle.bson_model.specs.Leaf.{symbol}
 use Rattle.values_from_json.specs.Taken.{LacksLeaf}
 use Rattle.values_from_json.specs.Taken.{LacksToken, TakesNone, TakesNoTwo}
@@ -43,14 +44,17 @@ no_min_key {ts} none = none_wrapped wrapper.MinKey ts (λ j l is rest e. none re
 pub no_max_key : {ts : List Token} → LacksToken ts (Token.number (codes "1")) → LacksLeaf (codes "$maxKey") ts
 no_max_key {ts} none = none_wrapped wrapper.MaxKey ts (λ j l is rest e. none rest (e ∙ ap (λ (x : Json). json_tokens x ++ rest) is.0))
 
-any_regex : (ts : List Token) → ((pattern options : List ℕ) → TakesNoTwo ts (codes "pattern") (json.string pattern) (codes "options") (json.string options)) → TakesNone IsRegex ts
+any_regex : (ts : List Token)
+    → ((pattern options : List ℕ) → NulFree pattern → NulFree options → TakesNoTwo ts (codes "pattern") (json.string pattern) (codes "options") (json.string options))
+    → TakesNone IsRegex ts
 any_regex ts none json.null l is rest e = is
 any_regex ts none (json.boolean b) l is rest e = is
 any_regex ts none (json.number s) l is rest e = is
 any_regex ts none (json.string s) l is rest e = is
 any_regex ts none (json.array js) l is rest e = is
-any_regex ts none (json.object ms) l (pattern, options, two, says) rest e = none pattern options ms two rest e
+any_regex ts none (json.object ms) l (pattern, options, two, p, o, says) rest e = none pattern options p o ms two rest e
 
-pub no_regex : {ts : List Token} → ((pattern options : List ℕ) → TakesNoTwo ts (codes "pattern") (json.string pattern) (codes "options") (json.string options))
+pub no_regex : {ts : List Token}
+    → ((pattern options : List ℕ) → NulFree pattern → NulFree options → TakesNoTwo ts (codes "pattern") (json.string pattern) (codes "options") (json.string options))
     → LacksLeaf (codes "$regularExpression") ts
 no_regex {ts} none = none_wrapped wrapper.RegularExpression ts (any_regex ts none)

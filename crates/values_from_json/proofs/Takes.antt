@@ -6,6 +6,7 @@ use Rattle.std.specs.Int.{w32, w64}
 use Rattle.uuid.specs.Text.{parsed_hyphenated}
 use Rattle.bson_model.specs.declared.binaries.BinarySubtype.TheVariants.{Uuid}
 use Rattle.hex.specs.Hex.{decode_sized}
+use Rattle.bson_model.specs.Bytes.{NulFree}
 use Rattle.bson_model.specs.Leaf.{binary, date_time, db_pointer, decimal128, double, int32, int64, object_id, regular_expression, symbol, timestamp}
 use Rattle.bson_model.specs.Options.{sorted_options}
 use Rattle.bson_model.specs.Subtype.{subtype_of}
@@ -133,5 +134,5 @@ pub takes_symbol : {old new : List Token} {s : List ℕ} → TakesToken old new 
 takes_symbol {old} {new} {s} t = (string s, t, refl)
 
 pub takes_regex : {old new : List Token} {pattern options : List ℕ} → TakesTwo old new (codes "pattern") (string pattern) (codes "options") (string options)
-    → Takes IsRegex old new (regular_expression pattern (sorted_options options))
-takes_regex {old} {new} {pattern} {options} (ms, tokens, two) = (object ms, tokens, (pattern, options, two, refl))
+    → NulFree pattern → NulFree options → Takes IsRegex old new (regular_expression pattern (sorted_options options))
+takes_regex {old} {new} {pattern} {options} (ms, tokens, two) p o = (object ms, tokens, (pattern, options, two, p, o, refl))

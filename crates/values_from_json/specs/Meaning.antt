@@ -4,6 +4,7 @@ use Rattle.std.specs.List.{list_any}
 use Rattle.std.specs.Str.{bytes_eq}
 use Rattle.json.specs.Json.{Json, Items, no_items, item, Members, no_members, member}
 use Rattle.json.specs.Json as json
+use Rattle.bson_model.specs.Bytes.{NulFree}
 use Rattle.bson_model.specs.Leaf.{Leaf, boolean, null, string}
 use Rattle.bson_model.specs.Tree.{Tree, Trees, Entries, leaf, array, document, code_with_scope, no_tree, tree_then, no_entry, entry_then}
 use Rattle.values_from_json.specs.Numbers.{IsPlain}
@@ -42,10 +43,11 @@ abbrev mutual
   AreItems no_items ts = ts ≡ no_tree
   AreItems (item j js) ts = (t : Tree) × (rest : Trees) × Means j t × AreItems js rest × (ts ≡ tree_then t rest)
 
-  -- Document: <document object (with Extended JSON extensions)>: its members in order, even with repeated keys
+  -- Document: <document object (with Extended JSON extensions)>: its members in order, even with repeated keys. No key contains U+0000, which
+  -- would end it.
   pub AreMembers : Members → Entries → Type 0
   AreMembers no_members es = es ≡ no_entry
-  AreMembers (member key j ms) es = (t : Tree) × (rest : Entries) × Means j t × AreMembers ms rest × (es ≡ entry_then key t rest)
+  AreMembers (member key j ms) es = (t : Tree) × (rest : Entries) × NulFree key × Means j t × AreMembers ms rest × (es ≡ entry_then key t rest)
 
   -- the whole text, or a scope: a document, whatever its keys are
   pub IsWhole : Json → Entries → Type 0

@@ -48,7 +48,6 @@ reason_words reason.LoneSurrogate = codes "half a surrogate pair"
 reason_words reason.InteriorNul = codes "U+0000 in a key, a pattern or options"
 reason_words (reason.Malformed wrapper) = wrapper_words wrapper
 reason_words reason.InexactDecimal = codes "a decimal that no Decimal128 is exactly"
-reason_words reason.Unsound = codes "the bytes written are not a document"
 
 -- and where
 abbrev pub error_words : JsonError → List ℕ

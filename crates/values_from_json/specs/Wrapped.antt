@@ -7,6 +7,7 @@ use Rattle.base64.specs.GeneralPurpose.{decode_of}
 use Rattle.hex.specs.Hex.{decode_sized}
 use Rattle.uuid.specs.Text.{parsed_hyphenated}
 use Rattle.json.specs.Json.{Json, boolean, number, string, object, Members, no_members, member}
+use Rattle.bson_model.specs.Bytes.{NulFree}
 use Rattle.bson_model.specs.Leaf.{Leaf, binary, undefined, object_id, date_time, regular_expression, db_pointer, javascript_code, symbol, timestamp, max_key, min_key}
 use Rattle.bson_model.specs.Options.{sorted_options}
 use Rattle.bson_model.specs.Subtype.{subtype_of}
@@ -67,11 +68,11 @@ IsDate (number s) l = (z : ℤ) × WritesInteger s z × FitsSigned w64 z × (l �
 IsDate _ l = ⊥
 
 -- Regular Expression: {"$regularExpression": {"pattern": <string>, "options": <BSON regular expression options as a string or "">}};
--- options "MUST be in alphabetical order" in BSON
+-- options "MUST be in alphabetical order" in BSON, and neither contains U+0000, which would end it
 abbrev pub IsRegex : Json → Leaf → Type 0
 IsRegex (object ms) l =
     (pattern options : List ℕ) × AreTwo (codes "pattern") (string pattern) (codes "options") (string options) ms
-    × (l ≡ regular_expression pattern (sorted_options options))
+    × NulFree pattern × NulFree options × (l ≡ regular_expression pattern (sorted_options options))
 IsRegex _ l = ⊥
 
 -- an unsigned JSON integer of 32 bits

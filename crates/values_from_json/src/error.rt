@@ -51,8 +51,6 @@ pub enum JsonReason {
     Malformed(Wrapper),
     /// No Decimal128 equals this decimal.
     InexactDecimal,
-    /// The bytes that were written aren't a document. No text is known to give this error.
-    Unsound,
 }
 
 impl From<AllocError> for JsonReason {
@@ -104,7 +102,6 @@ impl JsonReason {
             JsonReason::InteriorNul => "U+0000 in a key, a pattern or options",
             JsonReason::Malformed(wrapper) => wrapper.words(),
             JsonReason::InexactDecimal => "a decimal that no Decimal128 is exactly",
-            JsonReason::Unsound => "the bytes written are not a document",
         }
     }
 }

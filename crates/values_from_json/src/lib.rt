@@ -12,7 +12,6 @@
 //! crates above may cite.
 #![tactic(auto)]
 
-mod codes;
 mod date;
 mod decimal;
 mod error;
@@ -22,11 +21,10 @@ pub mod place;
 mod source;
 mod wrapper;
 
-pub use codes::{Code, Codes, codes_of};
 pub use date::millis_of;
 pub use decimal::decimal128_of;
 pub use error::{JsonError, JsonReason, error_at};
 pub use fault::Wanted;
 pub use leaves::{double_of, integer_of};
-pub use source::Source;
+pub use source::{Source, is_nul_free};
 pub use wrapper::{Wrapper, wrapper_of_key};

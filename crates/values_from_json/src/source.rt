@@ -1,5 +1,5 @@
 //! The tokens of a text, and the values of wrappers that hold no others.
-ghost use Rattle.std.specs.Prelude.{◌≡◌, ◌≢◌, ◌⊎◌, ◌∷◌, [], ℕ, ℤ, List, Bool, Ok, IfErr, IfOk, OnErr, OnOk, if◌then◌else◌, codes, ◌++◌, FitsSigned};
+ghost use Rattle.std.specs.Prelude.{◌≡◌, ◌≢◌, ◌↔◌, ◌⊎◌, IsTrue, ◌∷◌, [], ℕ, ℤ, List, Bool, Ok, IfErr, IfOk, OnErr, OnOk, if◌then◌else◌, codes, ◌++◌, FitsSigned};
 ghost use Rattle.base64.specs.Engines.{standard};
 ghost use Rattle.base64.specs.GeneralPurpose.{decode_of};
 ghost use Rattle.hex.specs.Hex.{decode_sized};
@@ -7,6 +7,7 @@ ghost use Rattle.json.specs.Json.{string as JsonString};
 ghost use Rattle.json.specs.Reads.{token_of};
 ghost use Rattle.json.specs.Tree.{json_tokens};
 ghost use Rattle.std.specs.Int.{w64};
+ghost use Rattle.std.specs.Str.{IsUtf8};
 ghost use Rattle.json.specs.Token.{Token as Taken, begin_object, end_object, key, string, number, boolean};
 ghost use Rattle.bson_model.specs.Leaf.{binary, date_time, db_pointer, decimal128, double, int32, int64, timestamp};
 ghost use Rattle.bson_model.specs.Subtype.{subtype_of};
@@ -16,7 +17,7 @@ ghost use Rattle.values_from_json.specs.Numbers.{WritesInteger, IsQuotedInt32, I
 ghost use Rattle.values_from_json.specs.Taken.{Takes, TakesToken, TakesTwo, LacksJson, LacksToken, NoToken, TakesNone, TakesNoTwo, pointed};
 ghost use Rattle.values_from_json.specs.Wrapped.{InString, IsBinary, IsDate, IsDbPointer, IsTimestamp, IsUuid, WritesUnsigned, two_hex_digits};
 ghost use Rattle.bson_model.specs.Bytes.{NulFree};
-ghost use Rattle.values_from_json.specs.declared.error.JsonReason.TheVariants.{InteriorNul, OutOfMemory, Unsound};
+ghost use Rattle.values_from_json.specs.declared.error.JsonReason.TheVariants.{OutOfMemory};
 
 use crate::date::millis_of;
 use crate::decimal::decimal_of;
@@ -37,6 +38,14 @@ pub struct Source<'a> {
     pub tokens: Tokens<'a>,
     /// where the last token begins, or what an error is about
     pub place: usize,
+}
+
+/// Whether a text contains no U+0000.
+pub fn is_nul_free(text: &str) -> bool
+    ensures text { IsUtf8 text.now }
+    ensures nul_free { IsTrue result ↔ NulFree text.now }
+{
+    !text.as_bytes().contains(&0)
 }
 
 impl<'a> Source<'a> {
@@ -187,20 +196,16 @@ impl<'a> Source<'a> {
         }
     }
 
-    /// Takes the code after a scope, which has to be `code`, and the closing brace of both.
-    pub fn code(&mut self, code: &str) -> Result<(), JsonReason>
-        ensures some { OnOk result (self.old.tokens ≡ key (codes "$code") ∷ string code.now ∷ end_object ∷ self.new.tokens) }
-        ensures none { OnErr result ((rest : List Taken) → self.old.tokens ≢ key (codes "$code") ∷ string code.now ∷ end_object ∷ rest) }
-        ensures others { IfErr result (λ reason. (reason ≡ Unsound)
-            ⊎ ((s : List ℕ) (rest : List Taken) → self.old.tokens ≢ key (codes "$code") ∷ string s ∷ end_object ∷ rest)) }
+    /// Takes the code after a scope, and the closing brace of both.
+    pub fn code(&mut self) -> Result<&'a str, JsonReason>
+        ensures some { IfOk result (λ code. self.old.tokens ≡ key (codes "$code") ∷ string code.now ∷ end_object ∷ self.new.tokens) }
+        ensures none { OnErr result ((s : List ℕ) (rest : List Taken) → self.old.tokens ≢ key (codes "$code") ∷ string s ∷ end_object ∷ rest) }
     {
         let wrapper = Wrapper::Scope;
         self.named(wrapper, "$code")?;
-        let found = self.text(wrapper)?;
-        if found != code {
-            return Err(JsonReason::Unsound);
-        }
-        self.end(wrapper)
+        let code = self.text(wrapper)?;
+        self.end(wrapper)?;
+        Ok(code)
     }
 
     /// Takes the digits of an object id.
@@ -359,24 +364,25 @@ impl<'a> Source<'a> {
     /// Takes a pattern or options.
     fn c_string(&mut self) -> Result<&'a str, JsonReason>
         ensures some { IfOk result (λ text. TakesToken self.old.tokens self.new.tokens (string text.now)) }
+        ensures text { IfOk result (λ text. IsUtf8 text.now) }
+        ensures nul_free { IfOk result (λ text. NulFree text.now) }
         ensures none { OnErr result ((s : List ℕ) → NulFree s → LacksToken self.old.tokens (string s)) }
-        ensures others { IfErr result (λ reason. (reason ≡ InteriorNul) ⊎ ((s : List ℕ) → LacksToken self.old.tokens (string s))) }
     {
         let text = self.text(Wrapper::RegularExpression)?;
-        if text.as_bytes().contains(&0) {
-            Err(JsonReason::InteriorNul)
-        } else {
+        if is_nul_free(text) {
             Ok(text)
+        } else {
+            Err(JsonReason::InteriorNul)
         }
     }
 
     /// Takes the value of `$regularExpression`: its pattern and its options.
     pub fn regular_expression(&mut self) -> Result<(&'a str, &'a str), JsonReason>
         ensures some { IfOk result (λ p. TakesTwo self.old.tokens self.new.tokens (codes "pattern") (JsonString p.0.now) (codes "options") (JsonString p.1.now)) }
+        ensures texts { IfOk result (λ p. IsUtf8 p.0.now × IsUtf8 p.1.now) }
+        ensures nul_free { IfOk result (λ p. NulFree p.0.now × NulFree p.1.now) }
         ensures none { OnErr result ((pattern options : List ℕ) → NulFree pattern → NulFree options
             → TakesNoTwo self.old.tokens (codes "pattern") (JsonString pattern) (codes "options") (JsonString options)) }
-        ensures others { IfErr result (λ reason. (reason ≡ InteriorNul)
-            ⊎ ((pattern options : List ℕ) → TakesNoTwo self.old.tokens (codes "pattern") (JsonString pattern) (codes "options") (JsonString options))) }
     {
         let wrapper = Wrapper::RegularExpression;
         self.begin(wrapper)?;

@@ -4,7 +4,7 @@ use Rattle.std.specs.Str.{IsUtf8}
 use Rattle.hex.specs.Hex.{decode_sized, encode_lower}
 use Rattle.hex.proofs.HexLemmas.{decode_sized-encode_lower}
 use Rattle.json.specs.Json.{Json, object, string, member}
-use Rattle.bson_model.specs.Bytes.{AreBytesOf}
+use Rattle.bson_model.specs.Bytes.{AreBytesOf, NulFree}
 use Rattle.bson_model.specs.Leaf.{Leaf, db_pointer, object_id, regular_expression}
 use Rattle.bson_model.specs.Options.{OptionsAscend, sorted_options}
 use Rattle.bson_model.proofs.Face.{sorted_options-same}
@@ -23,12 +23,12 @@ one_oid id h l (other, read, is) = is ∙ ap object_id (same_ok (decode_sized (e
 abbrev pub regex_object : List ℕ → List ℕ → Json
 regex_object pattern options = object (member (codes "pattern") (string pattern) (one_member (codes "options") (string options)))
 
-pub is_regex : (pattern options : List ℕ) → IsUtf8 options → OptionsAscend options → IsRegex (regex_object pattern options) (regular_expression pattern options)
-is_regex pattern options text ascend = (pattern, options, inl refl, ap (regular_expression pattern) (sym (sorted_options-same options text ascend)))
+pub is_regex : (pattern options : List ℕ) → IsUtf8 options → OptionsAscend options → NulFree pattern × NulFree options → IsRegex (regex_object pattern options) (regular_expression pattern options)
+is_regex pattern options text ascend free = (pattern, options, inl refl, free.0, free.1, ap (regular_expression pattern) (sym (sorted_options-same options text ascend)))
 
 pub one_regex : (pattern options : List ℕ) → IsUtf8 options → OptionsAscend options → (l : Leaf) → IsRegex (regex_object pattern options) l
     → l ≡ regular_expression pattern options
-one_regex pattern options text ascend l (p, o, two, is) =
+one_regex pattern options text ascend l (p, o, two, free, free', is) =
     let both = two_only (codes "pattern") (codes "options") 0 (λ e. omega (arith, e)) two in
     is ∙ ap (λ (s : List ℕ). regular_expression s (sorted_options o)) (same_string both.0)
     ∙ ap (λ (s : List ℕ). regular_expression pattern (sorted_options s)) (same_string both.1) ∙ ap (regular_expression pattern) (sorted_options-same options text ascend)

@@ -107,7 +107,7 @@ regex_printed pattern options r text shown =
       record {
         text_is = shown ∙ prints_regex pattern options;
         numbers = ((tt, (tt, tt)), tt);
-        says = inr (inl (regular_expression pattern options, inr (inr (inr (inr (inr (inr (inr (inr (inl (refl, is_regex pattern options utf8 r.options_ascend))))))))), refl));
+        says = inr (inl (regular_expression pattern options, inr (inr (inr (inr (inr (inr (inr (inr (inl (refl, is_regex pattern options utf8 r.options_ascend r.nul_free))))))))), refl));
         only = only_wrapped wrapper.RegularExpression (regex_object pattern options) (regular_expression pattern options) (one_regex pattern options utf8 r.options_ascend);
       },
     )

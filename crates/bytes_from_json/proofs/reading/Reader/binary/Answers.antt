@@ -4,12 +4,13 @@ use Rattle.std.proofs.lemmas.Result.{err_from_is_err_and}
 use Rattle.values_from_json.specs.declared.error.JsonReason.TheVariants.{OutOfMemory}
 use Rattle.bytes_from_json.proofs.Keeps.{one_open}
 use Rattle.values_from_json.specs.declared.wrapper.Wrapper.TheVariants as wrapper
+use Rattle.bson_model.proofs.Face.{IsProperSubtype-subtype_of}
 use Rattle.values_from_json.proofs.Face.{none_wrapped}
 use Rattle.bytes_from_json.proofs.reading.Reader.binary.Goals as goal
 
 pub returns-clause-some : goal.returns-clause-some
 returns-clause-some c = on_ok c.put.result
-    (λ puts. leaf_taken wrapper.Binary c.in_ok-bytes.ensures.some refl c.put.ensures.source (puts_as puts (search rules))) c.put.ensures.puts
+    (λ puts. leaf_taken wrapper.Binary c.in_ok-bytes.ensures.some refl c.put.ensures.source tt (IsProperSubtype-subtype_of c.in_ok-bytes.subtype) (puts_as puts (search rules))) c.put.ensures.puts
 
 pub returns-in_err-bytes-clause-none : goal.returns-in_err-bytes-clause-none
 returns-in_err-bytes-clause-none c =

@@ -7,7 +7,7 @@ use Rattle.bytes_from_json.proofs.reading.Reader.max_key.Goals as goal
 
 pub returns-clause-some : goal.returns-clause-some
 returns-clause-some c = on_ok c.put.result
-    (λ puts. leaf_taken wrapper.MaxKey (_, c.in_ok-one.ensures.some, (refl, refl)) refl c.put.ensures.source (puts_as puts (search rules))) c.put.ensures.puts
+    (λ puts. leaf_taken wrapper.MaxKey (_, c.in_ok-one.ensures.some, (refl, refl)) refl c.put.ensures.source tt tt (puts_as puts (search rules))) c.put.ensures.puts
 
 pub returns-in_err-one-clause-none : goal.returns-in_err-one-clause-none
 returns-in_err-one-clause-none c = lacks c.from_residual.result (no_max_key c.in_err-one.ensures.none)

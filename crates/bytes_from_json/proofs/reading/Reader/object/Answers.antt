@@ -3,7 +3,7 @@ use Rattle.json.specs.Token.{Token}
 use Rattle.values_from_json.specs.Meaning.{is_wrapper_key}
 use Rattle.bytes_from_json.proofs.Moments.{begun_opened, empty_put, on_ok, on_ok_two}
 use Rattle.bytes_from_json.specs.declared.levels.Holder.TheVariants as holder
-use Rattle.bytes_from_json.proofs.Keeps.{begun_behind, empty_behind, lacks, no_first, open_keeps, put_keeps}
+use Rattle.bytes_from_json.proofs.Keeps.{begun_behind, empty_behind, lacks, no_first, no_free_key, open_keeps, put_keeps}
 use Rattle.values_from_json.specs.Keys.{wrapper_key}
 use Rattle.bytes_from_json.proofs.Keeps.{no_wrapped, or_lacks}
 use Rattle.bytes_from_json.proofs.reading.Reader.object.Goals as goal
@@ -17,7 +17,8 @@ returns-in_ok-check_free-in-None-clause-rest c =
     let plain : is_wrapper_key c.in-Key.first.now ≡ false = search rules in
     let first : c.args.self.now.source.tokens ≡ Token.key c.in-Key.first.now ∷ c.token.new.self.tokens = search rules in
     on_ok_two c.open_under.result
-    (λ level bytes. begun_opened _ _ c.args.key.now c.in-Key.first _ plain (record { levels = level; bytes = bytes; tokens = refl }) first) c.open_under.ensures.level
+    (λ level bytes. begun_opened _ _ c.args.key.now c.in-Key.first _ (c.check_free.ensures.text, c.in_ok-check_free-in-None.ensures.some)
+    plain (record { levels = level; bytes = bytes; tokens = refl }) first) c.open_under.ensures.level
     c.open_under.ensures.bytes
 
 pub returns-in_err-token-clause-none : goal.returns-in_err-token-clause-none
@@ -39,3 +40,9 @@ returns-in-Some-clause-none c =
     let named : c.in-Key.first.now ≡ wrapper_key c.in-Some.wrapper = search rules in
     let first : c.args.self.now.source.tokens ≡ Token.key c.in-Key.first.now ∷ c.token.new.self.tokens = search rules in
     or_lacks c.wrapped.result (λ none. no_wrapped c.in-Some.wrapper named first none) c.wrapped.ensures.none
+
+pub returns-in_err-check_free-in-None-clause-none : goal.returns-in_err-check_free-in-None-clause-none
+returns-in_err-check_free-in-None-clause-none c =
+    let plain : is_wrapper_key c.in-Key.first.now ≡ false = search rules in
+    let first : c.args.self.now.source.tokens ≡ Token.key c.in-Key.first.now ∷ c.token.new.self.tokens = search rules in
+    lacks c.from_residual-in_err-check_free-in-None.result (no_free_key plain first c.in_err-check_free-in-None.ensures.none)

@@ -8,7 +8,7 @@ use Rattle.bytes_from_json.proofs.reading.Reader.oid.Goals as goal
 pub returns-clause-some : goal.returns-clause-some
 returns-clause-some c = on_ok c.put.result
     (λ puts. leaf_taken wrapper.Oid (takes_oid c.in_ok-id.ensures.some.1 c.in_ok-id.ensures.some.2)
-    refl c.put.ensures.source (puts_as puts (search rules))) c.put.ensures.puts
+    refl c.put.ensures.source tt tt (puts_as puts (search rules))) c.put.ensures.puts
 
 pub returns-in_err-id-clause-none : goal.returns-in_err-id-clause-none
 returns-in_err-id-clause-none c = lacks c.from_residual.result (no_oid c.in_err-id.ensures.none)

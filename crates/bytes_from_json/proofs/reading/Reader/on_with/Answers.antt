@@ -13,7 +13,7 @@ returns-in_ok-push-in-Begun-clause-rest c =
     (λ value. begun_taken _ _ c.args.level c.in-Begun.key is (record { levels = c.in_ok-push-in-Begun.ensures.level; bytes = c.push.ensures.bytes; tokens = refl }) value) c.value_of.ensures.rest
 
 pub member-requires : goal.member-requires
-member-requires c = has_members c.args.level.holder c.in_default.not-Array c.in_default.not-Begun
+member-requires c = record { members = has_members c.args.level.holder c.in_default.not-Array c.in_default.not-Begun; placed = c.requires }
 
 pub returns-in_ok-push-in-Begun-clause-keeps : goal.returns-in_ok-push-in-Begun-clause-keeps
 returns-in_ok-push-in-Begun-clause-keeps c =

@@ -7,8 +7,8 @@ use Rattle.bytes_from_json.proofs.reading.Reader.scope_before_code.Goals as goal
 
 pub returns-clause-rest : goal.returns-clause-rest
 returns-clause-rest c = on_ok_two c.open.result
-    (λ level bytes. before_code_opened _ _ c.args.key.now c.unwrap_or-code.result _
-    (scope_at (λ n. holder.ScopeBeforeCode n c.unwrap_or-code.result) c.put_code_before_scope.ensures.levels c.in_ok-start.ensures.start c.in_ok-start.ensures.bytes level bytes refl)
+    (λ level bytes. before_code_opened _ _ c.args.key.now _
+    (scope_at (λ n. holder.ScopeBeforeCode n) c.put_code_head.ensures.levels c.in_ok-start.ensures.start c.in_ok-start.ensures.bytes level bytes refl)
     c.in_ok-begin.ensures.some) c.open.ensures.level c.open.ensures.bytes
 
 pub returns-in_err-begin-clause-none : goal.returns-in_err-begin-clause-none
@@ -21,5 +21,5 @@ returns-in_err-start-clause-none c =
 
 pub returns-clause-keeps : goal.returns-clause-keeps
 returns-clause-keeps c = on_ok c.open.result
-    (λ level. opened_keeps _ _ (holder.ScopeBeforeCode c.in_ok-start.start c.unwrap_or-code.result) (length c.put_code_before_scope.new.self.bytes.items)
-    c.put_code_before_scope.ensures.levels level (before_code_begun c.in_ok-start.start c.unwrap_or-code.result c.in_ok-begin.ensures.some)) c.open.ensures.level
+    (λ level. opened_keeps _ _ (holder.ScopeBeforeCode c.in_ok-start.start) (length c.put_code_head.new.self.bytes.items)
+    c.put_code_head.ensures.levels level (before_code_begun c.in_ok-start.start c.in_ok-begin.ensures.some)) c.open.ensures.level

@@ -6,8 +6,10 @@ use Rattle.bytes_from_json.proofs.Keeps.{lacks}
 use Rattle.bytes_from_json.proofs.reading.Reader.undefined.Goals as goal
 
 pub returns-clause-some : goal.returns-clause-some
-returns-clause-some c = on_ok c.put.result
-    (λ puts. let some = c.in_ok-undefined.ensures.some in leaf_taken wrapper.Undefined (_, some.1, (some.0, refl, refl)) refl c.put.ensures.source (puts_as puts (search rules))) c.put.ensures.puts
+returns-clause-some c =
+    let some = c.in_ok-undefined.ensures.some in
+    on_ok c.put.result
+    (λ puts. leaf_taken wrapper.Undefined (_, some.1, (some.0, refl, refl)) refl c.put.ensures.source tt tt (puts_as puts (search rules))) c.put.ensures.puts
 
 pub returns-in_err-undefined-clause-none : goal.returns-in_err-undefined-clause-none
 returns-in_err-undefined-clause-none c = lacks c.from_residual.result (no_undefined c.in_err-undefined.ensures.none)

@@ -1,6 +1,5 @@
-use Rattle.values_from_json.proofs.Lacks.{no_err, no_err_or, no_key}
+use Rattle.values_from_json.proofs.Lacks.{no_err, no_key}
 use Rattle.values_from_json.proofs.Takes.{first_key, options_then_pattern, pattern_then_options, second_key}
-use Rattle.values_from_json.specs.declared.error.JsonReason.TheVariants.{InteriorNul}
 use Rattle.values_from_json.proofs.source.Source.regular_expression.Goals as goal
 
 pub returns-in_ok-end-clause-some : goal.returns-in_ok-end-clause-some
@@ -16,7 +15,3 @@ returns-in_ok-end-2-clause-some c =
 pub returns-in_err-is_swapped-clause-none : goal.returns-in_err-is_swapped-clause-none
 returns-in_err-is_swapped-clause-none c =
     no_err c.from_residual-in_err-is_swapped.result (λ pattern options p o ms two. no_key c.in_ok-begin.ensures.some _ _ c.in_err-is_swapped.ensures.none _ _ ms two)
-
-pub returns-in_err-is_swapped-clause-others : goal.returns-in_err-is_swapped-clause-others
-returns-in_err-is_swapped-clause-others c = no_err_or c.from_residual-in_err-is_swapped.result InteriorNul
-    (λ pattern options ms two. no_key c.in_ok-begin.ensures.some _ _ c.in_err-is_swapped.ensures.none _ _ ms two)

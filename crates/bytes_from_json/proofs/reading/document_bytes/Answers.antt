@@ -2,9 +2,12 @@ use Rattle.std.proofs.Common.{◌⊎◌, ◌∙◌, inl, subst, sym}
 use Rattle.bytes_from_json.specs.Texts.{LeavesOpen, SaysNone}
 use Rattle.values_from_json.specs.declared.error.JsonReason.{JsonReason}
 use Rattle.bytes_from_json.proofs.Keeps.{none_said, or_open}
-use Rattle.bytes_from_json.proofs.Moments.{written}
-use Rattle.bytes_from_json.proofs.reading.document_of.Goals.{in-Err-outcome, in-Ok-outcome+in-Err-finish}
-use Rattle.bytes_from_json.proofs.reading.document_of.Goals as goal
+use Rattle.bytes_from_json.proofs.Moments.{says_readable, written}
+use Rattle.bytes_from_json.proofs.reading.document_bytes.Goals.{in-Err-outcome, in-Ok-outcome+in-Err-finish}
+use Rattle.bytes_from_json.proofs.reading.document_bytes.Goals as goal
+
+pub finish-requires : goal.finish-requires
+finish-requires c = says_readable c.in-Ok-outcome.ensures.some
 
 pub returns-in-Ok-finish-clause-written : goal.returns-in-Ok-finish-clause-written
 returns-in-Ok-finish-clause-written c = written c.args.text.now c.in-Ok-outcome.ensures.some (c.new-2.ensures ∙ c.in-Ok.ensures.ok) c.in-Ok-finish.ensures.bytes

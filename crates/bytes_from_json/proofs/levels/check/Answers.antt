@@ -1,0 +1,16 @@
+use Rattle.std.proofs.Common.{◌≡◌, List, ℕ, Option, subst, sym}
+use Rattle.raw_view.specs.Document.{bytes_of}
+use Rattle.raw_tree.specs.Barriers.{IsBarrier, TellsBarrier}
+use Rattle.raw_tree.specs.declared.walk.barrier.Barrier.{Barrier}
+use Rattle.raw_tree.specs.declared.walk.barrier.BarrierKind.{BarrierKind}
+use Rattle.bytes_from_json.specs.Levels.{IsReadAgain}
+use Rattle.bytes_from_json.proofs.Sound.{no_fault}
+use Rattle.bytes_from_json.proofs.levels.check.Goals as goal
+
+pub unreachable-requires-in-Fault : goal.unreachable-requires-in-Fault
+unreachable-requires-in-Fault c =
+    let b = bytes_of c.in-Ok.document in
+    let read : IsReadAgain b = subst IsReadAgain (sym c.in-Ok.ensures.same) c.requires in
+    let (x, first, is, at) = subst (λ (o : Option Barrier). TellsBarrier c.args.limits b o) c.in-Ok-Some.field-0-is c.in-Ok-Some.ensures.barrier in
+    let (fault, same, told) = subst (λ (k : BarrierKind). IsBarrier k x) c.in-Fault.is is in
+    no_fault c.args.limits b x fault read first same
