@@ -12,7 +12,7 @@ loop-init g c = searched_none (g.R.Read.remaining c.args.reader.now) c.args.wind
 pub pass-requires : goal.pass-requires
 pass-requires g c =
     let y = c.loop.window in
-    let q : Places = record { from = c.loop.from; until = 18446744073709551615; end = 0 } in
+    let q : Places = record { from = c.loop.from; until = 18446744073709551615 } in
     let seeks = seeks_ahead y
     c.part_of.ensures.limits c.part_of.ensures.bytes c.part_of.ensures.last c.part_of.ensures.at c.in-Found.is
     c.in_ok-place.ensures.sought in
@@ -22,14 +22,14 @@ pub returns-then-are_all-clause-skips : goal.returns-then-are_all-clause-skips
 returns-then-are_all-clause-skips g c =
     let y = c.loop.window in
     let inv = c.loop.invariant in
-    let q : Places = record { from = c.loop.from; until = 18446744073709551615; end = 0 } in
+    let q : Places = record { from = c.loop.from; until = 18446744073709551615 } in
     let seeks = seeks_ahead y
     c.part_of.ensures.limits c.part_of.ensures.bytes c.part_of.ensures.last c.part_of.ensures.at c.in-Found.is
     c.in_ok-place.ensures.sought in
     let passed = c.in_ok-pass-in-Found.ensures.passed in
     let at : c.pass.new.self.offset ≡ y.offset + c.in-Found.place = passed.2 in
     let count : c.offset.result - c.offset-start.result ≡ inv.n + c.in-Found.place = omega (arith, c.offset.ensures, c.offset-start.ensures, at, inv.offset) in
-    searched_to inv q refl refl
+    searched_to inv q refl
     seeks c.seek.ensures.work
     passed.0 passed.1 at count (sym (ap (λ b. b && c.in-Found.all) c.if-are_all.true))
 
@@ -37,20 +37,20 @@ pub returns-else-are_all-clause-skips : goal.returns-else-are_all-clause-skips
 returns-else-are_all-clause-skips g c =
     let y = c.loop.window in
     let inv = c.loop.invariant in
-    let q : Places = record { from = c.loop.from; until = 18446744073709551615; end = 0 } in
+    let q : Places = record { from = c.loop.from; until = 18446744073709551615 } in
     let seeks = seeks_ahead y
     c.part_of.ensures.limits c.part_of.ensures.bytes c.part_of.ensures.last c.part_of.ensures.at c.in-Found.is
     c.in_ok-place.ensures.sought in
     let passed = c.in_ok-pass-in-Found.ensures.passed in
     let at : c.pass.new.self.offset ≡ y.offset + c.in-Found.place = passed.2 in
     let count : c.offset.result - c.offset-start.result ≡ inv.n + c.in-Found.place = omega (arith, c.offset.ensures, c.offset-start.ensures, at, inv.offset) in
-    searched_to inv q refl refl
+    searched_to inv q refl
     seeks c.seek.ensures.work
     passed.0 passed.1 at count (c.if-are_all.false ∙ sym (ap (λ b. b && c.in-Found.all) c.if-are_all.false))
 
 pub pass-requires-in-Wants : goal.pass-requires-in-Wants
 pass-requires-in-Wants g c =
-    let q : Places = record { from = c.loop.from; until = 18446744073709551615; end = 0 } in
+    let q : Places = record { from = c.loop.from; until = 18446744073709551615 } in
     let seeks = seeks_ahead c.loop.window
     c.part_of.ensures.limits c.part_of.ensures.bytes c.part_of.ensures.last c.part_of.ensures.at
     c.in-Wants.is c.in_ok-place.ensures.sought in
@@ -58,7 +58,7 @@ pass-requires-in-Wants g c =
 
 pub overflow_sub-count : goal.overflow_sub-count
 overflow_sub-count g c =
-    let q : Places = record { from = c.loop.from; until = 18446744073709551615; end = 0 } in
+    let q : Places = record { from = c.loop.from; until = 18446744073709551615 } in
     let seeks = seeks_ahead c.loop.window
     c.part_of.ensures.limits c.part_of.ensures.bytes c.part_of.ensures.last c.part_of.ensures.at
     c.in-Wants.is c.in_ok-place.ensures.sought in
@@ -75,7 +75,7 @@ returns-in_err-is_last-in-Wants-clause-fails g c =
     let r = g.R.Read.remaining in
     let y = c.loop.window in
     let inv = c.loop.invariant in
-    let q : Places = record { from = c.loop.from; until = 18446744073709551615; end = 0 } in
+    let q : Places = record { from = c.loop.from; until = 18446744073709551615 } in
     let seeks = seeks_ahead y
     c.part_of.ensures.limits c.part_of.ensures.bytes c.part_of.ensures.last c.part_of.ensures.at
     c.in-Wants.is c.in_ok-place.ensures.sought in
@@ -90,7 +90,7 @@ returns-in_err-is_last-in-Wants-clause-fails g c =
 
 pub unreachable-requires : goal.unreachable-requires
 unreachable-requires g c =
-    let q : Places = record { from = c.loop.from; until = 18446744073709551615; end = 0 } in
+    let q : Places = record { from = c.loop.from; until = 18446744073709551615 } in
     let seeks = seeks_ahead c.loop.window
     c.part_of.ensures.limits c.part_of.ensures.bytes c.part_of.ensures.last c.part_of.ensures.at
     c.in-Nowhere.is c.in_ok-place.ensures.sought in
@@ -104,13 +104,13 @@ loop-preserved g c =
     let r = g.R.Read.remaining in
     let y = c.loop.window in
     let inv = c.loop.invariant in
-    let q : Places = record { from = c.loop.from; until = 18446744073709551615; end = 0 } in
+    let q : Places = record { from = c.loop.from; until = 18446744073709551615 } in
     let seeks = seeks_ahead y
     c.part_of.ensures.limits c.part_of.ensures.bytes c.part_of.ensures.last c.part_of.ensures.at
     c.in-Wants.is c.in_ok-place.ensures.sought in
     let passed = c.in_ok-pass-in-Wants.ensures.passed in
     let there = c.in_ok-is_last-in-Wants.field-0 in
-    let on = searched_on inv q refl refl
+    let on = searched_on inv q refl
     seeks c.seek.ensures.work
     passed.1 passed.2 c.in_ok-is_last-in-Wants.ensures.looks (not there) (not_true there) in
     elim c.if-are_all-2.branch [
