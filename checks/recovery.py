@@ -7,20 +7,25 @@ from collections import Counter
 from recovery_dumps import documents, pieces
 from recovery_kinds import kinds
 
-# Of 1000 that lie whole these are kept at least. Else 995: at a length that is right by chance, or behind bytes that end as a key does, one
-# may be lost.
+# Of 1000 that lie whole these are kept at least. Else 995: behind bytes that end as a key does, and in a binary that goes on into other
+# documents, some are lost.
 LEAST = {
     "cuts": 980,
     "two dumps in turn, by 4 KiB": 960,
+    "two dumps in turn, by 16 KiB": 985,
+    "pages of 64 KiB in any order": 990,
     "CR is gone": 930,
 }
 
-# Of 1000 that are kept so many may be made up. Else 1. Where a document of a dump is in a binary or a text, any number may.
+# Of 1000 that are kept so many may be made up. Else 1. Of documents in texts any number may.
 MOST = {
-    "two dumps in turn, by 4 KiB": 15,
+    "every second length random, 0 or near": 6,
+    "a flip in every 10000 bytes": 4,
+    "every second tag wrong, some lengths": 6,
     "5 % of the sectors of another file": 6,
-    "every second that holds a dump damaged inside": None,
-    "every tenth length of those that hold a dump negative": None,
+    "two dumps in turn, by 4 KiB": 20,
+    "two dumps in turn, by 16 KiB": 6,
+    "LF became CR LF": 20,
     "documents in texts, every tenth length negative": None,
 }
 
