@@ -210,7 +210,18 @@ front_take s x r len read within =
     (ap (take len) split ∙ take-append-le len x rest within, omega (arith, size, within))
 
 no_end : (r : Option (List ℕ)) → false ≡ true → IsAtEnd r
-no_end r yes = let impossible : ⊥ = cc in absurd impossible
+no_end r never = let impossible : ⊥ = cc in absurd impossible
+
+-- documents go on inside it, or they don't
+inside : {limits : Limits} (s : List ℕ) (at len : ℕ) (w : Work) (doubted : Bool) → (IsPiece limits.bytes (take len s) × (len ≤ length s) × ¬ IsSound limits (take len s)) → ¬ IsFramed (take len s)
+    → GoesOnInside limits s at len w doubted → IsDoubted limits s at len w doubted
+inside {limits} s at len w true (front, few, damaged) unframed (j, low, high, on) = record {
+  within = few;
+  piece = front;
+  damaged = damaged;
+  disbelieved = disbelieved limits s len j unframed low high on;
+}
+inside {limits} s at len w false (front, few, damaged) unframed (all, over) = inr (believed limits (at + length s) s len w all over)
 
 module _ {limits : Limits} {r : Option (List ℕ)} {x : Window} {v w : Work} {len : ℕ} (is : IsWindow x) (work : IsWork v) (within : len ≤ length (ahead_of x))
     (piece : IsPiece limits.bytes (take len (ahead_of x))) (work' : IsWork w) where
@@ -229,16 +240,6 @@ module _ {limits : Limits} {r : Option (List ℕ)} {x : Window} {v w : Work} {le
     is = λ s read. inr (λ disbelieved. (0, omega arith, length_told false nothing_read (no_end r) len w lengths.LeftOut e s read));
   }
 
-  inside : {w' : Work} (s : List ℕ) (doubted : Bool) → (IsPiece limits.bytes (take len s) × (len ≤ length s) × ¬ IsSound limits (take len s)) → ¬ IsFramed (take len s)
-      → GoesOnInside limits s x.offset len w' doubted → IsDoubted limits s x.offset len w' doubted
-  inside s true (front, few, damaged) unframed (j, low, high, on) = record {
-    within = few;
-    piece = front;
-    damaged = damaged;
-    disbelieved = disbelieved limits s len j unframed low high on;
-  }
-  inside {w'} s false (front, few, damaged) unframed (all, over) = inr (believed limits (x.offset + length s) s len w' all over)
-
   -- what is inside decides
   pub doubts_inside : {r' : Option (List ℕ)} {y : Window} {w' : Work} (doubted : Bool) → Explains limits (ahead_of x) false x.offset len v w lengths.Unexplained
       → SeesInside limits r r' x y w w' len doubted → Doubts limits r r' x y v w' len doubted
@@ -247,7 +248,7 @@ module _ {limits : Limits} {r : Option (List ℕ)} {x : Window} {v w : Work} {le
     is = λ s read.
         let (same, few) = front_take s (ahead_of x) r len read within in
         let (damaged, unframed) = length_told false nothing_read (no_end r) len w lengths.Unexplained e s read in
-        inside s doubted (subst (IsPiece limits.bytes) (sym same) piece, few, damaged) unframed (sees.is s read);
+        inside s x.offset len w' doubted (subst (IsPiece limits.bytes) (sym same) piece, few, damaged) unframed (sees.is s read);
   }
 
 some_ahead : (most : ℕ) (e : Ending) (x : List ℕ) → EndsWith most e x → 0 < length x
