@@ -213,21 +213,21 @@ static void rescue(const char *name) {
     expect(kept <= found && kept * 50 >= found * 49, name, "documents that lie whole aren't kept");
 }
 
-/* Documents that begin one in the other and end together, before one that is damaged: to look into each would cost too much. */
+/* Documents that begin one in the other's text and end together, where none is UTF-8: to look into each would cost too much. */
 static void costs_too_much(void) {
     enum { STEPS_IN = 200, HEAD = 11 };
     struct bsonraw_reader reader = {0, 0, 0, {0, 0, 0, 0, 0}};
     struct bsonraw_resync resync = {0, 0, 0, 0};
-    size_t end = 4 + STEPS_IN * HEAD + 1;
-    len = end + 7;
-    memset(data, 0, len);
+    size_t end = 4 + STEPS_IN * HEAD + 3;
+    len = end;
+    memset(data, 'x', len);
     put_length(0, 0xffffffff);
-    for (size_t at = 4; at + 1 < end; at += HEAD) {
+    for (size_t at = 4; at + HEAD + 3 <= end; at += HEAD) {
         put_length(at, (uint32_t)(end - at));
-        data[at + 4] = 5;
-        put_length(at + 6, (uint32_t)(end - at - HEAD - 1));
+        data[at + 4] = 2, data[at + 5] = 0;
+        put_length(at + 6, (uint32_t)(end - at - HEAD));
     }
-    memcpy(data + end, "\7\0\0\0\146\0", 7);
+    memcpy(data + end - 3, "\377\0", 3);
     expect(bsonraw_reader_read(&reader, data, len) == BSONRAW_NO_DOCUMENT, "cost", "there is a document");
     expect(bsonraw_reader_resync(&reader, data, len, len, DEEPEST, &resync) == BSONRAW_OK, "cost", "a search fails");
     expect(resync.left_out == 1 && resync.believed == 0 && reader.next == len, "cost", "no place is left out");
