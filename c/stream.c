@@ -8,6 +8,7 @@
 
 #define LONGEST 2147483647u /* bytes of a document */
 #define STEP 65536u         /* bytes that are read at once, at least */
+#define LONGEST_KEY 64u     /* bytes of a key that says of the document behind it that it is nested */
 
 /* The length that four bytes say. */
 static uint32_t length_at(const uint8_t *bytes) {
@@ -160,8 +161,20 @@ static void pass(struct bsonraw_stream *stream, size_t count) {
     stream->offset += count;
 }
 
+/* Whether no key that begins in front of a place ends behind it, so that the search needs no byte in front of it: a control character is
+ * there, or one and a 0 behind it, or no 0 for as long as a key can be. */
+static int cuts_no_key(const uint8_t *bytes, size_t at, size_t left) {
+    if (bytes[at] < 32) return bytes[at] != 0 || (at > 0 && bytes[at - 1] < 32);
+    return memchr(bytes + at, 0, left - at < LONGEST_KEY + 2 ? left - at : LONGEST_KEY + 2) == NULL;
+}
+
+/* Whether a search may begin at a place: it says no length, and the search finds what one from further in front does. */
+static int begins_afresh(const uint8_t *bytes, size_t at, size_t left, size_t most) {
+    return !is_length(bytes + at, left - at, most) && cuts_no_key(bytes, at, left);
+}
+
 /* Searches until where documents go on doesn't depend on what wasn't read yet: two documents behind it were. Where it may, what was
- * searched is passed by, up to a place that says no length. */
+ * searched is passed by, up to a place where a search may begin. */
 static int32_t search_on(struct bsonraw_stream *stream, size_t most, size_t max_depth) {
     size_t step = most < STEP ? STEP : most, wanted = 2 * most + step, next, left, at;
     int32_t status, filled = fill(stream, 4);
@@ -174,7 +187,7 @@ static int32_t search_on(struct bsonraw_stream *stream, size_t most, size_t max_
         if (status != BSONRAW_OK) return status;
         if (filled == BSONRAW_NONE || next + 2 * most <= left) return pass(stream, next), BSONRAW_OK;
         at = left - 2 * most;
-        while (at > 0 && is_length(stream->memory + stream->begins + at, left - at, most)) at--;
+        while (at > 0 && !begins_afresh(stream->memory + stream->begins, at, left, most)) at--;
         pass(stream, at);
         wanted = left - at + step;
     }

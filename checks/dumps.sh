@@ -85,6 +85,8 @@ made["lost"] = made["one"] + made["under"] + made["one"] * 2
 made["last"] = made["one"] + made["under"] + made["one"]
 made["alone"] = made["one"] + made["under"] + made["one"] + made["stop"] + made["one"] * 2
 made["none"] = made["one"] + made["negative"]
+made["levels"] = b"\xff" * 4 + made["nested"][4:] + made["one"]
+made["stars"] = bytes.fromhex("15000000 02 7300 02000000 e900 10 6e00 05000000 00") + made["one"]
 made["claims"] = made["one"] + b"\x64\0\0\0" + made["one"] * 2
 made["gaps"] = b"".join(made[part] for part in ("under", "repeated", "one", "negative", "nested", "empty", "cut6"))
 costly = bytearray()
@@ -481,10 +483,18 @@ wants '"lost":12: unsound length 4: 5 bytes passed over
 '"$(counted 9 108 0 0 0 19 0 0)"'
 '
 run 'documents that go on' 3 check --resync lost last none claims
-wants '"alone":12: unsound length 4: 23 bytes passed over
-'"$(one alone 3 36 0 0 0 23 0 0)"'
+wants '"alone":12: unsound length 4: 5 bytes passed over
+"alone":29: damaged at /0:"", byte 4: a value is longer than what is left: 4 where 0 are left
+'"$(one alone 5 54 0 1 0 5 0 0)"'
 '
-run 'one document is no place' 3 check --resync alone
+run 'one document is a place' 3 check --resync alone
+wants '"levels":0: unsound length -1: 27 bytes passed over
+'"$(of levels 1 12 0 0 0 27 0 0)"'
+"stars":0: damaged at /0:"s", byte 4: a text isn'"'"'t UTF-8
+'"$(of stars 2 33 0 1 0 0 0 0)"'
+'"$(counted 3 45 0 1 0 27 0 0)"'
+'
+run 'a nested document and a small one are no places' 3 check --resync levels stars
 wants '{"file":"gaps","offset":0,"finding":"unsound length","length":4,"passed over":5}
 {"file":"gaps","offset":5,"finding":"repeated-key","path":[1],"keys":["a"],"byte":11}
 {"file":"gaps","offset":36,"finding":"unsound length","length":-1,"passed over":5}

@@ -43,22 +43,22 @@ def file_of(size, tail):
     return b"".join(number(end - 7 * i) + HEAD for i in range(places)) + number(0) + tail + b"\0"
 
 
+SMALL = number(12) + HEAD + number(1) + b"\0"
+
+
 def wrong_lengths(size, ends):
     """Documents damaged at once, two without damage behind each, and then only such; each length ends before one of the last."""
-    small = number(5) + b"\0"
-    count, behind = size // 34, size // 10
-    front = count * 17
-    heads = (number(front - 17 * i + 5 * ends(i, behind)) + b"\x66a\0" + 2 * small for i in range(count))
-    return b"".join(heads) + behind * small
+    each, count, behind = 7 + 2 * len(SMALL), size // 62, size // 24
+    heads = (number(each * (count - i) + len(SMALL) * ends(i, behind)) + b"\x66a\0" + 2 * SMALL for i in range(count))
+    return b"".join(heads) + behind * SMALL
 
 
 def late_faults(size):
     """Documents in one another's binaries, with two without damage in front of each; all are damaged at their end, before such."""
-    small = number(5) + b"\0"
-    count = size // 23
-    end = 4 + 22 * count + 8
-    values = (b"\5b\0" + number(14) + b"\0" + 2 * small + number(end - 22 * (i + 1)) for i in range(count))
-    return number(end) + b"".join(values) + b"\x66a\0" + small + 4 * small
+    each, count = 12 + 2 * len(SMALL), size // 36
+    end = 4 + each * count + 3 + len(SMALL)
+    values = (b"\5b\0" + number(2 * len(SMALL) + 4) + b"\0" + 2 * SMALL + number(end - each * (i + 1)) for i in range(count))
+    return number(end) + b"".join(values) + b"\x66a\0" + SMALL + 4 * SMALL
 
 
 def wrongs(size):

@@ -248,21 +248,41 @@ static void look_at_cuts(void) {
     }
 }
 
-/* Where a search goes on, at the end of the first 65,536 bytes, there is no document but its length; and in it two documents begin. */
+static const uint8_t one[] = "\14\0\0\0\20a\0\1\0\0\0\0";
+
+/* Where a search goes on, at the end of the first 65,536 bytes, there is no document but its length; and in it another begins. */
 static void look_at_step(void) {
-    static const uint8_t two[] = "\5\0\0\0\0\5\0\0\0";
     struct bsonraw_stream s;
     FILE *file;
     len = 65536 + 200;
     memset(data, 0, len);
     put_length(0, 0xFFFFFFFFu), put_length(65536, 64);
-    memcpy(data + 65552, two, sizeof two), memcpy(data + 65600, two, sizeof two);
+    memcpy(data + 65552, one, 12), memcpy(data + 65600, one, 12);
     file = file_of();
     bsonraw_stream_from_file(&s, file);
     is(bsonraw_stream_read(&s), BSONRAW_NO_DOCUMENT, "a wrong length");
     is(bsonraw_stream_resync(&s, 99, 9), BSONRAW_OK, "a search in two steps");
     is(bsonraw_stream_read(&s), BSONRAW_OK, "the first document");
     is((int64_t)s.offset, 65552, "the first document");
+    bsonraw_stream_free(&s);
+    fclose(file);
+}
+
+/* Where a search goes on, there is the key of a document that is nested, or the 0 behind it; that document isn't one of the dump. */
+static void look_at_key(size_t zero) {
+    struct bsonraw_stream s;
+    FILE *file;
+    len = 65536 + 200;
+    memset(data, 0, len);
+    put_length(0, 0xFFFFFFFFu);
+    data[zero - 10] = 3, memset(data + zero - 9, 'k', 9);
+    memcpy(data + zero + 1, one, 12), memcpy(data + 65600, one, 12);
+    file = file_of();
+    bsonraw_stream_from_file(&s, file);
+    is(bsonraw_stream_read(&s), BSONRAW_NO_DOCUMENT, "a wrong length");
+    is(bsonraw_stream_resync(&s, 99, 9), BSONRAW_OK, "a search over a key");
+    is(bsonraw_stream_read(&s), BSONRAW_OK, "the document behind the nested one");
+    is((int64_t)s.offset, 65600, "the document behind the nested one");
     bsonraw_stream_free(&s);
     fclose(file);
 }
@@ -274,6 +294,8 @@ int main(void) {
     look_at_waiting();
     look_at_cuts();
     look_at_step();
+    look_at_key(65540);
+    look_at_key(65536);
     look_at_many();
     free(data);
     return result("streams");

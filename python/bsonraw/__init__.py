@@ -213,8 +213,11 @@ def documents(source: Source, *, max_bytes: int = MAX_BYTES, resync: bool = Fals
 
     With resync=True only documents without damage are given, at most 500
     levels deep, and none of these errors is raised: behind damage it goes on
-    where documents do, which is where one without damage begins, and another
-    or the end is behind it. What was passed over is what no offset covers.
+    where documents do, which is where one without damage of over 8 bytes
+    begins, and the tag and the key of a nested one aren't right in front of it.
+    A damaged document is passed over at its length, if its elements follow one
+    another up to there, or if no such document is inside. What was passed over
+    is what no offset covers.
     A file is read whole for that, and a buffer that isn't bytes is copied.
     """
     if resync:

@@ -3,6 +3,7 @@
 import io
 import os
 import random
+import re
 import struct
 import unittest
 from typing import Callable, Iterator, List, Optional, Tuple
@@ -67,9 +68,6 @@ def damaged(whole: List[bytes], r: random.Random) -> Iterator[Tuple[str, bytes]]
     yield "every second tag", b"".join(one[:4] + b"\x66" + one[5:] if i % 2 == 0 else one for i, one in enumerate(whole))
 
 
-BY_CHANCE = ("bits of lengths are flipped", "bits are flipped", "pages of 0", "pages of 255", "cuts", "insertions")
-
-
 def lying_whole(whole: List[bytes], data: bytes) -> List[Tuple[int, bytes]]:
     """Those that are in the data as they were, in their order, and where."""
     at, found = 0, []
@@ -81,11 +79,21 @@ def lying_whole(whole: List[bytes], data: bytes) -> List[Tuple[int, bytes]]:
     return found
 
 
-def may_be_lost(place: int, one: bytes, lie: List[Tuple[int, bytes]], kept: List[Tuple[int, bytes]], size: int) -> bool:
-    """Whether a document lies before one that is damaged, or in one that nobody wrote and that has no damage."""
-    behind = place + len(one)
-    is_last = behind != size and behind not in (at for at, _ in lie)
-    return is_last or any(at < behind and place < at + len(other) for at, other in kept)
+KEY = re.compile(rb"[\3\4]([^\0-\x1f]{1,64})\0\Z")
+
+
+def is_behind_key(data: bytes, place: int) -> bool:
+    """Whether the bytes before a place end as before a nested document: with its tag, a key in UTF-8 and a 0."""
+    found = KEY.search(data[max(0, place - 66) : place])
+    try:
+        return found is not None and len(found.group(1).decode()) > 0
+    except UnicodeDecodeError:
+        return False
+
+
+def may_be_lost(place: int, one: bytes, data: bytes, kept: List[Tuple[int, bytes]]) -> bool:
+    """Whether a document may be nested, or lies in one that nobody wrote and that has no damage."""
+    return is_behind_key(data, place) or any(at < place + len(one) and place < at + len(other) for at, other in kept)
 
 
 class Resync(unittest.TestCase):
@@ -98,11 +106,8 @@ class Resync(unittest.TestCase):
                 kept = list(bsonraw.documents(data, resync=True))
                 self.assertGreaterEqual(len(lie), COUNT // 2)
                 lost = [one for one in lie if one not in set(kept)]
-                if name in BY_CHANCE:
-                    self.assertTrue(all(may_be_lost(*one, lie, kept, len(data)) for one in lost), len(lost))
-                    self.assertLessEqual(len(lost), len(lie) // 20)
-                else:
-                    self.assertEqual(lost, [])
+                self.assertTrue(all(may_be_lost(*one, data, kept) for one in lost), len(lost))
+                self.assertLessEqual(len(lost), 1 + len(lie) // 50)
                 values = bsonraw.decode_all(data, errors="skip", resync=True)
                 self.assertEqual([bsonraw.encode(one) for one in values], [bsonraw.canonical(one) for _, one in kept])
 
@@ -127,6 +132,19 @@ class Resync(unittest.TestCase):
             list(bsonraw.documents(data))
         with self.assertRaises(BsonError):
             bsonraw.decode_all(data, resync=True)
+
+    def test_a_lone_document(self) -> None:
+        one, empty = bsonraw.encode({"n": 1}), bsonraw.encode({})
+        data = b"\xff" * 5 + one + b"\xff" * 5 + empty + b"\xff" * 5 + one + empty
+        wanted = [(5, one), (27, one), (39, empty)]
+        self.assertEqual(list(bsonraw.documents(data, resync=True)), wanted)
+
+    def test_nothing_inside_becomes_a_document(self) -> None:
+        nested, text = bsonraw.encode({"a": {"n": 1}}), bsonraw.encode({"t": "x", "stars": 5}).replace(b"x\0", b"\xe9\0")
+        held = bsonraw.encode({"b": Binary(bsonraw.encode({"n": 1}), 0), "t": True}).replace(b"\1\0", b"\2\0")
+        last = bsonraw.encode({"n": 2})
+        for one in (b"\xff\xff\xff\xff" + nested[4:], text, held):
+            self.assertEqual(list(bsonraw.documents(one + last, resync=True)), [(len(one), last)])
 
     def test_limits(self) -> None:
         deep = bsonraw.encode({"a": {"b": {"c": 1}}})

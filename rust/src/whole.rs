@@ -323,10 +323,10 @@ impl<'a> Documents<'a> {
         Documents { bytes, reader: bsonraw_reader::default(), work: bsonraw_resync::default(), is_behind: false }
     }
 
-    /// Goes on where documents do behind damage: behind the document that came last, or where none was. They go on where one
-    /// without damage, within the limits, begins and another or the end is behind it. The length of the damaged one is believed
-    /// but where they go on inside it, and the first of them reaches its end or nothing goes on behind it. Where no document
-    /// came yet, or all did, nothing is changed.
+    /// Goes on where documents do behind damage: behind the document that came last, or where none was. They go on at the end,
+    /// and where one without damage of over 8 bytes begins, within the limits, unless the tag and the key of a nested one are
+    /// right in front of it. The length of the damaged one is believed if its elements follow one another up to its end, or if
+    /// documents go on at no place inside. Where no document came yet, or all did, nothing is changed.
     ///
     /// ```
     /// use bsonraw::{rawdoc, whole::Documents};

@@ -1,16 +1,17 @@
 -- Where documents go on behind a damaged one, by searches in what is left of an input.
-use Rattle.std.proofs.Common.{◌≡◌, ℕ, ◌+◌, ◌-◌, ◌<◌, ◌≤◌, List, [], Bool, true, false, ◌&&◌, arith, length, drop, sym, ◌∙◌, subst, refl, inl, inr, append-nil, length-drop}
+use Rattle.std.proofs.Common.{◌≡◌, ℕ, ◌+◌, ◌-◌, ◌<◌, ◌≤◌, List, [], Bool, true, false, arith, length, take, drop, sym, ◌∙◌, subst, refl, inr, append-nil, length-drop}
 use Rattle.raw_bson.specs.Limits.{Limits}
-use Rattle.raw_resync.specs.Resync.{EndsOrBegins, GoesOnWith, IsDisbelieved}
+use Rattle.raw_resync.specs.Resync.{IsDisbelieved, IsFramed}
 use Rattle.raw_resync.specs.Charge.{Charges, IsBounded, IsLeftOut}
-use Rattle.raw_resync.specs.Seeking.{ChecksBehind, PassesOver, Seeks, TellsBehind, TellsSought, Works}
-use Rattle.raw_resync.specs.declared.check.Check.{Check}
+use Rattle.raw_resync.specs.Seeking.{Explains, PassesOver, Seeks, TellsLength, TellsSought, Works}
+use Rattle.raw_resync.specs.declared.length.Length.{Length}
+use Rattle.raw_resync.specs.declared.length.Length.TheVariants as lengths
 use Rattle.raw_resync.specs.declared.search.Places.{Places}
 use Rattle.raw_resync.specs.declared.search.Sought.{Sought}
 use Rattle.raw_resync.specs.declared.search.Sought.TheVariants as sought
 use Rattle.raw_resync.specs.declared.work.Work.{Work}
-use Rattle.raw_resync.proofs.Face.{charges_on, disbelieved, spent_more, unprobed_on}
-use Rattle.bsonraw_c.specs.Resync.{BeginsPiece, Costs, FindsFirst, GoesOnIn, GoesOnward, HasNoLength, FollowsOrUnknown, IsBelieved, IsFirstPlace, IsOnward, LeavesWork, work_of}
+use Rattle.raw_resync.proofs.Face.{charges_on, disbelieved}
+use Rattle.bsonraw_c.specs.Resync.{BeginsPiece, Costs, FindsFirst, GoesOnIn, GoesOnward, HasNoLength, IsBelieved, IsFirstPlace, IsOnward, LeavesWork, work_of}
 use Rattle.bsonraw_c.specs.declared.reader.Reader.{Reader}
 use Rattle.bsonraw_c.specs.declared.resync.Onward.{Onward}
 use Rattle.bsonraw_c.specs.declared.resync.Resync.{Resync}
@@ -20,10 +21,10 @@ sought_told : (limits : Limits) (b : List ℕ) (last : Bool) (at : ℕ) (p : Pla
     → TellsSought limits b last (at + length b) b p new told
 sought_told limits b last at p old new told q = subst (λ s. TellsSought limits b last (at + length s) s p new told) (append-nil b) (q.tells [] (λ is. refl))
 
-pub behind_told : (limits : Limits) (b : List ℕ) (last : Bool) (at place : ℕ) (old new : Work) (told : Check) → ChecksBehind limits b last at place old new told
-    → TellsBehind limits b last (at + length b) b place new told
-behind_told limits b last at place old new told q =
-    subst (λ s. TellsBehind limits b last (at + length s) s place new told) (append-nil b) (q.tells [] (λ is. refl))
+length_told : (limits : Limits) (b : List ℕ) (last : Bool) (at len : ℕ) (old new : Work) (told : Length) → Explains limits b last at len old new told
+    → TellsLength limits (at + length b) b len new told
+length_told limits b last at len old new told q =
+    subst (λ s. TellsLength limits (at + length s) s len new told) (append-nil b) (q.tells [] (λ is. refl))
 
 costs_of : (limits : Limits) (b : List ℕ) (last : Bool) (at : ℕ) (old new : Work) → Works limits b last at old new → Costs limits (at + length b) b old new
 costs_of limits b last at old new w = record {
@@ -47,74 +48,39 @@ passed_within limits b last at p old new all q = let told = sought_told limits b
 costs_on : (limits : Limits) (total : ℕ) (s : List ℕ) (old mid new : Work) → Costs limits total s old mid → Costs limits total s mid new → Costs limits total s old new
 costs_on limits total s old mid new p q = record { charges = charges_on limits s old mid new p.charges q.charges; bounded = λ bound. q.bounded (p.bounded bound) }
 
-nothing_from : (j : ℕ) → 0 - j ≡ 0
-nothing_from j = omega arith
+-- documents go on at no place inside
+not_inside : (limits : Limits) (total len : ℕ) (s : List ℕ) (w : Work) → PassesOver limits total s 1 len w true → ¬ IsDisbelieved limits s len
+not_inside limits total len s w over (unframed, (j, low, high, on)) = over.whole refl j low high on
 
-weaker : (limits : Limits) (least more : ℕ) (s : List ℕ) → least ≤ more → GoesOnWith limits more s → GoesOnWith limits least s
-weaker limits least more s few (inl none) = inl none
-weaker limits least more s few (inr (b, rest, sound, split, long, next)) = inr (b, rest, sound, split, omega (arith, few, long), next)
-
--- nothing is behind the length, and documents go on at no place inside
-not_inside : (limits : Limits) (total len : ℕ) (s : List ℕ) (w : Work) → ¬ EndsOrBegins limits (drop len s) → PassesOver limits total s 1 len 0 w true → ¬ IsDisbelieved limits s len
-not_inside limits total len s w stops over (j, low, high, inl reaches) = over.whole refl j low high (weaker limits (0 - j) (len - j) (drop j s) (omega arith) reaches)
-not_inside limits total len s w stops over (j, low, high, inr (goes, none)) =
-    over.whole refl j low high (subst (λ n. GoesOnWith limits n (drop j s)) (sym (nothing_from j)) goes)
-
-some_left : (limits : Limits) (total len end : ℕ) (s : List ℕ) (w : Work) → PassesOver limits total s 1 len end w false → (j : ℕ) × (j ≤ len) × IsLeftOut limits total s w j
-some_left limits total len end s w over = let (j, low, high, left) = over.some refl in (j, omega (arith, high), left)
-
-believed_inside : (limits : Limits) (total len : ℕ) (s : List ℕ) (w : Work) (all : Bool) → BeginsPiece limits.bytes s len → ¬ EndsOrBegins limits (drop len s)
-    → PassesOver limits total s 1 len 0 w all → IsBelieved limits total s len w all
-believed_inside limits total len s w true piece stops over = record {
+believed_inside : (limits : Limits) (total len : ℕ) (s : List ℕ) (w : Work) (all : Bool) → BeginsPiece limits.bytes s len → PassesOver limits total s 1 len w all
+    → IsBelieved limits total s len w all
+believed_inside limits total len s w true piece over = record {
   piece = piece;
-  believed = λ is. not_inside limits total len s w stops over;
+  believed = λ is. not_inside limits total len s w over;
   left_out = λ is. let impossible : ⊥ = cc in absurd impossible;
 }
-believed_inside limits total len s w false piece stops over = record {
+believed_inside limits total len s w false piece over = record {
   piece = piece;
   believed = λ is. let impossible : ⊥ = cc in absurd impossible;
-  left_out = λ is. some_left limits total len 0 s w over;
-}
-
--- documents go on behind the length, and at no place inside with one that reaches its end
-not_reaching : (limits : Limits) (total len : ℕ) (s : List ℕ) (w : Work) → EndsOrBegins limits (drop len s) → PassesOver limits total s 1 len len w true → ¬ IsDisbelieved limits s len
-not_reaching limits total len s w ends over (j, low, high, inl reaches) = over.whole refl j low high reaches
-not_reaching limits total len s w ends over (j, low, high, inr (goes, none)) = none ends
-
-believed_behind : (limits : Limits) (total len : ℕ) (s : List ℕ) (old new : Work) (known all : Bool) → BeginsPiece limits.bytes s len → FollowsOrUnknown limits total (drop len s) old known
-    → old.spent ≤ new.spent → PassesOver limits total s 1 len len new all → IsBelieved limits total s len new (known && all)
-believed_behind limits total len s old new true true piece behind more over = record {
-  piece = piece;
-  believed = λ is. not_reaching limits total len s new behind over;
-  left_out = λ is. let impossible : ⊥ = cc in absurd impossible;
-}
-believed_behind limits total len s old new true false piece behind more over = record {
-  piece = piece;
-  believed = λ is. let impossible : ⊥ = cc in absurd impossible;
-  left_out = λ is. some_left limits total len len s new over;
-}
-believed_behind limits total len s old new false all piece behind more over = record {
-  piece = piece;
-  believed = λ is. let impossible : ⊥ = cc in absurd impossible;
-  left_out = λ is. (len, omega arith, inl (unprobed_on limits total (drop len s) old new more behind));
+  left_out = λ is. let (j, low, high, left) = over.some refl in (j, omega (arith, high), left);
 }
 
 module _ (limits : Limits) (at : ℕ) (s : List ℕ) (last : Bool) where
   -- the first place, which a search from the second byte on found
-  first_place : (until place : ℕ) (w : Work) (all : Bool) → TellsSought limits s last (at + length s) s (record { from = 1; until = until; end = 0 }) w (sought.Found place all)
+  first_place : (until place : ℕ) (w : Work) (all : Bool) → TellsSought limits s last (at + length s) s (record { from = 1; until = until }) w (sought.Found place all)
       → IsFirstPlace limits (at + length s) s place w all
   first_place until place w all (low, high, within, on, over) = record {
     some = omega (arith, low);
     within = within;
-    goes_on = subst (λ n. GoesOnWith limits n (drop place s)) (nothing_from place) on;
+    goes_on = on;
     passed = over;
   }
 
-  pub found_first : (until place : ℕ) (old new : Work) (all : Bool) → Seeks limits s last at (record { from = 1; until = until; end = 0 }) old new (sought.Found place all)
+  pub found_first : (until place : ℕ) (old new : Work) (all : Bool) → Seeks limits s last at (record { from = 1; until = until }) old new (sought.Found place all)
       → FindsFirst limits at s old new (record { count = place; is_believed = false; all = all })
   found_first until place old new all q = (
     refl,
-    first_place until place new all (sought_told limits s last at (record { from = 1; until = until; end = 0 }) old new (sought.Found place all) q),
+    first_place until place new all (sought_told limits s last at (record { from = 1; until = until }) old new (sought.Found place all) q),
     costs_of limits s last at old new q.works,
   )
 
@@ -122,47 +88,55 @@ module _ (limits : Limits) (at : ℕ) (s : List ℕ) (last : Bool) where
   pub first_onward : (old new : Work) (onward : Onward) → HasNoLength limits s → FindsFirst limits at s old new onward → GoesOnward limits at s old new onward
   first_onward old new onward none (is, first, costs) = (subst (λ b. IsOnward limits (at + length s) s new onward.count b onward.all) (sym is) (none, first), costs)
 
-  -- behind a look at the length's end
-  pub onward_behind : (len : ℕ) (old mid new : Work) (told : Check) (onward : Onward) → ChecksBehind limits s last at len old mid told → GoesOnward limits at s mid new onward
+  -- behind a look at the length
+  pub onward_behind : (len : ℕ) (old mid new : Work) (told : Length) (onward : Onward) → Explains limits s last at len old mid told → GoesOnward limits at s mid new onward
       → GoesOnward limits at s old new onward
   onward_behind len old mid new told onward q (is, costs) = (is, costs_on limits (at + length s) s old mid new (costs_of limits s last at old mid q.works) costs)
 
   module _ (len : ℕ) (piece : BeginsPiece limits.bytes s len) where
-    -- none is behind the length, and they go on inside
-    pub found_inside : (place : ℕ) (old new : Work) (all : Bool) → ¬ EndsOrBegins limits (drop len s)
-        → Seeks limits s last at (record { from = 1; until = len; end = 0 }) old new (sought.Found place all)
+    -- the elements explain the length
+    pub behind_explained : (old new : Work) → Explains limits s last at len old new lengths.Explained → GoesOnward limits at s old new (record { count = len; is_believed = true; all = true })
+    behind_explained old new q =
+        let framed = length_told limits s last at len old new lengths.Explained q in (
+          record {
+            piece = piece;
+            believed = λ is not. not.0 framed;
+            left_out = λ is. let impossible : ⊥ = cc in absurd impossible;
+          },
+          costs_of limits s last at old new q.works,
+        )
+
+    -- it could cost too much to know
+    pub behind_left : (old new : Work) → Explains limits s last at len old new lengths.LeftOut → GoesOnward limits at s old new (record { count = len; is_believed = true; all = false })
+    behind_left old new q =
+        let left = length_told limits s last at len old new lengths.LeftOut q in (
+          record {
+            piece = piece;
+            believed = λ is. let impossible : ⊥ = cc in absurd impossible;
+            left_out = λ is. (0, omega arith, left);
+          },
+          costs_of limits s last at old new q.works,
+        )
+
+    -- they don't
+    pub not_framed : (old new : Work) → Explains limits s last at len old new lengths.Unexplained → ¬ IsFramed (take len s)
+    not_framed old new q = (length_told limits s last at len old new lengths.Unexplained q).1
+
+    -- documents go on inside
+    pub found_inside : (place : ℕ) (old new : Work) (all : Bool) → ¬ IsFramed (take len s)
+        → Seeks limits s last at (record { from = 1; until = len }) old new (sought.Found place all)
         → GoesOnward limits at s old new (record { count = place; is_believed = false; all = all })
-    found_inside place old new all stops q =
-        let told = sought_told limits s last at (record { from = 1; until = len; end = 0 }) old new (sought.Found place all) q in
-        let (low, high, within, on, over) = told in
-        let not = disbelieved limits s len 0 place false (λ is. stops) refl low high on in
+    found_inside place old new all unframed q =
+        let (low, high, within, on, over) = sought_told limits s last at (record { from = 1; until = len }) old new (sought.Found place all) q in
+        let not = disbelieved limits s len place unframed low high on in
         first_onward old new (record { count = place; is_believed = false; all = all }) (inr (len, piece, not)) (found_first len place old new all q)
 
     -- or they don't
-    pub nowhere_inside : (old new : Work) (all : Bool) → ¬ EndsOrBegins limits (drop len s) → Seeks limits s last at (record { from = 1; until = len; end = 0 }) old new (sought.Nowhere all)
+    pub nowhere_inside : (old new : Work) (all : Bool) → Seeks limits s last at (record { from = 1; until = len }) old new (sought.Nowhere all)
         → GoesOnward limits at s old new (record { count = len; is_believed = true; all = all })
-    nowhere_inside old new all stops q =
-        let told = sought_told limits s last at (record { from = 1; until = len; end = 0 }) old new (sought.Nowhere all) q in
-        (believed_inside limits (at + length s) len s new all piece stops told.1, costs_of limits s last at old new q.works)
-
-    -- they go on inside with one that reaches the length's end
-    pub found_reaching : {place : ℕ} {old mid : Work} {all : Bool} (new : Work) (onward : Onward)
-        → Seeks limits s last at (record { from = 1; until = len; end = len }) old mid (sought.Found place all)
-        → FindsFirst limits at s mid new onward → GoesOnward limits at s old new onward
-    found_reaching {place} {old} {mid} {all} new onward q first =
-        let (low, high, within, on, over) = sought_told limits s last at (record { from = 1; until = len; end = len }) old mid (sought.Found place all) q in
-        let not = disbelieved limits s len len place true (λ is. let impossible : ⊥ = cc in absurd impossible) refl low high on in
-        let (is, costs) = first_onward mid new onward (inr (len, piece, not)) first in
-        (is, costs_on limits (at + length s) s old mid new (costs_of limits s last at old mid q.works) costs)
-
-    -- or they don't, and one is behind the length
-    pub nowhere_reaching : (old new : Work) (known all : Bool) → FollowsOrUnknown limits (at + length s) (drop len s) old known
-        → Seeks limits s last at (record { from = 1; until = len; end = len }) old new (sought.Nowhere all)
-        → GoesOnward limits at s old new (record { count = len; is_believed = true; all = known && all })
-    nowhere_reaching old new known all behind q =
-        let told = sought_told limits s last at (record { from = 1; until = len; end = len }) old new (sought.Nowhere all) q in
-        let costs = costs_of limits s last at old new q.works in
-        (believed_behind limits (at + length s) len s old new known all piece behind (spent_more limits s old new costs.charges) told.1, costs)
+    nowhere_inside old new all q =
+        let told = sought_told limits s last at (record { from = 1; until = len }) old new (sought.Nowhere all) q in
+        (believed_inside limits (at + length s) len s new all piece told.1, costs_of limits s last at old new q.works)
 
 -- a reader goes on there
 module _ (limits : Limits) (b : List ℕ) (damage : ℕ) (before : Resync) (work : Work) (onward : Onward) (within : damage < length b) (bound : IsBounded (length b) (work_of before))

@@ -2,8 +2,8 @@
 use Rattle.std.specs.Prelude.{◌≡◌, ◌⊎◌, ◌<◌, ◌≤◌, ◌+◌, ◌^◌, ℕ, ℤ, suc, zero, Bool, true, false, not, List, take, drop, length}
 use Rattle.raw_bson.specs.Limits.{Limits}
 use Rattle.raw_resync.specs.Pieces.{IsPiece}
-use Rattle.raw_resync.specs.Resync.{EndsOrBegins, GoesOn, IsDisbelieved}
-use Rattle.raw_resync.specs.Charge.{Charges, IsBounded, IsLeftOut, IsUnprobed}
+use Rattle.raw_resync.specs.Resync.{GoesOn, IsDisbelieved}
+use Rattle.raw_resync.specs.Charge.{Charges, IsBounded, IsLeftOut}
 use Rattle.raw_resync.specs.Seeking.{LacksPiece, PassesOver}
 use Rattle.raw_resync.specs.declared.check.Part.{Part}
 use Rattle.raw_resync.specs.declared.work.Work.{Work}
@@ -32,8 +32,8 @@ pub record IsBelieved (limits : Limits) (total : ℕ) (s : List ℕ) (len : ℕ)
 pub record IsFirstPlace (limits : Limits) (total : ℕ) (s : List ℕ) (count : ℕ) (work : Work) (all : Bool) : Type 0 where
   pub some : 0 < count
   pub within : count ≤ length s
-  pub goes_on : GoesOn limits (drop count s)
-  pub passed : PassesOver limits total s 1 count 0 work all
+  pub goes_on : GoesOn limits s count
+  pub passed : PassesOver limits total s 1 count work all
 
 -- where documents go on behind the damaged one in front of s, the end of an input of so many bytes
 abbrev pub IsOnward : Limits → (total : ℕ) → List ℕ → Work → (count : ℕ) → (is_believed all : Bool) → Type 0
@@ -104,11 +104,6 @@ GoesOnward limits at s old new onward =
 abbrev pub FindsFirst : Limits → ℕ → List ℕ → Work → Work → Onward → Type 0
 FindsFirst limits at s old new onward =
     (onward.is_believed ≡ false) × IsFirstPlace limits (at + length s) s onward.count new onward.all × Costs limits (at + length s) s old new
-
--- the end of the input is at t, or a document without damage; or it isn't known
-abbrev pub FollowsOrUnknown : Limits → (total : ℕ) → List ℕ → Work → (is_known : Bool) → Type 0
-FollowsOrUnknown limits total t work true = EndsOrBegins limits t
-FollowsOrUnknown limits total t work false = IsUnprobed limits total t work
 
 -- what is left of a search for the next
 abbrev pub LeavesWork : Onward → Work → Resync → Type 0

@@ -1,13 +1,13 @@
-ghost use Rattle.std.specs.Prelude.{◌≡◌, ◌<◌, ◌+◌, ◌^◌, IfNone, IfOk, IfSome, IsTrue, ◌↔◌, drop, length, true};
+ghost use Rattle.std.specs.Prelude.{◌≡◌, ◌<◌, ◌^◌, IfNone, IfOk, IfSome, IsTrue, ◌↔◌, length, take, true};
 ghost use Rattle.raw_resync.specs.Charge.{IsBounded};
-ghost use Rattle.raw_resync.specs.Resync.{EndsOrBegins};
+ghost use Rattle.raw_resync.specs.Resync.{IsFramed};
 ghost use Rattle.raw_resync.specs.Seeking.{IsWork, LacksPiece};
-ghost use Rattle.bsonraw_c.specs.Resync.{BeginsPiece, FindsFirst, GoesOnward, FollowsOrUnknown, IsInput, LeavesWork, Resyncs, damage_of, work_of};
+ghost use Rattle.bsonraw_c.specs.Resync.{BeginsPiece, FindsFirst, GoesOnward, IsInput, LeavesWork, Resyncs, damage_of, work_of};
 
 use crate::codes::Status;
 use crate::reader::Reader;
 use raw_bson::Limits;
-use raw_resync::{Check, Part, Places, Sought, Work, check_behind, seek};
+use raw_resync::{Length, Part, Places, Sought, Work, explain_length, seek};
 use std::alloc::{AllocError, Global};
 
 /// What the searches in a buffer cost so far, and what the last one found.
@@ -144,7 +144,6 @@ fn first_place(alloc: Global, part: Part<'_>, work: &mut Work) -> Result<Onward,
     let places = Places {
         from: 1,
         until: usize::MAX,
-        end: 0,
     };
     match seek(alloc, part, places, work)? {
         Sought::Found { place, all } => Ok(Onward {
@@ -157,7 +156,7 @@ fn first_place(alloc: Global, part: Part<'_>, work: &mut Work) -> Result<Onward,
     }
 }
 
-/// Where documents go on behind a damaged one of so many bytes.
+/// Where documents go on behind a damaged one of so many bytes: behind it where its elements explain its length.
 fn behind_piece(
     alloc: Global,
     part: Part<'_>,
@@ -168,15 +167,23 @@ fn behind_piece(
     ensures work { IsWork work.new }
     ensures onward { IfOk result (GoesOnward part.entry.limits part.entry.at part.entry.bytes.now work.old work.new) }
 {
-    match check_behind(alloc, part, len, work)? {
-        Check::GoesOn => behind_or_reaching(alloc, part, len, true, work),
-        Check::Stops => inside_or_behind(alloc, part, len, work),
-        Check::LeftOut => behind_or_reaching(alloc, part, len, false, work),
-        Check::Wants(_) => unreachable!(),
+    match explain_length(alloc, part, len, work)? {
+        Length::Explained => Ok(Onward {
+            count: len,
+            is_believed: true,
+            all: true,
+        }),
+        Length::Unexplained => inside_or_behind(alloc, part, len, work),
+        Length::LeftOut => Ok(Onward {
+            count: len,
+            is_believed: true,
+            all: false,
+        }),
     }
 }
 
-/// Where documents go on, where none does behind the damaged one of so many bytes: at the first place inside it, else behind.
+/// Where documents go on, where the damaged one of so many bytes doesn't explain its length: at the first place inside it, else
+/// behind.
 fn inside_or_behind(
     alloc: Global,
     part: Part<'_>,
@@ -184,14 +191,13 @@ fn inside_or_behind(
     work: &mut Work,
 ) -> Result<Onward, AllocError>
     requires input { IsInput part × IsWork work.old × BeginsPiece part.limits.bytes part.bytes.now len }
-    requires stops { ¬ EndsOrBegins part.limits (drop len part.bytes.now) }
+    requires unframed { ¬ IsFramed (take len part.bytes.now) }
     ensures work { IsWork work.new }
     ensures onward { IfOk result (GoesOnward part.entry.limits part.entry.at part.entry.bytes.now work.old work.new) }
 {
     let places = Places {
         from: 1,
         until: len,
-        end: 0,
     };
     match seek(alloc, part, places, work)? {
         Sought::Found { place, all } => Ok(Onward {
@@ -203,36 +209,6 @@ fn inside_or_behind(
             count: len,
             is_believed: true,
             all,
-        }),
-        Sought::Wants { .. } => unreachable!(),
-    }
-}
-
-/// Where documents go on, where one does behind the damaged one of so many bytes, or where that isn't known: behind it, but where
-/// they go on inside it with one that reaches as far.
-fn behind_or_reaching(
-    alloc: Global,
-    part: Part<'_>,
-    len: usize,
-    is_known: bool,
-    work: &mut Work,
-) -> Result<Onward, AllocError>
-    requires input { IsInput part × IsWork work.old × BeginsPiece part.limits.bytes part.bytes.now len }
-    requires behind { FollowsOrUnknown part.limits (part.at + length part.bytes.now) (drop len part.bytes.now) work.old is_known }
-    ensures work { IsWork work.new }
-    ensures onward { IfOk result (GoesOnward part.entry.limits part.entry.at part.entry.bytes.now work.old work.new) }
-{
-    let places = Places {
-        from: 1,
-        until: len,
-        end: len,
-    };
-    match seek(alloc, part, places, work)? {
-        Sought::Found { .. } => first_place(alloc, part, work),
-        Sought::Nowhere { all } => Ok(Onward {
-            count: len,
-            is_believed: true,
-            all: is_known && all,
         }),
         Sought::Wants { .. } => unreachable!(),
     }

@@ -5,8 +5,8 @@ use Rattle.std.proofs.lemmas.List.Sums.{fold-append}
 use Rattle.std.specs.List.{All}
 use Rattle.raw_tree.specs.declared.reader.limits.Limits.{Limits}
 use Rattle.raw_resync.specs.Pieces.{IsPiece}
-use Rattle.raw_resync.specs.Charge.{Charges, Costs, IsBounded, IsCostIn, IsLeftOut, IsUnprobed}
-use Rattle.raw_resync.specs.Seeking.{IsProbed, IsWork, ProbesOrLeaves, Works}
+use Rattle.raw_resync.specs.Charge.{Charges, Costs, IsBounded, IsCostIn, IsLeftOut, IsUnprobed, IsWalked}
+use Rattle.raw_resync.specs.Seeking.{IsProbed, IsWalkedOn, IsWork, ProbesOrLeaves, WalksOrLeaves, Works}
 use Rattle.raw_resync.specs.declared.work.Work.{Work}
 
 -- nothing is charged
@@ -46,7 +46,7 @@ pub charges_probed : (limits : Limits) (front b rest s : List ℕ) (end : ℕ) (
 charges_probed limits front b rest s end old new None split is (same, few) = subst (Charges limits s old) (sym same) (charges_none limits s old)
 charges_probed limits front b rest s end old new (Some j) split is (n, probed, spent, reach) = record {
   costs = n ∷ [];
-  each = All-cons (IsCostIn limits s) n [] (front, b, rest, split, is, probed_cost limits b j n probed) (All-nil (IsCostIn limits s));
+  each = All-cons (IsCostIn limits s) n [] (front, b, rest, split, is, inl (probed_cost limits b j n probed)) (All-nil (IsCostIn limits s));
   spent = spent;
 }
 
@@ -57,6 +57,28 @@ bounded_probed limits total end b old new (Some j) within work (n, probed, spent
     let eight : new.spent ≤ 8 * new.reach = work.0 in
     let far : old.reach ≤ total = bound.1 in
     (eight, omega (arith, reach))
+
+-- the elements of a piece are walked
+walked_cost : (b : List ℕ) (is : Bool) (n : ℕ) → IsWalkedOn b is n → IsWalked b n
+walked_cost b true n (framed, walked) = walked
+walked_cost b false n (unframed, walked) = walked
+
+pub charges_walked : (limits : Limits) (front b rest s : List ℕ) (end : ℕ) (old new : Work) (walked : Option Bool) → s ≡ front ++ (b ++ rest) → IsPiece limits.bytes b
+    → WalksOrLeaves b end old new walked → Charges limits s old new
+charges_walked limits front b rest s end old new None split is (same, few) = subst (Charges limits s old) (sym same) (charges_none limits s old)
+charges_walked limits front b rest s end old new (Some j) split is (n, walked, spent, reach) = record {
+  costs = n ∷ [];
+  each = All-cons (IsCostIn limits s) n [] (front, b, rest, split, is, inr (walked_cost b j n walked)) (All-nil (IsCostIn limits s));
+  spent = spent;
+}
+
+pub bounded_walked : (total end : ℕ) (b : List ℕ) (old new : Work) (walked : Option Bool) → end ≤ total → IsWork new → WalksOrLeaves b end old new walked
+    → IsBounded total old → IsBounded total new
+bounded_walked total end b old new None within work (same, few) bound = subst (IsBounded total) (sym same) bound
+bounded_walked total end b old new (Some j) within work (n, walked, spent, reach) bound =
+    let eight : new.spent ≤ 8 * new.reach = work.0 in
+    let far : old.reach ≤ total = bound.1 in
+    (eight, omega (arith, reach, within))
 
 fold_more : (n : ℕ) (costs : List ℕ) → n ≤ fold (λ total cost. total + cost) n costs
 fold_more n [] = omega arith
@@ -72,8 +94,7 @@ pub unprobed_on : (limits : Limits) (total : ℕ) (t : List ℕ) (old new : Work
 unprobed_on limits total t old new more (b, rest, end, is, split, at, few) = (b, rest, end, is, split, at, omega (arith, few, more))
 
 pub left_on : (limits : Limits) (total : ℕ) (s : List ℕ) (old new : Work) (j : ℕ) → old.spent ≤ new.spent → IsLeftOut limits total s old j → IsLeftOut limits total s new j
-left_on limits total s old new j more (inl here) = inl (unprobed_on limits total (drop j s) old new more here)
-left_on limits total s old new j more (inr (c, rest, is, split, next)) = inr (c, rest, is, split, unprobed_on limits total rest old new more next)
+left_on limits total s old new j more left = unprobed_on limits total (drop j s) old new more left
 
 -- no look, and another look
 pub works_none : (limits : Limits) (bytes : List ℕ) (last : Bool) (at : ℕ) (w : Work) → Works limits bytes last at w w

@@ -5,7 +5,7 @@ use Rattle.std.proofs.Math.Seq.{take-append_seam, drop-append_seam}
 use Rattle.std.specs.Int.{w32, from_le_bytes}
 use Rattle.raw_tree.specs.declared.reader.limits.Limits.{Limits}
 use Rattle.raw_resync.specs.Pieces.{IsPiece, IsSoundLength, said_len}
-use Rattle.raw_resync.specs.Resync.{EndsOrBegins, GoesOnWith, IsSound}
+use Rattle.raw_resync.specs.Resync.{GoesOn, IsSound}
 use Rattle.raw_resync.specs.Seeking.{LacksPiece, LacksTag, MayFollow, TellsFront}
 use Rattle.raw_resync.specs.declared.check.Front.TheVariants as front
 use Rattle.raw_resync.proofs.Begun.{sound_begun}
@@ -91,10 +91,6 @@ pub lacking_some : (most : ℕ) (last : Bool) (t : List ℕ) → LacksPiece most
 lacking_some most last t (inl (is, some, short)) = some
 lacking_some most last t (inr (four, which)) = omega arith
 
-pub goes_begins : (limits : Limits) (least : ℕ) (s : List ℕ) → GoesOnWith limits least s → EndsOrBegins limits s
-goes_begins limits least s (inl none) = inl none
-goes_begins limits least s (inr (b, rest, sound, split, long, next)) = inr (rest, (b, sound, split))
-
 -- the rest after this many bytes
 pub left_behind : (place : ℕ) (bytes rest : List ℕ) → place ≤ length bytes → drop place (bytes ++ rest) ≡ drop place bytes ++ rest
 left_behind place bytes rest within = drop-append-le place bytes rest within
@@ -104,13 +100,13 @@ not_nil t rest some none =
     let len : length t + length rest ≡ 0 = sym (length-append t rest) ∙ ap length none in
     absurd (omega arith)
 
--- where there is no piece, there is neither an undamaged document nor the end
+-- where there is no piece, documents don't continue
 pub lacks_behind : (limits : Limits) (last : Bool) (place : ℕ) (bytes rest : List ℕ) → place ≤ length bytes → LacksPiece limits.bytes last (drop place bytes) → MayFollow last rest
-    → ¬ EndsOrBegins limits (drop place (bytes ++ rest))
+    → ¬ GoesOn limits (bytes ++ rest) place
 lacks_behind limits last place bytes rest within lacks may (inl none) =
     not_nil (drop place bytes) rest (lacking_some limits.bytes last (drop place bytes) lacks) (sym (left_behind place bytes rest within) ∙ none)
-lacks_behind limits last place bytes rest within lacks may (inr (more, (b, sound, split))) =
-    no_piece limits.bytes last (drop place bytes) rest b more lacks may sound.piece (sym (left_behind place bytes rest within) ∙ split)
+lacks_behind limits last place bytes rest within lacks may (inr e) =
+    no_piece limits.bytes last (drop place bytes) rest e.b e.rest lacks may e.sound.piece (sym (left_behind place bytes rest within) ∙ e.split)
 
 -- there are bytes where no piece is found
 pub told_some : (most : ℕ) (bytes : List ℕ) (last : Bool) (place : ℕ) → place ≤ length bytes → TellsFront most bytes last place front.NoPiece → place < length bytes
@@ -124,16 +120,16 @@ told_some most bytes last place within (inr (longer, (x, r, is, none))) =
     let size : length (drop place bytes) ≡ length bytes - place = length-drop place bytes in
     omega arith
 
--- neither is there where none is found
+-- nor where none is found
 pub none_behind : (limits : Limits) (last : Bool) (place : ℕ) (bytes rest : List ℕ) → place ≤ length bytes → TellsFront limits.bytes bytes last place front.NoPiece
-    → MayFollow last rest → ¬ EndsOrBegins limits (drop place (bytes ++ rest))
+    → MayFollow last rest → ¬ GoesOn limits (bytes ++ rest) place
 none_behind limits last place bytes rest within (inl lacks) may there = lacks_behind limits last place bytes rest within lacks may there
 none_behind limits last place bytes rest within (inr (longer, (x, r, is, none))) may (inl nil) =
     let more : place < length bytes = told_some limits.bytes bytes last place within (inr (longer, (x, r, is, none))) in
     let size : length (drop place bytes) ≡ length bytes - place = length-drop place bytes in
     not_nil (drop place bytes) rest (omega (arith, size, more)) (sym (left_behind place bytes rest within) ∙ nil)
-none_behind limits last place bytes rest within (inr (longer, lacks)) may (inr (more, (b, sound, split))) =
-    no_tag limits (drop place bytes) rest b more longer lacks sound (sym (left_behind place bytes rest within) ∙ split)
+none_behind limits last place bytes rest within (inr (longer, lacks)) may (inr e) =
+    no_tag limits (drop place bytes) rest e.b e.rest longer lacks e.sound (sym (left_behind place bytes rest within) ∙ e.split)
 
 -- the piece at the front of the rest, and what follows it
 pub split_front : (place len : ℕ) (bytes rest : List ℕ) → place + len ≤ length bytes
@@ -155,30 +151,3 @@ front_piece most a len said sound within =
     let count : length (take len a) ≡ len = length-take-le len a within in
     let says : said_len (take len a) ≡ len = ap (from_le_bytes w32) (take-take 4 len a (omega arith)) ∙ said in
     record { said = says ∙ sym count; sound = subst (IsSoundLength most) (sym count) sound }
-
--- what holds of the piece at the front of t
-module _ (limits : Limits) (t b rest : List ℕ) (is : IsPiece limits.bytes b) (split : t ≡ b ++ rest) where
-  -- it is undamaged
-  pub begins : IsSound limits b → EndsOrBegins limits t
-  begins sound = inr (rest, (b, sound, split))
-
-  pub is_sound : EndsOrBegins limits t → IsSound limits b
-  is_sound (inl none) =
-      let some : 0 < length t = some_bytes limits.bytes t b rest is split in
-      let none' : length t ≡ 0 = ap length none in
-      absurd (omega arith)
-  is_sound (inr (more, (c, sound, split'))) = subst (IsSound limits) (sym ((same_front limits.bytes t b rest c more is split sound.piece split').0)) sound
-
-  -- documents continue with it
-  pub goes_on : (least : ℕ) → least ≤ length b → IsSound limits b → EndsOrBegins limits rest → GoesOnWith limits least t
-  goes_on least long sound next = inr (b, rest, sound, split, long, next)
-
-  -- and only if it is undamaged
-  pub goes_only : (least : ℕ) → GoesOnWith limits least t → IsSound limits b × EndsOrBegins limits rest × (least ≤ length b)
-  goes_only least (inl none) =
-      let some : 0 < length t = some_bytes limits.bytes t b rest is split in
-      let none' : length t ≡ 0 = ap length none in
-      absurd (omega arith)
-  goes_only least (inr (c, more, sound, split', long, next)) =
-      let (same, same') = same_front limits.bytes t b rest c more is split sound.piece split' in
-      (subst (IsSound limits) (sym same) sound, subst (EndsOrBegins limits) (sym same') next, subst (λ (l : List ℕ). least ≤ length l) (sym same) long)

@@ -7,5 +7,7 @@ pub mod Looking
 pub mod Tops
 pub mod Passing
 pub mod Joining
+pub mod Keys
+pub mod Explaining
 pub mod Believing
 pub mod Face

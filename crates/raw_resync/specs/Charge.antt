@@ -1,11 +1,12 @@
--- The charge for finding out whether a piece of an input is an undamaged document, by the walk of its elements.
+-- The charge for finding out whether a piece of an input is an undamaged document, by the walk of its elements, and whether its elements
+-- follow one another up to its end.
 use Rattle.std.specs.Prelude.{◌≡◌, ◌≢◌, ◌⊎◌, ◌≤◌, ◌+◌, ◌*◌, ℕ, List, ◌++◌, drop, fold, length, min, Some}
 use Rattle.std.specs.List.{All}
 use Rattle.bson_model.specs.Bytes.{NulFree}
 use Rattle.raw_view.specs.Frame.Envelope.{IsEnvelope}
 use Rattle.raw_view.specs.Frame.Format.{c_string}
 use Rattle.raw_view.specs.Frame.Kind.{tag_of}
-use Rattle.raw_view.specs.Frame.{HasKey, Utf8}
+use Rattle.raw_view.specs.Frame.{Frame, HasKey, HasNoFrame, LeadsTo, Utf8}
 use Rattle.raw_view.specs.declared.element_type.ElementType.TheVariants as kind
 use Rattle.raw_tree.specs.WithinLimits.{Barrier, IsFaultWith}
 use Rattle.raw_tree.specs.declared.reader.limits.Limits.{Limits}
@@ -60,9 +61,14 @@ ChargesFault limits b n =
 abbrev pub Costs : Limits → List ℕ → ℕ → Type 0
 Costs limits b n = (IsSound limits b × (n ≡ length b)) ⊎ ((¬ IsEnvelope b) × (n ≡ 0)) ⊎ (IsEnvelope b × (¬ IsSound limits b) × ChargesFault limits b n)
 
+-- the charge for looking how far the elements of b follow one another: the bytes up to the first place where none is
+abbrev pub IsWalked : List ℕ → ℕ → Type 0
+IsWalked b n = (fs : List Frame) × LeadsTo (drop 4 b) fs (drop n b) × HasNoFrame (drop n b) × (n ≤ length b)
+
 -- a piece somewhere in s has this charge
 abbrev pub IsCostIn : Limits → List ℕ → ℕ → Type 0
-IsCostIn limits s n = (front : List ℕ) × (b : List ℕ) × (rest : List ℕ) × (s ≡ front ++ (b ++ rest)) × IsPiece limits.bytes b × Costs limits b n
+IsCostIn limits s n =
+    (front : List ℕ) × (b : List ℕ) × (rest : List ℕ) × (s ≡ front ++ (b ++ rest)) × IsPiece limits.bytes b × (Costs limits b n ⊎ IsWalked b n)
 
 -- The charge for searches in s, the rest of an input: the sum of the charges for pieces of it.
 pub record Charges (limits : Limits) (s : List ℕ) (old new : Work) : Type 0 where
@@ -80,7 +86,6 @@ abbrev pub IsUnprobed : Limits → (total : ℕ) → List ℕ → Work → Type 
 IsUnprobed limits total t work =
     (b : List ℕ) × (rest : List ℕ) × (end : ℕ) × IsPiece limits.bytes b × (t ≡ b ++ rest) × (end + length rest ≡ total) × (8 * end ≤ work.spent + length b)
 
--- the piece j bytes after the front of s was left out, or the one after it
+-- the piece j bytes after the front of s was left out
 abbrev pub IsLeftOut : Limits → (total : ℕ) → List ℕ → Work → ℕ → Type 0
-IsLeftOut limits total s work j =
-    IsUnprobed limits total (drop j s) work ⊎ ((c : List ℕ) × (rest : List ℕ) × IsPiece limits.bytes c × (drop j s ≡ c ++ rest) × IsUnprobed limits total rest work)
+IsLeftOut limits total s work j = IsUnprobed limits total (drop j s) work

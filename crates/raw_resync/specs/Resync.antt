@@ -1,8 +1,14 @@
--- Where documents continue in the rest of an input, s, and which lengths of damaged documents are believed. Offsets and lengths are those
--- of the input alone; searches don't occur here.
-use Rattle.std.specs.Prelude.{◌≡◌, ◌⊎◌, ◌<◌, ◌≤◌, ◌-◌, ℕ, List, [], ◌++◌, drop, length}
+-- Which documents count in the rest of an input, s, where documents continue in it, and which lengths of damaged documents are believed.
+-- Offsets and lengths are those of the input alone; searches don't occur here.
+use Rattle.std.specs.Prelude.{◌≡◌, ◌⊎◌, ◌<◌, ◌≤◌, ℕ, List, [], ◌++◌, drop, length, take}
+use Rattle.std.specs.List.{All}
+use Rattle.std.specs.Str.{IsUtf8}
 use Rattle.bson_model.specs.Tree.{Tree}
+use Rattle.raw_view.specs.Frame.{Done, Frame, IsWalk}
 use Rattle.raw_view.specs.Frame.Envelope.{IsEnvelope}
+use Rattle.raw_view.specs.Frame.Format.{tagged}
+use Rattle.raw_view.specs.Frame.Kind.{tag_of}
+use Rattle.raw_view.specs.declared.element_type.ElementType.TheVariants as kind
 use Rattle.raw_tree.specs.WithinLimits.{ReadsWithin}
 use Rattle.raw_tree.specs.declared.reader.limits.Limits.{Limits}
 use Rattle.raw_resync.specs.Pieces.{IsPiece}
@@ -14,26 +20,38 @@ pub record IsSound (limits : Limits) (b : List ℕ) : Type 0 where
   pub tree : Tree
   pub reads : ReadsWithin limits b tree
 
--- an undamaged document is at the front of s, and rest follows it
-abbrev pub BeginsSound : Limits → List ℕ → List ℕ → Type 0
-BeginsSound limits s rest = (b : List ℕ) × IsSound limits b × (s ≡ b ++ rest)
+-- s ends as bytes do before a nested document: with the tag of a document or an array, a key, and the 0 after it. The key is UTF-8 of 1 to
+-- 64 bytes and has no control character.
+pub record EndsInKey (s : List ℕ) : Type 0 where
+  pub front : List ℕ
+  pub tag : ℕ
+  pub key : List ℕ
+  pub spelled : s ≡ front ++ tagged tag key []
+  pub level : (tag ≡ tag_of kind.EmbeddedDocument) ⊎ (tag ≡ tag_of kind.Array)
+  pub some : 0 < length key
+  pub few : length key ≤ 64
+  pub text : IsUtf8 key
+  pub plain : All (λ c. 32 ≤ c) key
 
--- s is the end of the input, or an undamaged document is at its front
-abbrev pub EndsOrBegins : Limits → List ℕ → Type 0
-EndsOrBegins limits s = (s ≡ []) ⊎ ((rest : List ℕ) × BeginsSound limits s rest)
+-- A document that counts begins j bytes after the front of s: it is undamaged and has over 8 bytes, and the bytes before it don't end as
+-- they do before a nested one.
+pub record IsEvidence (limits : Limits) (s : List ℕ) (j : ℕ) : Type 0 where
+  pub b : List ℕ
+  pub rest : List ℕ
+  pub split : drop j s ≡ b ++ rest
+  pub sound : IsSound limits b
+  pub long : 8 < length b
+  pub alone : ¬ EndsInKey (take j s)
 
--- Documents continue at s, and the first has at least `least` bytes. Either nothing is left; or an undamaged document is at the front of s,
--- and after it comes the end or another one.
-abbrev pub GoesOnWith : Limits → (least : ℕ) → List ℕ → Type 0
-GoesOnWith limits least s = (s ≡ []) ⊎ ((b : List ℕ) × (rest : List ℕ) × IsSound limits b × (s ≡ b ++ rest) × (least ≤ length b) × EndsOrBegins limits rest)
+-- documents continue j bytes after the front of s: the input ends there, or a document that counts begins
+abbrev pub GoesOn : Limits → List ℕ → ℕ → Type 0
+GoesOn limits s j = (drop j s ≡ []) ⊎ IsEvidence limits s j
 
--- documents continue at s
-abbrev pub GoesOn : Limits → List ℕ → Type 0
-GoesOn limits s = GoesOnWith limits 0 s
+-- b has an envelope, and its elements follow one another up to the final 0, whatever their values mean
+abbrev pub IsFramed : List ℕ → Type 0
+IsFramed b = IsEnvelope b × ((fs : List Frame) × IsWalk (drop 4 b) fs Done)
 
--- The length of a damaged document at the front of s isn't believed. Documents continue at a place inside it, and one of two things holds:
--- the first of them reaches to the end of that length or beyond; or neither the end of the input nor an undamaged document is at the end of
--- that length.
-abbrev pub IsDisbelieved : Limits → List ℕ → ℕ → Type 0
-IsDisbelieved limits s len =
-    (j : ℕ) × (0 < j) × (j < len) × (GoesOnWith limits (len - j) (drop j s) ⊎ (GoesOn limits (drop j s) × ¬ EndsOrBegins limits (drop len s)))
+-- The length of a damaged document at the front of s isn't believed: its elements don't follow one another up to the end of that length,
+-- and documents continue at a place inside.
+abbrev pub IsDisbelieved : Limits → List ℕ → (len : ℕ) → Type 0
+IsDisbelieved limits s len = (¬ IsFramed (take len s)) × ((j : ℕ) × (0 < j) × (j < len) × GoesOn limits s j)

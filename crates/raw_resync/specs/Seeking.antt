@@ -1,15 +1,19 @@
 -- What the code of a search finds in part of an input. If the part isn't the last, `rest` follows, which isn't known.
 use Rattle.std.specs.Prelude.{◌≡◌, ◌≢◌, ◌⊎◌, ◌<◌, ◌≤◌, ◌+◌, ◌*◌, ◌-◌, ◌^◌, ℕ, List, [], ◌∷◌, ◌++◌, Bool, true, false, Option, None, Some, drop, length, max, take}
+use Rattle.std.specs.Str.{IsUtf8}
 use Rattle.raw_view.specs.Frame.Kind.{tag_of}
 use Rattle.raw_view.specs.declared.element_type.ElementType.{ElementType}
+use Rattle.raw_view.specs.declared.element_type.ElementType.TheVariants as kind
 use Rattle.raw_tree.specs.declared.reader.limits.Limits.{Limits}
 use Rattle.raw_resync.specs.Pieces.{IsPiece, said_len}
-use Rattle.raw_resync.specs.Resync.{EndsOrBegins, GoesOnWith, IsSound}
-use Rattle.raw_resync.specs.Charge.{Charges, Costs, IsBounded, IsLeftOut, IsUnprobed}
+use Rattle.raw_resync.specs.Resync.{GoesOn, IsFramed, IsSound}
+use Rattle.raw_resync.specs.Charge.{Charges, Costs, IsBounded, IsLeftOut, IsUnprobed, IsWalked}
 use Rattle.raw_resync.specs.declared.check.Check.{Check}
 use Rattle.raw_resync.specs.declared.check.Check.TheVariants as check
 use Rattle.raw_resync.specs.declared.check.Front.{Front}
 use Rattle.raw_resync.specs.declared.check.Front.TheVariants as front
+use Rattle.raw_resync.specs.declared.length.Length.{Length}
+use Rattle.raw_resync.specs.declared.length.Length.TheVariants as lengths
 use Rattle.raw_resync.specs.declared.search.Places.{Places}
 use Rattle.raw_resync.specs.declared.search.Sought.{Sought}
 use Rattle.raw_resync.specs.declared.search.Sought.TheVariants as sought
@@ -32,6 +36,16 @@ IsProbed limits b false n = (¬ IsSound limits b) × Costs limits b n
 abbrev pub ProbesOrLeaves : Limits → List ℕ → ℕ → (old new : Work) → Option Bool → Type 0
 ProbesOrLeaves limits b end old new None = (new ≡ old) × (8 * end ≤ old.spent + length b)
 ProbesOrLeaves limits b end old new (Some is) = (n : ℕ) × IsProbed limits b is n × (new.spent ≡ old.spent + n) × (new.reach ≡ max old.reach end)
+
+-- whether the elements of a piece b follow one another up to its end, and the charge for finding out
+abbrev pub IsWalkedOn : List ℕ → Bool → ℕ → Type 0
+IsWalkedOn b true n = IsFramed b × IsWalked b n
+IsWalkedOn b false n = (¬ IsFramed b) × IsWalked b n
+
+-- the elements of a piece b that ends at this offset of the input are walked, or left out
+abbrev pub WalksOrLeaves : List ℕ → ℕ → (old new : Work) → Option Bool → Type 0
+WalksOrLeaves b end old new None = (new ≡ old) × (8 * end ≤ old.spent + length b)
+WalksOrLeaves b end old new (Some is) = (n : ℕ) × IsWalkedOn b is n × (new.spent ≡ old.spent + n) × (new.reach ≡ max old.reach end)
 
 -- no piece is at the front of t: t is the end of the input and shorter than its length says; or no document has this length
 abbrev pub LacksPiece : ℕ → Bool → List ℕ → Type 0
@@ -56,21 +70,20 @@ TellsFront most bytes is_last place (front.Piece len) = (place + len ≤ length 
 
 -- n bytes are needed, which is more than there are
 abbrev pub Wants : Limits → List ℕ → Bool → ℕ → ℕ → Type 0
-Wants limits bytes is_last place n = (is_last ≡ false) × (length bytes < n) × (n ≤ place + 2 * limits.bytes + 8)
+Wants limits bytes is_last place n = (is_last ≡ false) × (length bytes < n) × (n ≤ place + limits.bytes + 4)
 
 -- what is found at a place of s, the end of an input of `total` bytes
-abbrev pub TellsCheck : Limits → List ℕ → Bool → (total : ℕ) → List ℕ → (place least : ℕ) → Work → Check → Type 0
-TellsCheck limits bytes is_last total s place least work check.GoesOn = GoesOnWith limits least (drop place s)
-TellsCheck limits bytes is_last total s place least work check.Stops = (place < length bytes) × ¬ GoesOnWith limits least (drop place s)
-TellsCheck limits bytes is_last total s place least work check.LeftOut = (place < length bytes) × IsLeftOut limits total s work place
-TellsCheck limits bytes is_last total s place least work (check.Wants n) = Wants limits bytes is_last place n
+abbrev pub TellsCheck : Limits → List ℕ → Bool → (total : ℕ) → List ℕ → (place : ℕ) → Work → Check → Type 0
+TellsCheck limits bytes is_last total s place work check.GoesOn = GoesOn limits s place
+TellsCheck limits bytes is_last total s place work check.Stops = (place < length bytes) × ¬ GoesOn limits s place
+TellsCheck limits bytes is_last total s place work check.LeftOut = (place < length bytes) × IsLeftOut limits total s work place
+TellsCheck limits bytes is_last total s place work (check.Wants n) = Wants limits bytes is_last place n
 
--- what is found at a place of s, where the end or an undamaged document should be
-abbrev pub TellsBehind : Limits → List ℕ → Bool → (total : ℕ) → List ℕ → (place : ℕ) → Work → Check → Type 0
-TellsBehind limits bytes is_last total s place work check.GoesOn = EndsOrBegins limits (drop place s)
-TellsBehind limits bytes is_last total s place work check.Stops = ¬ EndsOrBegins limits (drop place s)
-TellsBehind limits bytes is_last total s place work check.LeftOut = IsUnprobed limits total (drop place s) work
-TellsBehind limits bytes is_last total s place work (check.Wants n) = Wants limits bytes is_last place n
+-- what is known of the length of the piece at the front of s, the end of an input of `total` bytes
+abbrev pub TellsLength : Limits → (total : ℕ) → List ℕ → (len : ℕ) → Work → Length → Type 0
+TellsLength limits total s len work lengths.Explained = IsFramed (take len s)
+TellsLength limits total s len work lengths.Unexplained = (¬ IsSound limits (take len s)) × ¬ IsFramed (take len s)
+TellsLength limits total s len work lengths.LeftOut = IsUnprobed limits total s work
 
 -- `rest` may follow the bytes
 abbrev pub MayFollow : Bool → List ℕ → Type 0
@@ -82,29 +95,29 @@ pub record Works (limits : Limits) (bytes : List ℕ) (is_last : Bool) (at : ℕ
   pub bounded : (rest : List ℕ) → MayFollow is_last rest → IsBounded (at + length (bytes ++ rest)) old → IsBounded (at + length (bytes ++ rest)) new
 
 -- a place is looked at
-pub record Checks (limits : Limits) (bytes : List ℕ) (is_last : Bool) (at place least : ℕ) (old new : Work) (told : Check) : Type 0 where
+pub record Checks (limits : Limits) (bytes : List ℕ) (is_last : Bool) (at place : ℕ) (old new : Work) (told : Check) : Type 0 where
   pub works : Works limits bytes is_last at old new
-  pub tells : (rest : List ℕ) → MayFollow is_last rest → TellsCheck limits bytes is_last (at + length (bytes ++ rest)) (bytes ++ rest) place least new told
+  pub tells : (rest : List ℕ) → MayFollow is_last rest → TellsCheck limits bytes is_last (at + length (bytes ++ rest)) (bytes ++ rest) place new told
 
--- it is tested whether the input ends at a place, or an undamaged document begins there
-pub record ChecksBehind (limits : Limits) (bytes : List ℕ) (is_last : Bool) (at place : ℕ) (old new : Work) (told : Check) : Type 0 where
+-- it is tested whether the piece of `len` bytes at the front is undamaged, or its elements follow one another up to its end
+pub record Explains (limits : Limits) (bytes : List ℕ) (is_last : Bool) (at len : ℕ) (old new : Work) (told : Length) : Type 0 where
   pub works : Works limits bytes is_last at old new
-  pub tells : (rest : List ℕ) → MayFollow is_last rest → TellsBehind limits bytes is_last (at + length (bytes ++ rest)) (bytes ++ rest) place new told
+  pub tells : (rest : List ℕ) → MayFollow is_last rest → TellsLength limits (at + length (bytes ++ rest)) (bytes ++ rest) len new told
 
--- At each place of s from `from` on and before `to`, documents that reach to `end` don't continue, or the place was left out. `all` says
--- whether none was left out.
-pub record PassesOver (limits : Limits) (total : ℕ) (s : List ℕ) (from to end : ℕ) (work : Work) (all : Bool) : Type 0 where
-  pub each : (j : ℕ) → from ≤ j → j < to → (¬ GoesOnWith limits (end - j) (drop j s)) ⊎ IsLeftOut limits total s work j
-  pub whole : all ≡ true → (j : ℕ) → from ≤ j → j < to → ¬ GoesOnWith limits (end - j) (drop j s)
+-- At each place of s from `from` on and before `to`, documents don't continue, or the place was left out. `all` says whether none was left
+-- out.
+pub record PassesOver (limits : Limits) (total : ℕ) (s : List ℕ) (from to : ℕ) (work : Work) (all : Bool) : Type 0 where
+  pub each : (j : ℕ) → from ≤ j → j < to → (¬ GoesOn limits s j) ⊎ IsLeftOut limits total s work j
+  pub whole : all ≡ true → (j : ℕ) → from ≤ j → j < to → ¬ GoesOn limits s j
   pub some : all ≡ false → (j : ℕ) × (from ≤ j) × (j < to) × IsLeftOut limits total s work j
 
 -- what a search finds
 abbrev pub TellsSought : Limits → List ℕ → Bool → (total : ℕ) → List ℕ → Places → Work → Sought → Type 0
 TellsSought limits bytes is_last total s p work (sought.Found place all) =
-    (p.from ≤ place) × (place < p.until) × (place ≤ length bytes) × GoesOnWith limits (p.end - place) (drop place s) × PassesOver limits total s p.from place p.end work all
-TellsSought limits bytes is_last total s p work (sought.Nowhere all) = (p.until ≤ length bytes) × PassesOver limits total s p.from p.until p.end work all
+    (p.from ≤ place) × (place < p.until) × (place ≤ length bytes) × GoesOn limits s place × PassesOver limits total s p.from place work all
+TellsSought limits bytes is_last total s p work (sought.Nowhere all) = (p.until ≤ length bytes) × PassesOver limits total s p.from p.until work all
 TellsSought limits bytes is_last total s p work (sought.Wants place n all) =
-    (p.from ≤ place) × (place < p.until) × (place ≤ length bytes) × Wants limits bytes is_last place n × PassesOver limits total s p.from place p.end work all
+    (p.from ≤ place) × (place < p.until) × (place ≤ length bytes) × Wants limits bytes is_last place n × PassesOver limits total s p.from place work all
 
 -- what probing a piece that ends at `end` says of it; or it was left out
 abbrev pub TellsPiece : Limits → List ℕ → (end : ℕ) → Work → Option Bool → Type 0
@@ -117,7 +130,28 @@ pub record ProbesPiece (limits : Limits) (bytes : List ℕ) (is_last : Bool) (at
   pub works : Works limits bytes is_last at old new
   pub tells : TellsPiece limits (take len (drop place bytes)) (at + (place + len)) new probed
 
--- what is found at a place by probing its last piece
+-- what walking over the elements of a piece that ends at `end` says of it; or it was left out
+abbrev pub TellsWalk : List ℕ → (end : ℕ) → Work → Option Bool → Type 0
+TellsWalk b end work None = 8 * end ≤ work.spent + length b
+TellsWalk b end work (Some true) = IsFramed b
+TellsWalk b end work (Some false) = ¬ IsFramed b
+
+-- the elements of the piece of `len` bytes at the front are walked or left out, and what that costs
+pub record WalksPiece (limits : Limits) (bytes : List ℕ) (is_last : Bool) (at len : ℕ) (old new : Work) (walked : Option Bool) : Type 0 where
+  pub works : Works limits bytes is_last at old new
+  pub tells : TellsWalk (take len bytes) (at + len) new walked
+
+-- what a damaged piece's elements say of its length
+abbrev pub length_of : Option Bool → Length
+length_of None = lengths.LeftOut
+length_of (Some true) = lengths.Explained
+length_of (Some false) = lengths.Unexplained
+
+-- the tag of a document or an array, and a key, which isn't empty
+abbrev pub IsKeyAfter : (tag : ℕ) → List ℕ → Type 0
+IsKeyAfter tag key = ((tag ≡ tag_of kind.EmbeddedDocument) ⊎ (tag ≡ tag_of kind.Array)) × (0 < length key) × IsUtf8 key
+
+-- what is found at a place by probing its piece
 abbrev pub check_of : Option Bool → Check
 check_of None = check.LeftOut
 check_of (Some true) = check.GoesOn

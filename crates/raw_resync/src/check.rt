@@ -1,13 +1,14 @@
 //! Whether documents continue at a place.
 #![tactic(auto)]
 
-ghost use Rattle.std.specs.Prelude.{◌≡◌, ◌≤◌, ◌+◌, IfOk, drop, false, length, take, true};
+ghost use Rattle.std.specs.Prelude.{◌≡◌, ◌≤◌, ◌<◌, ◌+◌, IfOk, drop, false, length, take, true};
 ghost use Rattle.raw_tree.specs.declared.reader.limits.Limits.{Limits};
 ghost use Rattle.raw_view.specs.Frame.Envelope.{IsEnvelope};
 ghost use Rattle.raw_resync.specs.Pieces.{IsPiece};
 ghost use Rattle.raw_resync.specs.Resync.{IsSound};
-ghost use Rattle.raw_resync.specs.Seeking.{Checks, ChecksBehind, IsWork, ProbesPiece, LacksTag, TellsFront, check_of};
+ghost use Rattle.raw_resync.specs.Seeking.{Checks, IsWork, ProbesPiece, LacksTag, TellsFront, check_of};
 
+use crate::key::ends_in_key;
 use crate::probe::probe;
 use crate::work::Work;
 use raw_tree::Limits;
@@ -43,7 +44,7 @@ pub(crate) enum Front {
 
 /// What is found at a place.
 #[derive(Clone, Copy)]
-pub enum Check {
+pub(crate) enum Check {
     /// documents continue
     GoesOn,
     /// they don't
@@ -93,18 +94,20 @@ fn lacks_tag(rest: &[u8]) -> bool
     }
 }
 
-/// Whether documents continue at `place`, and the first has at least `least` bytes.
+/// A document that counts has more bytes.
+const SMALL: usize = 8;
+
+/// Whether documents continue at `place`.
 #[inline(always)]
 pub(crate) fn check_at(
     alloc: Global,
     part: Part<'_>,
     place: usize,
-    least: usize,
     work: &mut Work,
 ) -> Result<Check, AllocError>
     requires { IsWork work.old × (place ≤ length part.bytes.now) }
     ensures work { IsWork work.new }
-    ensures checked { IfOk result (Checks part.entry.limits part.entry.bytes.now part.entry.is_last part.entry.at place least work.old work.new) }
+    ensures checked { IfOk result (Checks part.entry.limits part.entry.bytes.now part.entry.is_last part.entry.at place work.old work.new) }
 {
     let len = match front_at(part, place) {
         Front::End => return Ok(Check::GoesOn),
@@ -112,7 +115,7 @@ pub(crate) fn check_at(
         Front::Wants(count) => return Ok(Check::Wants(count)),
         Front::Piece(len) => len,
     };
-    if len < least {
+    if len <= SMALL {
         return Ok(Check::Stops);
     }
     check_piece(alloc, part, place, len, work)
@@ -126,28 +129,21 @@ fn check_piece(
     len: usize,
     work: &mut Work,
 ) -> Result<Check, AllocError>
-    requires { IsWork work.old × (place + len ≤ length part.bytes.now) × IsPiece part.limits.bytes (take len (drop place part.bytes.now)) }
+    requires { IsWork work.old × (place + len ≤ length part.bytes.now) × IsPiece part.limits.bytes (take len (drop place part.bytes.now)) × (8 < len) }
     ensures work { IsWork work.new }
-    ensures checked { IfOk result (Checks part.entry.limits part.entry.bytes.now part.entry.is_last part.entry.at place len work.old work.new) }
+    ensures checked { IfOk result (Checks part.entry.limits part.entry.bytes.now part.entry.is_last part.entry.at place work.old work.new) }
 {
-    let end = place + len;
-    let piece = &part.bytes[place..end];
+    let piece = &part.bytes[place..place + len];
     if !may_be_sound(piece) {
         return Ok(Check::Stops);
     }
     if !ends_with_zero(piece) {
         return Ok(Check::Stops);
     }
-    match front_at(part, end) {
-        Front::End => Ok(told(probe_piece(alloc, part, place, len, work)?)),
-        Front::NoPiece => Ok(Check::Stops),
-        Front::Wants(count) => Ok(Check::Wants(count)),
-        Front::Piece(more) => match probe_piece(alloc, part, place, len, work)? {
-            Some(true) => Ok(told(probe_piece(alloc, part, end, more, work)?)),
-            Some(false) => Ok(Check::Stops),
-            None => Ok(Check::LeftOut),
-        },
+    if ends_in_key(part.bytes.split_at(place).0) {
+        return Ok(Check::Stops);
     }
+    Ok(told(probe_piece(alloc, part, place, len, work)?))
 }
 
 /// Whether the length is followed by a single byte, or by a tag. The first bytes of a piece are looked at before
@@ -187,7 +183,7 @@ fn told(probed: Option<bool>) -> Check
 }
 
 /// Whether the piece of `len` bytes at `place` is an undamaged document; `None` if it could cost too much to know.
-fn probe_piece(
+pub(crate) fn probe_piece(
     alloc: Global,
     part: Part<'_>,
     place: usize,
@@ -203,23 +199,4 @@ fn probe_piece(
     };
     let end = part.at as u128 + (place + len) as u128;
     probe(alloc, part.limits, document, end, work)
-}
-
-/// Whether the input ends at `place`, or an undamaged document begins there.
-pub fn check_behind(
-    alloc: Global,
-    part: Part<'_>,
-    place: usize,
-    work: &mut Work,
-) -> Result<Check, AllocError>
-    requires { IsWork work.old × (place ≤ length part.bytes.now) }
-    ensures work { IsWork work.new }
-    ensures checked { IfOk result (ChecksBehind part.entry.limits part.entry.bytes.now part.entry.is_last part.entry.at place work.old work.new) }
-{
-    match front_at(part, place) {
-        Front::End => Ok(Check::GoesOn),
-        Front::NoPiece => Ok(Check::Stops),
-        Front::Wants(count) => Ok(Check::Wants(count)),
-        Front::Piece(len) => Ok(told(probe_piece(alloc, part, place, len, work)?)),
-    }
 }

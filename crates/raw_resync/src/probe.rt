@@ -13,7 +13,7 @@ use raw_view::RawDocument;
 use std::alloc::{AllocError, Global};
 
 /// The greatest number of bytes that are charged for each byte up to the furthest end of a piece.
-const MOST_FOR_EACH: u128 = 8;
+pub(crate) const MOST_FOR_EACH: u128 = 8;
 
 /// Whether a piece that ends at this offset of the input is an undamaged document; `None` if it could cost too
 /// much to know.

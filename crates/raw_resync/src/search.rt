@@ -1,8 +1,8 @@
 //! The next place at which documents continue.
 #![tactic(auto)]
 
-ghost use Rattle.std.specs.Prelude.{◌≤◌, ◌<◌, IfOk, length};
-ghost use Rattle.raw_resync.specs.Seeking.{IsWork, LacksPieces, Seeks};
+ghost use Rattle.std.specs.Prelude.{◌≡◌, ◌≤◌, ◌<◌, ◌+◌, ℕ, IfOk, drop, get_or, length};
+ghost use Rattle.raw_resync.specs.Seeking.{IsWork, LacksPiece, LacksPieces, Seeks};
 
 use crate::check::{Check, Part, check_at};
 use crate::work::Work;
@@ -16,8 +16,6 @@ pub struct Places {
     pub from: usize,
     /// the place after the last
     pub until: usize,
-    /// the first document at the place has to end here or later
-    pub end: usize,
 }
 
 /// What is found at the places.
@@ -55,8 +53,7 @@ pub fn seek(
     let mut all = true;
     let mut place = places.from;
     'looks: while place < places.until {
-        let least = places.end.saturating_sub(place);
-        match check_at(alloc, part, place, least, work)? {
+        match check_at(alloc, part, place, work)? {
             Check::GoesOn => return Ok(Sought::Found { place, all }),
             Check::Stops => {}
             Check::LeftOut => all = false,
@@ -84,7 +81,33 @@ fn next_place(part: Part<'_>, place: usize, until: usize) -> usize
         return next;
     }
     match memchr2(0, 1, &part.bytes[next + 3..end]) {
-        Some(count) => next + count,
+        Some(count) => behind_zeros(part, next + count, end),
         None => end - 3,
     }
+}
+
+/// The place after lengths of 0, where the bytes before `end` have only these from `place` on; else `place`.
+fn behind_zeros(part: Part<'_>, place: usize, end: usize) -> usize
+    requires { (place + 3 < end) × (end ≤ length part.bytes.now) }
+    ensures from { place ≤ result }
+    ensures within { result + 3 ≤ end }
+    ensures none { (j : ℕ) → place ≤ j → j < result → LacksPiece part.entry.limits.bytes part.entry.is_last (drop j part.entry.bytes.now) }
+{
+    let count = zeros_at_front(&part.bytes[place..end]);
+    if count < 4 {
+        return place;
+    }
+    place + count - 3
+}
+
+/// How many bytes at the front are 0.
+fn zeros_at_front(bytes: &[u8]) -> usize
+    ensures within { result ≤ length bytes.now }
+    ensures zeros { (k : ℕ) → k < result → get_or bytes.now k 0 ≡ 0 }
+{
+    let mut count = 0;
+    'bytes: while count < bytes.len() && bytes[count] == 0 {
+        count += 1;
+    }
+    count
 }

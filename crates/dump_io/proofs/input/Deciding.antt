@@ -1,14 +1,14 @@
 -- Whether a damaged document is taken at its length, where more may be read.
-use Rattle.std.proofs.Common.{◌≡◌, ℕ, ◌+◌, ◌<◌, ◌≤◌, ◌⊎◌, List, [], ◌++◌, Option, Some, Bool, true, false, MatchBool, ◌&&◌, cond, Result, Ok, Err, IfErr, arith, length, take, drop, sym, ap, ◌∙◌, subst, refl, inl, inr, length-append, length-take-le}
+use Rattle.std.proofs.Common.{◌≡◌, ℕ, ◌+◌, ◌<◌, ◌≤◌, ◌⊎◌, List, [], ◌++◌, Option, Some, Bool, true, false, ◌&&◌, Result, Ok, Err, IfErr, arith, length, take, drop, sym, ap, ◌∙◌, subst, refl, inl, inr, length-append, length-take-le}
 use Rattle.std.proofs.lemmas.List.{take-append-drop, take-append-le}
 use Rattle.std.proofs.Math.Seq.{take-length}
 use Rattle.std.specs.Io.KnownBytes.{Consumes, IsAtEnd}
 use Rattle.raw_tree.specs.declared.reader.limits.Limits.{Limits}
-use Rattle.raw_resync.specs.Resync.{EndsOrBegins, IsSound}
-use Rattle.raw_resync.specs.Charge.{Charges, IsBounded, IsUnprobed}
-use Rattle.raw_resync.specs.Seeking.{ChecksBehind, IsWork, MayFollow, PassesOver, Seeks, TellsBehind, TellsSought, Works}
-use Rattle.raw_resync.specs.declared.check.Check.{Check}
-use Rattle.raw_resync.specs.declared.check.Check.TheVariants as check
+use Rattle.raw_resync.specs.Resync.{IsFramed, IsSound}
+use Rattle.raw_resync.specs.Charge.{Charges, IsBounded}
+use Rattle.raw_resync.specs.Seeking.{Explains, IsWork, MayFollow, PassesOver, Seeks, TellsLength, TellsSought, Works}
+use Rattle.raw_resync.specs.declared.length.Length.{Length}
+use Rattle.raw_resync.specs.declared.length.Length.TheVariants as lengths
 use Rattle.raw_resync.specs.declared.search.Places.{Places}
 use Rattle.raw_resync.specs.declared.search.Sought.{Sought}
 use Rattle.raw_resync.specs.declared.search.Sought.TheVariants as sought
@@ -17,7 +17,7 @@ use Rattle.raw_resync.proofs.Face.{believed, charges_none, charges_on, disbeliev
 use Rattle.raw_resync.proofs.Face as face
 use Rattle.dump_io.specs.input.Cut.{EndsWith, IsPiece}
 use Rattle.dump_io.specs.input.Reading.{IsReadBehind, IsWindow, ReadsAhead, SeesAhead, Stays, TellsNext, ahead_of}
-use Rattle.dump_io.specs.input.Resync.{BreaksWith, Doubts, GoesOnBehind, GoesOnInside, IsBelieved, IsDoubted, IsNextPlace, Searches, SeesBehind, SeesInside, Spends, TellsPart}
+use Rattle.dump_io.specs.input.Resync.{BreaksWith, Doubts, GoesOnInside, IsBelieved, IsDoubted, IsNextPlace, Searches, SeesInside, Spends, TellsPart}
 use Rattle.dump_io.specs.declared.input.ending.Ending.{Ending}
 use Rattle.dump_io.specs.declared.input.ending.Ending.TheVariants as ending
 use Rattle.dump_io.specs.declared.input.resync.Skip.{Skip}
@@ -105,99 +105,63 @@ module _ {limits : Limits} {r r' : Option (List ℕ)} {x y : Window} {v w : Work
         spends_on s x.offset v w w' (p.spends s read) (subst (λ n. Spends limits s n w w') p.stays.offset here);
   }
 
-  -- what is after so many bytes of all that is left
-  behind : (place : ℕ) (w' : Work) (told : Check) → ChecksBehind limits (ahead_of y) last y.offset place w w' told → (s : List ℕ) → Consumes (Some s) r (ahead_of x)
-      → TellsBehind limits (ahead_of y) last (x.offset + length s) s place w' told
-  behind place w' told checks s read =
+  -- what a look at the length in front tells of all that is left
+  pub length_told : (len : ℕ) (w' : Work) (told : Length) → Explains limits (ahead_of y) last y.offset len w w' told → (s : List ℕ) → Consumes (Some s) r (ahead_of x)
+      → TellsLength limits (x.offset + length s) s len w' told
+  length_told len w' told explains s read =
       let (rest, split, may) = whole s read in
-      subst (λ n. TellsBehind limits (ahead_of y) last (n + length s) s place w' told) p.stays.offset
-      (subst (λ t. TellsBehind limits (ahead_of y) last (y.offset + length t) t place w' told) (sym split) (checks.tells rest may))
-
-  pub sees_on : (len : ℕ) (w' : Work) → ChecksBehind limits (ahead_of y) last y.offset len w w' check.GoesOn → IsWork w' → SeesBehind limits r r' x y v w' len true
-  sees_on len w' checks work = record { searches = searched w' checks.works work; is = λ s read. inl (behind len w' check.GoesOn checks s read) }
-
-  pub sees_left : (len : ℕ) (w' : Work) → ChecksBehind limits (ahead_of y) last y.offset len w w' check.LeftOut → IsWork w' → SeesBehind limits r r' x y v w' len true
-  sees_left len w' checks work = record { searches = searched w' checks.works work; is = λ s read. inr (behind len w' check.LeftOut checks s read) }
-
-  pub sees_stop : (len : ℕ) (w' : Work) → ChecksBehind limits (ahead_of y) last y.offset len w w' check.Stops → IsWork w' → SeesBehind limits r r' x y v w' len false
-  sees_stop len w' checks work = record { searches = searched w' checks.works work; is = λ s read. behind len w' check.Stops checks s read }
-
--- what the loop that looks after keeps
-pub record IsLooked (limits : Limits) (r r' : Option (List ℕ)) (x y : Window) (v w : Work) (len : ℕ) (last : Bool) : Type 0 where
-  pub searches : Searches limits r r' x y v w
-  pub ends : last ≡ true → IsAtEnd r'
-  pub within : len ≤ length (ahead_of y)
-
-pub looked_none : {limits : Limits} (r : Option (List ℕ)) (x : Window) (w : Work) (len : ℕ) → IsWindow x → IsWork w → len ≤ length (ahead_of x) → IsLooked limits r r x x w w len false
-looked_none r x w len is work within = record {
-  searches = searches_read r r x x w (stays_same r x is) work;
-  ends = λ yes. let impossible : ⊥ = cc in absurd impossible;
-  within = within;
-}
-
--- it wants more, and more is read
-module _ {limits : Limits} {r r' r'' : Option (List ℕ)} {x y z : Window} {v w w' : Work} where
-  pub looked_on : (len n : ℕ) (last last' there : Bool) → IsLooked limits r r' x y v w len last
-      → ChecksBehind limits (ahead_of y) last y.offset len w w' (check.Wants n) → IsWork w' → SeesAhead r' r'' y z n there → (last' ≡ true → there ≡ false)
-      → IsLooked limits r r'' x z v w' len last'
-  looked_on len n last last' there p checks work sees ends =
-      let here = searched last p.searches p.ends w' checks.works work in
-      let more : length (ahead_of y) ≤ length (ahead_of z) = sees.looks.len in
-      record {
-        searches = searches_on r r' r'' x y z v w' w' here (searches_read r' r'' y z w' (stays_there r' r'' y z n there sees) work);
-        ends = λ yes. (sees.ends (ends yes)).1;
-        within = omega (arith, p.within, more);
-      }
+      subst (λ n. TellsLength limits (n + length s) s len w' told) p.stays.offset
+      (subst (λ t. TellsLength limits (y.offset + length t) t len w' told) (sym split) (explains.tells rest may))
 
 -- what the loop over places inside keeps
-pub record IsSought (limits : Limits) (r r' : Option (List ℕ)) (x y : Window) (v w : Work) (first from len end : ℕ) (last : Bool) : Type 0 where
+pub record IsSought (limits : Limits) (r r' : Option (List ℕ)) (x y : Window) (v w : Work) (from len : ℕ) (last : Bool) : Type 0 where
   pub searches : Searches limits r r' x y v w
   pub ends : last ≡ true → IsAtEnd r'
-  pub low : first ≤ from
+  pub low : 1 ≤ from
   pub high : from ≤ len
   pub within : from ≤ length (ahead_of y)
-  pub over : (s : List ℕ) → Consumes (Some s) r (ahead_of x) → (all : Bool) × PassesOver limits (x.offset + length s) s first from end w all
+  pub over : (s : List ℕ) → Consumes (Some s) r (ahead_of x) → (all : Bool) × PassesOver limits (x.offset + length s) s 1 from w all
 
-pub sought_none : {limits : Limits} (r : Option (List ℕ)) (x : Window) (w : Work) (first len end : ℕ) → IsWindow x → IsWork w → first ≤ len → len ≤ length (ahead_of x)
-    → IsSought limits r r x x w w first first len end false
-sought_none {limits} r x w first len end is work some within = record {
+pub sought_none : {limits : Limits} (r : Option (List ℕ)) (x : Window) (w : Work) (len : ℕ) → IsWindow x → IsWork w → 1 ≤ len → len ≤ length (ahead_of x)
+    → IsSought limits r r x x w w 1 len false
+sought_none {limits} r x w len is work some within = record {
   searches = searches_read r r x x w (stays_same r x is) work;
   ends = λ yes. let impossible : ⊥ = cc in absurd impossible;
   low = omega arith;
   high = some;
   within = omega (arith, some, within);
-  over = λ s read. (true, face.passes_none limits (x.offset + length s) s first end w);
+  over = λ s read. (true, face.passes_none limits (x.offset + length s) s 1 w);
 }
 
-abbrev pub places : (from until end : ℕ) → Places
-places from until end = record { from = from; until = until; end = end }
+abbrev pub places : (from until : ℕ) → Places
+places from until = record { from = from; until = until }
 
 -- a search of places inside
-module _ {limits : Limits} {r r' : Option (List ℕ)} {x y : Window} {v w w' : Work} {first from len end : ℕ} {last : Bool} (p : IsSought limits r r' x y v w first from len end last) {told : Sought}
-    (seeks : Seeks limits (ahead_of y) last y.offset (places from len end) w w' told) (work : IsWork w') where
+module _ {limits : Limits} {r r' : Option (List ℕ)} {x y : Window} {v w w' : Work} {from len : ℕ} {last : Bool} (p : IsSought limits r r' x y v w from len last) {told : Sought}
+    (seeks : Seeks limits (ahead_of y) last y.offset (places from len) w w' told) (work : IsWork w') where
   pub sought_here : Searches limits r r' x y v w'
   sought_here = searched last p.searches p.ends w' seeks.works work
 
-  tells : (s : List ℕ) → Consumes (Some s) r (ahead_of x) → TellsSought limits (ahead_of y) last (x.offset + length s) s (places from len end) w' told
+  tells : (s : List ℕ) → Consumes (Some s) r (ahead_of x) → TellsSought limits (ahead_of y) last (x.offset + length s) s (places from len) w' told
   tells s read =
       let (rest, split, may) = whole last p.searches p.ends s read in
-      subst (λ n. TellsSought limits (ahead_of y) last (n + length s) s (places from len end) w' told) p.searches.stays.offset
-      (subst (λ t. TellsSought limits (ahead_of y) last (y.offset + length t) t (places from len end) w' told) (sym split) (seeks.tells rest may))
+      subst (λ n. TellsSought limits (ahead_of y) last (n + length s) s (places from len) w' told) p.searches.stays.offset
+      (subst (λ t. TellsSought limits (ahead_of y) last (y.offset + length t) t (places from len) w' told) (sym split) (seeks.tells rest may))
 
-  passed : (place : ℕ) (all : Bool) (s : List ℕ) → Consumes (Some s) r (ahead_of x) → from ≤ place → PassesOver limits (x.offset + length s) s from place end w' all
-      → (all' : Bool) × PassesOver limits (x.offset + length s) s first place end w' all'
+  passed : (place : ℕ) (all : Bool) (s : List ℕ) → Consumes (Some s) r (ahead_of x) → from ≤ place → PassesOver limits (x.offset + length s) s from place w' all
+      → (all' : Bool) × PassesOver limits (x.offset + length s) s 1 place w' all'
   passed place all s read high over =
       let (rest, split, may) = whole last p.searches p.ends s read in
       let more : w.spent ≤ w'.spent = spent_more limits (ahead_of y ++ rest) w w' (seeks.works.charges rest may) in
       let (before, over') = p.over s read in
-      let since = passes_since limits (x.offset + length s) s first from end w w' before more over' in
-      (before && all, passes_after limits (x.offset + length s) first from place end s w' p.low high since over)
+      let since = passes_since limits (x.offset + length s) s 1 from w w' before more over' in
+      (before && all, passes_after limits (x.offset + length s) 1 from place s w' p.low high since over)
 
   -- it wants more, and more is read
   pub sought_on : {r'' : Option (List ℕ)} (z : Window) (place n : ℕ) (all there last' : Bool) → told ≡ sought.Wants place n all → SeesAhead r' r'' y z n there
-      → (last' ≡ true → there ≡ false) → IsSought limits r r'' x z v w' first place len end last'
+      → (last' ≡ true → there ≡ false) → IsSought limits r r'' x z v w' place len last'
   sought_on {r'' = r''} z place n all there last' is sees ends =
-      let here = subst (TellsSought limits (ahead_of y) last (y.offset + length (ahead_of y ++ [])) (ahead_of y ++ []) (places from len end) w') is
+      let here = subst (TellsSought limits (ahead_of y) last (y.offset + length (ahead_of y ++ [])) (ahead_of y ++ []) (places from len) w') is
       (seeks.tells [] (λ yes. refl)) in
       let low : from ≤ place = here.0 in
       let high : place < len = here.1 in
@@ -210,62 +174,27 @@ module _ {limits : Limits} {r r' : Option (List ℕ)} {x y : Window} {v w w' : W
         high = omega (arith, high);
         within = omega (arith, inside, grown);
         over = λ s read.
-            let told' = subst (TellsSought limits (ahead_of y) last (x.offset + length s) s (places from len end) w') is (tells s read) in
+            let told' = subst (TellsSought limits (ahead_of y) last (x.offset + length s) s (places from len) w') is (tells s read) in
             passed place all s read low told'.4;
       }
 
   -- documents go on at a place inside
-  pub inside_found : (place : ℕ) (all : Bool) → told ≡ sought.Found place all → SeesInside limits r r' x y v w' first len end true
+  pub inside_found : (place : ℕ) (all : Bool) → told ≡ sought.Found place all → SeesInside limits r r' x y v w' len true
   inside_found place all is = record {
     searches = sought_here;
     is = λ s read.
-        let here = subst (TellsSought limits (ahead_of y) last (x.offset + length s) s (places from len end) w') is (tells s read) in
+        let here = subst (TellsSought limits (ahead_of y) last (x.offset + length s) s (places from len) w') is (tells s read) in
         (place, omega (arith, p.low, here.0), here.1, here.3);
   }
 
   -- they go on at none
-  pub inside_none : (all : Bool) → told ≡ sought.Nowhere all → SeesInside limits r r' x y v w' first len end false
+  pub inside_none : (all : Bool) → told ≡ sought.Nowhere all → SeesInside limits r r' x y v w' len false
   inside_none all is = record {
     searches = sought_here;
     is = λ s read.
-        let here = subst (TellsSought limits (ahead_of y) last (x.offset + length s) s (places from len end) w') is (tells s read) in
+        let here = subst (TellsSought limits (ahead_of y) last (x.offset + length s) s (places from len) w') is (tells s read) in
         passed len all s read p.high here.1;
   }
-
--- what the loop over parts keeps: from the end down to here documents go on at no place
-pub record IsSoughtDown (limits : Limits) (r r' : Option (List ℕ)) (x y : Window) (v w : Work) (until len end : ℕ) : Type 0 where
-  pub searches : Searches limits r r' x y v w
-  pub low : 1 ≤ until
-  pub high : until ≤ len
-  pub within : len ≤ length (ahead_of y)
-  pub over : (s : List ℕ) → Consumes (Some s) r (ahead_of x) → (all : Bool) × PassesOver limits (x.offset + length s) s until len end w all
-
--- the part before is searched
-module _ {limits : Limits} {r r' r'' : Option (List ℕ)} {x y z : Window} {v w w' : Work} (from : ℕ) {until len end : ℕ} (p : IsSoughtDown limits r r' x y v w until len end) (start : 1 ≤ from) where
-  pub down_found : SeesInside limits r' r'' y z w w' from until end true → SeesInside limits r r'' x z v w' 1 len end true
-  down_found q = record {
-    searches = searches_on r r' r'' x y z v w w' p.searches q.searches;
-    is = λ s read.
-        let (j, low, high, on) = q.is s (p.searches.stays.looks.is_read (Some s) read) in
-        (j, omega (arith, start, low), omega (arith, high, p.high), on);
-  }
-
-  pub down_on : from ≤ until → SeesInside limits r' r'' y z w w' from until end false → IsSoughtDown limits r r'' x z v w' from len end
-  down_on fewer q =
-      let grown : length (ahead_of y) ≤ length (ahead_of z) = q.searches.stays.looks.len in
-      record {
-        searches = searches_on r r' r'' x y z v w w' p.searches q.searches;
-        low = start;
-        high = omega (arith, fewer, p.high);
-        within = omega (arith, p.within, grown);
-        over = λ s read.
-            let read' = p.searches.stays.looks.is_read (Some s) read in
-            let (behind', over') = p.over s read in
-            let (before, over) = subst (λ n. GoesOnInside limits s n from until end w' false) p.searches.stays.offset (q.is s read') in
-            let more : w.spent ≤ w'.spent = spent_more limits s w w' ((q.searches.spends s read').charges) in
-            let since = passes_since limits (x.offset + length s) s until len end w w' behind' more over' in
-            (before && behind', passes_after limits (x.offset + length s) from until len end s w' fewer p.high over since);
-      }
 
 -- how many bytes a piece in front has
 pub piece_len : {most : ℕ} (x : List ℕ) (len : ℕ) → len ≤ length x → IsPiece most (take len x) → (5 ≤ len) × (len ≤ most)
@@ -280,65 +209,46 @@ front_take s x r len read within =
     let size : length s ≡ length x + length rest = ap length split ∙ length-append x rest in
     (ap (take len) split ∙ take-append-le len x rest within, omega (arith, size, within))
 
--- the front is without damage, or left out
-front_believed : {limits : Limits} (s : List ℕ) (at len : ℕ) (w : Work) → IsPiece limits.bytes (take len s) → GoesOnBehind limits s at 0 w true → IsBelieved limits s at len w
-front_believed {limits} s at len w piece (inl there) = inl (face.is_sound limits s (take len s) (drop len s) piece (sym (take-append-drop len s)) there)
-front_believed s at len w piece (inr left) = inr (λ disbelieved. (0, omega arith, inl left))
+no_end : (r : Option (List ℕ)) → false ≡ true → IsAtEnd r
+no_end r never = let impossible : ⊥ = cc in absurd impossible
 
-front_damaged : {limits : Limits} (s : List ℕ) (at len : ℕ) (w : Work) → IsPiece limits.bytes (take len s) → GoesOnBehind limits s at 0 w false → ¬ IsSound limits (take len s)
-front_damaged {limits} s at len w piece stops sound = stops (face.begins limits s (take len s) (drop len s) piece (sym (take-append-drop len s)) sound)
-
--- such a document is taken at its length
-pub doubts_sound : {limits : Limits} (r r' : Option (List ℕ)) (x y : Window) (u v : Work) (len : ℕ) → len ≤ length (ahead_of x) → IsPiece limits.bytes (take len (ahead_of x))
-    → SeesBehind limits r r' x y u v 0 true → Doubts limits r r' x y u v len false
-doubts_sound {limits} r r' x y u v len within piece p = record {
-  searches = p.searches;
-  is = λ s read. front_believed s x.offset len v (subst (IsPiece limits.bytes) (sym ((front_take s (ahead_of x) r len read within).0)) piece) (p.is s read);
-}
-
-stops_behind : {limits : Limits} (s : List ℕ) (at len : ℕ) (w : Work) (goes : Bool) → GoesOnBehind limits s at len w goes → goes ≡ false → ¬ EndsOrBegins limits (drop len s)
-stops_behind s at len w false stops is = stops
-stops_behind s at len w true goes is = let impossible : ⊥ = cc in absurd impossible
-
-goes_behind : {limits : Limits} (s : List ℕ) (at len : ℕ) (w w' : Work) (goes : Bool) → w.spent ≤ w'.spent → GoesOnBehind limits s at len w goes → goes ≡ true
-    → EndsOrBegins limits (drop len s) ⊎ IsUnprobed limits (at + length s) (drop len s) w'
-goes_behind s at len w w' true more (inl there) is = inl there
-goes_behind {limits} s at len w w' true more (inr left) is = inr (face.unprobed_on limits (at + length s) (drop len s) w w' more left)
-goes_behind s at len w w' false more stops is = let impossible : ⊥ = cc in absurd impossible
-
-reach_is : (len end : ℕ) (goes : Bool) → MatchBool goes (end ≡ len) (end ≡ 0) → end ≡ cond goes len 0
-reach_is len end true is = is
-reach_is len end false is = is
-
--- so the one in front of s is doubted, by what is after it, and inside
-is_doubted : {limits : Limits} (s : List ℕ) (at len : ℕ) {end : ℕ} (w w' : Work) (goes doubted : Bool) → (IsPiece limits.bytes (take len s) × (len ≤ length s) × ¬ IsSound limits (take len s))
-    → w.spent ≤ w'.spent → end ≡ cond goes len 0 → GoesOnBehind limits s at len w goes → GoesOnInside limits s at 1 len end w' doubted → IsDoubted limits s at len w' doubted
-is_doubted {limits} s at len {end = end} w w' goes true (piece, within, damaged) more is behind' (j, low, high, on) = record {
-  within = within;
-  piece = piece;
+-- documents go on inside it, or they don't
+inside : {limits : Limits} (s : List ℕ) (at len : ℕ) (w : Work) (doubted : Bool) → (IsPiece limits.bytes (take len s) × (len ≤ length s) × ¬ IsSound limits (take len s)) → ¬ IsFramed (take len s)
+    → GoesOnInside limits s at len w doubted → IsDoubted limits s at len w doubted
+inside {limits} s at len w true (front, few, damaged) unframed (j, low, high, on) = record {
+  within = few;
+  piece = front;
   damaged = damaged;
-  disbelieved = disbelieved limits s len end j goes (stops_behind s at len w goes behind') is low high on;
+  disbelieved = disbelieved limits s len j unframed low high on;
 }
-is_doubted {limits} s at len {end = end} w w' goes false (piece, within, damaged) more is behind' (all, over) =
-    inr (believed limits (at + length s) s len end w' goes all (goes_behind s at len w w' goes more behind') is over)
+inside {limits} s at len w false (front, few, damaged) unframed (all, over) = inr (believed limits (at + length s) s len w all over)
 
--- a damaged one is doubted
-module _ {limits : Limits} {q r r' r'' : Option (List ℕ)} {w x y z : Window} {s t u v : Work} where
-  pub doubts_damaged : (len end : ℕ) (goes doubted : Bool)
-      → (len ≤ length (ahead_of w)) × IsPiece limits.bytes (take len (ahead_of w)) → SeesBehind limits q r w x s t 0 false → SeesBehind limits r r' x y t u len goes
-      → MatchBool goes (end ≡ len) (end ≡ 0) → SeesInside limits r' r'' y z u v 1 len end doubted → Doubts limits q r'' w z s v len doubted
-  doubts_damaged len end goes doubted (within, piece) front behind' is inside = record {
-    searches = searches_on q r r'' w x z s t v front.searches (searches_on r r' r'' x y z t u v behind'.searches inside.searches);
-    is = λ b read.
-        let read' = front.searches.stays.looks.is_read (Some b) read in
-        let read'' = behind'.searches.stays.looks.is_read (Some b) read' in
-        let (same, few) = front_take b (ahead_of w) q len read within in
-        let piece' = subst (IsPiece limits.bytes) (sym same) piece in
-        let at = front.searches.stays.offset in
-        let goes_behind' = subst (λ n. GoesOnBehind limits b n len u goes) at (behind'.is b read') in
-        let goes_inside = subst (λ n. GoesOnInside limits b n 1 len end v doubted) (behind'.searches.stays.offset ∙ at) (inside.is b read'') in
-        let more : u.spent ≤ v.spent = spent_more limits b u v ((inside.searches.spends b read'').charges) in
-        is_doubted b w.offset len u v goes doubted (piece', few, front_damaged b w.offset len t piece' (front.is b read)) more (reach_is len end goes is) goes_behind' goes_inside;
+module _ {limits : Limits} {r : Option (List ℕ)} {x : Window} {v w : Work} {len : ℕ} (is : IsWindow x) (work : IsWork v) (within : len ≤ length (ahead_of x))
+    (piece : IsPiece limits.bytes (take len (ahead_of x))) (work' : IsWork w) where
+  nothing_read : Searches limits r r x x v v
+  nothing_read = searches_read r r x x v (stays_same r x is) work
+
+  pub doubts_explained : Explains limits (ahead_of x) false x.offset len v w lengths.Explained → Doubts limits r r x x v w len false
+  doubts_explained e = record {
+    searches = searched false nothing_read (no_end r) w e.works work';
+    is = λ s read. inr (λ disbelieved. absurd (disbelieved.0 (length_told false nothing_read (no_end r) len w lengths.Explained e s read)));
+  }
+
+  pub doubts_left : Explains limits (ahead_of x) false x.offset len v w lengths.LeftOut → Doubts limits r r x x v w len false
+  doubts_left e = record {
+    searches = searched false nothing_read (no_end r) w e.works work';
+    is = λ s read. inr (λ disbelieved. (0, omega arith, length_told false nothing_read (no_end r) len w lengths.LeftOut e s read));
+  }
+
+  -- what is inside decides
+  pub doubts_inside : {r' : Option (List ℕ)} {y : Window} {w' : Work} (doubted : Bool) → Explains limits (ahead_of x) false x.offset len v w lengths.Unexplained
+      → SeesInside limits r r' x y w w' len doubted → Doubts limits r r' x y v w' len doubted
+  doubts_inside {r'} {y} {w'} doubted e sees = record {
+    searches = searches_on r r r' x x y v w w' (searched false nothing_read (no_end r) w e.works work') sees.searches;
+    is = λ s read.
+        let (same, few) = front_take s (ahead_of x) r len read within in
+        let (damaged, unframed) = length_told false nothing_read (no_end r) len w lengths.Unexplained e s read in
+        inside s x.offset len w' doubted (subst (IsPiece limits.bytes) (sym same) piece, few, damaged) unframed (sees.is s read);
   }
 
 some_ahead : (most : ℕ) (e : Ending) (x : List ℕ) → EndsWith most e x → 0 < length x

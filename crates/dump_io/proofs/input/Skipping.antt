@@ -1,17 +1,18 @@
 -- Bytes that are passed over, one after the other.
-use Rattle.std.proofs.Common.{◌≡◌, ℕ, ◌+◌, ◌-◌, ◌<◌, ◌≤◌, List, [], ◌++◌, Option, None, Some, Bool, true, false, ◌&&◌, not, arith, length, take, drop, sym, ap, ◌∙◌, subst, refl, inl, inr, append_assoc, length-append, length-drop, length-take-le, add_assoc, add-zero}
-use Rattle.std.proofs.lemmas.List.{drop-drop, take-append-drop}
+use Rattle.std.proofs.Common.{◌≡◌, ℕ, ◌+◌, ◌-◌, ◌<◌, ◌≤◌, ◌⊎◌, min, List, [], ◌++◌, Option, None, Some, Bool, true, false, ◌&&◌, not, arith, length, take, drop, sym, ap, ◌∙◌, subst, refl, inl, inr, append_assoc, length-append, length-drop, length-take-le, add_assoc}
+use Rattle.std.proofs.lemmas.Bool.{cases_lt}
+use Rattle.std.proofs.lemmas.List.{take-append-drop}
 use Rattle.std.proofs.Math.Seq.{drop-append_seam}
 use Rattle.std.specs.Io.KnownBytes.{Consumes, IsAtEnd}
 use Rattle.raw_tree.specs.declared.reader.limits.Limits.{Limits}
-use Rattle.raw_resync.specs.Resync.{GoesOn, GoesOnWith}
+use Rattle.raw_resync.specs.Resync.{GoesOn}
 use Rattle.raw_resync.specs.Charge.{Charges, IsBounded}
 use Rattle.raw_resync.specs.Seeking.{IsWork, MayFollow, PassesOver, Seeks, TellsSought}
 use Rattle.raw_resync.specs.declared.search.Places.{Places}
 use Rattle.raw_resync.specs.declared.search.Sought.{Sought}
 use Rattle.raw_resync.specs.declared.search.Sought.TheVariants as sought
 use Rattle.raw_resync.specs.declared.work.Work.{Work}
-use Rattle.raw_resync.proofs.Face.{charges_further, charges_none, charges_on, passes_join, passes_since, spent_more}
+use Rattle.raw_resync.proofs.Face.{charges_further, charges_none, charges_on, goes_further, passes_join, passes_since, spent_more}
 use Rattle.raw_resync.proofs.Face as face
 use Rattle.dump_io.specs.input.Reading.{GoesAhead, IsWindow, ReadsAhead, Consumed, SeesAhead, Stays, ahead_of}
 use Rattle.dump_io.specs.input.Resync.{IsNextPlace, SkipsTo, Spends}
@@ -76,16 +77,18 @@ follows s ahead (Some rest) last read ends = (rest, read, ends)
 
 -- what was searched of all that is left: the places from the second on and before one, at no cost that is over the bound
 pub record IsCovered (limits : Limits) (s : List ℕ) (at : ℕ) (old new : Work) (to : ℕ) (all : Bool) : Type 0 where
-  pub over : PassesOver limits (at + length s) s 1 to 0 new all
+  pub over : PassesOver limits (at + length s) s 1 to new all
   pub spends : Spends limits s at old new
 
--- what the loop keeps: so many bytes are passed over, more are ahead, and the places before this one of those were searched
+-- What the loop keeps: this number of bytes is passed over, more are ahead, and the places before this one of those were searched. Before it
+-- are all bytes since the first, or as many as a key may have.
 pub record IsSearched (limits : Limits) (r r' : Option (List ℕ)) (x y : Window) (old new : Work) (from : ℕ) (last all : Bool) : Type 0 where
   pub n : ℕ
   pub window : IsWindow y
   pub work : IsWork new
   pub offset : y.offset ≡ x.offset + n
   pub start : 1 ≤ n + from
+  pub back : (n ≡ 0) ⊎ (66 ≤ from)
   pub within : from ≤ length (ahead_of y)
   pub ends : last ≡ true → IsAtEnd r'
   pub passes : Consumed r r' (ahead_of x) (ahead_of y) n
@@ -98,41 +101,46 @@ searched_none {limits} r x w is work some = record {
   work = work;
   offset = omega arith;
   start = omega arith;
+  back = inl refl;
   within = omega (arith, some);
   ends = λ is. let impossible : ⊥ = cc in absurd impossible;
   passes = passes_none r (ahead_of x);
   searches = λ s read. record {
-    over = face.passes_none limits (x.offset + length s) s 1 0 w;
+    over = face.passes_none limits (x.offset + length s) s 1 w;
     spends = record { charges = charges_none limits s w; bounded = λ bound. bound };
   };
 }
 
-nothing_from : (j : ℕ) → 0 - j ≡ 0
-nothing_from j = omega arith
-
 -- bytes are passed over up to here
 next_place : {limits : Limits} (s : List ℕ) {at : ℕ} {old new : Work} (n place : ℕ) {all : Bool} (skip : Skip) → 1 ≤ n + place → n + place ≤ length s
-    → GoesOnWith limits (0 - place) (drop place (drop n s)) → IsCovered limits s at old new (n + place) all → skip.count ≡ n + place → skip.all ≡ all → IsNextPlace limits s at old new skip
+    → GoesOn limits s (n + place) → IsCovered limits s at old new (n + place) all → skip.count ≡ n + place → skip.all ≡ all → IsNextPlace limits s at old new skip
 next_place {limits} s n place {all = all} skip some within goes done count both =
-    let none : 0 - place ≡ 0 = omega arith in
-    let here = subst (λ m. GoesOn limits (drop m s)) (sym count) (subst (GoesOn limits) (drop-drop place n s) (subst (λ m. GoesOnWith limits m (drop place (drop n s))) none goes)) in
     let over = done.over in
     record {
       some = omega (arith, count, some);
       within = subst (λ m. m ≤ length s) (sym count) within;
-      goes_on = here;
-      passed = λ j low high. elim (over.each j low (omega (arith, high, count))) [
-        | inl not ↦ inl (subst (λ m. ¬ GoesOnWith limits m (drop j s)) (nothing_from j) not)
-        | inr left ↦ inr left
-      ];
-      all = λ is j low high. subst (λ m. ¬ GoesOnWith limits m (drop j s)) (nothing_from j) (over.whole (sym both ∙ is) j low (omega (arith, high, count)));
+      goes_on = subst (GoesOn limits s) (sym count) goes;
+      passed = λ j low high. over.each j low (omega (arith, high, count));
+      all = λ is j low high. over.whole (sym both ∙ is) j low (omega (arith, high, count));
       left = λ is. let (j, low, high, left) = over.some (sym both ∙ is) in (j, low, omega (arith, high, count), left);
       spends = done.spends;
     }
 
+-- how many bytes stay before a place
+back_on : (n from place kept : ℕ) → (n ≡ 0) ⊎ (66 ≤ from) → from ≤ place → kept ≡ min place 66 → (n + (place - kept) ≡ 0) ⊎ (66 ≤ kept)
+back_on n from place kept (inl none) low is = elim (cases_lt place 66) [
+  | inl few ↦ inl (omega (arith, none, is, few))
+  | inr many ↦ inr (omega (arith, is, many))
+]
+back_on n from place kept (inr far) low is = inr (omega (arith, far, low, is))
+
+place_back : (n from place : ℕ) → (n ≡ 0) ⊎ (66 ≤ from) → from ≤ place → (n ≡ 0) ⊎ (66 ≤ place)
+place_back n from place (inl none) low = inl none
+place_back n from place (inr far) low = inr (omega (arith, far, low))
+
 -- a search in the bytes ahead
 module _ {limits : Limits} {r r' : Option (List ℕ)} {x y : Window} {old mid : Work} {from : ℕ} {last all : Bool} (is : IsSearched limits r r' x y old mid from last all) (q : Places)
-    (begin : q.from ≡ from) (end : q.end ≡ 0) where
+    (begin : q.from ≡ from) where
   -- all that is left, as its front that was passed, the bytes ahead, and what follows them
   whole : (s : List ℕ) → Consumes (Some s) r (ahead_of x) → (rest : List ℕ) × (drop is.n s ≡ ahead_of y ++ rest) × MayFollow last rest × (y.offset + length (drop is.n s) ≡ x.offset + length s)
   whole s read =
@@ -163,15 +171,14 @@ module _ {limits : Limits} {r r' : Option (List ℕ)} {x y : Window} {old mid : 
 
     -- the places before another were searched, too
     searched : (place : ℕ) (more : Bool) (s : List ℕ) (read : Consumes (Some s) r (ahead_of x)) → from ≤ place
-        → PassesOver limits (x.offset + length s) (drop is.n s) q.from place q.end new more → IsCovered limits s x.offset old new (is.n + place) (all && more)
+        → PassesOver limits (x.offset + length s) (drop is.n s) q.from place new more → IsCovered limits s x.offset old new (is.n + place) (all && more)
     searched place more s read high over =
         let before = is.searches s read in
         let here = charged s read in
-        let over' = subst (λ n. PassesOver limits (x.offset + length s) (drop is.n s) from place n new more) end
-        (subst (λ n. PassesOver limits (x.offset + length s) (drop is.n s) n place q.end new more) begin over) in
+        let over' = subst (λ n. PassesOver limits (x.offset + length s) (drop is.n s) n place new more) begin over in
         record {
           over = passes_join limits (x.offset + length s) 1 is.n from place s new is.start high
-              (passes_since limits (x.offset + length s) s 1 (is.n + from) 0 mid new all (spent_more limits s mid new here) before.over) over';
+              (passes_since limits (x.offset + length s) s 1 (is.n + from) mid new all (spent_more limits s mid new here) before.over) over';
           spends = record {
             charges = charges_on limits s old mid new before.spends.charges here;
             bounded = λ bound. bounded s read (before.spends.bounded bound);
@@ -179,26 +186,32 @@ module _ {limits : Limits} {r r' : Option (List ℕ)} {x y : Window} {old mid : 
         }
 
   -- it wants more, and more is read
-  module _ {r'' : Option (List ℕ)} {z w : Window} {new : Work} {place n want : ℕ} {more there : Bool} where
-    pub searched_on : Seeks limits (ahead_of y) last y.offset q mid new (sought.Wants place n more) → IsWork new
-        → ahead_of z ≡ drop place (ahead_of y) → z.offset ≡ y.offset + place → SeesAhead r' r'' z w want there → (last' : Bool) → (last' ≡ true → there ≡ false)
-        → IsSearched limits r r'' x w old new 0 last' (all && more)
-    searched_on seeks work passed at sees last' ends =
+  module _ {r'' : Option (List ℕ)} {z w : Window} {new : Work} {place kept n want : ℕ} {more there : Bool} where
+    pub searched_on : Seeks limits (ahead_of y) last y.offset q mid new (sought.Wants place n more) → IsWork new → kept ≡ min place 66
+        → ahead_of z ≡ drop (place - kept) (ahead_of y) → z.offset ≡ y.offset + (place - kept) → SeesAhead r' r'' z w want there → (last' : Bool) → (last' ≡ true → there ≡ false)
+        → IsSearched limits r r'' x w old new kept last' (all && more)
+    searched_on seeks work before passed at sees last' ends =
         let told = seeks.tells [] (λ yes. refl) in
         let low : from ≤ place = subst (λ m. m ≤ place) begin told.0 in
+        let inside : place ≤ length (ahead_of y) = told.2 in
+        let fewer : kept ≤ place = omega (arith, before) in
+        let size : length (ahead_of z) ≡ length (ahead_of y) - (place - kept) = ap length passed ∙ length-drop (place - kept) (ahead_of y) in
+        let grown : length (ahead_of z) ≤ length (ahead_of w) = sees.looks.len in
+        let same : is.n + (place - kept) + kept ≡ is.n + place = omega (arith, fewer) in
         record {
-          n = is.n + place;
+          n = is.n + (place - kept);
           window = sees.window;
           work = work;
-          offset = sees.offset ∙ at ∙ ap (λ m. m + place) is.offset ∙ add_assoc x.offset is.n place;
-          start = omega (arith, is.start, low);
-          within = omega arith;
+          offset = sees.offset ∙ at ∙ ap (λ m. m + (place - kept)) is.offset ∙ add_assoc x.offset is.n (place - kept);
+          start = omega (arith, is.start, low, same);
+          back = back_on is.n from place kept is.back low before;
+          within = omega (arith, inside, size, grown, fewer);
           ends = λ yes. (sees.ends (ends yes)).1;
-          passes = passes_ahead r r' r'' (ahead_of x) (ahead_of z) (ahead_of w) (is.n + place)
-              (passes_more r r' (ahead_of x) (ahead_of y) (ahead_of z) is.n place is.passes told.2 passed) sees.looks;
+          passes = passes_ahead r r' r'' (ahead_of x) (ahead_of z) (ahead_of w) (is.n + (place - kept))
+              (passes_more r r' (ahead_of x) (ahead_of y) (ahead_of z) is.n (place - kept) is.passes (omega (arith, inside)) passed) sees.looks;
           searches = λ s read.
               let here = tells seeks s read in
-              subst (λ m. IsCovered limits s x.offset old new m (all && more)) (sym (add-zero (is.n + place)))
+              subst (λ m. IsCovered limits s x.offset old new m (all && more)) (sym same)
               (searched seeks place more s read low here.4);
         }
 
@@ -218,7 +231,7 @@ module _ {limits : Limits} {r r' : Option (List ℕ)} {x y : Window} {old mid : 
           is = λ s read.
               let here = tells seeks s read in
               let done = searched seeks place more s read low here.4 in
-              let goes = subst (λ m. GoesOnWith limits m (drop place (drop is.n s))) (ap (λ e. e - place) end) here.3 in
+              let goes = goes_further limits is.n place s (place_back is.n from place is.back low) here.3 in
               let within = (left_behind r r' (ahead_of x) (ahead_of z) s (is.n + place) over read).1 in
               next_place s is.n place skip (omega (arith, is.start, low)) within goes done count both;
         }

@@ -1,8 +1,8 @@
 -- Where the reading of an input goes on after bytes that no document begins with, and after lengths that aren't believed.
 use Rattle.std.specs.Prelude.{◌≡◌, ◌⊎◌, ◌<◌, ◌≤◌, ◌+◌, ◌-◌, ℕ, List, [], Bool, true, false, Option, Some, drop, length, take}
 use Rattle.std.specs.Io.KnownBytes.{Consumes, IsAtEnd}
-use Rattle.raw_resync.specs.Resync.{EndsOrBegins, GoesOn, GoesOnWith, IsDisbelieved, IsSound}
-use Rattle.raw_resync.specs.Charge.{Charges, IsBounded, IsLeftOut, IsUnprobed}
+use Rattle.raw_resync.specs.Resync.{GoesOn, IsDisbelieved, IsSound}
+use Rattle.raw_resync.specs.Charge.{Charges, IsBounded, IsLeftOut}
 use Rattle.raw_resync.specs.Seeking.{IsWork, PassesOver}
 use Rattle.raw_resync.specs.declared.work.Work.{Work}
 use Rattle.raw_tree.specs.declared.reader.limits.Limits.{Limits}
@@ -26,9 +26,9 @@ pub record Spends (limits : Limits) (s : List ℕ) (at : ℕ) (old new : Work) :
 pub record IsNextPlace (limits : Limits) (s : List ℕ) (at : ℕ) (old new : Work) (skip : Skip) : Type 0 where
   pub some : 0 < skip.count
   pub within : skip.count ≤ length s
-  pub goes_on : GoesOn limits (drop skip.count s)
-  pub passed : (j : ℕ) → 0 < j → j < skip.count → (¬ GoesOn limits (drop j s)) ⊎ IsLeftOut limits (at + length s) s new j
-  pub all : skip.all ≡ true → (j : ℕ) → 0 < j → j < skip.count → ¬ GoesOn limits (drop j s)
+  pub goes_on : GoesOn limits s skip.count
+  pub passed : (j : ℕ) → 0 < j → j < skip.count → (¬ GoesOn limits s j) ⊎ IsLeftOut limits (at + length s) s new j
+  pub all : skip.all ≡ true → (j : ℕ) → 0 < j → j < skip.count → ¬ GoesOn limits s j
   pub left : skip.all ≡ false → (j : ℕ) × (0 < j) × (j < skip.count) × IsLeftOut limits (at + length s) s new j
   pub spends : Spends limits s at old new
 
@@ -66,26 +66,15 @@ pub record Searches (limits : Limits) (old new : Option (List ℕ)) (window_old 
   pub work : IsWork work_new
   pub spends : (s : List ℕ) → Consumes (Some s) old (ahead_of window_old) → Spends limits s window_old.offset work_old work_new
 
--- Whether after this number of bytes of s, the end of an input from this offset on, the input ends or a document without damage begins. It
--- counts as if, where what is there was left out.
-abbrev pub GoesOnBehind : Limits → List ℕ → (at len : ℕ) → Work → Bool → Type 0
-GoesOnBehind limits s at len work true = EndsOrBegins limits (drop len s) ⊎ IsUnprobed limits (at + length s) (drop len s) work
-GoesOnBehind limits s at len work false = ¬ EndsOrBegins limits (drop len s)
+-- whether documents go on inside the document of this length in front of s, the end of an input from this offset on
+abbrev pub GoesOnInside : Limits → List ℕ → (at len : ℕ) → Work → Bool → Type 0
+GoesOnInside limits s at len work true = (j : ℕ) × (0 < j) × (j < len) × GoesOn limits s j
+GoesOnInside limits s at len work false = (all : Bool) × PassesOver limits (at + length s) s 1 len work all
 
 -- so it is of all that was to be read
-pub record SeesBehind (limits : Limits) (old new : Option (List ℕ)) (window_old window_new : Window) (work_old work_new : Work) (len : ℕ) (goes_on : Bool) : Type 0 where
+pub record SeesInside (limits : Limits) (old new : Option (List ℕ)) (window_old window_new : Window) (work_old work_new : Work) (len : ℕ) (goes_on : Bool) : Type 0 where
   pub searches : Searches limits old new window_old window_new work_old work_new
-  pub is : (s : List ℕ) → Consumes (Some s) old (ahead_of window_old) → GoesOnBehind limits s window_old.offset len work_new goes_on
-
--- whether documents that reach to this end go on at a place of s from one on and before another
-abbrev pub GoesOnInside : Limits → List ℕ → (at from to end : ℕ) → Work → Bool → Type 0
-GoesOnInside limits s at from to end work true = (j : ℕ) × (from ≤ j) × (j < to) × GoesOnWith limits (end - j) (drop j s)
-GoesOnInside limits s at from to end work false = (all : Bool) × PassesOver limits (at + length s) s from to end work all
-
--- so it is of all that was to be read
-pub record SeesInside (limits : Limits) (old new : Option (List ℕ)) (window_old window_new : Window) (work_old work_new : Work) (from to end : ℕ) (goes_on : Bool) : Type 0 where
-  pub searches : Searches limits old new window_old window_new work_old work_new
-  pub is : (s : List ℕ) → Consumes (Some s) old (ahead_of window_old) → GoesOnInside limits s window_old.offset from to end work_new goes_on
+  pub is : (s : List ℕ) → Consumes (Some s) old (ahead_of window_old) → GoesOnInside limits s window_old.offset len work_new goes_on
 
 -- whether the document of this length in front of s isn't taken at its length
 abbrev pub IsDoubted : Limits → List ℕ → (at len : ℕ) → Work → Bool → Type 0

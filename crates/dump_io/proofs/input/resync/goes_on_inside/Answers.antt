@@ -1,29 +1,42 @@
-use Rattle.std.proofs.Common.{arith, subst}
-use Rattle.dump_io.specs.input.Resync.{SeesInside}
-use Rattle.dump_io.proofs.input.Deciding.{down_found, down_on}
+use Rattle.std.proofs.Common.{refl, not}
+use Rattle.dump_io.proofs.input.Deciding.{inside_found, inside_none, sought_none, sought_on}
+use Rattle.dump_io.proofs.input.Skipping.{not_true, seeks_ahead}
 use Rattle.dump_io.proofs.input.resync.goes_on_inside.Goals as goal
 
-pub returns-then-branch-clause-sees : goal.returns-then-branch-clause-sees
-returns-then-branch-clause-sees g c =
-    let r = g.R.Read.remaining in
-    let l = c.parts in
-    let new = c.goes_on_between.new in
-    let from = c.max-from.result in
-    let sees = subst (SeesInside c.args.limits (r l.reader) (r new.reader) l.window new.window l.work new.work from l.until c.args.end) c.if-branch.true c.in_ok-goes_on_between.ensures.sees in
-    down_found from
-    l.invariant.1 (omega (arith, c.max-from.ensures)) sees
+pub loop-init : goal.loop-init
+loop-init g c = sought_none (g.R.Read.remaining c.args.reader.now) c.args.window.now c.args.work.now c.args.len c.requires.0 c.requires.1 c.requires.2 c.requires.3
 
-pub parts-smaller : goal.parts-smaller
-parts-smaller g c = omega (arith, c.max-from.ensures, c.saturating_sub.ensures, c.parts.invariant.0, c.parts-test.true)
+pub part_of-requires : goal.part_of-requires
+part_of-requires g c = c.loop.invariant.searches.stays.window
 
-pub parts-preserved : goal.parts-preserved
-parts-preserved g c =
-    let r = g.R.Read.remaining in
-    let l = c.parts in
-    let new = c.goes_on_between.new in
-    let from = c.max-from.result in
-    let sees = subst (SeesInside c.args.limits (r l.reader) (r new.reader) l.window new.window l.work new.work from l.until c.args.end) c.if-branch.false c.in_ok-goes_on_between.ensures.sees in (
-      omega (arith, c.saturating_mul-count.ensures, l.invariant.0),
-      down_on from
-          l.invariant.1 (omega (arith, c.max-from.ensures)) (omega (arith, c.max-from.ensures, c.saturating_sub.ensures, c.parts-test.true)) sees,
-    )
+pub returns-in-Found-clause-sees : goal.returns-in-Found-clause-sees
+returns-in-Found-clause-sees g c =
+    let y = c.loop.window in
+    let p = c.part_of.result in
+    let told = c.in_ok-seek.field-0 in
+    let seeks = seeks_ahead y
+    c.part_of.ensures.limits c.part_of.ensures.bytes c.part_of.ensures.last c.part_of.ensures.at refl c.in_ok-seek.ensures.sought in
+    inside_found c.loop.invariant seeks c.seek.ensures.work c.in-Found.place c.in-Found.all c.in-Found.is
+
+pub returns-in-Nowhere-clause-sees : goal.returns-in-Nowhere-clause-sees
+returns-in-Nowhere-clause-sees g c =
+    let y = c.loop.window in
+    let p = c.part_of.result in
+    let told = c.in_ok-seek.field-0 in
+    let seeks = seeks_ahead y
+    c.part_of.ensures.limits c.part_of.ensures.bytes c.part_of.ensures.last c.part_of.ensures.at refl c.in_ok-seek.ensures.sought in
+    inside_none c.loop.invariant seeks c.seek.ensures.work c.in-Nowhere.all c.in-Nowhere.is
+
+pub look-requires : goal.look-requires
+look-requires g c = c.loop.invariant.searches.stays.window
+
+pub loop-preserved : goal.loop-preserved
+loop-preserved g c =
+    let y = c.loop.window in
+    let p = c.part_of.result in
+    let told = c.in_ok-seek.field-0 in
+    let there = c.in_ok-is_last-in-Wants.field-0 in
+    let seeks = seeks_ahead y
+    c.part_of.ensures.limits c.part_of.ensures.bytes c.part_of.ensures.last c.part_of.ensures.at refl c.in_ok-seek.ensures.sought in
+    sought_on c.loop.invariant seeks c.seek.ensures.work c.look.new.self c.in-Wants.place c.in-Wants.count c.in-Wants.all there (not there)
+    c.in-Wants.is c.in_ok-is_last-in-Wants.ensures.looks (not_true there)
