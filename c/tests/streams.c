@@ -250,20 +250,39 @@ static void look_at_cuts(void) {
 
 static const uint8_t one[] = "\14\0\0\0\20a\0\1\0\0\0\0";
 
-/* Where a search goes on, at the end of the first 65,536 bytes, there is no document but its length; and in it another begins. */
+/* Where a search goes on, at the end of the first 65,536 bytes, a damaged document holds one, which isn't passed over with it. */
 static void look_at_step(void) {
     struct bsonraw_stream s;
     FILE *file;
     len = 65536 + 200;
     memset(data, 0, len);
-    put_length(0, 0xFFFFFFFFu), put_length(65536, 64);
-    memcpy(data + 65552, one, 12), memcpy(data + 65600, one, 12);
+    put_length(0, 0xFFFFFFFFu), put_length(65536, 29);
+    memcpy(data + 65540, "\5b\0\14\0\0\0\0", 8), memcpy(data + 65548, one, 12), memcpy(data + 65560, "\10t\0\2", 4);
+    memcpy(data + 65600, one, 12);
     file = file_of();
     bsonraw_stream_from_file(&s, file);
     is(bsonraw_stream_read(&s), BSONRAW_NO_DOCUMENT, "a wrong length");
     is(bsonraw_stream_resync(&s, 99, 9), BSONRAW_OK, "a search in two steps");
     is(bsonraw_stream_read(&s), BSONRAW_OK, "the first document");
-    is((int64_t)s.offset, 65552, "the first document");
+    is((int64_t)s.offset, 65548, "the first document");
+    bsonraw_stream_free(&s);
+    fclose(file);
+}
+
+/* A document goes on behind what is read first. */
+static void look_at_last_bytes(void) {
+    struct bsonraw_stream s;
+    FILE *file;
+    len = 65536 + 300;
+    memset(data, 0, len);
+    put_length(0, 0xFFFFFFFFu);
+    memcpy(data + 65536 + 2 * 99 - 6, one, 12);
+    file = file_of();
+    bsonraw_stream_from_file(&s, file);
+    is(bsonraw_stream_read(&s), BSONRAW_NO_DOCUMENT, "a wrong length");
+    is(bsonraw_stream_resync(&s, 99, 9), BSONRAW_OK, "a search that reads on");
+    is(bsonraw_stream_read(&s), BSONRAW_OK, "a document that goes on");
+    is((int64_t)s.offset, 65536 + 2 * 99 - 6, "a document that goes on");
     bsonraw_stream_free(&s);
     fclose(file);
 }
@@ -294,6 +313,7 @@ int main(void) {
     look_at_waiting();
     look_at_cuts();
     look_at_step();
+    look_at_last_bytes();
     look_at_key(65540);
     look_at_key(65536);
     look_at_many();
