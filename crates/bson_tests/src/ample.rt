@@ -1,9 +1,7 @@
 //! With ample memory no call is out of memory: these are the checks of `memory` that don't allow it. A contract
 //! allows out of memory wherever a call takes memory, so a body that always gave up would be proved.
 
-use crate::fixtures::{
-    ALL_KINDS, BOOLEAN_TWO, Checks, KEY_NOT_UTF8, NESTED_STOP, ONE_INT32, view,
-};
+use crate::fixtures::{ALL_KINDS, BOOLEAN_TWO, Checks, KEY_NOT_UTF8, NESTED_STOP, ONE_INT32, view};
 use crate::memory::{buffers, copies, errors, pairs, trees, validation, writing};
 use crate::tables::{rows_of_getters, rows_to_a_key};
 use std::process::Abort;

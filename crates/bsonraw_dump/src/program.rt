@@ -19,9 +19,8 @@ use dump_io::lines::style::Style;
 use dump_runs::{run_all, run_texts};
 use std::alloc::{AllocError, Global};
 use std::fs::File;
-use std::env;
-use std::io;
 use std::io::{BufWriter, ErrorKind, IsTerminal, Write};
+use std::{env, io};
 
 /// What is asked of inputs.
 #[derive(Drop)]
@@ -115,7 +114,9 @@ fn way_of_packed(alloc: Global, typed: &str, count: usize) -> Result<String, All
     } else {
         String::new(alloc)
     };
-    format!(in alloc; "not read{more}; use: find FOLDER -name '*.bson.gz' | while read -r f; do gzip -dc \"$f\" | {typed}; done")
+    format!(in alloc;
+        "not read{more}; use: find FOLDER -name '*.bson.gz' | while read -r f; do gzip -dc \"$f\" | {typed}; done"
+    )
 }
 
 /// Does a task whose inputs are named as on the command line.
@@ -212,7 +213,11 @@ fn each<'a, D: Write, W: Write>(
     report: &mut W,
 ) -> Done<'a> {
     let shows = shows_progress(rt, run);
-    let size = if shows { size_of(rt, &run.inputs) } else { None };
+    let size = if shows {
+        size_of(rt, &run.inputs)
+    } else {
+        None
+    };
     let progress = Progress::new(rt, shows, size);
     let inputs = files_of(&*rt, &*run, &progress);
     let done = match run.reading {

@@ -52,14 +52,14 @@ goes_shorter : (limits : Limits) (n j : ℕ) (s : List ℕ) → GoesOn limits s 
 goes_shorter limits n j s (inl none) = inl (drop-drop j n s ∙ none)
 goes_shorter limits n j s (inr e) =
     inr (
-      record {
-        b = e.b;
-        rest = e.rest;
-        split = drop-drop j n s ∙ e.split;
-        sound = e.sound;
-        long = e.long;
-        alone = λ key. e.alone (subst EndsInKey (sym (take-add n j s)) (key_further (take n s) (take j (drop n s)) key));
-      }
+    record {
+      b = e.b;
+      rest = e.rest;
+      split = drop-drop j n s ∙ e.split;
+      sound = e.sound;
+      long = e.long;
+      alone = λ key. e.alone (subst EndsInKey (sym (take-add n j s)) (key_further (take n s) (take j (drop n s)) key));
+    }
     )
 
 not_further : (limits : Limits) (n j : ℕ) (s : List ℕ) → ¬ GoesOn limits (drop n s) j → ¬ GoesOn limits s (n + j)
@@ -77,14 +77,14 @@ goes_further limits n j s (inr far) (inr e) =
     let left : length (drop j (drop n s)) ≡ length (drop n s) - j = length-drop j (drop n s) in
     let size : length (take j (drop n s)) ≡ j = length-take-le j (drop n s) (omega (arith, some, len, left)) in
     inr (
-      record {
-        b = e.b;
-        rest = e.rest;
-        split = sym (drop-drop j n s) ∙ e.split;
-        sound = e.sound;
-        long = e.long;
-        alone = λ key. e.alone (key_nearer (take n s) (take j (drop n s)) (omega (arith, size, far)) (subst EndsInKey (take-add n j s) key));
-      }
+    record {
+      b = e.b;
+      rest = e.rest;
+      split = sym (drop-drop j n s) ∙ e.split;
+      sound = e.sound;
+      long = e.long;
+      alone = λ key. e.alone (key_nearer (take n s) (take j (drop n s)) (omega (arith, size, far)) (subst EndsInKey (take-add n j s) key));
+    }
     )
 
 -- the charge after n bytes

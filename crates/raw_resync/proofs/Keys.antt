@@ -16,15 +16,6 @@ split_text text x e =
     let whole : text ++ x ∷ [] ≡ (e.front ++ e.tag ∷ e.key) ++ 0 ∷ [] = e.spelled ∙ sym (append_assoc e.front (e.tag ∷ e.key) (0 ∷ [])) in
     same_from_push text (e.front ++ e.tag ∷ e.key) x 0 whole
 
--- they end with 0, and aren't empty
-pub not_ended : (bytes text : List ℕ) (x : ℕ) → bytes ≡ text ++ x ∷ [] → ¬ (x ≡ 0) → ¬ EndsInKey bytes
-not_ended bytes text x is not e = not ((split_text text x (subst EndsInKey is e)).1)
-
-pub not_empty : (bytes : List ℕ) → length bytes ≡ 0 → ¬ EndsInKey bytes
-not_empty bytes none e =
-    let len : length bytes ≡ length e.front + length (e.tag ∷ (e.key ++ 0 ∷ [])) = ap length e.spelled ∙ length-append e.front (e.tag ∷ (e.key ++ 0 ∷ [])) in
-    absurd (omega (arith, len, none))
-
 -- no control character is from here on
 abbrev pub IsPlainFrom : List ℕ → ℕ → Type 0
 IsPlainFrom text start = (k : ℕ) → start ≤ k → k < length text → 32 ≤ get_or text k 0
@@ -130,17 +121,15 @@ key_ends text start some within few plain (level, any, utf8) =
     }
 
 -- a control character is found, and this is said of it and what follows it
-pub found_key : (bytes text : List ℕ) (x start byte : ℕ) (key : List ℕ) (r : Bool) → bytes ≡ text ++ x ∷ [] → x ≡ 0 → 0 < start → start ≤ length text → length text - start ≤ 64
-    → IsPlainFrom text start → byte ≡ get_or text (start - 1) 0 → byte < 32 → key ≡ drop start text → MatchBool r (IsKeyAfter byte key) (¬ IsKeyAfter byte key)
-    → MatchBool r (EndsInKey bytes) (¬ EndsInKey bytes)
-found_key bytes text x start byte key true is zero some within few plain at low key_is has =
-    let is' : bytes ≡ text ++ 0 ∷ [] = is ∙ ap (λ n. text ++ n ∷ []) zero in
+pub found_key : {bytes text : List ℕ} (start byte : ℕ) (key : List ℕ) (r : Bool) → bytes ≡ text ++ 0 ∷ []
+    → (0 < start) × (start ≤ length text) × (length text - start ≤ 64) → IsPlainFrom text start → byte ≡ get_or text (start - 1) 0 → byte < 32
+    → key ≡ drop start text → MatchBool r (IsKeyAfter byte key) (¬ IsKeyAfter byte key) → MatchBool r (EndsInKey bytes) (¬ EndsInKey bytes)
+found_key {bytes} {text} start byte key true is (some, within, few) plain at low key_is has =
     let here = subst (λ n. IsKeyAfter n (drop start text)) at (subst (IsKeyAfter byte) key_is has) in
-    subst EndsInKey (sym is') (key_ends text start some within few plain here)
-found_key bytes text x start byte key false is zero some within few plain at low key_is hasnt = λ e.
-    let is' : bytes ≡ text ++ 0 ∷ [] = is ∙ ap (λ n. text ++ n ∷ []) zero in
+    subst EndsInKey (sym is) (key_ends text start some within few plain here)
+found_key {bytes} {text} start byte key false is (some, within, few) plain at low key_is hasnt = λ e.
     let low' : get_or text (start - 1) 0 < 32 = omega (arith, at, low) in
-    let here = is_key text (subst EndsInKey is' e) start some within plain low' in
+    let here = is_key text (subst EndsInKey is e) start some within plain low' in
     hasnt (subst (IsKeyAfter byte) (sym key_is) (subst (λ n. IsKeyAfter n (drop start text)) (sym at) here))
 
 -- none is near enough

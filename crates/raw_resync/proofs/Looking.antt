@@ -107,14 +107,14 @@ module _ {limits : Limits} {bytes : List ℕ} {place len : ℕ} (p : IsPieceIn l
   goes : (rest : List ℕ) → 8 < len → ¬ EndsInKey (take place bytes) → IsSound limits (take len (drop place bytes)) → GoesOn limits (bytes ++ rest) place
   goes rest long alone sound =
       inr (
-        record {
-          b = take len (drop place bytes);
-          rest = drop (place + len) (bytes ++ rest);
-          split = split_front place len bytes rest p.within;
-          sound = sound;
-          long = omega (arith, long, size);
-          alone = subst (λ l. ¬ EndsInKey l) (sym (before rest)) alone;
-        }
+      record {
+        b = take len (drop place bytes);
+        rest = drop (place + len) (bytes ++ rest);
+        split = split_front place len bytes rest p.within;
+        sound = sound;
+        long = omega (arith, long, size);
+        alone = subst (λ l. ¬ EndsInKey l) (sym (before rest)) alone;
+      }
       )
 
 module _ {limits : Limits} {bytes : List ℕ} {place len : ℕ} (p : IsPieceIn limits bytes place len) (last : Bool) (at : ℕ) where

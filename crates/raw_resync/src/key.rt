@@ -9,6 +9,7 @@ use std::str::from_utf8;
 
 /// The tags of a document and of an array.
 const DOCUMENT: u8 = 3;
+
 const ARRAY: u8 = 4;
 
 /// Control characters are less.

@@ -49,7 +49,11 @@ impl<'a> Unread<'a> {
             Some(self.words)
         } else if !self.is_packed(name) {
             None
-        } else if self.packed.first().is_some_and(|first| first.as_str() == name) {
+        } else if self
+            .packed
+            .first()
+            .is_some_and(|first| first.as_str() == name)
+        {
             Some(self.packed_words)
         } else {
             Some("")

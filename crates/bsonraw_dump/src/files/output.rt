@@ -169,14 +169,17 @@ fn is_left(name: &str, other: &str) -> bool {
         .strip_prefix(name)
         .and_then(|end| end.strip_prefix('.'))
         .and_then(|end| end.strip_suffix(".tmp"));
-    number.is_some_and(|number| !number.is_empty() && number.bytes().all(|byte| byte.is_ascii_digit()))
+    number.is_some_and(|number| !number.is_empty()
+        && number.bytes().all(|byte| byte.is_ascii_digit()))
 }
 
 /// Tells of a file that was left.
 fn tell_size(rt: &HostRuntime, style: Style, path: &str) -> Result<(), AllocError> {
     if let Ok(about) = fs::metadata(rt, path) {
         let len = about.len();
-        let words = format!(in rt.alloc(); "{len} bytes of another run; if that was ended, remove the file")?;
+        let words = format!(in rt.alloc();
+            "{len} bytes of another run; if that was ended, remove the file"
+        )?;
         tell_text(rt, style, path, words.as_str());
     }
     Ok(())

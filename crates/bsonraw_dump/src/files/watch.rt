@@ -149,7 +149,13 @@ impl<'a, 'b, R> Watched<'a, 'b, R> {
     fn show(&self, read: &[u8]) {
         let name = self.about.name.as_ref().map_or("", |name| name.as_str());
         if let (false, Some(words)) = (self.is_begun, hint_at(self.about.most, read)) {
-            tell(self.rt, self.about.style, name, None, &io::Error::other(words));
+            tell(
+                self.rt,
+                self.about.style,
+                name,
+                None,
+                &io::Error::other(words),
+            );
         }
         self.progress.add(name, read.len());
     }

@@ -28,10 +28,6 @@ use Rattle.dump_io.proofs.input.Ahead.{front_ahead, front_kept, looks_on}
 use Rattle.dump_io.proofs.input.Going.{ends_all}
 use Rattle.dump_io.proofs.input.Skipping.{follows}
 
-pub if_err_on : {A E : Type 0} (r : Result A E) (P Q : Type 0) → (P → Q) → IfErr r (λ e. P) → IfErr r (λ e. Q)
-if_err_on (Ok x) P Q on is = tt
-if_err_on (Err e) P Q on is = on is
-
 looks_same : (r : Option (List ℕ)) (x : List ℕ) → ReadsAhead r r x x
 looks_same r x = record { is_read = λ before read. read; len = omega arith; kept = take-length x }
 

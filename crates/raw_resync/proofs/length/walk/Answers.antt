@@ -9,7 +9,8 @@ returns-clause-walked c =
     let n = c.walked_len-walked.result in
     let size : length c.as_bytes-len.result.now ≡ length (bytes_of c.args.document) = ap length c.as_bytes-len.ensures.bytes in (
       n,
-      walked_on (bytes_of c.args.document) n _ c.args.document.envelope c.walked_len-walked.ensures (λ is. grind (arith, nat_tests, is, size)) (λ isnt same. grind (arith, nat_tests, isnt, size, same)),
+      walked_on (bytes_of c.args.document) n _ c.args.document.envelope c.walked_len-walked.ensures (λ is. grind (arith, nat_tests, is, size))
+          (λ isnt same. grind (arith, nat_tests, isnt, size, same)),
       refl,
       c.max-reach.ensures,
     )

@@ -4,6 +4,5 @@ use Rattle.raw_resync.proofs.search.behind_zeros.Goals as goal
 
 pub returns-clause-none : goal.returns-clause-none
 returns-clause-none c j low high =
-    let p = c.args.part in
-    lacks_zeros p.limits.bytes p.is_last p.bytes.now c.args.place c.args.end c.zeros_at_front-count.result (omega (arith, c.requires.1)) refl c.zeros_at_front-count.ensures.within
+    lacks_zeros c.args.place c.args.end c.zeros_at_front-count.result (omega (arith, c.requires.1)) refl c.zeros_at_front-count.ensures.within
     c.zeros_at_front-count.ensures.zeros j low (omega (arith, high, c.if-count-lt4.false))
