@@ -1,5 +1,5 @@
 -- Whether the length of a damaged document is believed.
-use Rattle.std.proofs.Common.{◌≡◌, ℕ, ◌<◌, ◌≤◌, ◌⊎◌, List, Bool, true, false, ◌&&◌, arith, take, inl, inr}
+use Rattle.std.proofs.Common.{ℕ, ◌<◌, ◌≤◌, List, Bool, ◌&&◌, arith, take, inl, inr}
 use Rattle.std.proofs.lemmas.Bool.{cases_lt}
 use Rattle.raw_tree.specs.declared.reader.limits.Limits.{Limits}
 use Rattle.raw_resync.specs.Resync.{GoesOn, IsDisbelieved, IsFramed}

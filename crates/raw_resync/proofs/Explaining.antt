@@ -1,5 +1,5 @@
 -- What the elements of a damaged piece say of its length.
-use Rattle.std.proofs.Common.{◌≡◌, ℕ, zero, suc, ◌+◌, ◌*◌, ◌-◌, ◌<◌, ◌≤◌, List, [], ◌∷◌, ◌++◌, Bool, true, false, Option, None, Some, arith, length, take, drop, drop-cons, max, slice_get, sym, ap, ◌∙◌, subst, refl, inl, inr, length-append, length-drop}
+use Rattle.std.proofs.Common.{◌≡◌, ℕ, zero, suc, ◌+◌, ◌-◌, ◌≤◌, List, [], ◌∷◌, ◌++◌, Bool, true, false, Option, None, Some, arith, length, take, drop, drop-cons, slice_get, sym, ap, ◌∙◌, subst, refl, length-append, length-drop}
 use Rattle.std.proofs.lemmas.List.{drop-drop, take-append-le}
 use Rattle.std.proofs.lemmas.Option.{get_or_from_slice_get, slice_get_within}
 use Rattle.raw_view.specs.Frame.{Done, Frame, HasNoFrame, IsFrame, IsWalk, LeadsTo}
@@ -11,16 +11,14 @@ use Rattle.bson_model.specs.Tree.{Tree}
 use Rattle.raw_tree.specs.Looking.{TakesFrame, size_of}
 use Rattle.raw_tree.specs.Reading.{Reads}
 use Rattle.raw_tree.specs.declared.reader.limits.Limits.{Limits}
-use Rattle.raw_tree.proofs.Face.{drop_frame, envelope_fits, frame_size}
+use Rattle.raw_tree.proofs.Face.{drop_frame, frame_size}
 use Rattle.raw_resync.specs.Pieces.{IsPiece}
 use Rattle.raw_resync.specs.Resync.{IsFramed, IsSound}
-use Rattle.raw_resync.specs.Charge.{IsUnprobed, IsWalked}
+use Rattle.raw_resync.specs.Charge.{IsWalked}
 use Rattle.raw_resync.specs.Seeking.{Explains, IsWalkedOn, IsWork, ProbesPiece, TellsLength, TellsWalk, WalksOrLeaves, WalksPiece, length_of}
-use Rattle.raw_resync.specs.declared.length.Length.{Length}
 use Rattle.raw_resync.specs.declared.length.Length.TheVariants as lengths
 use Rattle.raw_resync.specs.declared.work.Work.{Work}
 use Rattle.raw_resync.proofs.Costing.{bounded_walked, charges_walked, works_none, works_on}
-use Rattle.raw_resync.proofs.Fronts.{front_len}
 use Rattle.raw_resync.proofs.Looking.{unprobed, whole_split}
 
 -- how many bytes are left

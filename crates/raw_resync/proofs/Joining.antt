@@ -4,7 +4,7 @@ use Rattle.std.proofs.lemmas.List.{drop-append-le, drop-drop, take-append-drop}
 use Rattle.std.proofs.lemmas.Bool.{cases_lt}
 use Rattle.std.proofs.Math.Seq.{drop-append_seam, take-add}
 use Rattle.raw_tree.specs.declared.reader.limits.Limits.{Limits}
-use Rattle.raw_resync.specs.Resync.{EndsInKey, GoesOn, IsEvidence}
+use Rattle.raw_resync.specs.Resync.{EndsInKey, GoesOn}
 use Rattle.raw_resync.specs.Charge.{Charges, IsLeftOut, IsUnprobed}
 use Rattle.raw_resync.specs.Seeking.{PassesOver}
 use Rattle.raw_resync.specs.declared.work.Work.{Work}

@@ -1,11 +1,10 @@
 -- Whether bytes end in the key of a nested document.
-use Rattle.std.proofs.Common.{◌≡◌, ℕ, suc, ◌+◌, ◌-◌, ◌<◌, ◌≤◌, ◌⊎◌, List, [], ◌∷◌, ◌++◌, Bool, true, false, MatchBool, arith, get_or, length, take, drop, drop-cons, sym, ap, ◌∙◌, subst, refl, inl, inr, append_assoc, length-append, length-drop}
-use Rattle.std.proofs.lemmas.List.{get_or-append-add, get_or-drop, same_from_push, take-append-drop}
+use Rattle.std.proofs.Common.{◌≡◌, ℕ, suc, ◌+◌, ◌-◌, ◌<◌, ◌≤◌, ◌⊎◌, List, [], ◌∷◌, ◌++◌, Bool, true, false, MatchBool, arith, get_or, length, take, drop, drop-cons, sym, ap, ◌∙◌, subst, inl, inr, append_assoc, length-append, length-drop}
+use Rattle.std.proofs.lemmas.List.{get_or-drop, same_from_push, take-append-drop}
 use Rattle.std.proofs.lemmas.Bool.{cases_lt}
 use Rattle.std.proofs.lemmas.List.Elements.{All-from_get_or, All-get_or}
 use Rattle.std.proofs.Math.Nat.{eq-or-lt_of_le}
 use Rattle.std.proofs.Math.Seq.{drop-append_seam, get_or-append_seam}
-use Rattle.std.specs.List.{All}
 use Rattle.std.specs.Str.{IsUtf8}
 use Rattle.raw_resync.specs.Resync.{EndsInKey}
 use Rattle.raw_resync.specs.Seeking.{IsKeyAfter}
@@ -121,13 +120,13 @@ key_ends text start some within few plain (level, any, utf8) =
     }
 
 -- a control character is found, and this is said of it and what follows it
-pub found_key : {bytes text : List ℕ} (start byte : ℕ) (key : List ℕ) (r : Bool) → bytes ≡ text ++ 0 ∷ []
+pub found_key : {bytes : List ℕ} (text : List ℕ) (start byte : ℕ) (key : List ℕ) (r : Bool) → bytes ≡ text ++ 0 ∷ []
     → (0 < start) × (start ≤ length text) × (length text - start ≤ 64) → IsPlainFrom text start → byte ≡ get_or text (start - 1) 0 → byte < 32
     → key ≡ drop start text → MatchBool r (IsKeyAfter byte key) (¬ IsKeyAfter byte key) → MatchBool r (EndsInKey bytes) (¬ EndsInKey bytes)
-found_key {bytes} {text} start byte key true is (some, within, few) plain at low key_is has =
+found_key {bytes} text start byte key true is (some, within, few) plain at low key_is has =
     let here = subst (λ n. IsKeyAfter n (drop start text)) at (subst (IsKeyAfter byte) key_is has) in
     subst EndsInKey (sym is) (key_ends text start some within few plain here)
-found_key {bytes} {text} start byte key false is (some, within, few) plain at low key_is hasnt = λ e.
+found_key {bytes} text start byte key false is (some, within, few) plain at low key_is hasnt = λ e.
     let low' : get_or text (start - 1) 0 < 32 = omega (arith, at, low) in
     let here = is_key text (subst EndsInKey is e) start some within plain low' in
     hasnt (subst (IsKeyAfter byte) (sym key_is) (subst (λ n. IsKeyAfter n (drop start text)) (sym at) here))

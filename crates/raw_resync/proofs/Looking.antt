@@ -1,12 +1,12 @@
 -- What a look at a place finds.
-use Rattle.std.proofs.Common.{◌≡◌, ℕ, ◌+◌, ◌*◌, ◌-◌, ◌<◌, ◌≤◌, List, [], ◌++◌, Bool, true, false, Option, None, Some, Result, Ok, Err, IfOk, arith, length, take, drop, sym, ap, ◌∙◌, subst, inl, inr, length-append, length-drop}
+use Rattle.std.proofs.Common.{◌≡◌, ℕ, ◌+◌, ◌*◌, ◌-◌, ◌<◌, ◌≤◌, List, ◌++◌, Bool, true, false, Option, None, Some, Result, Ok, Err, IfOk, arith, length, take, drop, sym, ap, ◌∙◌, subst, inl, inr, length-append, length-drop}
 use Rattle.std.proofs.lemmas.List.{take-append-drop, take-append-le}
 use Rattle.raw_view.specs.Frame.Envelope.{IsEnvelope}
 use Rattle.raw_tree.specs.declared.reader.limits.Limits.{Limits}
 use Rattle.raw_resync.specs.Pieces.{IsPiece}
 use Rattle.raw_resync.specs.Resync.{EndsInKey, GoesOn, IsSound}
 use Rattle.raw_resync.specs.Charge.{IsUnprobed}
-use Rattle.raw_resync.specs.Seeking.{Checks, IsWork, ProbesPiece, ProbesOrLeaves, MayFollow, TellsFront, TellsPiece, check_of}
+use Rattle.raw_resync.specs.Seeking.{Checks, IsWork, ProbesPiece, ProbesOrLeaves, TellsFront, TellsPiece, check_of}
 use Rattle.raw_resync.specs.declared.check.Check.TheVariants as check
 use Rattle.raw_resync.specs.declared.check.Front.TheVariants as front
 use Rattle.raw_resync.specs.declared.work.Work.{Work}

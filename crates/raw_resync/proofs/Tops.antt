@@ -51,9 +51,9 @@ small_said (x ∷ y ∷ []) four a b c d = absurd (omega arith)
 small_said (x ∷ y ∷ z ∷ []) four a b c d = absurd (omega arith)
 small_said (x ∷ y ∷ z ∷ w ∷ t) four a b c d = omega (arith, a, b, c, d)
 
-pub lacks_zeros : {hay bytes : List ℕ} {most : ℕ} {last : Bool} (place end count : ℕ) → end ≤ length bytes → hay ≡ take (end - place) (drop place bytes) → count ≤ length hay
+pub lacks_zeros : {hay : List ℕ} {most : ℕ} {last : Bool} (bytes : List ℕ) (place end count : ℕ) → end ≤ length bytes → hay ≡ take (end - place) (drop place bytes) → count ≤ length hay
     → ((k : ℕ) → k < count → get_or hay k 0 ≡ 0) → (j : ℕ) → place ≤ j → j + 3 < place + count → LacksPiece most last (drop j bytes)
-lacks_zeros {hay} {bytes} place end count within is few zeros j low high =
+lacks_zeros {hay} bytes place end count within is few zeros j low high =
     let size : length (drop j bytes) ≡ length bytes - j = length-drop j bytes in
     let len : length hay ≡ end - place = ap length is ∙ hay_len bytes place end within in
     let at : (i : ℕ) → i < 4 → get_or (drop j bytes) i 0 ≡ 0 = λ i less.

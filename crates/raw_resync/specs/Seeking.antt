@@ -1,5 +1,5 @@
 -- What the code of a search finds in part of an input. If the part isn't the last, `rest` follows, which isn't known.
-use Rattle.std.specs.Prelude.{◌≡◌, ◌≢◌, ◌⊎◌, ◌<◌, ◌≤◌, ◌+◌, ◌*◌, ◌-◌, ◌^◌, ℕ, List, [], ◌∷◌, ◌++◌, Bool, true, false, Option, None, Some, drop, length, max, take}
+use Rattle.std.specs.Prelude.{◌≡◌, ◌≢◌, ◌⊎◌, ◌<◌, ◌≤◌, ◌+◌, ◌*◌, ◌^◌, ℕ, List, [], ◌∷◌, ◌++◌, Bool, true, false, Option, None, Some, drop, length, max, take}
 use Rattle.std.specs.Str.{IsUtf8}
 use Rattle.raw_view.specs.Frame.Kind.{tag_of}
 use Rattle.raw_view.specs.declared.element_type.ElementType.{ElementType}

@@ -1,4 +1,4 @@
-use Rattle.std.proofs.Common.{◌≤◌, arith}
+use Rattle.std.proofs.Common.{arith}
 use Rattle.raw_resync.proofs.Looking.{IsPieceIn, at_end, at_none, too_small}
 use Rattle.raw_resync.proofs.check.check_at.Goals as goal
 

@@ -1,4 +1,4 @@
-use Rattle.std.proofs.Common.{rules, ◌≡◌, inl, inr}
+use Rattle.std.proofs.Common.{rules, inl, inr}
 use Rattle.raw_resync.proofs.check.front_at.Goals.{then-part-2, else-part-2}
 use Rattle.raw_resync.proofs.check.front_at.Goals as goal
 

@@ -1,4 +1,4 @@
-use Rattle.std.proofs.Common.{◌≡◌, ◌≤◌, ◌-◌, ◌∷◌, [], ◌++◌, ◌∙◌, ap, arith, get_or, length, refl}
+use Rattle.std.proofs.Common.{◌<◌, ◌≤◌, ◌-◌, ◌∷◌, [], ◌++◌, ◌∙◌, ap, arith, get_or, length, refl}
 use Rattle.raw_resync.proofs.Keys.{found_key, none_near, plain_more}
 use Rattle.raw_resync.proofs.key.ends_in_key.Goals as goal
 
@@ -20,8 +20,9 @@ split_at-requires c = c.bytes.invariant.0
 pub returns-then-text-start-lt-SPACE : goal.returns-then-text-start-lt-SPACE
 returns-then-text-start-lt-SPACE c =
     let is = c.in-Some.ensures.cases.0 ∙ ap (λ n. c.in-Some.text.now ++ n ∷ []) c.if-last-ne0.false in
-    let near = (c.bytes-test.true, c.bytes.invariant.0, c.if-text-start-le-LONGEST_KEY.true) in
-    found_key c.bytes.start _ _ c.is_key_after.result is near c.bytes.invariant.1 refl c.if-text-start-lt-SPACE.true c.split_at.ensures.back c.is_key_after.ensures
+    let near : (0 < c.bytes.start) × (c.bytes.start ≤ length c.in-Some.text.now) × (length c.in-Some.text.now - c.bytes.start ≤ 64) =
+    (c.bytes-test.true, c.bytes.invariant.0, c.if-text-start-le-LONGEST_KEY.true) in
+    found_key c.in-Some.text.now c.bytes.start _ _ c.is_key_after.result is near c.bytes.invariant.1 refl c.if-text-start-lt-SPACE.true c.split_at.ensures.back c.is_key_after.ensures
 
 pub bytes-preserved : goal.bytes-preserved
 bytes-preserved c =

@@ -1,4 +1,4 @@
-use Rattle.std.proofs.Common.{◌≤◌, ◌-◌, length}
+use Rattle.std.proofs.Common.{◌≤◌, length}
 use Rattle.raw_resync.proofs.Keys.{IsPlainFrom}
 use Rattle.raw_resync.proofs.key.ends_in_key.Given as goal
 

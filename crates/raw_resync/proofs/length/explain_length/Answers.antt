@@ -1,4 +1,4 @@
-use Rattle.std.proofs.Common.{◌≡◌, None, Some, false, subst, sym, true}
+use Rattle.std.proofs.Common.{◌≡◌, Some, false, subst, sym, true}
 use Rattle.raw_resync.specs.Seeking.{Explains, ProbesPiece}
 use Rattle.raw_resync.proofs.Explaining.{explains_left, explains_sound, explains_walked}
 use Rattle.raw_resync.proofs.length.explain_length.Goals as goal

@@ -1,4 +1,4 @@
-use Rattle.std.proofs.Common.{◌≡◌, ◌+◌, arith, ap, length, refl}
+use Rattle.std.proofs.Common.{◌≡◌, arith, ap, length, refl}
 use Rattle.std.proofs.lemmas.Bool.Decides.{nat_tests}
 use Rattle.raw_view.specs.Document.{bytes_of}
 use Rattle.raw_resync.proofs.Explaining.{walked_on}

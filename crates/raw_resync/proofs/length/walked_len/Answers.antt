@@ -1,4 +1,4 @@
-use Rattle.std.proofs.Common.{rules, ◌≡◌, ◌+◌, ◌≤◌, arith, length}
+use Rattle.std.proofs.Common.{rules}
 use Rattle.raw_view.specs.Document.{bytes_of}
 use Rattle.raw_tree.proofs.Face.{envelope_fits}
 use Rattle.raw_resync.proofs.Explaining.{step_within, walked_all, walked_more, walked_none}
