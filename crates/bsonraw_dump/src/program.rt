@@ -16,7 +16,7 @@ use dump_io::input::status::Status;
 use dump_io::lines::failure::Failure;
 use dump_io::lines::find::most_allowed;
 use dump_io::lines::style::Style;
-use dump_runs::{run_all, run_texts};
+use dump_runs::{Writers, run_all, run_texts};
 use std::alloc::{AllocError, Global};
 use std::fs::File;
 use std::io::{BufWriter, ErrorKind, IsTerminal, Write};
@@ -221,7 +221,10 @@ fn each<'a, D: Write, W: Write>(
     let progress = Progress::new(rt, shows, size);
     let inputs = files_of(&*rt, &*run, &progress);
     let done = match run.reading {
-        Reading::Dumps(job) => run_all(rt.alloc(), job, &inputs, &run.inputs, data, report),
+        Reading::Dumps(job) => {
+            let mut writers = Writers { out: data, report };
+            run_all(rt.alloc(), job, &inputs, &run.inputs, &mut writers)
+        }
         Reading::Texts(job) => run_texts(rt.alloc(), job, &inputs, &run.inputs, data, report),
     };
     if let Some(Lack::Failed(failure)) = &done.lack {

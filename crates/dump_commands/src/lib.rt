@@ -5,7 +5,7 @@
 //! - `making` writes the document, its canonical form, or its JSON.
 //! - `state` is what is carried from one document to the next: how many were written, the forms that were seen, the counts of elements.
 //!
-//! Begin at `report_found` in `reporting.rt` and `emit` in `making.rt`. To change what a command writes, change `Makes` in
+//! Begin at `judge` in `finding.rt` and `emit` in `making.rt`. To change what a command writes, change `Makes` in
 //! `specs/Making.antt` or `Reports` in `specs/Reporting.antt` first. Nothing is read here: a document comes as a slice with its
 //! place, and readers and the order of documents are `dump_runs`.
 #![tactic(auto)]

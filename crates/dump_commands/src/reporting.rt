@@ -1,16 +1,15 @@
 //! Reports what a command finds in a document, and what was counted.
 #![tactic(auto)]
 
-ghost use Rattle.std.specs.Prelude.{ℕ, List, ◌++◌, IfErr, OnErr, OnOk};
+ghost use Rattle.std.specs.Prelude.{◌≡◌, ℕ, List, IfErr, IfOk, OnErr, OnOk};
 ghost use Rattle.std.specs.Option.{option_copied, option_map};
 ghost use Rattle.std.specs.Io.KnownBytes.{Appends};
 ghost use Rattle.dump_io.specs.lines.Fronts.{AppendsFront};
-ghost use Rattle.dump_commands.specs.Reporting.{ListsFront, ReportsFront, Reports, lines_of_repeats};
-ghost use Rattle.dump_commands.specs.elements.Listing.{ListsDocument};
+ghost use Rattle.dump_commands.specs.Reporting.{Lists, ListsFront, lines_of_repeats};
+ghost use Rattle.dump_commands.specs.elements.Listing.{HasListingFront, ListsDocument};
 ghost use Rattle.dump_io.specs.lines.Find.{account_of};
 ghost use Rattle.dump_commands.specs.state.Forms.{repeat_at};
 ghost use Rattle.dump_io.specs.lines.Origins.{origin_of};
-ghost use Rattle.dump_io.specs.lines.Told.{line, head_text};
 ghost use Rattle.dump_commands.specs.Summary.{summary_line};
 ghost use Rattle.dump_io.specs.lines.Failing.{IsReading};
 ghost use Rattle.dump_commands.specs.Reporting as says;
@@ -27,33 +26,28 @@ use dump_io::lines::style::Style;
 use dump_io::lines::text::{line_of, repeat_line, sized, told_line};
 use dump_io::lines::write::put;
 use raw_view::RawDocument;
-use std::alloc::Global;
+use std::alloc::{AllocError, Global};
 use std::io::Write;
 
-/// Reports what the command tells of a document in which this was found.
-pub fn report_found<W: Write>(
+/// The first line that the command reports of a document that begins there, in which this was found; empty where it has none.
+pub fn first_line(
     alloc: Global,
     command: Command<'_>,
     style: Style,
-    name: &str,
-    offset: u64,
+    at: Origin<'_>,
     bytes: &[u8],
     found: &Found<'_>,
-    report: &mut W,
-) -> Result<(), Failure>
-    ensures reported { OnOk result ((lines : List ℕ)
-        × Reports command.entry style name.now offset bytes.now found.now.finding (option_map account_of found.now.told) lines
-        × Appends (W.contents report.old) (W.contents report.new) lines) }
-    ensures front { OnErr result ((lines : List ℕ)
-        × ReportsFront command.entry style name.now offset bytes.now found.now.finding (option_map account_of found.now.told) lines
-        × Appends (W.contents report.old) (W.contents report.new) lines) }
-    ensures failed { IfErr result (λ failure. ¬ IsReading failure) }
+) -> Result<Vec<u8>, AllocError>
+    ensures { IfOk result (λ text. text.items
+        ≡ says.first_line command.entry style (origin_of at.entry) bytes.now found.now.finding (option_map account_of found.now.told)) }
 {
     match (command, found.finding) {
-        (Command::List, _) => put_listing(alloc, name, offset, bytes, &found.told, report),
-        (Command::Sizes, _) => put_head(alloc, name, offset, bytes, &found.told, report),
+        (Command::List | Command::Sizes, _) => {
+            let head = sized(alloc, bytes.len(), &found.told)?;
+            line_of(alloc, at.name, at.offset, &head)
+        }
         (_, Finding::Damaged | Finding::TooDeep) | (Command::Check, Finding::Breached) => {
-            put_told(alloc, style, name, offset, &found.told, report)
+            text_of(alloc, style, at, &found.told)
         }
         (Command::Check, Finding::Canonical | Finding::Unvalidated)
         | (
@@ -65,96 +59,64 @@ pub fn report_found<W: Write>(
             | Command::Count
             | Command::Fields,
             Finding::Canonical | Finding::Breached | Finding::Unvalidated,
-        ) => Ok(()),
+        ) => Ok(Vec::new(alloc)),
     }
 }
 
-/// Writes how many bytes a document has and what is found in it, and lists its elements.
-fn put_listing<W: Write>(
-    alloc: Global,
-    name: &str,
-    offset: u64,
-    bytes: &[u8],
-    told: &Option<Told<'_>>,
-    report: &mut W,
-) -> Result<(), Failure>
-    ensures listed { OnOk result ((listing : List ℕ) × ListsDocument bytes.now listing
-        × Appends (W.contents report.old) (W.contents report.new) (line name.now offset (head_text bytes.now (option_map account_of told.now)) ++ listing)) }
-    ensures front { OnErr result ((lines : List ℕ)
-        × ListsFront name.now offset bytes.now (option_map account_of told.now) lines
-        × Appends (W.contents report.old) (W.contents report.new) lines) }
-    ensures failed { IfErr result (λ failure. ¬ IsReading failure) }
-{
-    let head = sized(alloc, bytes.len(), told)?;
-    put_line(alloc, name, offset, &head, report)?;
-    match RawDocument::from_bytes(bytes) {
-        Ok(document) => list_levels(alloc, document, report),
-        Err(_) => Ok(()),
-    }
-}
-
-/// Writes a line of a document, with these words.
-fn put_line<W: Write>(
-    alloc: Global,
-    name: &str,
-    offset: u64,
-    words: &[u8],
-    report: &mut W,
-) -> Result<(), Failure>
-    ensures written { OnOk result
-        (Appends (W.contents report.old) (W.contents report.new) (line name.now offset words.now)) }
-    ensures front { OnErr result
-        (AppendsFront (W.contents report.old) (W.contents report.new) (line name.now offset words.now)) }
-    ensures failed { IfErr result (λ failure. ¬ IsReading failure) }
-{
-    let text = line_of(alloc, name, offset, words)?;
-    put(report, &text)
-}
-
-/// Writes where a document begins, how many bytes it has, and what is found in it.
-fn put_head<W: Write>(
-    alloc: Global,
-    name: &str,
-    offset: u64,
-    bytes: &[u8],
-    told: &Option<Told<'_>>,
-    report: &mut W,
-) -> Result<(), Failure>
-    ensures written { OnOk result (Appends (W.contents report.old) (W.contents report.new)
-        (line name.now offset (head_text bytes.now (option_map account_of told.now)))) }
-    ensures front { OnErr result (AppendsFront (W.contents report.old) (W.contents report.new)
-        (line name.now offset (head_text bytes.now (option_map account_of told.now)))) }
-    ensures failed { IfErr result (λ failure. ¬ IsReading failure) }
-{
-    let head = sized(alloc, bytes.len(), told)?;
-    let text = line_of(alloc, name, offset, &head)?;
-    put(report, &text)
-}
-
-/// Writes the line of a document of which this is told.
-fn put_told<W: Write>(
+/// The line of a document of which this is told; empty where nothing is.
+fn text_of(
     alloc: Global,
     style: Style,
-    name: &str,
-    offset: u64,
+    at: Origin<'_>,
     told: &Option<Told<'_>>,
-    report: &mut W,
-) -> Result<(), Failure>
-    ensures written { OnOk result (Appends (W.contents report.old) (W.contents report.new)
-        (says.told_line style name.now offset (option_map account_of told.now))) }
-    ensures front { OnErr result (AppendsFront (W.contents report.old) (W.contents report.new)
-        (says.told_line style name.now offset (option_map account_of told.now))) }
-    ensures failed { IfErr result (λ failure. ¬ IsReading failure) }
+) -> Result<Vec<u8>, AllocError>
+    ensures { IfOk result (λ text. text.items ≡ says.told_line style (origin_of at.entry) (option_map account_of told.now)) }
 {
     let Some(told) = told else {
+        return Ok(Vec::new(alloc));
+    };
+    match style {
+        Style::Words => told_line(alloc, at.name, at.offset, told),
+        Style::Json => told_object(alloc, at.name, at.offset, told),
+        Style::Quiet => Ok(Vec::new(alloc)),
+    }
+}
+
+/// Writes the lines that the command reports of a document after the first: of `list` one for each element, at every level.
+pub fn put_listing<W: Write>(
+    alloc: Global,
+    command: Command<'_>,
+    bytes: &[u8],
+    report: &mut W,
+) -> Result<(), Failure>
+    ensures listed { OnOk result ((lines : List ℕ) × Lists command.entry bytes.now lines × Appends (W.contents report.old) (W.contents report.new) lines) }
+    ensures front { OnErr result ((lines : List ℕ) × ListsFront command.entry bytes.now lines × Appends (W.contents report.old) (W.contents report.new) lines) }
+    ensures failed { IfErr result (λ failure. ¬ IsReading failure) }
+{
+    match command {
+        Command::List => put_elements(alloc, bytes, report),
+        Command::Check
+        | Command::Count
+        | Command::Sizes
+        | Command::Canon
+        | Command::Sound
+        | Command::Unique(_)
+        | Command::Fields
+        | Command::Json(_)
+        | Command::Pick(_) => Ok(()),
+    }
+}
+
+/// Lists the elements of a document; none where it has no envelope.
+fn put_elements<W: Write>(alloc: Global, bytes: &[u8], report: &mut W) -> Result<(), Failure>
+    ensures listed { OnOk result ((lines : List ℕ) × ListsDocument bytes.now lines × Appends (W.contents report.old) (W.contents report.new) lines) }
+    ensures front { OnErr result ((lines : List ℕ) × HasListingFront bytes.now lines × Appends (W.contents report.old) (W.contents report.new) lines) }
+    ensures failed { IfErr result (λ failure. ¬ IsReading failure) }
+{
+    let Ok(document) = RawDocument::from_bytes(bytes) else {
         return Ok(());
     };
-    let text = match style {
-        Style::Words => told_line(alloc, name, offset, told)?,
-        Style::Json => told_object(alloc, name, offset, told)?,
-        Style::Quiet => Vec::new(alloc),
-    };
-    put(report, &text)
+    list_levels(alloc, document, report)
 }
 
 /// Writes the line that tells what was counted of an input, or of all.

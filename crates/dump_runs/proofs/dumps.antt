@@ -1,8 +1,9 @@
 mod Findings
-mod Repeating
-mod Writing
+mod Plays
+mod Giving
 mod Passing
-mod Stopping
-mod Halting
+mod Nexting
+mod Lines
 mod Choosing
+mod Ending
 mod Summing

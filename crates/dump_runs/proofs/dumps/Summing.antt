@@ -3,9 +3,13 @@ use Rattle.std.proofs.Common.{◌≡◌, ◌+◌, ◌<◌, ◌≤◌, ℕ, List,
 use Rattle.std.proofs.lemmas.List.{drop_all, drop_more, map-append, map_more, take-append-drop, take_all}
 use Rattle.std.specs.Io.KnownBytes.{Keeps}
 use Rattle.dump_io.specs.lines.Fronts.{AppendsFront}
-use Rattle.dump_runs.specs.dumps.Batch.{CountsAnother, CountsMore, EndsAll, RunsAll, RunsFront, RunsOver, State, HaltsBefore, HaltsWithin, all_line, start_of, state_of, style_behind}
+use Rattle.dump_runs.specs.dumps.Batch.{CountsAnother, CountsMore, EndsAll, RunsAll, RunsFront, RunsOver, State, HaltsBefore, HaltsWithin, all_line, input_line, job_behind, next_of, start_of, state_of}
+use Rattle.dump_runs.specs.dumps.Ends.{EndsRun}
+use Rattle.dump_runs.specs.dumps.Halting.{Halts}
+use Rattle.dump_runs.specs.dumps.Plays.{Written, held}
+use Rattle.dump_runs.specs.declared.dumps.writers.Tally.{Tally}
+use Rattle.dump_runs.proofs.dumps.Ending.{halts_first}
 use Rattle.dump_io.specs.input.Done.{cut_of}
-use Rattle.dump_runs.specs.dumps.Portion.{EndsPortion, HaltsPortion}
 use Rattle.dump_commands.specs.Counting.{no_counts, plus}
 use Rattle.dump_runs.specs.dumps.Status.{IsFailureStatus, IsStatus}
 use Rattle.dump_io.specs.declared.input.done.Cut.{Cut}
@@ -16,10 +20,8 @@ use Rattle.dump_runs.specs.declared.dumps.batch.Totals.{Totals}
 use Rattle.dump_commands.specs.declared.counts.Counts.{Counts}
 use Rattle.dump_io.specs.declared.lines.failure.Failure.{Failure}
 use Rattle.dump_io.specs.declared.lines.failure.ReadFailure.{ReadFailure}
-use Rattle.dump_commands.specs.declared.state.kept.Kept.{Kept}
 use Rattle.dump_io.specs.declared.input.status.Status.{Status}
 use Rattle.dump_io.proofs.Face.{front_none}
-use Rattle.dump_runs.proofs.dumps.Choosing.{halts_first}
 
 module _ (job : Job) (bytes_of : List ℕ → Option (List ℕ)) where
   -- one more input is run over
@@ -41,9 +43,9 @@ module _ (job : Job) (bytes_of : List ℕ → Option (List ℕ)) where
   runs_whole f names i first last all runs = subst (λ (xs : List (List ℕ)). RunsOver job bytes_of xs first last) (ap (map f) (take_all i names all)) runs
 
   -- a failure comes after the first of these
-  pub runs_front : {A : Type 0} (f : A → List ℕ) (names : List A) (i : ℕ) (first last : State) (d w : Option (List ℕ)) (n : Counts) → RunsOver job bytes_of (map f (take i names)) first last
-      → HaltsBefore job bytes_of (map f (drop i names)) last d w n → RunsFront job bytes_of (map f names) first d w n
-  runs_front f names i first last d w n runs halts = record {
+  pub runs_front : {A : Type 0} (f : A → List ℕ) (names : List A) (i : ℕ) (first last : State) (w : Written) (n : Counts) → RunsOver job bytes_of (map f (take i names)) first last
+      → HaltsBefore job bytes_of (map f (drop i names)) last w n → RunsFront job bytes_of (map f names) first w n
+  runs_front f names i first last w n runs halts = record {
     passed = map f (take i names);
     others = map f (drop i names);
     in_order = ap (map f) (sym (take-append-drop i names)) ∙ map-append f (take i names) (drop i names);
@@ -53,16 +55,16 @@ module _ (job : Job) (bytes_of : List ℕ → Option (List ℕ)) where
   }
 
   -- in the next one
-  pub halts_next : {A : Type 0} (f : A → List ℕ) (names : List A) (i : ℕ) (x : A) (last : State) (d w : Option (List ℕ)) (n : Counts) → i < length names
-      → HaltsWithin job (f (get_or names i x)) (bytes_of (f (get_or names i x))) last.out d last.report w last.kept last.counts n → HaltsBefore job bytes_of (map f (drop i names)) last d w n
-  halts_next f names i x last d w n there stops =
-      subst (λ xs. HaltsBefore job bytes_of (map f xs) last d w n) (sym (drop_more names i x there)) stops
+  pub halts_next : {A : Type 0} (f : A → List ℕ) (names : List A) (i : ℕ) (x : A) (last : State) (w : Written) (n : Counts) → i < length names
+      → HaltsWithin job (f (get_or names i x)) (bytes_of (f (get_or names i x))) last w n → HaltsBefore job bytes_of (map f (drop i names)) last w n
+  halts_next f names i x last w n there stops =
+      subst (λ xs. HaltsBefore job bytes_of (map f xs) last w n) (sym (drop_more names i x there)) stops
 
   -- after all of them
-  pub halts_behind : {A : Type 0} (f : A → List ℕ) (names : List A) (i : ℕ) (last : State) (d w : Option (List ℕ)) → length names ≤ i
-      → Keeps last.out d → AppendsFront last.report w (all_line job job.command last.counts last.kept) → HaltsBefore job bytes_of (map f (drop i names)) last d w last.counts
-  halts_behind f names i last d w all kept front =
-      subst (λ xs. HaltsBefore job bytes_of (map f xs) last d w last.counts) (sym (drop_all i names all)) (kept, front, refl)
+  pub halts_behind : {A : Type 0} (f : A → List ℕ) (names : List A) (i : ℕ) (last : State) (w : Written) → length names ≤ i
+      → Keeps last.out w.out → AppendsFront last.report w.report (all_line job job.command last.counts last.kept) → HaltsBefore job bytes_of (map f (drop i names)) last w last.counts
+  halts_behind f names i last w all kept front =
+      subst (λ xs. HaltsBefore job bytes_of (map f xs) last w last.counts) (sym (drop_all i names all)) (kept, front, refl)
 
 -- nothing more is counted
 pub plus_none : (n : Counts) → plus n no_counts ≡ n
@@ -78,37 +80,29 @@ plus_none n = λ i. record {
   findings = add-zero n.findings i;
 }
 
--- nothing comes of an input
-pub halts_unread : (job : Job) (name : List ℕ) (input d w : Option (List ℕ)) (k : Kept) (m m' : Counts) → m' ≡ m → HaltsWithin job name input d d w w k m m'
-halts_unread job name input d w k m m' same =
-    inl (
-      no_counts,
-      halts_first job.portion,
-      inl (same ∙ sym (plus_none m)),
-    )
+-- a run over an input fails, or was whole, and its counts can't be put to the rest; or they are, and its line isn't written
+pub halts_run : (job : Job) (name : List ℕ) (input : Option (List ℕ)) (before : State) (w : Written) (t : Tally) (m : Counts) (r : Result (Option ReadFailure) Failure)
+    → IfOk r (EndsRun (job_behind job before.counts) name input (next_of before) (held w t)) → OnErr r (Halts (job_behind job before.counts) name input (next_of before) (held w t))
+    → CountsMore before.counts t.counts m → HaltsWithin job name input before w m
+halts_run job name input before w t m (Ok failed) ends halts counted = inr (record {
+  came = held w t;
+  goes_on = is_none failed;
+  is = inl (record { failed = failed; ends = ends; could = refl });
+  out = refl;
+  report = front_none w.report (input_line job job.command name t.counts);
+  is_counted = counted;
+})
+halts_run job name input before w t m (Err e) ends halts counted = inl (record { came = held w t; halts = halts; out = refl; report = refl; is_counted = counted })
 
--- a run over an input: what is known of that, and what was written, counted and kept
-pub record Ran : Type 0 where
-  pub name : List ℕ
-  pub input : Option (List ℕ)
-  pub left : Option (List ℕ)
-  pub out_old : Option (List ℕ)
-  pub out_new : Option (List ℕ)
-  pub report_old : Option (List ℕ)
-  pub report_new : Option (List ℕ)
-  pub counts : Counts
-  pub kept_old : Kept
-  pub kept_new : Kept
+-- nothing comes of it
+pub halts_unread : (job : Job) (name : List ℕ) (input : Option (List ℕ)) (before : State) (w : Written) (m : Counts) → w.out ≡ before.out → w.report ≡ before.report → m ≡ before.counts
+    → HaltsWithin job name input before w m
+halts_unread job name input before w m out report same =
+    inl (record { came = next_of before; halts = halts_first; out = out; report = report; is_counted = inl (same ∙ sym (plus_none before.counts)) })
 
--- It was whole, or failed, and its line isn't written. So much more is counted.
-pub halts_run : (job : Job) (x : Ran) (m m' : Counts) (r : Result (Option ReadFailure) Failure)
-    → IfOk r (EndsPortion job.portion job.limits job.command (style_behind job m) job.resync x.name x.input x.left x.out_old x.out_new x.report_old x.report_new no_counts x.counts
-    x.kept_old x.kept_new)
-    → OnErr r (HaltsPortion job.portion job.limits job.command (style_behind job m) job.resync x.name x.input x.out_old x.out_new x.report_old x.report_new no_counts x.counts x.kept_old)
-    → CountsMore m x.counts m' → HaltsWithin job x.name x.input x.out_old x.out_new x.report_old x.report_new x.kept_old m m'
-halts_run job x m m' (Ok failed) ends halts counted =
-    inr (x.report_new, x.kept_new, x.counts, is_none failed, inl (record { left = x.left; failed = failed; ends = ends; could = refl }), front_none x.report_new _, counted)
-halts_run job x m m' (Err e) ends halts counted = inl (x.counts, halts, counted)
+pub if_oks : {A E : Type 0} (r : Result A E) (P Q R : A → Type 0) → ((x : A) → P x → Q x → R x) → IfOk r P → IfOk r Q → IfOk r R
+if_oks (Ok x) P Q R is p q = is x p q
+if_oks (Err e) P Q R is p q = tt
 
 -- what lacks where an input wasn't read to its end
 pub lack_of : (cut : Option Cut) (l : Option Lack) → MatchOption cut (l ≡ None) (λ x. IsSomeAnd l (λ y. y ≡ lack.Cut x)) → l ≡ option_map lack.Cut cut
@@ -116,33 +110,33 @@ lack_of None l none = none
 lack_of (Some x) None one = absurd one
 lack_of (Some x) (Some y) one = ap Some one
 
-module _ (old report_old : Option (List ℕ)) (totals : Totals) where
+module _ (old : Written) (totals : Totals) where
   -- nothing was counted before
-  start : totals.counts ≡ no_counts → totals.cut ≡ None → state_of old report_old totals ≡ start_of old report_old totals.kept
-  start counts cut = λ i. record { out = old; report = report_old; counts = counts i; kept = totals.kept; cut = option_map cut_of (cut i) }
+  start : totals.counts ≡ no_counts → totals.cut ≡ None → state_of old totals ≡ start_of old totals.tally.kept
+  start counts cut = λ i. record { out = old.out; report = old.report; counts = counts i; kept = totals.tally.kept; cut = option_map cut_of (cut i) }
 
-module _ {job : Job} {bytes_of : List ℕ → Option (List ℕ)} {names : List (List ℕ)} (old report_old : Option (List ℕ)) (totals : Totals) where
+module _ {job : Job} {bytes_of : List ℕ → Option (List ℕ)} {names : List (List ℕ)} (old : Written) (totals : Totals) where
   -- all inputs were run over
-  module _ {last : State} {d w : Option (List ℕ)} where
+  module _ {last : State} {w : Written} where
     pub ends_whole : (n : Counts) (cut : Option Cut) (ended : Status) → totals.counts ≡ no_counts → totals.cut ≡ None
-        → RunsAll job bytes_of names (state_of old report_old totals) last d w → last.counts ≡ n → last.cut ≡ option_map cut_of cut → IsStatus job.command n ended
-        → EndsAll job bytes_of names (start_of old report_old totals.kept) d w (option_map lack.Cut cut) ended
+        → RunsAll job bytes_of names (state_of old totals) last w → last.counts ≡ n → last.cut ≡ option_map cut_of cut → IsStatus job.command n ended
+        → EndsAll job bytes_of names (start_of old totals.tally.kept) w (option_map lack.Cut cut) ended
     ends_whole n None ended none uncut runs counted same status = (
       last,
-      subst (λ (s : State). RunsAll job bytes_of names s last d w) (start old report_old totals none uncut) runs,
+      subst (λ (s : State). RunsAll job bytes_of names s last w) (start old totals none uncut) runs,
       same,
       subst (λ (m : Counts). IsStatus job.command m ended) (sym counted) status,
     )
     ends_whole n (Some x) ended none uncut runs counted same status = (
       last,
-      subst (λ (s : State). RunsAll job bytes_of names s last d w) (start old report_old totals none uncut) runs,
+      subst (λ (s : State). RunsAll job bytes_of names s last w) (start old totals none uncut) runs,
       same,
       subst (λ (m : Counts). IsStatus job.command m ended) (sym counted) status,
     )
 
   -- a failure came
-  module _ {d w : Option (List ℕ)} {n : Counts} where
+  module _ {w : Written} {n : Counts} where
     pub ends_front : (failure : Failure) (ended : Status) → totals.counts ≡ no_counts → totals.cut ≡ None
-        → RunsFront job bytes_of names (state_of old report_old totals) d w n → IsFailureStatus job.command n failure ended
-        → EndsAll job bytes_of names (start_of old report_old totals.kept) d w (Some (lack.Failed failure)) ended
-    ends_front failure ended none uncut front status = (n, subst (λ (s : State). RunsFront job bytes_of names s d w n) (start old report_old totals none uncut) front, status)
+        → RunsFront job bytes_of names (state_of old totals) w n → IsFailureStatus job.command n failure ended
+        → EndsAll job bytes_of names (start_of old totals.tally.kept) w (Some (lack.Failed failure)) ended
+    ends_front failure ended none uncut front status = (n, subst (λ (s : State). RunsFront job bytes_of names s w n) (start old totals none uncut) front, status)

@@ -1,33 +1,35 @@
 //! Runs a command over inputs, one after the other.
 #![tactic(auto)]
 
-ghost use Rattle.std.specs.Prelude.{◌≡◌, None, map, IfErr, IfOk, OnErr, OnOk};
+ghost use Rattle.std.specs.Prelude.{◌≡◌, None, is_none, map, IfErr, IfOk, OnErr, OnOk};
+ghost use Rattle.std.specs.Io.KnownBytes.{Appends, Keeps};
 ghost use Rattle.std.specs.Option.{option_map};
 ghost use Rattle.dump_commands.specs.Counting.{AreInRange, no_counts, plus};
-ghost use Rattle.dump_runs.specs.dumps.Batch.{CountsAnother, CountsInput, CountsRun, IsDone, KeepsNothing, RunsAll, RunsFront, State, HaltsWithin, first_cut, left_limit, state_of};
 ghost use Rattle.dump_io.specs.input.Done.{cut_of, input_of};
 ghost use Rattle.dump_io.specs.lines.Failing.{IsReading};
+ghost use Rattle.dump_io.specs.lines.Fronts.{AppendsFront};
+ghost use Rattle.dump_runs.specs.dumps.Batch.{CountsAnother, CountsInput, CountsRun, HaltsWithin, IsDone, KeepsNothing, RunsAll, RunsFront, State, all_line, first_cut, left_limit, state_of};
 
-use crate::dumps::asked::Asked;
 use crate::dumps::ends::{status_of, status_of_failure};
 use crate::dumps::run::run;
 use crate::dumps::sums::{put_all_counts, put_counts};
+use crate::dumps::writers::{Tally, Writers};
 use dump_commands::counts::Counts;
 use dump_commands::job::Job;
 use dump_commands::state::kept::Kept;
 use dump_io::input::done::{Cut, Done, Lack, flush};
 use dump_io::input::inputs::Inputs;
-use dump_io::lines::failure::{Failure, in_range};
+use dump_io::lines::failure::{Failure, ReadFailure, in_range};
 use std::alloc::Global;
-use std::io::Write;
+use std::io::{Read, Write};
 
 /// What came of the inputs so far.
 #[derive(Drop)]
 pub struct Totals<'a> {
-    /// what was read
+    /// what was read of all before the one at hand
     pub counts: Counts,
-    /// what was written
-    pub kept: Kept<'a>,
+    /// what came of that one
+    pub tally: Tally<'a>,
     /// the first input that wasn't read to its end
     cut: Option<Cut<'a>>,
 }
@@ -36,24 +38,28 @@ impl<'a> Totals<'a> {
     /// Nothing was read. Elements of at most `paths` paths will be counted.
     fn new(alloc: Global, repeats: bool, paths: usize) -> Totals<'a>
         ensures counts { result.counts ≡ no_counts }
-        ensures kept { KeepsNothing repeats paths result.kept }
+        ensures kept { KeepsNothing repeats paths result.tally.kept }
         ensures cut { result.cut ≡ None }
     {
         Totals {
             counts: Counts::new(),
-            kept: Kept::new(alloc, repeats, paths),
+            tally: Tally {
+                counts: Counts::new(),
+                kept: Kept::new(alloc, repeats, paths),
+            },
             cut: None,
         }
     }
 
-    /// One input more, with these counts.
-    fn add(&mut self, name: &'a str, counts: Counts, goes_on: bool) -> Result<(), Failure>
-        ensures counted { OnOk result (self.new.counts ≡ plus self.old.counts counts) }
-        ensures uncounted { OnErr result ((¬ AreInRange (plus self.old.counts counts)) × (self.new.counts ≡ self.old.counts)) }
-        ensures cut { option_map cut_of self.new.cut ≡ first_cut (option_map cut_of self.old.cut) counts (input_of name.entry.now goes_on) }
-        ensures kept { self.new.kept ≡ self.old.kept }
+    /// The input at hand is done with, and could be read on or not.
+    fn add(&mut self, name: &'a str, goes_on: bool) -> Result<(), Failure>
+        ensures counted { OnOk result (self.new.counts ≡ plus self.old.counts self.old.tally.counts) }
+        ensures uncounted { OnErr result ((¬ AreInRange (plus self.old.counts self.old.tally.counts)) × (self.new.counts ≡ self.old.counts)) }
+        ensures cut { option_map cut_of self.new.cut ≡ first_cut (option_map cut_of self.old.cut) self.old.tally.counts (input_of name.entry.now goes_on) }
+        ensures tally { self.new.tally ≡ self.old.tally }
         ensures failed { IfErr result (λ failure. ¬ IsReading failure) }
     {
+        let counts = self.tally.counts;
         if counts.files > 0 && self.cut.is_none() {
             self.cut = Some(Cut { name, goes_on });
         }
@@ -63,19 +69,17 @@ impl<'a> Totals<'a> {
 }
 
 /// Runs a command over the inputs of these names, in order, and writes what was counted. What is written is flushed.
-pub fn run_all<'a, I: Inputs, D: Write, W: Write>(
+pub fn run_all<'a, I: Inputs, D: Write + Drop, W: Write + Drop>(
     alloc: Global,
     job: Job<'a>,
     inputs: &I,
     names: &[&'a str],
-    out: &mut D,
-    report: &mut W,
+    writers: &mut Writers<D, W>,
 ) -> Done<'a>
-    ensures { IsDone job.entry (I.bytes_of inputs.now) (map (λ name. name.now) names.now) (D.contents out.old) (D.contents out.new)
-        (W.contents report.old) (W.contents report.new) result }
+    ensures { IsDone job.entry (I.bytes_of inputs.now) (map (λ name. name.now) names.now) writers.old writers.new result }
 {
     let mut totals = Totals::new(alloc, job.repeats, job.paths);
-    match run_each(alloc, job, inputs, names, out, report, &mut totals) {
+    match run_each(alloc, job, inputs, names, writers, &mut totals) {
         Ok(()) => Done {
             status: status_of(job.command, totals.counts),
             lack: totals.cut.map(Lack::Cut),
@@ -88,121 +92,126 @@ pub fn run_all<'a, I: Inputs, D: Write, W: Write>(
 }
 
 /// Runs a command over the inputs of these names, in order, and writes what was counted of all.
-fn run_each<'a, I: Inputs, D: Write, W: Write>(
+fn run_each<'a, I: Inputs, D: Write + Drop, W: Write + Drop>(
     alloc: Global,
     job: Job<'a>,
     inputs: &I,
     names: &[&'a str],
-    out: &mut D,
-    report: &mut W,
+    writers: &mut Writers<D, W>,
     totals: &mut Totals<'a>,
 ) -> Result<(), Failure>
     ensures runs { OnOk result ((last : State) × RunsAll job.entry (I.bytes_of inputs.now) (map (λ name. name.now) names.now)
-        (state_of (D.contents out.old) (W.contents report.old) totals.old) last (D.contents out.new) (W.contents report.new)
-        × (last.counts ≡ totals.new.counts) × (last.cut ≡ option_map cut_of totals.new.cut)) }
+        (state_of writers.old totals.old) last writers.new × (last.counts ≡ totals.new.counts) × (last.cut ≡ option_map cut_of totals.new.cut)) }
     ensures fails { OnErr result (RunsFront job.entry (I.bytes_of inputs.now) (map (λ name. name.now) names.now)
-        (state_of (D.contents out.old) (W.contents report.old) totals.old) (D.contents out.new) (W.contents report.new) totals.new.counts) }
+        (state_of writers.old totals.old) writers.new totals.new.counts) }
     ensures failed { IfErr result (λ failure. ¬ IsReading failure) }
 {
     for name in names {
-        run_one(alloc, job, inputs, name, out, report, totals)?;
+        run_one(alloc, job, inputs, name, writers, totals)?;
     }
-    flush(out)?;
-    put_all_counts(alloc, job, totals, report)?;
-    flush(report)
+    finish(alloc, job, totals, writers)
+}
+
+/// Writes what was counted of all inputs. What is written is flushed.
+fn finish<D: Write + Drop, W: Write + Drop>(
+    alloc: Global,
+    job: Job<'_>,
+    totals: &Totals<'_>,
+    writers: &mut Writers<D, W>,
+) -> Result<(), Failure>
+    ensures written { OnOk result (Keeps writers.old.out writers.new.out
+        × Appends writers.old.report writers.new.report (all_line job.entry job.entry.command totals.now.counts totals.now.tally.kept)) }
+    ensures front { OnErr result (Keeps writers.old.out writers.new.out
+        × AppendsFront writers.old.report writers.new.report (all_line job.entry job.entry.command totals.now.counts totals.now.tally.kept)) }
+    ensures failed { IfErr result (λ failure. ¬ IsReading failure) }
+{
+    flush(&mut writers.out)?;
+    put_all_counts(alloc, job, totals, &mut writers.report)?;
+    flush(&mut writers.report)
 }
 
 /// Runs a command over one input, and writes what was counted of it.
-fn run_one<'a, I: Inputs, D: Write, W: Write>(
+fn run_one<'a, I: Inputs, D: Write + Drop, W: Write + Drop>(
     alloc: Global,
     job: Job<'a>,
     inputs: &I,
     name: &'a str,
-    out: &mut D,
-    report: &mut W,
+    writers: &mut Writers<D, W>,
     totals: &mut Totals<'a>,
 ) -> Result<(), Failure>
     ensures comes { OnOk result (CountsAnother job.entry (I.bytes_of inputs.now name.entry.now) name.entry.now
-        (state_of (D.contents out.old) (W.contents report.old) totals.old) (state_of (D.contents out.new) (W.contents report.new) totals.new)) }
+        (state_of writers.old totals.old) (state_of writers.new totals.new)) }
     ensures halts { OnErr result (HaltsWithin job.entry name.entry.now (I.bytes_of inputs.now name.entry.now)
-        (D.contents out.old) (D.contents out.new) (W.contents report.old) (W.contents report.new) totals.old.kept totals.old.counts totals.new.counts) }
+        (state_of writers.old totals.old) writers.new totals.new.counts) }
     ensures failed { IfErr result (λ failure. ¬ IsReading failure) }
 {
-    let counts = count_one(alloc, job, inputs, name, out, report, totals)?;
-    put_counts(alloc, job, name, &counts, report)
+    count_one(alloc, job, inputs, name, writers, totals)?;
+    put_counts(alloc, job, name, &totals.tally.counts, &mut writers.report)
 }
 
-/// Runs a command over one input, and returns what was counted of it. One that can't be opened isn't read to its end.
-fn count_one<'a, I: Inputs, D: Write, W: Write>(
+/// Runs a command over one input, and counts it. One that can't be opened isn't read to its end.
+fn count_one<'a, I: Inputs, D: Write + Drop, W: Write + Drop>(
     alloc: Global,
     job: Job<'a>,
     inputs: &I,
     name: &'a str,
-    out: &mut D,
-    report: &mut W,
+    writers: &mut Writers<D, W>,
     totals: &mut Totals<'a>,
-) -> Result<Counts, Failure>
-    ensures counted { IfOk result (CountsInput job.entry name.entry.now (I.bytes_of inputs.now name.entry.now) (D.contents out.old) (D.contents out.new)
-        (W.contents report.old) (W.contents report.new) totals.old totals.new) }
+) -> Result<(), Failure>
+    ensures counted { OnOk result (CountsInput job.entry name.entry.now (I.bytes_of inputs.now name.entry.now) (state_of writers.old totals.old) writers.new totals.new) }
     ensures halts { OnErr result (HaltsWithin job.entry name.entry.now (I.bytes_of inputs.now name.entry.now)
-        (D.contents out.old) (D.contents out.new) (W.contents report.old) (W.contents report.new) totals.old.kept totals.old.counts totals.new.counts) }
+        (state_of writers.old totals.old) writers.new totals.new.counts) }
     ensures failed { IfErr result (λ failure. ¬ IsReading failure) }
 {
     match inputs.open(name) {
         Ok(input) => {
-            let mut input = input;
-            run_open(alloc, job, inputs, name, &mut input, out, report, totals)
+            let failed = run_open(alloc, job, name, input, writers, totals)?;
+            tell_failure(inputs, name, failed);
+            Ok(())
         }
         Err(error) => {
             inputs.tell(name, None, &error);
-            let counts = in_range(Counts::new().with_left(0))?;
-            totals.add(name, counts, false)?;
-            Ok(counts)
+            totals.tally.counts = in_range(Counts::new().with_left(0))?;
+            totals.add(name, false)
         }
     }
 }
 
-/// Runs a command over an input that is open, and returns what was counted of it.
-fn run_open<'a, I: Inputs, D: Write, W: Write>(
-    alloc: Global,
-    job: Job<'a>,
-    inputs: &I,
-    name: &'a str,
-    input: &mut I::Input,
-    out: &mut D,
-    report: &mut W,
-    totals: &mut Totals<'a>,
-) -> Result<Counts, Failure>
-    ensures counted { IfOk result (CountsRun job.entry name.entry.now (I.Input.remaining input.old) (D.contents out.old) (D.contents out.new)
-        (W.contents report.old) (W.contents report.new) totals.old totals.new) }
-    ensures halts { OnErr result (HaltsWithin job.entry name.entry.now (I.Input.remaining input.old)
-        (D.contents out.old) (D.contents out.new) (W.contents report.old) (W.contents report.new) totals.old.kept totals.old.counts totals.new.counts) }
-    ensures failed { IfErr result (λ failure. ¬ IsReading failure) }
-{
-    let asked = Asked {
-        command: job.command,
-        style: job.style,
-        limit: left_of(job, totals.counts),
-        resync: job.resync,
-        limits: job.limits,
-        portion: job.portion,
-        name,
-    };
-    let mut counts = Counts::new();
-    let result = run(
-        alloc,
-        asked,
-        input,
-        out,
-        report,
-        &mut counts,
-        &mut totals.kept,
-    );
-    totals.add(name, counts, matches!(result, Ok(None)))?;
-    if let Some(failure) = result? {
+/// Tells where reading an input failed, if it did.
+fn tell_failure<I: Inputs>(inputs: &I, name: &str, failed: Option<ReadFailure>) {
+    if let Some(failure) = failed {
         inputs.tell(name, Some(failure.at), &failure.error);
     }
-    Ok(counts)
+}
+
+/// Runs a command over an input that is open, and counts it. Returns where reading fails, if it does.
+fn run_open<'a, R: Read + Drop, D: Write + Drop, W: Write + Drop>(
+    alloc: Global,
+    job: Job<'a>,
+    name: &'a str,
+    reader: R,
+    writers: &mut Writers<D, W>,
+    totals: &mut Totals<'a>,
+) -> Result<Option<ReadFailure>, Failure>
+    ensures counted { IfOk result (CountsRun job.entry name.entry.now (R.remaining reader) (state_of writers.old totals.old) writers.new totals.new) }
+    ensures halts { OnErr result (HaltsWithin job.entry name.entry.now (R.remaining reader) (state_of writers.old totals.old) writers.new totals.new.counts) }
+    ensures failed { IfErr result (λ failure. ¬ IsReading failure) }
+{
+    let job = Job {
+        limit: left_of(job, totals.counts),
+        ..job
+    };
+    totals.tally.counts = Counts::new();
+    let result = run(alloc, job, name, reader, writers, &mut totals.tally);
+    totals.add(name, is_read(&result))?;
+    result
+}
+
+/// Whether a run over an input ended well, and reading didn't fail.
+fn is_read(ended: &Result<Option<ReadFailure>, Failure>) -> bool
+    ensures { IfOk ended.now (λ failed. result ≡ is_none failed) }
+{
+    matches!(ended, Ok(None))
 }
 
 /// How many findings of an input are printed at most, where this was counted before it.

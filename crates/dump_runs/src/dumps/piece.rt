@@ -1,171 +1,182 @@
-//! Passes one document of an input: looks what is next, whether its length is believed, and runs the command over it.
+//! Passes the part that is next in an input: a document, or bytes up to the next place where documents go on.
 #![tactic(auto)]
 
-ghost use Rattle.std.specs.Prelude.{◌≡◌, ◌<◌, ◌≤◌, IfOk, IfErr, OnErr, length, take};
+ghost use Rattle.std.specs.Prelude.{◌≡◌, ◌≤◌, Option, IfOk, IfErr, OnErr, false, length, take, true};
 ghost use Rattle.dump_io.specs.input.Cut.{IsPiece};
-ghost use Rattle.dump_io.specs.input.Reading.{IsWindow, Stays, ahead_of, offset_of};
-ghost use Rattle.raw_resync.specs.Seeking.{IsWork};
-ghost use Rattle.dump_runs.specs.dumps.Halting.{HaltsBelieved, HaltsNext, HaltsOne};
-ghost use Rattle.dump_runs.specs.dumps.Run.{MayPassFront, MayPassOne, PassesBelieved, PassesNext, WritesNothing};
+ghost use Rattle.dump_io.specs.input.Reading.{GoesAhead, IsWindow, Stays, ahead_of};
+ghost use Rattle.dump_io.specs.input.Resync.{TellsPart};
 ghost use Rattle.dump_io.specs.lines.Failing.{IsReading};
+ghost use Rattle.dump_io.specs.lines.Find.{Account};
+ghost use Rattle.dump_commands.specs.Findings.{FindsFor};
+ghost use Rattle.dump_runs.specs.dumps.Plays.{held};
+ghost use Rattle.dump_runs.specs.dumps.Steps.{GivesPiece, HaltsNext, HaltsPiece, IsPieceOf, PassesNext, next_of};
+ghost use Rattle.raw_resync.specs.Seeking.{IsWork};
 
-use crate::dumps::asked::{Asked, Outcome};
-use dump_commands::counts::Counts;
-use dump_commands::finding::found_in;
+use crate::dumps::gap::pass_gap;
+use crate::dumps::source::Source;
+use crate::dumps::style::{findings_of, style_at};
+use crate::dumps::writers::{Tally, Writers};
+use dump_commands::finding::{Judged, judge};
+use dump_commands::job::Job;
 use dump_commands::making::{count_fields, emit};
-use dump_commands::reporting::{put_repeat, report_found};
-use dump_commands::state::kept::Kept;
+use dump_commands::reporting::{put_listing, put_repeat};
 use dump_io::input::ending::Ending;
-use dump_io::input::resync::is_doubted;
-use dump_io::input::window::{Next, Window, look_ahead};
+use dump_io::input::window::Next;
 use dump_io::lines::failure::{Failure, in_range};
+use dump_io::lines::find::Finding;
 use dump_io::lines::origin::Origin;
-use raw_resync::Work;
+use dump_io::lines::write::put;
 use std::alloc::Global;
 use std::io::{Read, Write};
 
-/// Looks what is next in an input, and passes it where it is a document. Where bytes may be passed over, a damaged document whose
-/// length isn't believed is none.
-pub fn pass_next<'a, R: Read, D: Write, W: Write>(
+/// What is next in an input.
+#[derive(Clone, Copy)]
+pub enum Step {
+    /// a part, which is passed
+    Passed,
+    /// its end
+    End,
+    /// bytes that no document begins with, where none are passed over
+    Left(Ending),
+}
+
+/// A document of an input, at its length.
+#[derive(Drop)]
+struct Piece<'a, 'b> {
+    /// where it begins
+    at: Origin<'a>,
+    /// its bytes
+    bytes: &'b [u8],
+    /// what is found in it
+    judged: Judged,
+}
+
+/// Looks what is next in an input, and passes it where it is a document, or where bytes may be passed over.
+pub fn pass_next<'a, R: Read + Drop, D: Write + Drop, W: Write + Drop>(
     alloc: Global,
-    asked: Asked<'a>,
-    reader: &mut R,
-    window: &mut Window,
-    work: &mut Work,
-    out: &mut D,
-    report: &mut W,
-    counts: &mut Counts,
-    kept: &mut Kept<'a>,
-) -> Result<Next, Failure>
-    requires { IsWindow window.old × IsWork work.old }
-    ensures passed { IfOk result (PassesNext asked.entry.limits asked.entry.command asked.entry.style asked.entry.resync asked.entry.name.now (R.remaining reader.old) (R.remaining reader.new)
-        window.old window.new work.old work.new (D.contents out.old) (D.contents out.new) (W.contents report.old) (W.contents report.new) counts.old counts.new kept.old kept.new) }
-    ensures halts { OnErr result (HaltsNext asked.entry.limits asked.entry.command asked.entry.style asked.entry.resync asked.entry.name.now (R.remaining reader.old)
-        window.old work.old kept.old (D.contents out.old) (D.contents out.new) (W.contents report.old) (W.contents report.new)) }
-    ensures uncounted { OnErr result (counts.new ≡ counts.old) }
-    ensures fails { IfErr result (λ failure. IsReading failure → Stays (R.remaining reader.old) (R.remaining reader.new) window.old window.new
-        × WritesNothing (D.contents out.old) (D.contents out.new) (W.contents report.old) (W.contents report.new) counts.old counts.new kept.old kept.new) }
+    job: Job<'a>,
+    source: &mut Source<'a, R>,
+    writers: &mut Writers<D, W>,
+    tally: &mut Tally<'a>,
+) -> Result<Step, Failure>
+    requires { IsWindow source.old.window × IsWork source.old.work }
+    ensures passed { IfOk result (PassesNext job.entry source.old source.new (held writers.old tally.old) (held writers.new tally.new)) }
+    ensures halts { OnErr result (HaltsNext job.entry source.old (held writers.old tally.old) (held writers.new tally.new)) }
+    ensures fails { IfErr result (λ failure. IsReading failure → GoesAhead source.old.left source.new.left source.old.window source.new.window
+        × (source.new.name ≡ source.old.name) × (held writers.new tally.new ≡ held writers.old tally.old)) }
 {
-    let next = look_ahead(reader, window, 0, asked.limits.bytes)?;
-    let Next::Document(len) = next else {
-        return Ok(next);
+    let next = source.next(job.limits.bytes)?;
+    match next {
+        Next::Document(len) => pass_document(alloc, job, len, source, writers, tally),
+        Next::Nothing => Ok(Step::End),
+        Next::End(ending) => {
+            if !job.resync {
+                return Ok(Step::Left(ending));
+            }
+            pass_gap(alloc, job, ending, source, writers, tally)?;
+            Ok(Step::Passed)
+        }
+    }
+}
+
+/// Passes the first document ahead, of `len` bytes. Where bytes may be passed over, it has to be without damage, or its length has to be
+/// believed; else bytes are passed over.
+fn pass_document<'a, R: Read + Drop, D: Write + Drop, W: Write + Drop>(
+    alloc: Global,
+    job: Job<'a>,
+    len: usize,
+    source: &mut Source<'a, R>,
+    writers: &mut Writers<D, W>,
+    tally: &mut Tally<'a>,
+) -> Result<Step, Failure>
+    requires { IsWindow source.old.window × IsWork source.old.work × (len ≤ length (ahead_of source.old.window))
+        × IsPiece job.limits.bytes (take len (ahead_of source.old.window)) }
+    ensures passed { IfOk result (PassesNext job.entry source.old source.new (held writers.old tally.old) (held writers.new tally.new)) }
+    ensures halts { OnErr result (HaltsNext job.entry source.old (held writers.old tally.old) (held writers.new tally.new)) }
+    ensures fails { IfErr result (λ failure. IsReading failure → GoesAhead source.old.left source.new.left source.old.window source.new.window
+        × (source.new.name ≡ source.old.name) × (held writers.new tally.new ≡ held writers.old tally.old)) }
+{
+    let at = source.at();
+    let style = style_at(job, tally.counts);
+    let judged = judge(alloc, job.command, job.limits, style, at, source.front(len))?;
+    let finding = judged.finding;
+    if !is_taken(alloc, job, finding, len, source)? {
+        pass_gap(alloc, job, Ending::WrongLength(len), source, writers, tally)?;
+        return Ok(Step::Passed);
+    }
+    let piece = Piece {
+        at,
+        bytes: source.front(len),
+        judged,
     };
-    let any = !asked.resync;
-    if pass_front(alloc, asked, any, len, window, out, report, counts, kept)? {
-        return Ok(next);
-    }
-    if pass_believed(
-        alloc, asked, len, reader, window, work, out, report, counts, kept,
-    )? {
-        return Ok(next);
-    }
-    Ok(Next::End(Ending::WrongLength(len)))
+    let findings = pass(alloc, job, piece, writers, tally)?;
+    let counted = in_range(tally.counts.with(len, finding, findings))?;
+    source.pass(len)?;
+    tally.counts = counted;
+    Ok(Step::Passed)
 }
 
-/// Passes the first document ahead, of `len` bytes, which may be damaged, where its length is believed, and returns whether
-/// it is.
-fn pass_believed<'a, R: Read, D: Write, W: Write>(
+/// Whether the first document ahead, of `len` bytes, in which this is found, is taken at its length. Where bytes may be passed over, a damaged one
+/// isn't if its length isn't believed.
+fn is_taken<R: Read + Drop>(
     alloc: Global,
-    asked: Asked<'a>,
+    job: Job<'_>,
+    finding: Finding,
     len: usize,
-    reader: &mut R,
-    window: &mut Window,
-    work: &mut Work,
-    out: &mut D,
-    report: &mut W,
-    counts: &mut Counts,
-    kept: &mut Kept<'a>,
+    source: &mut Source<'_, R>,
 ) -> Result<bool, Failure>
-    requires { IsWindow window.old × IsWork work.old × (len ≤ length (ahead_of window.old)) × IsPiece asked.limits.bytes (take len (ahead_of window.old)) }
-    ensures passed { IfOk result (PassesBelieved asked.entry.limits asked.entry.command asked.entry.style asked.entry.name.now len (R.remaining reader.old) (R.remaining reader.new)
-        window.old window.new work.old work.new (D.contents out.old) (D.contents out.new) (W.contents report.old) (W.contents report.new) counts.old counts.new kept.old kept.new) }
-    ensures halts { OnErr result (HaltsBelieved asked.entry.limits asked.entry.command asked.entry.style asked.entry.name.now len (R.remaining reader.old) window.old work.old kept.old
-        (D.contents out.old) (D.contents out.new) (W.contents report.old) (W.contents report.new)) }
-    ensures uncounted { OnErr result (counts.new ≡ counts.old) }
-    ensures fails { IfErr result (λ failure. IsReading failure → Stays (R.remaining reader.old) (R.remaining reader.new) window.old window.new
-        × WritesNothing (D.contents out.old) (D.contents out.new) (W.contents report.old) (W.contents report.new) counts.old counts.new kept.old kept.new) }
+    requires { IsWindow source.old.window × IsWork source.old.work × (len ≤ length (ahead_of source.old.window))
+        × IsPiece job.limits.bytes (take len (ahead_of source.old.window))
+        × ((told : Option Account) × FindsFor job.limits job.command (take len (ahead_of source.old.window)) finding told) }
+    ensures told { IfOk result (λ taken. TellsPart job.entry.limits job.entry.resync source.old.left source.new.left source.old.window source.new.window
+        source.old.work source.new.work (next_of len taken)) }
+    ensures asked { IfOk result (λ taken. taken ≡ false → job.entry.resync ≡ true) }
+    ensures fails { IfErr result (λ _. Stays source.old.left source.new.left source.old.window source.new.window) }
+    ensures same { source.new.name ≡ source.old.name }
 {
-    if is_doubted(alloc, reader, window, asked.limits, len, work)? {
-        return Ok(false);
+    if !job.resync || !finding.may_be_damaged() {
+        return Ok(true);
     }
-    pass_front(alloc, asked, true, len, window, out, report, counts, kept)
+    let is_doubted = source.is_doubted(alloc, job.limits, len)?;
+    Ok(!is_doubted)
 }
 
-/// Passes the first document ahead, of `len` bytes, and returns whether it did: one that may be damaged is passed
-/// where any is.
-fn pass_front<'a, D: Write, W: Write>(
+/// Writes what the command gives of a document, and returns how many findings that is.
+fn pass<'a, D: Write + Drop, W: Write + Drop>(
     alloc: Global,
-    asked: Asked<'a>,
-    any: bool,
-    len: usize,
-    window: &mut Window,
-    out: &mut D,
-    report: &mut W,
-    counts: &mut Counts,
-    kept: &mut Kept<'a>,
-) -> Result<bool, Failure>
-    requires { IsWindow window.old × (len ≤ length (ahead_of window.old)) × IsPiece asked.limits.bytes (take len (ahead_of window.old)) }
-    ensures passed { IfOk result (MayPassFront asked.entry.limits any asked.entry.command asked.entry.style asked.entry.name.now len window.old window.new
-        (D.contents out.old) (D.contents out.new) (W.contents report.old) (W.contents report.new) counts.old counts.new kept.old kept.new) }
-    ensures halts { OnErr result (HaltsOne asked.entry.limits any asked.entry.command asked.entry.style asked.entry.name.now (offset_of window.old) (take len (ahead_of window.old)) kept.old
-        (D.contents out.old) (D.contents out.new) (W.contents report.old) (W.contents report.new)) }
-    ensures uncounted { OnErr result (counts.new ≡ counts.old) }
+    job: Job<'a>,
+    piece: Piece<'a, '_>,
+    writers: &mut Writers<D, W>,
+    tally: &mut Tally<'a>,
+) -> Result<u64, Failure>
+    requires { IsPieceOf job tally.old.counts piece }
+    ensures gives { IfOk result (GivesPiece job.entry piece.entry (held writers.old tally.old) (held writers.new tally.new)) }
+    ensures halts { OnErr result (HaltsPiece job.entry piece.entry (held writers.old tally.old) (held writers.new tally.new)) }
     ensures failed { IfErr result (λ failure. ¬ IsReading failure) }
 {
-    let bytes = &window.ahead()[..len];
-    let Some(outcome) = pass(alloc, asked, any, window.offset(), bytes, out, report, kept)? else {
-        return Ok(false);
-    };
-    let findings = outcome.findings(asked.command);
-    let counted = in_range(counts.with(len, outcome.finding, findings))?;
-    window.pass(len)?;
-    *counts = counted;
-    Ok(true)
-}
-
-/// Passes one document, and returns what came of it; one that may be damaged only where any is passed.
-fn pass<'a, D: Write, W: Write>(
-    alloc: Global,
-    asked: Asked<'a>,
-    any: bool,
-    offset: u64,
-    bytes: &[u8],
-    out: &mut D,
-    report: &mut W,
-    kept: &mut Kept<'a>,
-) -> Result<Option<Outcome>, Failure>
-    requires { IsPiece asked.limits.bytes bytes.now }
-    ensures passed { IfOk result (MayPassOne asked.entry.limits any asked.entry.command asked.entry.style asked.entry.name.now offset bytes.now
-        (D.contents out.old) (D.contents out.new) (W.contents report.old) (W.contents report.new) kept.old kept.new) }
-    ensures halts { OnErr result (HaltsOne asked.entry.limits any asked.entry.command asked.entry.style asked.entry.name.now offset bytes.now kept.old
-        (D.contents out.old) (D.contents out.new) (W.contents report.old) (W.contents report.new)) }
-    ensures failed { IfErr result (λ failure. ¬ IsReading failure) }
-{
-    let limits = asked.limits;
-    let found = found_in(alloc, asked.command, limits, bytes)?;
-    if !any && found.finding.may_be_damaged() {
-        return Ok(None);
-    }
-    let finding = found.finding;
-    let at = Origin {
-        name: asked.name,
-        offset,
-    };
-    report_found(
+    let finding = piece.judged.finding;
+    let style = style_at(job, tally.counts);
+    put(&mut writers.report, &piece.judged.line)?;
+    put_listing(alloc, job.command, piece.bytes, &mut writers.report)?;
+    let first = emit(
         alloc,
-        asked.command,
-        asked.style,
-        asked.name,
-        offset,
-        bytes,
-        &found,
-        report,
-    )?;
-    let first = emit(alloc, asked.command, limits, at, finding, bytes, out, kept)?;
-    put_repeat(alloc, asked.style, at, first, report)?;
-    count_fields(alloc, asked.command, limits, finding, at, bytes, kept)?;
-    Ok(Some(Outcome {
+        job.command,
+        job.limits,
+        piece.at,
         finding,
-        repeats: first.is_some(),
-    }))
+        piece.bytes,
+        &mut writers.out,
+        &mut tally.kept,
+    )?;
+    put_repeat(alloc, style, piece.at, first, &mut writers.report)?;
+    count_fields(
+        alloc,
+        job.command,
+        job.limits,
+        finding,
+        piece.at,
+        piece.bytes,
+        &mut tally.kept,
+    )?;
+    Ok(findings_of(job.command, finding, first.is_some()))
 }

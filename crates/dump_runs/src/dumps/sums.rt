@@ -62,9 +62,9 @@ pub fn put_all_counts<W: Write>(
     report: &mut W,
 ) -> Result<(), Failure>
     ensures written { OnOk result
-        (Appends (W.contents report.old) (W.contents report.new) (all_line job.entry job.entry.command totals.now.counts totals.now.kept)) }
+        (Appends (W.contents report.old) (W.contents report.new) (all_line job.entry job.entry.command totals.now.counts totals.now.tally.kept)) }
     ensures front { OnErr result
-        (AppendsFront (W.contents report.old) (W.contents report.new) (all_line job.entry job.entry.command totals.now.counts totals.now.kept)) }
+        (AppendsFront (W.contents report.old) (W.contents report.new) (all_line job.entry job.entry.command totals.now.counts totals.now.tally.kept)) }
     ensures failed { IfErr result (λ failure. ¬ IsReading failure) }
 {
     match job.command {
@@ -83,7 +83,7 @@ pub fn put_all_counts<W: Write>(
             job.limit,
             job.command,
             &totals.counts,
-            totals.kept.count(),
+            totals.tally.kept.count(),
             report,
         ),
     }
@@ -97,12 +97,12 @@ fn put_fields<W: Write>(
     report: &mut W,
 ) -> Result<(), Failure>
     ensures written { OnOk result
-        (Appends (W.contents report.old) (W.contents report.new) (all_line job.entry Fields totals.now.counts totals.now.kept)) }
+        (Appends (W.contents report.old) (W.contents report.new) (all_line job.entry Fields totals.now.counts totals.now.tally.kept)) }
     ensures front { OnErr result
-        (AppendsFront (W.contents report.old) (W.contents report.new) (all_line job.entry Fields totals.now.counts totals.now.kept)) }
+        (AppendsFront (W.contents report.old) (W.contents report.new) (all_line job.entry Fields totals.now.counts totals.now.tally.kept)) }
     ensures failed { IfErr result (λ failure. ¬ IsReading failure) }
 {
-    let lines = totals.kept.paths().lines(alloc)?;
+    let lines = totals.tally.kept.paths().lines(alloc)?;
     put(report, &lines)?;
     put_summary(
         alloc,
@@ -111,7 +111,7 @@ fn put_fields<W: Write>(
         job.limit,
         Command::Fields,
         &totals.counts,
-        totals.kept.count(),
+        totals.tally.kept.count(),
         report,
     )
 }

@@ -1,43 +1,59 @@
-use Rattle.std.proofs.Common.{inl, refl, subst}
-use Rattle.dump_runs.specs.dumps.Batch.{CountsInput, HaltsWithin, IsRun}
-use Rattle.dump_io.proofs.Face.{if_ok, on_any, on_err}
+use Rattle.std.proofs.Common.{ap, false, inl, inr, is_none, refl, subst, sym, ◌∙◌}
+use Rattle.dump_commands.specs.Counting.{count_left, plus}
+use Rattle.dump_commands.specs.declared.counts.Counts.{Counts}
+use Rattle.dump_io.specs.input.Done.{input_of}
+use Rattle.dump_runs.specs.dumps.Batch.{CountsInput, HaltsWithin, first_cut, job_behind, next_of, state_of}
+use Rattle.dump_runs.specs.dumps.Ends.{EndsRun}
+use Rattle.dump_runs.specs.dumps.Plays.{held}
+use Rattle.dump_runs.specs.declared.dumps.writers.Tally.{Tally}
+use Rattle.dump_io.proofs.Face.{on_err, on_ok}
 use Rattle.dump_runs.proofs.dumps.Summing.{halts_unread}
 use Rattle.dump_runs.proofs.dumps.batch.count_one.Goals as goal
 
-pub returns-in-Ok-clause-counted : goal.returns-in-Ok-clause-counted
-returns-in-Ok-clause-counted g c =
-    let d = g.D.Write.contents c.args.out.now in
-    let d' = g.D.Write.contents c.run_open.new.out in
-    let w = g.W.Write.contents c.args.report.now in
-    let w' = g.W.Write.contents c.run_open.new.report in
+pub returns-in_ok-failed-in-Ok-clause-counted : goal.returns-in_ok-failed-in-Ok-clause-counted
+returns-in_ok-failed-in-Ok-clause-counted g c =
+    let before = state_of c.args.writers.now c.args.totals.now in
+    let is = c.in_ok-failed-in-Ok.ensures.counted in
+    let failed = c.in_ok-failed-in-Ok.failed in
+    let w = c.run_open.new.writers in
+    let t = c.run_open.new.totals in
+    record {
+      goes_on = is_none failed;
+      is = inl (record {
+        failed = failed;
+        ends = subst (λ x. EndsRun (job_behind c.args.job before.counts) c.args.name.now x (next_of before) (held w t.tally) failed) c.in-Ok.ensures.bytes is.ends;
+        could = refl;
+      });
+      is_counted = is.is_counted;
+      cut = is.cut;
+    }
+
+pub returns-in_ok-totals-in-Err-clause-counted : goal.returns-in_ok-totals-in-Err-clause-counted
+returns-in_ok-totals-in-Err-clause-counted g c =
     let name = c.args.name.now in
+    let w = c.args.writers.now in
     let t = c.args.totals.now in
-    let t' = c.run_open.new.totals in
-    if_ok c.run_open.result _ (CountsInput c.args.job name (g.I.Inputs.bytes_of c.args.inputs.now name) d d' w w' c.args.totals.now c.run_open.new.totals)
-    (λ n (goes_on, ran, counted, cut). (goes_on, inl (subst (λ x. IsRun c.args.job t.counts name x d d' w w' t.kept t'.kept n goes_on) c.in-Ok.ensures.bytes ran), counted, cut))
-    c.run_open.ensures.counted
+    let before = state_of w t in
+    let same = c.add.ensures.tally in
+    let told = rw c.in_ok-totals-in-Err.ensures.same at c.with_left.ensures.counted in
+    let counts = told ∙ ap (λ (n : Counts). count_left n 0) c.new.ensures in
+    on_ok c.add.result _ (CountsInput c.args.job name (g.I.Inputs.bytes_of c.args.inputs.now name) before w c.add.new.self)
+    (λ counted. record {
+      goes_on = false;
+      is = inr (record {
+        unknown = c.in-Err.ensures.known;
+        is = ap (λ (x : Tally). held w x) same ∙ ap (λ (n : Counts). held w (record t.tally { counts = n })) counts;
+        could = refl;
+      });
+      is_counted = counted ∙ ap (λ (x : Tally). plus t.counts x.counts) (sym same);
+      cut = c.add.ensures.cut ∙ ap (λ (x : Tally). first_cut before.cut x.counts (input_of name false)) (sym same);
+    }) c.add.ensures.counted
 
-pub returns-in-Ok-clause-halts : goal.returns-in-Ok-clause-halts
-returns-in-Ok-clause-halts g c =
-    let d = g.D.Write.contents c.args.out.now in
-    let d' = g.D.Write.contents c.run_open.new.out in
-    let w = g.W.Write.contents c.args.report.now in
-    let w' = g.W.Write.contents c.run_open.new.report in
+pub returns-in_ok-totals-in-Err-clause-halts : goal.returns-in_ok-totals-in-Err-clause-halts
+returns-in_ok-totals-in-Err-clause-halts g c =
     let name = c.args.name.now in
-    let m = c.args.totals.now.counts in
-    let m' = c.run_open.new.totals.counts in
-    on_err c.run_open.result _ (HaltsWithin c.args.job name (g.I.Inputs.bytes_of c.args.inputs.now name) d d' w w' c.args.totals.now.kept m m')
-    (λ halts. subst (λ x. HaltsWithin c.args.job name x d d' w w' c.args.totals.now.kept m m') c.in-Ok.ensures.bytes halts) c.run_open.ensures.halts
-
-pub returns-in_err-counts-in-Err-clause-halts : goal.returns-in_err-counts-in-Err-clause-halts
-returns-in_err-counts-in-Err-clause-halts g c =
-    let name = c.args.name.now in
-    let n = c.args.totals.now.counts in
-    on_any _ _ (halts_unread c.args.job name (g.I.Inputs.bytes_of c.args.inputs.now name) (g.D.Write.contents c.args.out.now) (g.W.Write.contents c.args.report.now) c.args.totals.now.kept
-    n n refl)
-
-pub returns-in_err-add-in-Err-clause-halts : goal.returns-in_err-add-in-Err-clause-halts
-returns-in_err-add-in-Err-clause-halts g c =
-    let name = c.args.name.now in
-    on_any _ _ (halts_unread c.args.job name (g.I.Inputs.bytes_of c.args.inputs.now name) (g.D.Write.contents c.args.out.now) (g.W.Write.contents c.args.report.now) c.args.totals.now.kept
-    c.args.totals.now.counts c.add.new.self.counts c.in_err-add-in-Err.ensures.uncounted.1)
+    let w = c.args.writers.now in
+    let before = state_of w c.args.totals.now in
+    let input = g.I.Inputs.bytes_of c.args.inputs.now name in
+    on_err c.add.result _ (HaltsWithin c.args.job name input before w c.add.new.self.counts)
+    (λ (range, same). halts_unread c.args.job name input before w c.add.new.self.counts refl refl same) c.add.ensures.uncounted

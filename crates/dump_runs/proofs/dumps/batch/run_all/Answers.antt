@@ -10,29 +10,26 @@ returns-in-Ok g c =
     let job = c.args.job in
     let bytes_of = g.I.Inputs.bytes_of c.args.inputs.now in
     let names = map (λ (name : Bor (List ℕ)). name.now) c.args.names.now in
-    let d = g.D.Write.contents c.args.out.now in
-    let d' = g.D.Write.contents c.run_each.new.out in
-    let w = g.W.Write.contents c.args.report.now in
-    let w' = g.W.Write.contents c.run_each.new.report in
+    let old = c.args.writers.now in
+    let new = c.run_each.new.writers in
     let t = c.new-totals.result in
     let t' = c.run_each.new.totals in
     let (last, runs, counted, same) = c.in-Ok.ensures.runs in
     let lacks : c.map.result ≡ option_map lack.Cut t'.cut = lack_of t'.cut c.map.result c.map.ensures.cases in
-    let ends = ends_whole d w t t'.counts t'.cut c.status_of.result c.new-totals.ensures.counts c.new-totals.ensures.cut runs counted same
+    let ends = ends_whole old t t'.counts t'.cut c.status_of.result c.new-totals.ensures.counts c.new-totals.ensures.cut runs counted same
     c.status_of.ensures in
     record {
-      kept = t.kept;
+      kept = t.tally.kept;
       nothing = c.new-totals.ensures.kept;
-      ends = subst (λ (l : Option Lack). EndsAll job bytes_of names (start_of d w t.kept) d' w' l c.status_of.result) (sym lacks) ends;
+      ends = subst (λ (l : Option Lack). EndsAll job bytes_of names (start_of old t.tally.kept) new l c.status_of.result) (sym lacks) ends;
     }
 
 pub returns : goal.returns
 returns g c =
     let t = c.new-totals.result in
     record {
-      kept = t.kept;
+      kept = t.tally.kept;
       nothing = c.new-totals.ensures.kept;
-      ends = ends_front (g.D.Write.contents c.args.out.now)
-          (g.W.Write.contents c.args.report.now) t c.in-Err.failure
+      ends = ends_front c.args.writers.now t c.in-Err.failure
           c.status_of_failure.result c.new-totals.ensures.counts c.new-totals.ensures.cut c.in-Err.ensures.fails c.status_of_failure.ensures;
     }

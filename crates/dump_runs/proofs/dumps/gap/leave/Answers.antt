@@ -1,43 +1,42 @@
-use Rattle.std.proofs.Common.{rules, ◌≡◌, ◌+◌, ◌++◌, IfSome, inr, length, ap, sym, ◌∙◌, subst}
-use Rattle.std.specs.Io.KnownBytes.{Appends}
-use Rattle.dump_io.specs.input.Reading.{ahead_of}
-use Rattle.dump_commands.specs.Counting.{count_rest}
-use Rattle.dump_io.specs.input.Endings.{ending_line}
-use Rattle.dump_io.specs.declared.input.rest.Rest.TheVariants as rest
-use Rattle.dump_io.specs.declared.lines.failure.ReadFailure.{ReadFailure}
+use Rattle.std.proofs.Common.{refl, subst}
 use Rattle.dump_io.proofs.Face.{front_whole, on_any}
+use Rattle.dump_runs.specs.dumps.Plays.{Written, held}
+use Rattle.dump_runs.specs.dumps.Steps.{HaltsLeaving}
+use Rattle.dump_runs.proofs.dumps.Lines.{line_front, line_none, rest_line}
 use Rattle.dump_runs.proofs.dumps.gap.leave.Goals as goal
 
-pub returns-clause-left : goal.returns-clause-left
-returns-clause-left g c =
-    let drained = c.in_ok-rest.rest in
-    let left = c.in_ok-rest.ensures.left c.args.asked.limits.bytes c.requires.1 in
-    let w = c.args.window.now in
-    let n = c.args.counts.now in
-    let all = ahead_of w ++ left.more in
-    let old = g.W.Write.contents c.args.report.now in
-    let new = g.W.Write.contents c.put_ending.new.report in
-    let at : c.offset-offset.result ≡ w.offset = c.offset-offset.ensures in
-    let counted : c.in_ok-counts.field-0 ≡ count_rest n drained.count = search rules in
-    let sum : c.in_ok-at.at ≡ c.offset-offset.result + drained.count = search rules in
-    let end : c.in_ok-at.at ≡ w.offset + length all = sum ∙ ap (λ m. m + drained.count) at ∙ ap (λ m. w.offset + m) (sym left.len) in
-    record {
-      more = left.more;
-      is_read = left.is_read;
-      ends = left.ends;
-      to_end = λ none. left.to_end (c.failure_at.ensures.none none);
-      fails = subst (λ m. IfSome c.failure_at.result (λ (f : ReadFailure). f.at ≡ m)) end c.failure_at.ensures.at;
-      told = subst (λ m. Appends old new (ending_line c.args.asked.style c.args.asked.name.now w.offset c.args.ending (rest.NotRead m))) (sym left.len)
-          (subst (λ m. Appends old new (ending_line c.args.asked.style c.args.asked.name.now m c.args.ending (rest.NotRead drained.count))) at c.in_ok-put_ending.ensures.written);
-      is_counted = counted ∙ ap (count_rest n) (sym left.len);
-    }
+pub returns-in_err-rest-clause-halts : goal.returns-in_err-rest-clause-halts
+returns-in_err-rest-clause-halts g c = on_any _ _ (line_none _ refl)
 
-pub returns-in_err-counts-clause-halts : goal.returns-in_err-counts-clause-halts
-returns-in_err-counts-clause-halts g c =
-    let left = c.in_ok-rest.ensures.left c.args.asked.limits.bytes c.requires.1 in
-    on_any _ _ (inr (left.more, left.is_read, left.ends, front_whole _ _ _ (rw (c.offset-offset.ensures, ← left.len) at c.in_ok-put_ending.ensures.written)))
+pub returns-in_err-put_ending-clause-halts : goal.returns-in_err-put_ending-clause-halts
+returns-in_err-put_ending-clause-halts g c =
+    let job = c.args.job in
+    let t = c.args.tally.now in
+    let left = c.in_ok-rest.ensures.left job.limits.bytes c.requires.1 in
+    let o = g.D.Write.contents c.writers.inside.out in
+    let w = g.W.Write.contents c.writers.inside.report in
+    let w' = g.W.Write.contents c.put_ending.new.report in
+    on_any _ _ (subst (λ (v : Written). HaltsLeaving job c.args.ending c.args.source.now (held v t) (held (record { out = o; report = w' }) t)) c.writers.view_is
+    (line_front _ o w w' t.counts t.kept _ (rest_line {left = c.drain.new.self.left} left c.style_at-style.ensures c.at-at.ensures) c.in_err-put_ending.ensures.front))
 
-pub returns-in_err-at-clause-halts : goal.returns-in_err-at-clause-halts
-returns-in_err-at-clause-halts g c =
-    let left = c.in_ok-rest.ensures.left c.args.asked.limits.bytes c.requires.1 in
-    on_any _ _ (inr (left.more, left.is_read, left.ends, front_whole _ _ _ (rw (c.offset-offset.ensures, ← left.len) at c.in_ok-put_ending.ensures.written)))
+pub returns-in_err-end-clause-halts : goal.returns-in_err-end-clause-halts
+returns-in_err-end-clause-halts g c =
+    let job = c.args.job in
+    let t = c.args.tally.now in
+    let left = c.in_ok-rest.ensures.left job.limits.bytes c.requires.1 in
+    let o = g.D.Write.contents c.writers.inside.out in
+    let w = g.W.Write.contents c.writers.inside.report in
+    let w' = g.W.Write.contents c.put_ending.new.report in
+    on_any _ _ (subst (λ (v : Written). HaltsLeaving job c.args.ending c.args.source.now (held v t) (held (record { out = o; report = w' }) t)) c.writers.view_is
+    (line_front _ o w w' t.counts t.kept _ (rest_line {left = c.drain.new.self.left} left c.style_at-style.ensures c.at-at.ensures) (front_whole w w' _ c.in_ok-put_ending.ensures.written)))
+
+pub returns-in_err-tally-clause-halts : goal.returns-in_err-tally-clause-halts
+returns-in_err-tally-clause-halts g c =
+    let job = c.args.job in
+    let t = c.args.tally.now in
+    let left = c.in_ok-rest.ensures.left job.limits.bytes c.requires.1 in
+    let o = g.D.Write.contents c.writers.inside.out in
+    let w = g.W.Write.contents c.writers.inside.report in
+    let w' = g.W.Write.contents c.put_ending.new.report in
+    on_any _ _ (subst (λ (v : Written). HaltsLeaving job c.args.ending c.args.source.now (held v t) (held (record { out = o; report = w' }) t)) c.writers.view_is
+    (line_front _ o w w' t.counts t.kept _ (rest_line {left = c.drain.new.self.left} left c.style_at-style.ensures c.at-at.ensures) (front_whole w w' _ c.in_ok-put_ending.ensures.written)))

@@ -1,15 +1,45 @@
-use Rattle.std.proofs.Common.{ℕ, inr, subst}
-use Rattle.std.specs.Io.KnownBytes.{Appends}
-use Rattle.dump_io.specs.input.Endings.{ending_line}
-use Rattle.dump_io.specs.declared.input.rest.Rest.TheVariants as rest
+use Rattle.std.proofs.Common.{refl, subst}
 use Rattle.dump_io.proofs.Face.{front_whole, on_any}
+use Rattle.dump_runs.specs.dumps.Plays.{Played, Written, held}
+use Rattle.dump_runs.specs.dumps.Run.{events_of_gap, style_at}
+use Rattle.dump_runs.specs.dumps.Steps.{HaltsGap, place_of}
+use Rattle.dump_runs.proofs.dumps.Lines.{gap_line, gap_played, line_front, line_none}
 use Rattle.dump_runs.proofs.dumps.gap.pass_gap.Goals as goal
 
-pub returns-in_err-counts-clause-halts : goal.returns-in_err-counts-clause-halts
-returns-in_err-counts-clause-halts g c =
-    let old = g.W.Write.contents c.args.report.now in
-    let new = g.W.Write.contents c.put_ending.new.report in
+pub returns-clause-passed : goal.returns-clause-passed
+returns-clause-passed g c =
+    let job = c.args.job in
+    let x = c.args.source.now in
+    let t = c.args.tally.now in
     let skip = c.in_ok-skip.skip in
-    let written = subst (λ (m : ℕ). Appends old new (ending_line c.args.asked.style c.args.asked.name.now m c.args.ending (rest.PassedOver skip)))
-    c.offset-offset.ensures c.in_ok-put_ending.ensures.written in
-    on_any _ _ (inr (skip, c.in_ok-skip.ensures.skips, front_whole old new _ written))
+    let new = held (record { out = g.D.Write.contents c.writers.inside.out; report = g.W.Write.contents c.put_ending.new.report }) (record t { counts = c.in_ok-tally.field-0 }) in
+    record {
+      skip = skip;
+      named = c.pass_over.ensures.same;
+      skips = c.in_ok-skip.ensures.skips;
+      played = subst (λ (v : Written). Played (events_of_gap (style_at job.style job.limit t.counts) (place_of x) c.args.ending skip) (held v t) new) c.writers.view_is
+          (gap_played c.args.ending c.style_at-style.ensures c.at-at.ensures skip c.in_ok-put_ending.ensures.written (rw c.in_ok-tally.ensures.same at c.with_gap.ensures.counted));
+      kept = refl;
+    }
+
+pub returns-in_err-skip-clause-halts : goal.returns-in_err-skip-clause-halts
+returns-in_err-skip-clause-halts g c = on_any _ _ (line_none _ refl)
+
+pub returns-in_err-put_ending-clause-halts : goal.returns-in_err-put_ending-clause-halts
+returns-in_err-put_ending-clause-halts g c =
+    let t = c.args.tally.now in
+    let o = g.D.Write.contents c.writers.inside.out in
+    let w = g.W.Write.contents c.writers.inside.report in
+    let w' = g.W.Write.contents c.put_ending.new.report in
+    on_any _ _ (subst (λ (v : Written). HaltsGap c.args.job c.args.ending c.args.source.now (held v t) (held (record { out = o; report = w' }) t)) c.writers.view_is
+    (line_front _ o w w' t.counts t.kept _ (gap_line c.pass_over.new.self c.in_ok-skip.skip c.in_ok-skip.ensures.skips c.style_at-style.ensures c.at-at.ensures) c.in_err-put_ending.ensures.front))
+
+pub returns-in_err-tally-clause-halts : goal.returns-in_err-tally-clause-halts
+returns-in_err-tally-clause-halts g c =
+    let t = c.args.tally.now in
+    let o = g.D.Write.contents c.writers.inside.out in
+    let w = g.W.Write.contents c.writers.inside.report in
+    let w' = g.W.Write.contents c.put_ending.new.report in
+    on_any _ _ (subst (λ (v : Written). HaltsGap c.args.job c.args.ending c.args.source.now (held v t) (held (record { out = o; report = w' }) t)) c.writers.view_is
+    (line_front _ o w w' t.counts t.kept _ (gap_line c.pass_over.new.self c.in_ok-skip.skip c.in_ok-skip.ensures.skips c.style_at-style.ensures c.at-at.ensures)
+    (front_whole w w' _ c.in_ok-put_ending.ensures.written)))

@@ -1,98 +1,76 @@
-use Rattle.std.proofs.Common.{◌≡◌, Bool, true, Result, Ok, Err, IfErr, IsErrAnd, ◌∙◌, inl, refl, sym, subst}
-use Rattle.dump_io.specs.lines.Failing.{IsReading}
-use Rattle.dump_io.specs.declared.lines.failure.Failure.{Failure}
-use Rattle.dump_io.specs.input.Reading.{Stays}
-use Rattle.dump_io.specs.input.Resync.{TellsPart}
-use Rattle.dump_io.specs.declared.input.ending.Ending.TheVariants as ending
-use Rattle.dump_io.specs.declared.input.window.Next.TheVariants as next
-use Rattle.dump_io.proofs.Face.{stays_on, tells_doubted, tells_taken, not_false, on_any}
-use Rattle.dump_runs.proofs.dumps.Halting.{halts_believed, halts_clean}
-use Rattle.dump_runs.proofs.dumps.Passing.{front_passed, next_other, next_passed, still_nothing}
+use Rattle.std.proofs.Common.{refl, subst, sym, ◌∙◌}
+use Rattle.raw_resync.specs.Seeking.{IsWork}
+use Rattle.dump_io.proofs.Face.{if_err_reading, if_ok, on_any, on_err}
+use Rattle.dump_runs.specs.dumps.Plays.{held}
+use Rattle.dump_runs.specs.declared.dumps.piece.Step.TheVariants as step
+use Rattle.dump_runs.proofs.dumps.Nexting.{IsOver, fails_on, fails_since, goes_since, goes_stays, halts_none, halts_over, halts_since, looked, next_since, over_here, passes_gap}
 use Rattle.dump_runs.proofs.dumps.piece.pass_next.Goals as goal
 
-pub returns-in_default : goal.returns-in_default
-returns-in_default g c =
-    record {
-      passed = next_other c.args.asked.limits c.args.asked.command c.args.asked.style c.args.asked.resync c.args.asked.name.now
-          (g.D.Write.contents c.args.out.now) (g.W.Write.contents c.args.report.now) c.args.counts.now c.args.kept.now
-          c.requires.1 c.in_default.not-Document c.in_ok-next.ensures.told;
-      halts = tt;
-      uncounted = tt;
-      fails = tt;
-    }
-
-pub returns-then-branch-clause-passed : goal.returns-then-branch-clause-passed
-returns-then-branch-clause-passed g c =
-    next_passed c.args.asked.resync c.args.work.now c.requires.1 (rw c.in-Document.is at c.in_ok-next.ensures.told) (rw c.if-branch.true at c.in_ok-pass_front.ensures.passed)
-
-pub returns-then-branch-2-clause-passed : goal.returns-then-branch-2-clause-passed
-returns-then-branch-2-clause-passed g c =
-    let r = g.R.Read.remaining in
-    let x = c.args.window.now in
-    let y = c.look_ahead.new.window in
-    let len = c.in-Document.len in
-    let told = rw c.in-Document.is at c.in_ok-next.ensures.told in
-    let (left, same, nothing) = rw c.if-branch.false at c.in_ok-pass_front.ensures.passed in
-    let (z, doubts, passes) = rw (c.if-branch-2.true, same) at c.in_ok-pass_believed.ensures.passed in (
-      true,
-      z,
-      subst (λ (b : Bool). TellsPart c.args.asked.limits b (r c.args.reader.now) (r c.pass_believed.new.reader) x z c.args.work.now c.pass_believed.new.work (next.Document len))
-          (sym (not_false c.args.asked.resync left))
-          (tells_taken (r c.args.reader.now) (r c.look_ahead.new.reader) (r c.pass_believed.new.reader) x y z c.args.work.now c.pass_believed.new.work len c.requires.1 told doubts),
-      front_passed {y = z} true nothing passes,
-    )
-
-pub returns-clause-passed : goal.returns-clause-passed
-returns-clause-passed g c =
-    let r = g.R.Read.remaining in
-    let x = c.args.window.now in
-    let y = c.look_ahead.new.window in
-    let z = c.pass_believed.new.window in
-    let len = c.in-Document.len in
-    let told = rw c.in-Document.is at c.in_ok-next.ensures.told in
-    let (left, same, nothing) = rw c.if-branch.false at c.in_ok-pass_front.ensures.passed in
-    let (doubts, none) = rw (c.if-branch-2.false, same) at c.in_ok-pass_believed.ensures.passed in (
-      subst (λ (b : Bool). TellsPart c.args.asked.limits b (r c.args.reader.now) (r c.pass_believed.new.reader) x z c.args.work.now c.pass_believed.new.work (next.End (ending.WrongLength len)))
-          (sym (not_false c.args.asked.resync left))
-          (tells_doubted (r c.args.reader.now) (r c.look_ahead.new.reader) (r c.pass_believed.new.reader) x y z c.args.work.now c.pass_believed.new.work len c.requires.1 told doubts),
-      still_nothing nothing none,
-    )
-
 pub returns-in_err-next-clause-halts : goal.returns-in_err-next-clause-halts
-returns-in_err-next-clause-halts g c = on_any _ _ (inl (refl, refl))
+returns-in_err-next-clause-halts g c = on_any _ _ (halts_none c.args.job c.args.source.now (held c.args.writers.now c.args.tally.now))
 
-pub returns-in_err-pass_front-clause-halts : goal.returns-in_err-pass_front-clause-halts
-returns-in_err-pass_front-clause-halts g c =
-    let d = g.D.Write.contents in
-    let w = g.W.Write.contents in
-    let first = c.pass_front.new in
-    on_any _ _ (halts_clean c.args.asked.command c.args.asked.style c.args.asked.resync c.args.asked.name.now
-    (d c.args.out.now) (d first.out) (w c.args.report.now) (w first.report) c.args.kept.now (c.requires.1, refl) (rw c.in-Document.is at c.in_ok-next.ensures.told)
-    c.in_err-pass_front.ensures.halts)
+pub returns-in_err-next-clause-fails : goal.returns-in_err-next-clause-fails
+returns-in_err-next-clause-fails g c = if_err_reading _ _ (goes_stays c.in_err-next.ensures.fails, c.next.ensures.same.0, refl)
 
-pub returns-in_err-pass_believed-clause-halts : goal.returns-in_err-pass_believed-clause-halts
-returns-in_err-pass_believed-clause-halts g c =
-    let asked = c.args.asked in
-    let told = rw c.in-Document.is at c.in_ok-next.ensures.told in
-    let (left, same, nothing) = rw c.if-branch.false at c.in_ok-pass_front.ensures.passed in
-    on_any _ _ (halts_believed asked.command asked.style asked.resync asked.name.now c.args.kept.now (not_false asked.resync left) c.requires.1 told
-    (rw (same, nothing.0, nothing.1, nothing.3) at c.in_err-pass_believed.ensures.halts))
+pub pass_document-requires : goal.pass_document-requires
+pass_document-requires g c =
+    let t = rw c.in-Document.is at c.in_ok-next.ensures.told in
+    (t.window, subst IsWork (sym c.next.ensures.same.1) c.requires.1, t.is.0, t.is.1)
 
-pub returns-in_err-pass_believed-clause-uncounted : goal.returns-in_err-pass_believed-clause-uncounted
-returns-in_err-pass_believed-clause-uncounted g c =
-    let (left, same, nothing) = rw c.if-branch.false at c.in_ok-pass_front.ensures.passed in
-    on_any _ _ (c.in_err-pass_believed.ensures.uncounted ∙ nothing.2)
+pub pass_gap-requires : goal.pass_gap-requires
+pass_gap-requires g c =
+    let t = rw c.in-End.is at c.in_ok-next.ensures.told in
+    let over : IsOver c.args.job c.next.new.self c.next.new.self c.in-End.ending = over_here c.args.source.now c.next.new.self t c.next.ensures.same c.requires.1 c.if-not-job.false in
+    (t.window, over.tells.searches.work, over.tells.ahead.0)
 
--- a failure to read is that of what was called
-fails_on : {A : Type 0} (r : Result A Failure) (e : Failure) (P : Type 0) → IsErrAnd r (λ x. x ≡ e) → (IsReading e → P) → IfErr r (λ failure. IsReading failure → P)
-fails_on (Ok x) e P same f = tt
-fails_on (Err x) e P same f = λ reading. f (subst IsReading same reading)
+pub returns-in-Document-clause-passed : goal.returns-in-Document-clause-passed
+returns-in-Document-clause-passed g c =
+    let b = looked c.in_ok-next.ensures.told c.next.ensures.same in
+    let y = c.pass_document.new.source in
+    let old = held c.args.writers.now c.args.tally.now in
+    let new = held c.pass_document.new.writers c.pass_document.new.tally in
+    if_ok c.pass_document.result _ _ (λ s passes. next_since c.args.job y old new s b passes) c.pass_document.ensures.passed
 
-pub returns-in_err-pass_believed-clause-fails : goal.returns-in_err-pass_believed-clause-fails
-returns-in_err-pass_believed-clause-fails g c =
-    let told = rw c.in-Document.is at c.in_ok-next.ensures.told in
-    let (left, same, nothing) = rw c.if-branch.false at c.in_ok-pass_front.ensures.passed in
-    let r = g.R.Read.remaining in
-    let read : Stays (r c.args.reader.now) (r c.look_ahead.new.reader) c.args.window.now c.look_ahead.new.window = record { window = told.window; offset = told.offset; looks = told.looks } in
-    fails_on c.from_residual-in_err-pass_believed.result _ _ c.from_residual-in_err-pass_believed.ensures.1
-    (λ reading. let (stays, none) = rw same at c.in_err-pass_believed.ensures.fails reading in (stays_on _ _ _ _ _ _ read stays, still_nothing nothing none))
+pub returns-in-Document-clause-halts : goal.returns-in-Document-clause-halts
+returns-in-Document-clause-halts g c =
+    let b = looked c.in_ok-next.ensures.told c.next.ensures.same in
+    on_err c.pass_document.result _ _ (halts_since b) c.pass_document.ensures.halts
+
+pub returns-in-Document-clause-fails : goal.returns-in-Document-clause-fails
+returns-in-Document-clause-fails g c =
+    let b = looked c.in_ok-next.ensures.told c.next.ensures.same in
+    fails_since c.pass_document.result _ _ (λ (goes, named, same). (goes_since b.stays goes, named ∙ b.named, same)) c.pass_document.ensures.fails
+
+pub returns-in-Nothing-clause-passed : goal.returns-in-Nothing-clause-passed
+returns-in-Nothing-clause-passed g c =
+    let b = looked c.in_ok-next.ensures.told c.next.ensures.same in
+    let t = rw c.in-Nothing.is at c.in_ok-next.ensures.told in
+    (record { named = b.named; stays = b.stays; same = refl }, t.is.0, t.is.1)
+
+pub returns-then-not-job-clause-passed : goal.returns-then-not-job-clause-passed
+returns-then-not-job-clause-passed g c =
+    let b = looked c.in_ok-next.ensures.told c.next.ensures.same in
+    let t = rw c.in-End.is at c.in_ok-next.ensures.told in
+    (record { named = b.named; stays = b.stays; same = refl }, t.is.0, t.is.1, c.if-not-job.true)
+
+pub returns-in_ok-pass_gap-in-End-clause-passed : goal.returns-in_ok-pass_gap-in-End-clause-passed
+returns-in_ok-pass_gap-in-End-clause-passed g c =
+    let b = looked c.in_ok-next.ensures.told c.next.ensures.same in
+    let t = rw c.in-End.is at c.in_ok-next.ensures.told in
+    let over : IsOver c.args.job c.next.new.self c.next.new.self c.in-End.ending = over_here c.args.source.now c.next.new.self t c.next.ensures.same c.requires.1 c.if-not-job.false in
+    let old = held c.args.writers.now c.args.tally.now in
+    let new = held c.pass_gap.new.writers c.pass_gap.new.tally in
+    next_since c.args.job c.pass_gap.new.source old new step.Passed b (passes_gap over c.in_ok-pass_gap-in-End.ensures.passed)
+
+pub returns-in_err-pass_gap-in-End-clause-halts : goal.returns-in_err-pass_gap-in-End-clause-halts
+returns-in_err-pass_gap-in-End-clause-halts g c =
+    let b = looked c.in_ok-next.ensures.told c.next.ensures.same in
+    let t = rw c.in-End.is at c.in_ok-next.ensures.told in
+    let over : IsOver c.args.job c.next.new.self c.next.new.self c.in-End.ending = over_here c.args.source.now c.next.new.self t c.next.ensures.same c.requires.1 c.if-not-job.false in
+    on_any _ _ (halts_since b (halts_over over c.in_err-pass_gap-in-End.ensures.halts))
+
+pub returns-in_err-pass_gap-in-End-clause-fails : goal.returns-in_err-pass_gap-in-End-clause-fails
+returns-in_err-pass_gap-in-End-clause-fails g c =
+    let b = looked c.in_ok-next.ensures.told c.next.ensures.same in
+    fails_on c.from_residual-in_err-pass_gap-in-End.result _ _ c.from_residual-in_err-pass_gap-in-End.ensures.1
+    (λ reading. let (goes, named, same) = c.in_err-pass_gap-in-End.ensures.fails reading in (goes_since b.stays goes, named ∙ b.named, same))

@@ -12,7 +12,7 @@ pub returns-in_err-put-clause-front : goal.returns-in_err-put-clause-front
 returns-in_err-put-clause-front g c =
     let w = g.W.Write.contents c.args.report.now in
     let w' = g.W.Write.contents c.put.new.writer in
-    let text : c.deref.result.now ≡ table_text (tabled c.args.totals.now.kept) =
+    let text : c.deref.result.now ≡ table_text (tabled c.args.totals.now.tally.kept) =
     c.deref.ensures.value ∙ c.in_ok-lines.ensures.lines ∙ ap table_text c.paths.ensures in
     on_any _ _ (front_first w w' _ _ (subst (λ (x : List ℕ). AppendsFront w w' x) text c.in_err-put.ensures.front))
 
@@ -21,7 +21,7 @@ returns-clause-written g c =
     let w = g.W.Write.contents c.args.report.now in
     let w' = g.W.Write.contents c.put.new.writer in
     let w'' = g.W.Write.contents c.put_summary.new.report in
-    let text : c.deref.result.now ≡ table_text (tabled c.args.totals.now.kept) =
+    let text : c.deref.result.now ≡ table_text (tabled c.args.totals.now.tally.kept) =
     c.deref.ensures.value ∙ c.in_ok-lines.ensures.lines ∙ ap table_text c.paths.ensures in
     let lines = subst (λ (x : List ℕ). Appends w w' x) text c.in_ok-put.ensures.written in
     on_ok c.put_summary.result _ _
@@ -33,7 +33,7 @@ returns-clause-front g c =
     let w = g.W.Write.contents c.args.report.now in
     let w' = g.W.Write.contents c.put.new.writer in
     let w'' = g.W.Write.contents c.put_summary.new.report in
-    let text : c.deref.result.now ≡ table_text (tabled c.args.totals.now.kept) =
+    let text : c.deref.result.now ≡ table_text (tabled c.args.totals.now.tally.kept) =
     c.deref.ensures.value ∙ c.in_ok-lines.ensures.lines ∙ ap table_text c.paths.ensures in
     let lines = subst (λ (x : List ℕ). Appends w w' x) text c.in_ok-put.ensures.written in
     on_err c.put_summary.result _ _

@@ -1,10 +1,10 @@
 use Rattle.std.proofs.Common.{None, subst, sym}
 use Rattle.dump_io.specs.input.Cut.{EndsWith}
 use Rattle.dump_io.specs.input.Reading.{IsReadBehind, ReadsRest, ahead_of}
-use Rattle.dump_runs.specs.dumps.Run.{IsLeft}
+use Rattle.dump_runs.specs.dumps.Steps.{IsLeft}
 use Rattle.dump_io.proofs.Face.{if_ok}
-use Rattle.dump_runs.proofs.dumps.Stopping.{left_cut, left_unsound}
-use Rattle.dump_runs.proofs.dumps.gap.rest_of.Goals as goal
+use Rattle.dump_runs.proofs.dumps.Lines.{left_cut, left_unsound}
+use Rattle.dump_runs.proofs.dumps.source.rest_of.Goals as goal
 
 pub returns-in-CutOff-clause-left : goal.returns-in-CutOff-clause-left
 returns-in-CutOff-clause-left g c most all =
