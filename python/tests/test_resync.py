@@ -136,7 +136,7 @@ class Resync(unittest.TestCase):
     def test_a_lone_document(self) -> None:
         one, empty = bsonraw.encode({"n": 1}), bsonraw.encode({})
         data = b"\xff" * 5 + one + b"\xff" * 5 + empty + b"\xff" * 5 + one + empty
-        wanted = [(5, one), (27, one), (39, empty)]
+        wanted = [(5, one), (32, one), (44, empty)]
         self.assertEqual(list(bsonraw.documents(data, resync=True)), wanted)
 
     def test_nothing_inside_becomes_a_document(self) -> None:
