@@ -30,10 +30,6 @@ pub record HasPassed (b key : List ℕ) (it : Iter) (next : ℕ) (left : Option 
   pub others : HasNoKey key passed
   pub left_is : left ≡ Some rest
 
--- at first it has gone over none
-pub passed_none : (b key : List ℕ) (it : Iter) (d s : List ℕ) (left : Option (List ℕ)) → GoesThrough b it d s → left ≡ Some s → HasPassed b key it it.next left
-passed_none b key it d s left g is = record { d = d; s = s; rest = s; passed = []; begins = g; goes = g; leads = refl; others = tt; left_is = is }
-
 -- what it comes to from there on
 from : {b key : List ℕ} {it : Iter} {next : ℕ} {old : Option (List ℕ)} (h : HasPassed b key it next old) (after : Iter) (code : ℤ)
     → StopsAt (HasThisKey key) b h.rest next after code → FindsFrom b key h.s it after code

@@ -82,15 +82,6 @@ pub record HasPassed (limits : Limits) (bytes : List ℕ) (is_last : Bool) (at f
   pub works : Works limits bytes is_last at old new
   pub over : (rest : List ℕ) → MayFollow is_last rest → PassesOver limits (at + length (bytes ++ rest)) (bytes ++ rest) from to new all
 
-pub has_passed_none : (limits : Limits) (bytes : List ℕ) (last : Bool) (at from : ℕ) (w : Work) → from ≤ length bytes → Works limits bytes last at w w
-    → HasPassed limits bytes last at from from w w true
-has_passed_none limits bytes last at from w within works = record {
-  low = omega arith;
-  within = within;
-  works = works;
-  over = λ rest may. passes_none limits (at + length (bytes ++ rest)) (bytes ++ rest) from w;
-}
-
 -- no piece is at the front of the places before the next one
 pub has_passed_lacking : {limits : Limits} {bytes : List ℕ} {last : Bool} {at from : ℕ} {old new : Work} {all : Bool} (place next : ℕ) → place < next → next ≤ length bytes
     → LacksPieces limits.bytes last bytes place next → HasPassed limits bytes last at from (place + 1) old new all → HasPassed limits bytes last at from next old new all
