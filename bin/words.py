@@ -93,7 +93,7 @@ class Program:
         found = {}
         part = self.texts[f"{command} --help".strip()].text.partition("\nOptions:\n")[2]
         for short, long, value, words in re.findall(r"(?m)^ +(?:(-\w), )?(--[\w-]+)( <\w+>)?(.*)", part):
-            for name in (short, long, *re.findall(r"(?<=[ ,])--[\w-]+(?=[,\]])", words.partition("[aliases:")[2])):
+            for name in (short, long, *re.findall(r"(?<=[ ,])--[\w-]+(?=[,\]])", re.split(r"\[alias(?:es)?:", words)[-1] if "[alias" in words else "")):
                 if name:
                     full = name if name.startswith("--") else long
                     found[name] = Option(full, full + value, bool(value))

@@ -17,6 +17,7 @@ WANTED: List[Tuple[str, Set[str]]] = [
     ("c", {"check", "count", "canon"}),
     ("sou", {"sound"}),
     ("json --c", {"--canonical"}),
+    ("pick --pr", {"--pretty"}),
     ("check --c", set()),
     ("check --max", {"--max-bytes", "--max-depth"}),
     ("list --findings", set()),

@@ -33,7 +33,7 @@ LEFT = {
     "bsonraw": ["list", "canon", "check"],
     "bsonraw_dump": [
         *["check", "check -", "check folder", "check folder/file", "json -q --max-bytes 7 folder/file", "json -o x folder/file", "json -ox"],
-        *["count --at=3 -- folder/file", "pick a.b folder/file", "pick a.b", "check --limit 3 -q", "fields --paths 4", "json -qox folder"],
+        *["count --at=3 -- folder/file", "pick a.b folder/file", "pick a.b", "check --limit 3 -q", "json --pretty folder/file", "fields --paths 4", "json -qox folder"],
     ],
 }
 

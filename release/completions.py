@@ -46,7 +46,7 @@ def options(text: str) -> List[Option]:
     part = text.partition("\nOptions:\n")[2]
     for names, value, words in re.findall(r"(?m)^ +((?:-\w, )?--[\w-]+)(?: <(\w+)>)? +(.*)", part):
         values = re.search(r" \[possible values: (.*?)\]", words)
-        aliases = re.search(r" \[aliases: (.*?)\]", words)
+        aliases = re.search(r" \[alias(?:es)?: (.*?)\]", words)
         more = aliases[1].split(", ") if aliases else []
         found.append(Option([*names.split(", "), *more], value, values[1].split(", ") if values else [], re.sub(r" \[.*", "", words)))
     return found
