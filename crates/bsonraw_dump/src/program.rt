@@ -168,7 +168,7 @@ fn start(rt: &HostRuntime, run: &Run<'_>) -> Status {
     match run.reading.command().map(printing_of) {
         Some(printing) if printing.soon => {
             let is_file = node_of(rt, "/dev/stdout").is_some();
-            let clears = is_shown(rt, run.reading.style());
+            let clears = shows_progress(rt, run);
             let mut out = Prompt::new(rt, out, !is_file, clears);
             each(rt, run, &mut io::sink(), &mut out).status
         }
@@ -177,7 +177,7 @@ fn start(rt: &HostRuntime, run: &Run<'_>) -> Status {
             let mut findings = Findings {
                 rt,
                 writer: rt.stderr(),
-                clears: is_shown(rt, run.reading.style()),
+                clears: shows_progress(rt, run),
                 is_apart: !are_one(rt, "/dev/stdout", "/dev/stderr"),
             };
             each(rt, run, &mut out, &mut findings).status
@@ -198,7 +198,7 @@ impl<'a> Fill<'a> for Run<'a> {
         let mut findings = Findings {
             rt,
             writer: rt.stderr(),
-            clears: is_shown(rt, self.reading.style()),
+            clears: shows_progress(rt, self),
             is_apart: true,
         };
         each(rt, self, data, &mut findings)
