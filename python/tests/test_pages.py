@@ -102,11 +102,10 @@ class Pages(unittest.TestCase):
 
             thread = threading.Thread(target=send)
             thread.start()
-            before = tracemalloc.get_traced_memory()[0]
-            tracemalloc.reset_peak()
+            tracemalloc.clear_traces()
             request = server.get_request()
             handler(request[0], request[1], server)
-            peak = tracemalloc.get_traced_memory()[1] - before
+            peak = tracemalloc.get_traced_memory()[1]
             answers = b""
             request[0].shutdown(socket.SHUT_WR)
             try:

@@ -15,13 +15,18 @@ SEED = int(os.environ.get("SEED", "0")) or random.randrange(1, 1 << 24)
 COUNT = 400
 
 
+def some_bytes(r: random.Random, count: int) -> bytes:
+    """What randbytes gives, which 3.8 doesn't have."""
+    return r.getrandbits(8 * count).to_bytes(count, "little") if count else b""
+
+
 def document(r: random.Random, number: int) -> bytes:
-    found: dict = {"_id": ObjectId(r.randbytes(12)), "n": number}
+    found: dict = {"_id": ObjectId(some_bytes(r, 12)), "n": number}
     kind = r.randrange(4)
     if kind == 0:
         found["items"] = [{"sku": f"S{r.randrange(10**6)}", "price": r.random()} for _ in range(r.randrange(12))]
     elif kind == 1:
-        found["blob"] = Binary(r.randbytes(r.randrange(2000)), 0)
+        found["blob"] = Binary(some_bytes(r, r.randrange(2000)), 0)
     elif kind == 2:
         found.update(tags=["naïve", "東京"] * r.randrange(10), big=Int64(r.randrange(-(2**63), 2**63)), nothing=None)
     else:
@@ -63,7 +68,7 @@ def damaged(whole: List[bytes], r: random.Random) -> Iterator[Tuple[str, bytes]]
     yield "pages of 0", spliced(whole, r, 1024, lambda: bytes(1024))
     yield "pages of 255", spliced(whole, r, 1024, lambda: b"\xff" * 1024)
     yield "cuts", spliced(whole, r, 777, lambda: b"")
-    yield "insertions", spliced(whole, r, 0, lambda: r.randbytes(r.randrange(1, 4000)))
+    yield "insertions", spliced(whole, r, 0, lambda: some_bytes(r, r.randrange(1, 4000)))
     yield "the tail is cut", b"".join(whole)[:-25]
     yield "every second tag", b"".join(one[:4] + b"\x66" + one[5:] if i % 2 == 0 else one for i, one in enumerate(whole))
 
