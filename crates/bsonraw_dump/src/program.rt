@@ -168,7 +168,7 @@ fn start(rt: &HostRuntime, run: &Run<'_>) -> Status {
     match run.reading.command().map(printing_of) {
         Some(printing) if printing.soon => {
             let is_file = node_of(rt, "/dev/stdout").is_some();
-            let clears = shows_progress(rt, run);
+            let clears = rt.stdout().is_terminal() && shows_progress(rt, run);
             let mut out = Prompt::new(rt, out, !is_file, clears);
             each(rt, run, &mut io::sink(), &mut out).status
         }
