@@ -78,12 +78,12 @@ put_programs() {
 completions="bash-completion/completions zsh/site-functions fish/vendor_completions.d"
 
 # put_completions FOLDER: what bash, zsh and fish complete of the words of bsonraw-dump
-put_completions() {
-    for folder in $completions; do
-        case $folder in bash*) file=bsonraw-dump ;; zsh*) file=_bsonraw-dump ;; *) file=bsonraw-dump.fish ;; esac
-        mkdir -p "$1/$folder" && python3 -B "$root/release/completions.py" "${folder%%[-/]*}" >"$1/$folder/$file" && chmod 644 "$1/$folder/$file" || return 1
+put_completions() (
+    for into in $completions; do
+        case $into in bash*) file=bsonraw-dump ;; zsh*) file=_bsonraw-dump ;; *) file=bsonraw-dump.fish ;; esac
+        mkdir -p "$1/$into" && python3 -B "$root/release/completions.py" "${into%%[-/]*}" >"$1/$into/$file" && chmod 644 "$1/$into/$file" || exit 1
     done
-}
+)
 
 # build_again FILE WHAT FLAG..: builds the library once more, with these flags, over the proofs that its own build kept, unless that was done;
 # the sums of both are noted
