@@ -21,4 +21,3 @@ s/ and _cancel are proved; the others, which call bsonraw_append for a kind$/ an
 s/^ \* each, are tested\./ * each./
 s/ one after the other: proved -/ one after the other -/
 s/ from text: proved, but where and why a text is refused, which is tested -/ from text -/
-s/^| Calls | Proved | Tested |$/| Calls | With a contract, whose proof was not seen | Without |/

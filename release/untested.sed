@@ -11,4 +11,3 @@ s/^ \* bsonraw_iter_value is proved; the others, which call it, are tested\./ * 
 s/ and _cancel are proved; the others, which call bsonraw_append for a kind$/ and _cancel are proved; the others call bsonraw_append for a kind/
 s/^ \* each, are tested\./ * each, and no test of them was run./
 s/ a text is refused, which is tested -/ a text is refused, of which no test was run -/
-s/^| Calls | Proved | Tested |$/| Calls | Proved | Not proved, and no test was run |/
