@@ -8,7 +8,7 @@
 
 #define LONGEST 2147483647u /* bytes of a document */
 #define STEP 65536u         /* bytes that are read at once, at least */
-#define LONGEST_KEY 64u     /* bytes of a key that says of the document behind it that it is nested */
+#define LONGEST_KEY 64u     /* bytes of a key that says of the document after it that it is nested */
 
 /* The length that four bytes say. */
 static uint32_t length_at(const uint8_t *bytes) {
@@ -161,8 +161,8 @@ static void pass(struct bsonraw_stream *stream, size_t count) {
     stream->offset += count;
 }
 
-/* Whether no key that begins in front of a place ends behind it, so that the search needs no byte in front of it: a control character is
- * there, or one and a 0 behind it, or no 0 for as long as a key can be. */
+/* Whether no key that begins before a place ends after it, so that the search needs no byte before it: a control character is
+ * there, or one and then a 0, or no 0 for as long as a key can be. */
 static int cuts_no_key(const uint8_t *bytes, size_t at, size_t left) {
     if (bytes[at] < 32) return bytes[at] != 0 || (at > 0 && bytes[at - 1] < 32);
     return memchr(bytes + at, 0, left - at < LONGEST_KEY + 2 ? left - at : LONGEST_KEY + 2) == NULL;

@@ -3,5 +3,5 @@
 set -u
 root=$(dirname "$(dirname "$(realpath "$0")")")
 . "$root/checks/skips.sh"
-for shell in zsh fish; do command -v "$shell" >/dev/null || skips "$shell"; done
+for shell in zsh fish; do command -v "$shell" >/dev/null || skip "$shell"; done
 exec python3 -B "$root/checks/completions.py" "$root/release/completions.py"

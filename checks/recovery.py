@@ -7,7 +7,7 @@ from collections import Counter
 from recovery_dumps import documents, pieces
 from recovery_kinds import kinds
 
-# Of 1000 that lie whole these are kept at least. Else 995: behind bytes that end as a key does, and in a binary that goes on into other
+# Of 1000 that lie whole these are kept at least. Of the others 995: after bytes that end as a key does, and in a binary that goes on into other
 # documents, some are lost.
 LEAST = {
     "cuts": 980,
@@ -17,7 +17,7 @@ LEAST = {
     "CR is gone": 930,
 }
 
-# Of 1000 that are kept so many may be made up. Else 1. Of documents in texts any number may.
+# Of 1000 that are kept this many may be made up; of the others 1. Of documents in texts any number may.
 MOST = {
     "every second length random, 0 or near": 6,
     "a flip in every 10000 bytes": 4,

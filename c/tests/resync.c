@@ -132,7 +132,7 @@ static int is_text(const uint8_t *text, size_t n) {
     return 1;
 }
 
-/* Whether a tag 3 or 4, a key of 1 to 64 bytes, none under 32, and its 0 are right in front of a place, behind another. */
+/* Whether a tag 3 or 4, a key of 1 to 64 bytes, none under 32, and its 0 are right before a place, after the damage. */
 static int is_behind_key(size_t damage, size_t at) {
     size_t key = at - 1;
     if (data[at - 1] != 0) return 0;
@@ -197,7 +197,7 @@ static void goes_on_as(struct bsonraw_reader *reader, struct bsonraw_resync *res
     expect(memcmp(&before, reader, sizeof before) == 0, name, "more is changed than where documents go on");
 }
 
-/* What lies whole is kept, but one in fifty at most: one behind bytes that end as a key does, or in one that nobody wrote. */
+/* What lies whole is kept, except one in fifty at most: one after bytes that end as a key does, or in one that nobody wrote. */
 static void rescue(const char *name) {
     struct bsonraw_reader reader = {0, 0, 0, {0, 0, 0, 0, 0}};
     struct bsonraw_resync resync = {0, 0, 0, 0};

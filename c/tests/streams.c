@@ -269,7 +269,7 @@ static void look_at_step(void) {
     fclose(file);
 }
 
-/* A document goes on behind what is read first. */
+/* A document goes on after what is read first. */
 static void look_at_last_bytes(void) {
     struct bsonraw_stream s;
     FILE *file;
@@ -287,7 +287,7 @@ static void look_at_last_bytes(void) {
     fclose(file);
 }
 
-/* Where a search goes on, there is the key of a document that is nested, or the 0 behind it; that document isn't one of the dump. */
+/* Where a search goes on, there is the key of a document that is nested, or the 0 after it; that document isn't one of the dump. */
 static void look_at_key(size_t zero) {
     struct bsonraw_stream s;
     FILE *file;
@@ -300,8 +300,8 @@ static void look_at_key(size_t zero) {
     bsonraw_stream_from_file(&s, file);
     is(bsonraw_stream_read(&s), BSONRAW_NO_DOCUMENT, "a wrong length");
     is(bsonraw_stream_resync(&s, 99, 9), BSONRAW_OK, "a search over a key");
-    is(bsonraw_stream_read(&s), BSONRAW_OK, "the document behind the nested one");
-    is((int64_t)s.offset, 65600, "the document behind the nested one");
+    is(bsonraw_stream_read(&s), BSONRAW_OK, "the document after the nested one");
+    is((int64_t)s.offset, 65600, "the document after the nested one");
     bsonraw_stream_free(&s);
     fclose(file);
 }

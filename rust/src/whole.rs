@@ -323,9 +323,9 @@ impl<'a> Documents<'a> {
         Documents { bytes, reader: bsonraw_reader::default(), work: bsonraw_resync::default(), is_behind: false }
     }
 
-    /// Goes on where documents do behind damage: behind the document that came last, or where none was. They go on at the end,
+    /// Goes on where documents do after damage: after the document that came last, or where none was. They go on at the end,
     /// and where one without damage of over 8 bytes begins, within the limits, unless the tag and the key of a nested one are
-    /// right in front of it. The length of the damaged one is believed if its elements follow one another up to its end, or if
+    /// right before it. The length of the damaged one is believed if its elements follow one another up to its end, or if
     /// documents go on at no place inside. Where no document came yet, or all did, nothing is changed.
     ///
     /// ```
