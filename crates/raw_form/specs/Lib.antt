@@ -6,12 +6,10 @@ pub mod Tokens
 pub mod Flattening
 pub mod CodeLens
 -- definitions of raw_tree that are passed on
-pub use Rattle.raw_tree.specs.Aheads
 pub use Rattle.raw_tree.specs.Barriers
 pub use Rattle.raw_tree.specs.Looking
 pub use Rattle.raw_tree.specs.Places
 pub use Rattle.raw_tree.specs.Violations
-pub use Rattle.raw_tree.specs.Waits
 pub use Rattle.raw_tree.specs.Walks
 -- types of raw_tree that clauses mention
 pub use Rattle.raw_tree.specs.declared.walk.barrier.Barrier

@@ -21,7 +21,7 @@ use Rattle.raw_tree.specs.Encoding.{kind_of_tree, tree_payload}
 use Rattle.raw_tree.specs.Payload.{unset}
 use Rattle.raw_tree.specs.Members.{numbered, with_len}
 use Rattle.raw_tree.specs.Reading.{ReadsAs, ReadsRest, FrameStandsFor}
-use Rattle.raw_tree.specs.Validating.{left_of}
+use Rattle.raw_tree.specs.Looking.{left_of}
 use Rattle.raw_form.specs.Staying.{AreNextOwn, IsLeftAt, IsOwnForm}
 use Rattle.raw_form.specs.declared.rewritten.Keys.{Keys}
 use Rattle.raw_form.specs.declared.rewritten.Keys.TheVariants as keys

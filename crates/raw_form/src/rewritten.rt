@@ -7,7 +7,7 @@ ghost use Rattle.std.specs.Str.{bytes_eq};
 ghost use Rattle.bson_model.specs.Tree.{Entries, Tree};
 ghost use Rattle.raw_form.specs.Rewriting.{HasCode, IsLater, IsLeft, IsPlain, TakesNext, held_opening, member_key};
 ghost use Rattle.raw_form.specs.Staying.{IsOwnUpTo};
-ghost use Rattle.raw_tree.specs.Breaches.{keys_of_frames};
+ghost use Rattle.raw_tree.specs.Violations.{keys_of_frames};
 ghost use Rattle.raw_tree.specs.Members.{members};
 ghost use Rattle.raw_tree.specs.Reading.{ReadsAs, StandsFor, as_document};
 ghost use Rattle.raw_view.specs.Document.{bytes_of};

@@ -54,18 +54,19 @@ pub use Rattle.raw_tree.specs.declared.writer.Payload.{Payload}
 pub use Rattle.raw_tree.specs.declared.writer.members.Container.{Container}
 pub use Rattle.raw_tree.specs.declared.writer.members.Members.{Members}
 pub use Rattle.raw_tree.specs.put.Payload.{element_bytes, payload_of, unset}
-pub use Rattle.raw_tree.specs.reader.FrameCount.{AllAreCountedOneWay, AllHaveOneFrameCount, CountsFrames, CountsIn, CountsToFaultAt, HasFrameCount, HasFrameCountUpTo}
-pub use Rattle.raw_tree.specs.reader.FrameCount.{HasFramesToFault, HasFramesToFaultUpTo, HasFramesUntilFault, TellsFrames}
+pub use Rattle.raw_tree.specs.reader.FrameCount.{AllAreCountedOneWay, AllHaveOneFrameCount, CountsFrames, HasInside, CountsFront, HasFrameCount, HasFrameCountUpTo}
+pub use Rattle.raw_tree.specs.reader.FrameCount.{HasFramesUntilFault, HasFramesUntilUpTo, TellsFrames}
 pub use Rattle.raw_tree.specs.reader.Levels.{AreDrafted, AreRead, ClosesAs, DraftsTree, Finishes, IsOneMore, IsPairMore, IsSameDraft, IsUnread, KeepsKeys, PutsLevel, PutsValue, TellsFramesWithin, TellsReading}
 pub use Rattle.raw_tree.specs.reader.Levels.{sort_of, texts_of, tree_of_contents}
-pub use Rattle.raw_tree.specs.reader.Reading.{AllAreReadOneWay, AreReadOneWay, FailsInFrame, FirstFault, FirstFaultOfFrame, FirstFaultOfValue, FirstFaultUpTo, FrameStandsFor, Holds, IsFrameReadOneWay}
-pub use Rattle.raw_tree.specs.reader.Reading.{IsValueReadOneWay, Reads, ReadsAs, ReadsUpTo, Sort, StandForEach, StandsFor, TellsFirstFault, as_array, as_document, leaf_in_order, tree_of_pairs}
-pub use Rattle.raw_tree.specs.reader.WithinLimits.{AllAreAnsweredOneWay, AllHaveOneDepth, Barrier, BarsFrame, BarsFront, FirstBarrier, FirstFaultWithin, HasDepth, HasDepthUpTo, IsFaultWith}
-pub use Rattle.raw_tree.specs.reader.WithinLimits.{IsGreatestDepth, IsSoDeep, ReadsWithin, SaysBarrier, TellsFirstBarrier, TellsFirstFaultWithin, fault_of, too_deep, too_many_bytes}
-pub use Rattle.raw_tree.specs.validator.Breaches.{AllAreValidatedOneWay, BreachesFrame, BreachesFront, BreachesKeys, BreachesMeaning, HasBreachAs, HasBreachUpTo, IsValidatedOneWay, keys_of_frames}
+pub use Rattle.raw_tree.specs.reader.Reading.{AllAreReadOneWay, AreReadOneWay, FailsAt, FirstFault, FirstFaultAt, FirstFaultOfFrame, FirstFaultOfValue, FrameStandsFor, Holds, HoldsAs, IsFrameReadOneWay}
+pub use Rattle.raw_tree.specs.reader.Reading.{IsValueReadOneWay, Reads, ReadsAs, ReadsUpTo, Sort, StandForEach, StandForTrees, StandsFor, TellsFirstFault, as_array, as_document, barriers, leaf_in_order, tree_of_pairs}
+pub use Rattle.raw_tree.specs.reader.WithinLimits.{AllAreAnsweredOneWay, AllHaveOneDepth, Barrier, FirstBarrier, FirstFaultWithin, HasDepth, HasDepthUpTo, IsFaultWith}
+pub use Rattle.raw_tree.specs.reader.WithinLimits.{IsGreatestDepth, ReadsWithin, SaysBarrier, TellsFirstBarrier, TellsFirstFaultWithin, fault_of, too_deep, too_many_bytes}
+pub use Rattle.raw_tree.specs.validator.Breaches.{AllAreValidatedOneWay, HasBreachAs, IsValidatedOneWay}
+pub use Rattle.raw_tree.specs.validator.Violations.{BreachesKeys, keys_of_frames}
 pub use Rattle.key_set.specs.References.{texts}
-pub use Rattle.raw_tree.specs.validator.Validating.{HasPassed, HoldsAs, left_of}
+pub use Rattle.raw_tree.specs.walk.Looking.{left_of}
 pub use Rattle.raw_tree.specs.writer.Encoding.{IsEncoded, IsRefused, encoded_len, encoding, entries_bytes, entries_len, items_bytes, items_len, kind_of_tree, tree_payload}
-pub use Rattle.raw_tree.specs.writer.Measuring.{HasRoomFor, Measures}
+pub use Rattle.raw_tree.specs.writer.Encoding.{HasRoomFor, Measures}
 pub use Rattle.raw_tree.specs.writer.Members.{Begun, HoldsTrees, IsLeafOf, begun_at, begun_of, ended, key_bytes, members, members_left, members_start, numbered, opening, opening_len}
 pub use Rattle.raw_tree.specs.writer.Members.{tree_of_container, with_len}

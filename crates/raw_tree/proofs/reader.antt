@@ -1,5 +1,6 @@
 pub mod Decides
 pub mod Depths
+pub mod Faults
 pub mod FrameCounts
 pub mod LevelSteps
 pub mod Limited

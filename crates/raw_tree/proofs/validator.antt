@@ -5,4 +5,3 @@ pub mod LevelKeys
 pub mod NotCanonical
 pub mod OneBreach
 pub mod OneViolation
-pub mod Unlimited

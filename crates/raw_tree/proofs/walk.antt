@@ -1,6 +1,7 @@
 pub mod Bounds
 pub mod Come
 pub mod Common
+pub mod First
 pub mod Frames
 pub mod Fronts
 pub mod Levels

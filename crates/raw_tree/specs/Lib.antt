@@ -13,14 +13,12 @@ pub use Rattle.raw_tree.specs.reader.WithinLimits
 pub use Rattle.raw_tree.specs.writer.Encoding
 pub use Rattle.raw_tree.specs.writer.Members
 pub use Rattle.raw_tree.specs.validator.Breaches
-pub use Rattle.raw_tree.specs.validator.Validating
 pub use Rattle.raw_tree.specs.validator.ValidationSteps
 pub use Rattle.raw_tree.specs.validator.Violations
-pub use Rattle.raw_tree.specs.walk.Aheads
 pub use Rattle.raw_tree.specs.walk.Barriers
+pub use Rattle.raw_tree.specs.walk.First
 pub use Rattle.raw_tree.specs.walk.Looking
 pub use Rattle.raw_tree.specs.walk.Places
 pub use Rattle.raw_tree.specs.walk.Rooms
 pub use Rattle.raw_tree.specs.walk.Visits
-pub use Rattle.raw_tree.specs.walk.Waits
 pub use Rattle.raw_tree.specs.walk.Walks

@@ -1,8 +1,7 @@
-pub mod Aheads
 pub mod Barriers
+pub mod First
 pub mod Looking
 pub mod Places
 pub mod Rooms
 pub mod Visits
-pub mod Waits
 pub mod Walks

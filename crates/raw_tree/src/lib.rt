@@ -6,8 +6,8 @@
 //! first breaches. `put.rt` appends elements and values.
 //!
 //! In `specs/`, `reader/Reading.antt` says which tree bytes are read as, `Canonical.antt` which documents are
-//! canonical, `CanonicalForm.antt` states the main theorem, and `walk/Visits.antt` lists the elements of all
-//! levels.
+//! canonical, `CanonicalForm.antt` states the main theorem, `walk/First.antt` says where in a document
+//! something is first, as a fault or a breach, and `walk/Visits.antt` lists the elements of all levels.
 //!
 //! `raw_form`, `raw_resync`, `raw_bson`, the JSON crates, the programs and `bsonraw_c` rest on this crate.
 //! What is `#[doc(hidden)]` below is for them alone. `proofs/Face.antt` has the lemmas that they may cite;

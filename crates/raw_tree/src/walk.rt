@@ -6,7 +6,7 @@ ghost use Rattle.std.specs.Prelude.{◌≡◌, ◌+◌, ◌≤◌, ◌++◌, ◌
 ghost use Rattle.raw_tree.specs.walk.Looking.{HasNoneBefore, size_of};
 ghost use Rattle.raw_tree.specs.walk.Places.{Step};
 ghost use Rattle.raw_tree.specs.walk.Visits.{Visit};
-ghost use Rattle.raw_tree.specs.walk.Waits.{GoesOn, StoreSteps, level_behind, outermost_of};
+ghost use Rattle.raw_tree.specs.walk.Walks.{GoesOn, StoreSteps, level_behind, outermost_of};
 ghost use Rattle.raw_tree.specs.walk.Walks.{BeginsWithin, Comes, Enters, HasCome, IsBarrierAt, IsBegun, IsTooDeep, IsWithin, LeavesOrEnds, TellsErrorWithin};
 ghost use Rattle.raw_tree.specs.declared.walk.level.Waiting.{Waiting};
 ghost use Rattle.raw_view.specs.declared.document.RawDocument.{RawDocument};

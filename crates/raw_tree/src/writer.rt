@@ -6,7 +6,7 @@ ghost use Rattle.bson_model.specs.Bytes.{AreBytes};
 ghost use Rattle.bson_model.specs.Tree.{Tree, tree_of, tree_of_document, tree_of_list};
 ghost use Rattle.raw_tree.specs.CanonicalForm.{DocumentsComeBack, ListsComeBack};
 ghost use Rattle.raw_tree.specs.writer.Encoding.{encoded_len, tree_payload, kind_of_tree, IsEncoded, IsRefused};
-ghost use Rattle.raw_tree.specs.writer.Measuring.{HasRoomFor, Measures};
+ghost use Rattle.raw_tree.specs.writer.Encoding.{HasRoomFor, Measures};
 ghost use Rattle.raw_tree.specs.writer.Members.{begun_at, begun_of, ended, key_bytes, members_start, opening, opening_len, tree_of_container};
 ghost use Rattle.raw_view.specs.Frame.Envelope.{IsEnvelope};
 ghost use Rattle.raw_view.specs.Errors.{IsOutOfMemory};

@@ -5,12 +5,12 @@ pub use Rattle.bson_model.specs.Pairs.{keep, keys_of, with_pair}
 pub use Rattle.bson_model.specs.Tree.{Tree, document, entries, leaf, trees}
 pub use Rattle.raw_tree.specs.Barriers.{step_of, steps_of}
 pub use Rattle.raw_form.specs.Forms.{IsFormOf, RefusesFormOf}
-pub use Rattle.raw_tree.specs.Looking.{TakesFrame, size_of}
-pub use Rattle.raw_tree.specs.Places.{BeginsAt, Step}
+pub use Rattle.raw_tree.specs.Looking.{TakesFrame, left_of, size_of}
+pub use Rattle.raw_tree.specs.First.{BeginsAt, IsHere, IsInside, Step}
 pub use Rattle.raw_form.specs.Rewriting.{AreLeftOwn, FailsFor, HasCode, IsLater, IsLeft, IsMemberOf, IsPlain, IsRest, PutsMember, TakesNext, TakesPair, ended_by, header_len, held_opening, member_key}
 pub use Rattle.raw_form.specs.Staying.{IsOwnForm, IsOwnUpTo, IsWrittenAs, put_at}
 pub use Rattle.raw_form.specs.Tokens.{AreInside, AreTokens, AreTokensOf, HasTokens, IsTokenOf, NestedUpTo, filled_from}
-pub use Rattle.raw_tree.specs.Violations.{FirstViolationTo, ValidatesFrontAt, Violation}
+pub use Rattle.raw_tree.specs.Violations.{FirstViolationTo, Violation, violations}
 pub use Rattle.raw_tree.specs.declared.walk.faults.Start.{Start}
 pub use Rattle.raw_form.specs.declared.last.LastPlaces.{LastPlaces}
 pub use Rattle.raw_tree.specs.declared.walk.place.PathStep.{PathStep}
@@ -20,7 +20,6 @@ pub use Rattle.raw_tree.specs.Encoding.{encoded_len, entries_len, kind_of_tree, 
 pub use Rattle.raw_tree.specs.Members.{Begun, HoldsTrees, begun_at, ended, members, numbered, opening, opening_len}
 pub use Rattle.raw_tree.specs.Payload.{payload_of}
 pub use Rattle.raw_tree.specs.Reading.{Reads, ReadsAs, ReadsUpTo, Sort, StandForEach, StandsFor, as_document, leaf_in_order}
-pub use Rattle.raw_tree.specs.Validating.{left_of}
 pub use Rattle.raw_tree.specs.WithinLimits.{ReadsWithin}
 pub use Rattle.raw_tree.specs.declared.reader.limits.Limits.{Limits}
 pub use Rattle.raw_view.proofs.Face.{IsFrame-shorter, LeadsTo-more, one_frame, one_meaning}

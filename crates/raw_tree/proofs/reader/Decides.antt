@@ -1,15 +1,16 @@
 -- The outcome of bytes with an envelope to a depth: a tree, or a first barrier; and how many frames are in them, or come before the fault.
-use Rattle.std.proofs.Common.{◌≡◌, ◌⊎◌, inl, inr, ◌≤◌, ◌<◌, ◌+◌, ◌*◌, ◌++◌, ◌∷◌, [], ℕ, zero, suc, List, Option, None, Some, length, drop, arith, refl, length-drop}
+use Rattle.std.proofs.Common.{◌≡◌, ◌⊎◌, inl, inr, ◌≤◌, ◌<◌, ◌+◌, ◌-◌, ◌*◌, ◌++◌, ◌∷◌, [], ℕ, zero, suc, List, Option, None, Some, length, drop, arith, refl, length-drop}
 use Rattle.raw_tree.proofs.Common.{AreBytes, Tree, IsEnvelope, Frame, IsFrame, IsStop, IsWalk, End, Done, Stopped, LeadsTo, RawValue, KeyedFault, Means, Meaning, value, faulty, Barrier, FirstFaultWithin}
-use Rattle.raw_tree.proofs.Common.{fault_of, too_deep, too_many_bytes, CountsIn, CountsFrames, CountsToFaultAt, HasFrameCountUpTo, HasFramesToFault, HasFramesToFaultUpTo, HasFramesUntilFault, HoldsAs, IsSingle}
-use Rattle.raw_tree.proofs.Common.{Sort, as_document, as_array, code_with_scope, leaf, leaf_in_order, tree_of_pairs, StandsFor, StandForEach, ReadsUpTo, ReadsAs, Holds, FirstFault, FirstFaultOfValue}
-use Rattle.raw_tree.specs.reader.FrameCount.{stop, own_fault, nested_fault}
+use Rattle.raw_tree.proofs.Common.{fault_of, too_deep, too_many_bytes, HasInside, CountsFrames, CountsFront, HasFrameCountUpTo, HasFramesUntilFault, HasFramesUntilUpTo, HoldsAs, IsSingle}
+use Rattle.raw_tree.proofs.Common.{Sort, as_document, as_array, code_with_scope, leaf, leaf_in_order, tree_of_pairs, StandsFor, StandForEach, ReadsUpTo, ReadsAs, Holds, FailsAt, FirstFault, FirstFaultOfValue}
+use Rattle.raw_tree.specs.reader.FrameCount.{over, own_fault, nested_fault}
 use Rattle.bson_model.proofs.Face.{AreBytes-drop}
 use Rattle.raw_view.specs.Meaning as raw
 use Rattle.raw_view.proofs.Face.{LeadsTo-walk, LeadsTo-more, IsFrame-shorter, has_meaning, AreBytes-rest, document_has_walk, one_frame, no_frame_at_stop, no_frame_at_final}
 use Rattle.raw_tree.proofs.reader.FrameCounts.{counts_more, each_counted, one_until}
 use Rattle.raw_tree.proofs.reader.Loops.{document_read, each_read, holds_bytes, value_read, nested_envelope, nested_beside, stand_more}
-use Rattle.raw_tree.proofs.reader.OneTree.{deep_long, first_fault, never_too_many, tree_or_fault}
+use Rattle.raw_tree.proofs.reader.Faults.{bars_inside, deep_long, never_too_many}
+use Rattle.raw_tree.proofs.walk.First.{some_offset}
 
 -- passed frames
 
@@ -49,8 +50,8 @@ walk_behind s f r (g ∷ gs, end, w) at = (gs, end, rw (one_frame s g f w.0 r w.
 
 -- to this depth bytes are read as a tree and n frames are in them; or they have this first barrier, and n frames up to it if it is a fault
 abbrev pub IsOutcome : ℕ → Sort → List ℕ → Option Barrier → ℕ → Type 0
-IsOutcome depth sort b None n = (t : Tree) × ReadsUpTo depth sort b t × HasFrameCountUpTo depth b n
-IsOutcome depth sort b (Some x) n = FirstFaultWithin depth b x × ((fault : KeyedFault) → x ≡ fault_of fault → HasFramesToFault b n)
+IsOutcome depth sort b None n = (t : Tree) × ReadsUpTo depth sort b t × HasFrameCountUpTo depth b n × HasFramesUntilFault b n
+IsOutcome depth sort b (Some x) n = FirstFaultWithin depth b x × ((fault : KeyedFault) → x ≡ fault_of fault → HasFramesUntilFault b n)
 
 -- the bytes have an outcome, after at least this many frames
 pub record HasOutcome (depth : ℕ) (sort : Sort) (b : List ℕ) (least : ℕ) : Type 0 where
@@ -74,11 +75,11 @@ held_stands depth (raw.scoped code e) sort d t (s, same) read =
     let scope = document_read e t (depth, whole) in
     (code_with_scope code scope.0, (scope.0, rw scope.1 at whole, refl))
 
-pub held_counts : (depth : ℕ) (v : RawValue) (sort : Sort) (d : List ℕ) (n : ℕ) → HoldsAs v sort d → HasFrameCountUpTo depth d n → CountsIn (HasFrameCountUpTo depth) (value v) n
+pub held_counts : (depth : ℕ) (v : RawValue) (sort : Sort) (d : List ℕ) (n : ℕ) → HoldsAs v sort d → HasFrameCountUpTo depth d n → HasInside (HasFrameCountUpTo depth) (value v) n
 held_counts depth v sort d n holds count = grind arith
 
 -- a value without nested bytes stands for the same tree to any depth, and no frame is in it
-none_inside : (inside : ℕ) (v : RawValue) (t : Tree) → IsSingle v → StandsFor ReadsAs v t → StandsFor (ReadsUpTo inside) v t × CountsIn (HasFrameCountUpTo inside) (value v) 0
+none_inside : (inside : ℕ) (v : RawValue) (t : Tree) → IsSingle v → StandsFor ReadsAs v t → StandsFor (ReadsUpTo inside) v t × HasInside (HasFrameCountUpTo inside) (value v) 0
 none_inside inside v t none h = grind arith
 
 -- a value stands for a tree and holds no frames; or it holds nested bytes
@@ -96,7 +97,7 @@ pub record IsAhead (s : List ℕ) (f : Frame) (v : RawValue) (r : List ℕ) : Ty
 -- the value stands for the tree, and m frames are in it; the frame has at least two bytes for each of these and for itself
 pub record Stands (inside : ℕ) (s : List ℕ) (v : RawValue) (r : List ℕ) (t : Tree) (m : ℕ) : Type 0 where
   pub tree : StandsFor (ReadsUpTo inside) v t
-  pub counts : CountsIn (HasFrameCountUpTo inside) (value v) m
+  pub counts : HasInside (HasFrameCountUpTo inside) (value v) m
   pub small : 2 * m + length r + 2 ≤ length s
 
 -- this holds of a value with nested bytes
@@ -115,30 +116,35 @@ single_stands {inside} {s} {f} {v} {r} at t single stands =
     record { tree = none.0; counts = none.1; small = omega (arith, IsFrame-shorter s f r at.frame) }
 
 module _ {inside n : ℕ} {b s : List ℕ} {pairs : List (List ℕ × Tree)} (is : Passed inside b s pairs n) where
-  counts_to : (levels m : ℕ) → CountsToFaultAt (HasFramesToFaultUpTo levels) s n m → HasFramesToFault b m
+  counts_to : (levels m : ℕ) → CountsFront (HasFramesUntilUpTo levels) s n m → HasFramesUntilFault b m
   counts_to levels m at = (suc levels, (is.frames, pairs, s, n, is.leads, each_read inside is.frames pairs is.each, each_counted inside is.frames n is.counts, at))
 
   -- the walk ends, and the bytes are read
-  pub ends : (sort : Sort) → s ≡ 0 ∷ [] → ReadsUpTo (suc inside) sort b (tree_of_pairs sort pairs) × HasFrameCountUpTo (suc inside) b n
+  pub ends : (sort : Sort) → s ≡ 0 ∷ [] → ReadsUpTo (suc inside) sort b (tree_of_pairs sort pairs) × HasFrameCountUpTo (suc inside) b n × HasFramesUntilFault b n
   ends sort final =
       let walk = LeadsTo-walk (drop 4 b) is.frames s Done is.leads final in
-      ((pairs, (is.frames, walk, is.each), refl), (is.frames, Done, walk, is.counts))
+      ((pairs, (is.frames, walk, is.each), refl), (is.frames, Done, walk, is.counts), counts_to 0 n (over (no_frame_at_final s final) refl))
 
-  -- or it stops
+  -- or it fails there
+  fails : (key : Option (List ℕ)) (fault : KeyedFault) → FailsAt s key fault → FirstFaultWithin (suc inside) b (fault_of fault)
+  fails key fault at = (record { number = length is.frames; key = key } ∷ [], length b - length s, (is.frames, s, is.leads, (pairs, is.each), inl (key, at, refl, omega (arith, is.small))))
+
   pub stops : (sort : Sort) (fault : KeyedFault) → IsStop s fault.fault fault.key → IsOutcome (suc inside) sort b (Some (fault_of fault)) n
-  stops sort fault at = ((is.frames, pairs, s, is.leads, is.each, inl at), λ g e. counts_to 0 n (stop fault at refl))
+  stops sort fault at = (fails None fault at, λ g e. counts_to 0 n (over (no_frame_at_stop s fault.fault fault.key at) refl))
 
-  -- or a frame means a fault
   pub means_fault : (sort : Sort) (fault : KeyedFault) (f : Frame) (r : List ℕ) → IsFrame s f r → Means f (faulty fault) → IsOutcome (suc inside) sort b (Some (fault_of fault)) (n + 1)
-  means_fault sort fault f r at m = ((is.frames, pairs, s, is.leads, is.each, inr (f, r, at, inl m)), λ g e. counts_to 0 (n + 1) (own_fault f r fault at m refl))
+  means_fault sort fault f r at m = (fails (Some f.key) fault (f, r, at, m, refl), λ g e. counts_to 0 (n + 1) (own_fault f r fault at m refl))
 
   module _ {f : Frame} {v : RawValue} {r : List ℕ} (at : IsAhead s f v r) where
     -- or the nested bytes of a frame have a barrier
     pub barred_inside : (sort of : Sort) (d : List ℕ) (x : Barrier) (m : ℕ) → Holds v d → IsOutcome inside of d (Some x) m → IsOutcome (suc inside) sort b (Some x) (n + 1 + m)
-    barred_inside sort of d x m holds (bars, until) =
+    barred_inside sort of d x m holds ((path, within, bars), until) =
+        let beside = nested_beside s f r v d at.frame at.means holds in
+        let (offset, there) = some_offset b s d r path within (omega (arith, is.small)) (omega (arith, beside)) in
         let to = λ (fault : KeyedFault) (e : x ≡ fault_of fault).
-        counts_to (until fault e).0 (n + 1 + m) (nested_fault f r v d fault m at.frame at.means holds (first_fault inside d fault (rw e at bars)) (until fault e).1 refl) in
-        ((is.frames, pairs, s, is.leads, is.each, inr (f, r, at.frame, inr (v, d, at.means, holds, bars))), to)
+        counts_to (until fault e).0 (n + 1 + m) (nested_fault f r v d fault m at.frame at.means holds (inside, path, within, rw e at bars) (until fault e).1 refl) in
+        let front = bars_inside inside b is.frames v d x path within offset (at.frame, at.means, holds) bars there in
+        ((record { number = length is.frames; key = Some f.key } ∷ path, offset, (is.frames, s, is.leads, (pairs, is.each), front)), to)
 
     -- or the frame is passed
     pub passed_more : (t : Tree) (m : ℕ) → Stands inside s v r t m → Passed inside b r (pairs ++ (f.key, t) ∷ []) (n + 1 + m)
@@ -162,7 +168,7 @@ module _ {inside n : ℕ} {b s : List ℕ} {pairs : List (List ℕ × Tree)} (is
         shorter = nested_beside s f r v d at.frame at.means (holds_bytes v of d holds)
 
         from : (x : Option Barrier) → IsOutcome inside of d x h.n → HasOutcome (suc inside) sort b (n + 1 + m)
-        from None (t, read, count) =
+        from None (t, read, count, whole) =
             let (u, stands) = held_stands inside v of d t holds read in
             at_least (n + 1 + m) (omega (arith, h.more)) (on _ _ (passed_more u h.n (nested_stands at of d u h.n holds stands count h.small)))
         from (Some x) bars =
@@ -193,14 +199,16 @@ module _ (inside : ℕ) (nested : AllComeTo inside) (sort : Sort) where
 
   -- along a walk
   along : (others : List Frame) (end : End) {b s : List ℕ} {pairs : List (List ℕ × Tree)} {n : ℕ} (is : Passed inside b s pairs n) → IsWalk s others end → HasOutcome (suc inside) sort b n
-  along [] Done {pairs = pairs} {n = n} is w = record { x = None; n = n; more = omega arith; small = omega (arith, is.small); is = (tree_of_pairs sort pairs, (ends is sort w).0, (ends is sort w).1) }
+  along [] Done {pairs = pairs} {n = n} is w =
+      let (read, counts, until) = ends is sort w in
+      record { x = None; n = n; more = omega arith; small = omega (arith, is.small); is = (tree_of_pairs sort pairs, read, counts, until) }
   along [] (Stopped fault key) {n = n} is w =
       let bad : KeyedFault = record { fault = fault; key = key } in
       record { x = Some (fault_of bad); n = n; more = omega arith; small = omega (arith, is.small); is = stops is sort bad w }
   along (f ∷ others) end {n = n} is w = at_least n (omega arith) (behind_frame is f w.0 w.1 (λ more k on. along others end on w.2))
 
 come_to : (depth : ℕ) → AllComeTo depth
-come_to zero sort b env = record { x = Some too_deep; n = 0; more = omega arith; small = omega (arith, env.enough); is = (refl, λ fault e. cc) }
+come_to zero sort b env = record { x = Some too_deep; n = 0; more = omega arith; small = omega (arith, env.enough); is = (([], 0, (refl, refl, refl)), λ fault e. cc) }
 come_to (suc depth) sort b env =
     let none = none_passed depth b env in
     along depth (come_to depth) sort none.walk.0 none.walk.1 none none.walk.2
@@ -217,17 +225,21 @@ module _ (sort : Sort) {inside n : ℕ} {b s : List ℕ} {pairs : List (List ℕ
 
 -- a level is too deep, or this is the number of frames up to the first fault
 pub outcome_until : (depth : ℕ) (sort : Sort) (b : List ℕ) (x : Option Barrier) (n : ℕ) → IsOutcome depth sort b x n → FirstFaultWithin depth b too_deep ⊎ HasFramesUntilFault b n
-outcome_until depth sort b None n (t, read, count) = inr (inl ((λ fault bad. tree_or_fault sort b t fault (depth, read) bad), (depth, count)))
-outcome_until depth sort b (Some (fault_of fault)) n h = inr (inr (h.1 fault refl))
+outcome_until depth sort b None n (t, read, count, until) = inr until
+outcome_until depth sort b (Some (fault_of fault)) n h = inr (h.1 fault refl)
 outcome_until depth sort b (Some too_deep) n h = inl h.0
 outcome_until depth sort b (Some too_many_bytes) n h = absurd (never_too_many depth b h.0)
 
 pub decided_within : (depth : ℕ) (sort : Sort) (b : List ℕ) → IsEnvelope b → ((t : Tree) × ReadsUpTo depth sort b t) ⊎ ((x : Barrier) × FirstFaultWithin depth b x)
-decided_within depth sort b env = let h = come_to depth sort b env in grind (arith, h.is)
+decided_within depth sort b env = let h = come_to depth sort b env in from h.x h.n h.is
+  where
+    from : (x : Option Barrier) (n : ℕ) → IsOutcome depth sort b x n → ((t : Tree) × ReadsUpTo depth sort b t) ⊎ ((x : Barrier) × FirstFaultWithin depth b x)
+    from None n (t, read, counts, until) = inl (t, read)
+    from (Some x) n (bars, until) = inr (x, bars)
 
 -- no level is deeper than the number of bytes
 fault_found : (n : ℕ) (b : List ℕ) (x : Barrier) → length b < n → FirstFaultWithin n b x → (fault : KeyedFault) × FirstFault b fault
-fault_found n b (fault_of fault) more h = (fault, first_fault n b fault h)
+fault_found n b (fault_of fault) more h = (fault, (n, h.0, h.1, h.2))
 fault_found n b too_deep more h = absurd (omega (arith, more, deep_long n b h))
 fault_found n b too_many_bytes more h = absurd (never_too_many n b h)
 

@@ -1,10 +1,10 @@
 -- Depths: all bytes with an envelope have exactly one depth. Bytes are read within n levels if and only if they are read and are at most n
 -- deep.
 use Rattle.std.proofs.Common.{◌≡◌, ◌≤◌, ◌∷◌, [], ℕ, max, zero, suc, List, length, arith, refl, sym, ◌∙◌}
-use Rattle.raw_tree.proofs.Common.{le-max_left, le-max_right, max-le, Tree, Frame, Done, RawValue, Meaning, value, AllHaveOneDepth, IsSoDeep}
+use Rattle.raw_tree.proofs.Common.{le-max_left, le-max_right, max-le, Tree, Frame, Done, RawValue, value, AllHaveOneDepth, HasInside}
 use Rattle.raw_tree.proofs.Common.{IsGreatestDepth, HasDepthUpTo, HasDepth, Sort, StandsFor, StandForEach, ReadsUpTo, ReadsAs}
 use Rattle.raw_view.proofs.Face.{one_walk, one_meaning}
-use Rattle.raw_tree.proofs.reader.FrameCounts.{AgreeOn, has_measures}
+use Rattle.raw_tree.proofs.reader.FrameCounts.{AgreeOn, counts_same, has_measures}
 use Rattle.raw_tree.proofs.reader.Loops.{reads_up_to, stand_each_on, stands_on}
 
 -- what is read within n levels is at most n deep
@@ -14,7 +14,7 @@ abbrev pub AreShallow : ℕ → (Sort → List ℕ → Tree → Type 0) → Type
 AreShallow n N = (sort : Sort) (d : List ℕ) (t : Tree) → N sort d t → (k : ℕ) × HasDepthUpTo n d k × (k ≤ n) × ReadsUpTo k sort d t
 
 value_shallow : (n : ℕ) → AreShallow n (ReadsUpTo n) → (v : RawValue) (t : Tree) → StandsFor (ReadsUpTo n) v t
-    → (k : ℕ) × IsSoDeep (HasDepthUpTo n) (value v) k × (k ≤ n) × StandsFor (ReadsUpTo k) v t
+    → (k : ℕ) × HasInside (HasDepthUpTo n) (value v) k × (k ≤ n) × StandsFor (ReadsUpTo k) v t
 value_shallow n nested v t h = grind arith
 
 each_shallow : (n : ℕ) → AreShallow n (ReadsUpTo n) → (fs : List Frame) (pairs : List (List ℕ × Tree)) → StandForEach (ReadsUpTo n) fs pairs
@@ -36,12 +36,9 @@ shallow_within (suc n) sort b t h =
 
 -- one depth at most
 
-so_deep_same : (N M : List ℕ → ℕ → Type 0) → AgreeOn N M → (m : Meaning) (k j : ℕ) → IsSoDeep N m k → IsSoDeep M m j → k ≡ j
-so_deep_same N M same m k j h i = grind arith
-
 greatest_same : (N M : List ℕ → ℕ → Type 0) → AgreeOn N M → (fs : List Frame) (k j : ℕ) → IsGreatestDepth N fs k → IsGreatestDepth M fs j → k ≡ j
 greatest_same N M same [] k j h i = h ∙ sym i
-greatest_same N M same (f ∷ fs) k j h i = grind (arith, one_meaning, so_deep_same, greatest_same N M same fs)
+greatest_same N M same (f ∷ fs) k j h i = grind (arith, one_meaning, counts_same, greatest_same N M same fs)
 
 one_depth_within : (n m : ℕ) → AgreeOn (HasDepthUpTo n) (HasDepthUpTo m)
 one_depth_within zero m b k j h i = absurd h

@@ -2,17 +2,16 @@
 -- out of memory or the end is returned; and less remains.
 use Rattle.std.proofs.Common.{◌≡◌, inl, inr, ◌<◌, ◌≤◌, ◌+◌, ◌-◌, ◌/◌, take, length-take, ◌++◌, ◌∷◌, [], ℕ, suc, List, Option, None, Some, Result, Ok, Err, IfOk, IfErr, length, drop, arith, ap, refl, ◌∙◌, subst, length-drop, length-append, sum_by, reverse, Bor}
 use Rattle.std.proofs.lemmas.List.{length-reverse, reverse-append}
-use Rattle.raw_tree.proofs.Common.{sum_by_push, Tree, tree_of, Bson, IsEnvelope, bytes_of, frame_of, IsOutOfMemory, Frame, RawValue, KeyedFault, BorrowedError, Barrier, max_length, value_of}
+use Rattle.raw_tree.proofs.Common.{sum_by_push, Tree, tree_of, Bson, IsEnvelope, bytes_of, frame_of, IsOutOfMemory, Frame, RawValue, BorrowedError, Barrier, max_length, value_of}
 use Rattle.raw_tree.proofs.Common.{RawBsonRef, RawElement, Error, HasFrameCount, TellsFrames, sort_of, held_value, holding, tree_of_contents, IsOneMore, IsUnread, IsSingle, Finishes, DraftsTree, PutsLevel, PutsValue}
-use Rattle.raw_tree.proofs.Common.{TellsReading, fault_of, too_deep, SaysBarrier, Sort, tree_of_pairs, StandsFor, ReadsUpTo, FirstFault, Contents, Holder, Level, Nested, Waiting, left_of}
-use Rattle.raw_tree.proofs.walk.Common.{HasValue, Sees, frames_in, option_copied}
+use Rattle.raw_tree.proofs.Common.{TellsReading, fault_of, too_deep, SaysBarrier, Sort, tree_of_pairs, StandsFor, ReadsUpTo, Contents, Holder, Level, Nested, Waiting, left_of}
+use Rattle.raw_tree.proofs.walk.Common.{Finds, frames_in, option_copied}
 use Rattle.raw_view.specs.Errors.{HasKeyCopy}
 use Rattle.raw_view.proofs.Face.{IsFrame-shorter, told_fault}
 use Rattle.raw_tree.specs.declared.walk.level.Next.TheVariants as seen
 use Rattle.raw_tree.proofs.reader.Decides.{Stands, ends, means_fault, nested_stands, none_passed, outcome_behind, outcome_from, outcome_until, passed_more, single_stands, stops, until_small}
 use Rattle.raw_tree.proofs.reader.Stacks.{AreWaiting, Front, IsTold, drafted_none, held_as, held_holds, IsReading, IsWaiting, told_inside, told_outward, with_left}
 use Rattle.raw_tree.proofs.reader.Loops.{nested_beside}
-use Rattle.raw_tree.proofs.reader.OneTree.{tree_or_fault}
 
 -- a level
 
@@ -42,12 +41,11 @@ level_finished : {inside n : ℕ} {u : Nested} {level : Level} (is : IsReading i
 level_finished {inside} {n} {u} is end c fin =
     let b = bytes_of u.document in
     let sort = sort_of u.holder in
-    let (read, counts) = ends is.passed sort end in
+    let (read, counts, until) = ends is.passed sort end in
     let tree : tree_of_contents c ≡ tree_of_pairs sort is.pairs = fin.1 is.pairs is.drafted ∙ ap (λ x. tree_of_pairs (sort_of x) is.pairs) is.held in
     let all : n ≡ is.here = omega (arith, is.total) in
     let count : HasFrameCount b n = rw all (suc inside, counts) in
-    let no_fault = λ (fault : KeyedFault) (bad : FirstFault b fault). tree_or_fault sort b (tree_of_pairs sort is.pairs) fault (suc inside, read) bad in
-    ((fin.0 ∙ is.held, rw tree read), tt, inr (inl (no_fault, count), count))
+    ((fin.0 ∙ is.held, rw tree read), tt, inr (rw all until, count))
 
 -- a level that continues with the value at the front, which stands for a tree
 level_put : {inside n all : ℕ} {i : Nested × ℕ} {left : Option (List ℕ)} (level on : Level) {f : Frame} (is : IsReading inside i (with_left level left) n) (v : RawValue) (t : Tree) (m : ℕ)
@@ -65,11 +63,11 @@ level_put level on {f = f} is v t m front stands more grown = record {
 
 -- what a look says of a value at the front of the rest of a level
 module _ {s : List ℕ} {old : Option (List ℕ)} (left : old ≡ Some s) (new : Option (List ℕ)) (e : RawElement) where
-  pub front_whole : (v : RawBsonRef) → Sees old new (seen.Whole e v) → HasValue (seen.Whole e v) → Front s (frame_of e) (value_of v) new
-  front_whole v sees has = let at = rw left at sees in (at.0, record { frame = at.2; means = has.0 }, at.5)
+  pub front_whole : (v : RawBsonRef) → Finds old new (seen.Whole e v) → Front s (frame_of e) (value_of v) new × IsSingle (value_of v)
+  front_whole v looked = let at = rw left at looked in ((at.0, record { frame = at.1; means = at.2 }, at.4), at.3)
 
-  pub front_inside : (v : Nested) → Sees old new (seen.Inside e v) → HasValue (seen.Inside e v) → Front s (frame_of e) (held_value v) new
-  front_inside v sees has = let at = rw left at sees in (at.0, record { frame = at.2; means = has }, at.5)
+  pub front_inside : (v : Nested) → Finds old new (seen.Inside e v) → Front s (frame_of e) (held_value v) new
+  front_inside v looked = let at = rw left at looked in (at.0, record { frame = at.1; means = at.2 }, at.3)
 
 -- the levels
 
@@ -124,7 +122,7 @@ module _ {depth n : ℕ} {u : Nested} {ws : List Waiting} {level : Level} (are :
 
   -- a look finds a stop, or the fault that an element means
   module _ (new : Option (List ℕ)) (e : BorrowedError) (answer : Error) (copy : HasKeyCopy e.kind (option_copied e.key) answer) where
-    pub failed : (key : Option (Bor (List ℕ))) → Sees level.elements new (seen.Fault key e) → TellsReading depth u (Err answer) (n + frames_in (seen.Fault key e))
+    pub failed : (key : Option (Bor (List ℕ))) → Finds level.elements new (seen.Fault key e) → TellsReading depth u (Err answer) (n + frames_in (seen.Fault key e))
     failed None sees =
         let (fault, at, says) = rw are.reading.left at sees in
         barrier_told depth u answer (fault_of fault) (told_fault e fault answer says copy)
@@ -135,7 +133,7 @@ module _ {depth n : ℕ} {u : Nested} {ws : List Waiting} {level : Level} (are :
         (told (Some (fault_of fault)) (n + 1) (are.reading.here + 1, omega (arith, are.reading.total), means_fault are.reading.passed sort fault f.0 f.1 f.2 f.3))
 
   -- no element is left
-  module _ (new : Option (List ℕ)) (sees : Sees level.elements new (seen.End)) where
+  module _ (new : Option (List ℕ)) (sees : Finds level.elements new (seen.End)) where
     at_end : are.reading.rest ≡ 0 ∷ []
     at_end = rw are.reading.left at sees
 
@@ -183,7 +181,7 @@ module _ {depth n : ℕ} {u : Nested} {ws : List Waiting} {level : Level} (are :
     pub too_deep_inside : (e : Error) → depth ≤ suc (length ws) → SaysBarrier e too_deep → TellsReading depth u (Err e) (n + 1)
     too_deep_inside e many says =
         let none : are.inside ≡ 0 = omega (arith, many, are.levels) in
-        let entered : IsTold (Some too_deep) (n + 1) are.inside (v, n + 1) = rw none (0, omega arith, (refl, λ fault e. cc)) in
+        let entered : IsTold (Some too_deep) (n + 1) are.inside (v, n + 1) = rw none (0, omega arith, (([], 0, (refl, refl, refl)), λ fault e. cc)) in
         barrier_told depth u e too_deep says (told (Some too_deep) (n + 1) (told_inside are.reading (v, n + 1) front refl (Some too_deep) (n + 1) entered))
 
     -- or they are the next level, and this one waits for them

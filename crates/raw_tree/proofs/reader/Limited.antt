@@ -1,10 +1,11 @@
 -- Within limits, bytes are read as one tree or have one first barrier, and never both. To a depth that no document has, all bytes are read.
-use Rattle.std.proofs.Common.{◌⊎◌, inl, inr, ◌<◌, ◌≤◌, ℕ, List, Result, IfOk, IfErr, length, arith, refl}
+use Rattle.std.proofs.Common.{◌≡◌, ◌∙◌, ◌⊎◌, inl, inr, ◌<◌, ◌≤◌, ℕ, List, Result, Ok, Err, IfOk, IfErr, length, arith, refl, sym}
 use Rattle.raw_tree.proofs.Common.{cases_lt, Tree, IsEnvelope, Barrier, too_many_bytes, ReadsWithin, FirstBarrier, AllAreAnsweredOneWay, as_document, ReadsUpTo, Limits, bytes_of, max_length, Error}
-use Rattle.raw_tree.proofs.Common.{TellsFrames, AreRead, TellsReading, too_deep, FirstFaultWithin, TellsFirstFault, Contents, Nested}
+use Rattle.raw_tree.proofs.Common.{TellsFrames, TellsFramesWithin, AreRead, TellsReading, fault_of, too_deep, FirstFaultWithin, TellsFirstFault, Contents, Nested}
 use Rattle.raw_tree.proofs.reader.Decides.{decided_within}
 use Rattle.raw_tree.proofs.reader.Depths.{shallow_within, read_to_depth}
-use Rattle.raw_tree.proofs.reader.OneTree.{apart_within, deep_long, first_fault, never_too_many, one_barrier_within, one_tree}
+use Rattle.raw_tree.proofs.reader.Faults.{apart_within, deep_long, never_too_many, one_barrier_within}
+use Rattle.raw_tree.proofs.reader.OneTree.{one_tree}
 
 -- limits
 
@@ -31,12 +32,18 @@ module _ (limits : Limits) (b : List ℕ) where
   tree_or_barrier t x h (inl many) = omega (arith, h.few_bytes, many.0)
   tree_or_barrier t x h (inr bars) = apart_within limits.depth as_document b t x (to_depth t h) bars.1
 
+  one_barrier : (x other : Barrier) → FirstBarrier limits b x → FirstBarrier limits b other → other ≡ x
+  one_barrier x other (inl h) (inl k) = k.1 ∙ sym h.1
+  one_barrier x other (inl h) (inr k) = absurd (omega (arith, h.0, k.0))
+  one_barrier x other (inr h) (inl k) = absurd (omega (arith, h.0, k.0))
+  one_barrier x other (inr h) (inr k) = one_barrier_within limits.depth b other x k.1 h.1
+
 pub answered_one_way : (limits : Limits) → AllAreAnsweredOneWay limits
 answered_one_way limits b env = record {
   either = either_way limits b env;
   not_both = tree_or_barrier limits b;
   one_tree = λ t other r s. one_tree as_document b other t s.read r.read;
-  one_barrier = λ x other h k. grind (arith, one_barrier_within);
+  one_barrier = one_barrier limits b;
 }
 
 -- all levels
@@ -45,7 +52,16 @@ answered_one_way limits b env = record {
 never_too_deep : (n : ℕ) (b : List ℕ) → IsEnvelope b → max_length < n → FirstFaultWithin n b too_deep → ⊥
 never_too_deep n b env more h = omega (arith, env.header.fits, deep_long n b h)
 
+frames_of_all : (depth : ℕ) (u : Nested) → max_length < depth → (result : Result Contents Error) (n : ℕ) → TellsFramesWithin depth (bytes_of u.document) result n
+    → TellsFrames (bytes_of u.document) result n
+frames_of_all depth u more result n (inl deep) = absurd (never_too_deep depth (bytes_of u.document) u.document.envelope more deep)
+frames_of_all depth u more result n (inr frames) = frames
+
 -- what is returned for such a depth is returned for all levels
 pub told_of_all : (depth : ℕ) (u : Nested) → max_length < depth → (result : Result Contents Error) (n : ℕ) → TellsReading depth u result n
     → IfOk result (AreRead u.holder (bytes_of u.document)) × IfErr result (TellsFirstFault (bytes_of u.document)) × TellsFrames (bytes_of u.document) result n
-told_of_all depth u more result n told = grind (arith, first_fault, never_too_deep, never_too_many)
+told_of_all depth u more (Ok c) n (tree, fault, frames) = ((tree.0, (depth, tree.1)), tt, frames_of_all depth u more (Ok c) n frames)
+told_of_all depth u more (Err e) n (tree, inl memory, frames) = (tt, inl memory, frames_of_all depth u more (Err e) n frames)
+told_of_all depth u more (Err e) n (tree, inr (fault_of fault, bars, says), frames) = (tt, inr (fault, (depth, bars.0, bars.1, bars.2), says), frames_of_all depth u more (Err e) n frames)
+told_of_all depth u more (Err e) n (tree, inr (too_deep, bars, says), frames) = absurd (never_too_deep depth (bytes_of u.document) u.document.envelope more bars)
+told_of_all depth u more (Err e) n (tree, inr (too_many_bytes, bars, says), frames) = absurd (never_too_many depth (bytes_of u.document) bars)

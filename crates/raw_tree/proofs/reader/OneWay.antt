@@ -4,7 +4,8 @@ use Rattle.raw_tree.proofs.Common.{Tree, TellsMeaning, IsEnvelope, Frame, RawVal
 use Rattle.raw_tree.proofs.Common.{ReadsAs, StandsFor, Holds, FirstFaultOfValue, FirstFaultOfFrame, FrameStandsFor, AreReadOneWay, IsValueReadOneWay, IsFrameReadOneWay}
 use Rattle.raw_tree.proofs.reader.Decides.{counted, decided, value_decided}
 use Rattle.raw_tree.proofs.reader.FrameCounts.{one_until}
-use Rattle.raw_tree.proofs.reader.OneTree.{one_fault_of, one_value_of, value_nor_fault, one_tree, stands_same, one_first_fault, one_first_fault_of_value, tree_or_fault, tree_or_fault_of_value}
+use Rattle.raw_tree.proofs.reader.Faults.{one_first_fault, one_first_fault_of_value, tree_or_fault, tree_or_fault_of_value}
+use Rattle.raw_tree.proofs.reader.OneTree.{one_fault_of, one_value_of, value_nor_fault, one_tree, stands_same}
 
 -- bytes with an envelope
 pub bytes_one_way : (sort : Sort) (b : List ℕ) → IsEnvelope b → AreReadOneWay sort b

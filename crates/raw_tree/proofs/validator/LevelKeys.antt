@@ -7,7 +7,7 @@ use Rattle.std.specs.List.{IsDistinct}
 use Rattle.raw_tree.proofs.Common.{AreFramesCanonical, Frame, IsValueCanonical, Means, RawValue, keys_of_frames, map-append, value, BreachesKeys, AreDecimalsFrom}
 use Rattle.raw_tree.proofs.Common.{AreKeysCanonical, Sort, as_document, as_array, texts, Cause}
 use Rattle.key_set.specs.KeySets.{AddsKey}
-use Rattle.raw_tree.specs.validator.OpenKeys.{AddsOpenKey, HasKeysSoFar}
+use Rattle.raw_tree.specs.validator.ValidationSteps.{AddsOpenKey, HasKeysSoFar}
 use Rattle.key_set.specs.declared.key_set.KeySet.{KeySet}
 use Rattle.raw_tree.specs.declared.validator.keys_so_far.KeysSoFar.{KeysSoFar}
 use Rattle.key_set.proofs.Face.{distinct_apart, distinct_front, place_where}

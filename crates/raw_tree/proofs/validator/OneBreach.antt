@@ -1,68 +1,60 @@
--- Bytes are canonical or have one first breach, and never both.
-use Rattle.std.proofs.Common.{◌≡◌, inl, inr, ◌∷◌, [], ℕ, zero, suc, List, drop, refl, sym, ◌∙◌, arith}
-use Rattle.raw_tree.proofs.Common.{BreachesFrame, BreachesFront, BreachesMeaning, Cause, Frame, HasBreachUpTo, IsCanonicalAs, IsCanonicalUpTo, IsEnvelope, IsValidatedOneWay, IsValueCanonical, Meaning, Means}
-use Rattle.raw_tree.proofs.Common.{RawValue, Sort, keys_of_frames, value}
-use Rattle.raw_view.proofs.Face.{no_frame_at_final, no_frame_at_stop, no_stop_at_final, one_frame, one_meaning}
-use Rattle.raw_tree.proofs.validator.EitherWay.{either_way}
-use Rattle.raw_tree.proofs.validator.LevelKeys.{key_nor_breach}
-use Rattle.raw_tree.proofs.validator.OneViolation.{AreCanonical, among, one_of_keys}
-use Rattle.raw_tree.proofs.walk.OneEnd.{IsBlocked, passed_once, passed_whole}
-use Rattle.raw_tree.proofs.Returns.{frames_canonical_on}
+-- Bytes are canonical or have one first breach, and never both. A document has at most one violation within limits, at one place.
+use Rattle.std.proofs.Common.{◌≡◌, ◌⊎◌, inl, inr, ◌<◌, ◌+◌, ℕ, suc, List, None, Some, map, length, ap, refl, sym, ◌∙◌, arith}
+use Rattle.raw_tree.proofs.Common.{Cause, HasBreachAs, IsCanonicalAs, IsEnvelope, IsValidatedOneWay, Limits, Sort, as_document, max_length}
+use Rattle.raw_tree.proofs.walk.Common.{AllAreValidatedOneWayWithin, FirstViolationTo, Found, Step, TellsFound, breach_of, steps_of, violations}
+use Rattle.raw_tree.specs.validator.Violations.{too_deep}
+use Rattle.raw_tree.proofs.Returns.{canonical_up_to}
+use Rattle.raw_tree.proofs.validator.EitherWay.{IsEither, either_to}
+use Rattle.raw_tree.proofs.validator.OneViolation.{breach_deeper, never_deep, violation_apart, violations_unique}
+use Rattle.raw_tree.proofs.walk.First.{deep_long, one_first}
 
--- no bytes that have a first breach within n levels are canonical
-abbrev AreApart : ℕ → Type 0
-AreApart n = (sort : Sort) (b path : List ℕ) (why : Cause) → HasBreachUpTo n sort b path why → IsCanonicalAs sort b → ⊥
+abbrev pub numbers : List Step → List ℕ
+numbers steps = map (λ (step : Step). step.number) steps
 
-module _ (n : ℕ) (apart : AreApart n) where
-  value_nor : (v : RawValue) (path : List ℕ) (why : Cause) → BreachesMeaning (HasBreachUpTo n) (value v) path why → IsValueCanonical IsCanonicalAs v → ⊥
-  value_nor v path why h c = grind (arith, apart)
+module _ (sort : Sort) (b : List ℕ) where
+  -- no level is deeper than the number of bytes
+  breach_of_either : (n : ℕ) → length b < n → IsEither n sort b → IsCanonicalAs sort b ⊎ ((path : List ℕ) × (why : Cause) × HasBreachAs sort b path why)
+  breach_of_either n more (inl canonical) = inl (n, canonical)
+  breach_of_either n more (inr (too_deep, path, offset, h)) = absurd (omega (arith, more, deep_long violations never_deep n sort b path offset h))
+  breach_of_either n more (inr (breach_of why, path, offset, h)) = inr (numbers path, why, (n, path, offset, h, refl))
 
-  blocks : (sort : Sort) (ps : List Frame) (s path : List ℕ) (why : Cause) → BreachesFront (HasBreachUpTo n) sort (keys_of_frames ps) s path why → IsBlocked (AreCanonical IsCanonicalAs sort) ps s
-  blocks sort ps s path why (inl stop) f r more at c = no_frame_at_stop s stop.0 stop.1 stop.2 f r at
-  blocks sort ps s path why (inr (g, q, here, h)) f r more at c =
-      let (key, v, means, canonical) = among IsCanonicalAs sort ps f more c in
-      let same = (one_frame s g f q r here at).0 in
-      grind (arith, same, h, key, key_nor_breach, λ (m : Meaning) (also : Means f m). one_meaning f m (value v) also means, value_nor, canonical)
+  breach_not_canonical : (path : List ℕ) (why : Cause) → HasBreachAs sort b path why → ¬ IsCanonicalAs sort b
+  breach_not_canonical path why (n, steps, offset, h, same) (m, c) =
+      violation_apart (n + m) sort b (breach_of why) steps offset (breach_deeper n (n + m) (omega arith) sort b why steps offset h) (canonical_up_to m (n + m) (omega arith) sort b c)
 
-  final : (sort : Sort) (keys : List (List ℕ)) (s path : List ℕ) (why : Cause) → s ≡ 0 ∷ [] → BreachesFront (HasBreachUpTo n) sort keys s path why → ⊥
-  final sort keys s path why e h = grind (arith, no_frame_at_final, no_stop_at_final)
-
-apart : (n : ℕ) → AreApart n
-apart zero sort b path why h c = absurd h
-apart (suc n) sort b path why (ps, s, inside, leads, keys, values, front, path_is) (zero, c) = absurd c
-apart (suc n) sort b path why (ps, s, inside, leads, keys, values, front, path_is) (suc m, (frames, walk, frame_keys, all)) =
-    let all_canonical = frames_canonical_on (IsCanonicalUpTo m) IsCanonicalAs (λ t d i. (m, i)) frames all in
-    let end = passed_whole (AreCanonical IsCanonicalAs sort) (drop 4 b) frames ps s walk (frame_keys, all_canonical) leads (keys, values) (blocks n (apart n) sort ps s inside why front) in
-    final n (apart n) sort (keys_of_frames ps) s inside why end front
-
--- two first breaches are equal
-abbrev AreOne : ℕ → ℕ → Type 0
-AreOne n m = (sort : Sort) (b path other : List ℕ) (why cause : Cause) → HasBreachUpTo n sort b path why → HasBreachUpTo m sort b other cause → (other ≡ path) × (cause ≡ why)
-
-module _ (n m : ℕ) (one : AreOne n m) (sort : Sort) (keys : List (List ℕ)) where
-  one_of_frame : (f : Frame) (path other : List ℕ) (why cause : Cause) → BreachesFrame (HasBreachUpTo n) sort keys f path why
-      → BreachesFrame (HasBreachUpTo m) sort keys f other cause → (other ≡ path) × (cause ≡ why)
-  one_of_frame f path other why cause h g = grind (arith, key_nor_breach, one_meaning, one_of_keys, one)
-
-  one_of_front : (s path other : List ℕ) (why cause : Cause) → BreachesFront (HasBreachUpTo n) sort keys s path why
-      → BreachesFront (HasBreachUpTo m) sort keys s other cause → (other ≡ path) × (cause ≡ why)
-  one_of_front s path other why cause (inl h) (inl g) = (g.3 ∙ sym h.3, g.4 ∙ sym h.4)
-  one_of_front s path other why cause (inl h) (inr g) = absurd (no_frame_at_stop s h.0 h.1 h.2 g.0 g.1 g.2)
-  one_of_front s path other why cause (inr h) (inl g) = absurd (no_frame_at_stop s g.0 g.1 g.2 h.0 h.1 h.2)
-  one_of_front s path other why cause (inr (f, q, at, h)) (inr (g, r, here, k)) = one_of_frame f path other why cause h (rw (one_frame s g f r q here at).0 at k)
-
-one_breach : (n m : ℕ) → AreOne n m
-one_breach zero m sort b path other why cause h g = absurd h
-one_breach (suc n) zero sort b path other why cause h g = absurd g
-one_breach (suc n) (suc m) sort b path other why cause (ps, s, inside, leads, keys, values, front, path_is) (qs, t, within, to, others, canonical, ahead, other_is) =
-    let same = passed_once (AreCanonical IsCanonicalAs sort) (drop 4 b) ps qs s t leads (keys, values) (blocks n (apart n) sort ps s inside why front)
-    to (others, canonical) (blocks m (apart m) sort qs t within cause ahead) in
-    let there = one_of_front n m (one_breach n m) sort (keys_of_frames ps) s inside within why cause front (rw (same.0, same.1) at ahead) in
-    (rw (path_is, other_is, same.0, there.0) refl, there.1)
+  one_breach : (path other : List ℕ) (why cause : Cause) → HasBreachAs sort b path why → HasBreachAs sort b other cause → (other ≡ path) × (cause ≡ why)
+  one_breach path other why cause (n, steps, offset, h, same) (m, others, at, g, also) =
+      let (why_is, steps_is, offset_is) = one_first violations_unique (n + m) sort b (breach_of why) (breach_of cause) steps others offset at
+      (breach_deeper n (n + m) (omega arith) sort b why steps offset h) (breach_deeper m (n + m) (omega arith) sort b cause others at g) in
+      (also ∙ ap numbers steps_is ∙ sym same, cc)
 
 pub validated_one_way : (sort : Sort) (b : List ℕ) → IsEnvelope b → IsValidatedOneWay sort b
 validated_one_way sort b env = record {
-  either = either_way sort b env;
-  not_both = λ path why h. apart h.0 sort b path why h.1;
-  one_breach = λ path other why cause h g. one_breach h.0 g.0 sort b path other why cause h.1 g.1;
+  either = breach_of_either sort b (suc (length b)) (omega arith) (either_to (suc (length b)) sort b env);
+  not_both = breach_not_canonical sort b;
+  one_breach = one_breach sort b;
 }
+
+-- within limits
+pub validated_one_way_within : (limits : Limits) → AllAreValidatedOneWayWithin limits
+validated_one_way_within limits b = record {
+  not_both = λ x path offset h c. violation_apart limits.depth as_document b x path offset h.1 c.1;
+  one_violation = λ x other path other_path offset at h g. one_first violations_unique limits.depth as_document b x other path other_path offset at h.1 g.1;
+  first_breach = λ why path offset h. (limits.depth, path, offset, h.1, refl);
+}
+
+-- what is found within a depth that no document reaches
+
+-- the greatest depth that there is
+abbrev pub most : ℕ
+most = 18446744073709551615
+
+module _ (n : ℕ) (b : List ℕ) where
+  -- a breach, and no level that is too deep
+  pub never_too_deep : (found : Found) → IsEnvelope b → max_length < n → TellsFound n b (Some found) → found.cause ≡ None → ⊥
+  never_too_deep found env more h none =
+      let deep : FirstViolationTo n as_document b too_deep (steps_of found.place) found.place.offset = rw none at h in
+      omega (arith, more, env.header.fits, deep_long violations never_deep n as_document b (steps_of found.place) found.place.offset deep)
+
+  pub breach_found : (found : Found) (why : Cause) → TellsFound n b (Some found) → found.cause ≡ Some why → HasBreachAs as_document b (numbers (steps_of found.place)) why
+  breach_found found why h is = (n, steps_of found.place, found.place.offset, rw is at h, refl)

@@ -1,16 +1,15 @@
 -- What the loop of a validation preserves, and what follows where it ends.
-use Rattle.std.proofs.Common.{◌≡◌, ◌∙◌, ◌≤◌, ◌<◌, ◌+◌, ◌-◌, ◌++◌, ◌∷◌, [], inr, ℕ, suc, List, Bool, Bor, Option, Some, length, arith, ap, refl, sym, subst}
-use Rattle.raw_tree.proofs.Common.{AreKeysCanonical, Cause, Frame, Holds, HoldsAs, IsCanonicalUpTo, RawElement, RawValue, as_document, bytes_of, frame_of, keys_of_frames, length-map, texts, value}
-use Rattle.raw_tree.proofs.walk.Common.{AreOpenKeys, BeginsAt, Enters, FirstViolationTo, GoesOn, HasKeysSoFar, IsAt, IsWithin, KeysSoFar, Leaves, LeavesOpenKeys, Level, RawDocument, Step, TellsValidated, Validated, Validates, ValidatesFrontAt}
-use Rattle.raw_tree.proofs.walk.Common.{Violation, Waiting, Walk, array_sort, breach_of, level_behind, option_copied, size_of, whole_span, with_left}
+use Rattle.std.proofs.Common.{◌≡◌, ◌∙◌, ◌≤◌, ◌<◌, ◌+◌, ◌-◌, ◌++◌, ◌∷◌, [], inl, ℕ, suc, List, Bool, Bor, Option, Some, length, arith, ap, refl, sym, subst}
+use Rattle.raw_tree.proofs.Common.{AreKeysCanonical, Cause, Frame, HoldsAs, IsCanonicalUpTo, RawElement, RawValue, as_document, bytes_of, frame_of, keys_of_frames, length-map, texts}
+use Rattle.raw_tree.proofs.walk.Common.{AreOpenKeys, BeginsAt, Enters, FirstViolationTo, GoesOn, HasKeysSoFar, IsAt, IsWithin, KeysSoFar, Leaves, LeavesOpenKeys, Level, RawDocument, Step, TellsValidated, Validated, Validates}
+use Rattle.raw_tree.proofs.walk.Common.{Violation, Waiting, Walk, array_sort, breach_of, level_behind, option_copied, size_of, violations, whole_span, with_left}
 use Rattle.raw_tree.specs.validator.Violations.{too_deep}
 use Rattle.raw_tree.specs.declared.validator.step.Validated.TheVariants as validated
+use Rattle.raw_tree.proofs.reader.Loops.{holds_bytes}
 use Rattle.raw_tree.proofs.validator.LevelKeys.{keys_on}
-use Rattle.raw_tree.proofs.validator.ValidatedLevels.{IsKept, IsValidated, all_validated, breach_front, inside_at, left_validated, none_kept, none_validated, validated_more, violations_outward, whole_keyed}
+use Rattle.raw_tree.proofs.validator.ValidatedLevels.{IsKept, IsValidated, all_validated, left_validated, none_kept, none_validated, validated_more, violates_inside, violations_outward, whole_keyed}
+use Rattle.raw_tree.proofs.walk.First.{IsFront}
 use Rattle.raw_tree.proofs.walk.Levels.{IsNext, at_goes_on, at_inside, at_outside, at_path, at_resumed, at_whole, front_outward, at_within, inside_fits, next_ends, next_within, none_inside, resumed_further}
-
-as_held : (v : RawValue) (is_array : Bool) (inner : RawDocument) → HoldsAs v (array_sort is_array) (bytes_of inner) → Holds v (bytes_of inner)
-as_held v is_array inner h = grind arith
 
 -- a walk over this document within this depth is in a level; its keys so far, and those of the waiting levels
 pub record IsValidatedAt (document : RawDocument) (depth : ℕ) (walk : Walk) (level : Level) (outer : List KeysSoFar) (listed : List (Bor (List ℕ))) (k : KeysSoFar) : Type 0 where
@@ -34,14 +33,15 @@ module _ {document : RawDocument} {depth : ℕ} {walk : Walk} {level : Level} {o
   }
 
   -- a violation at the front of the rest of a level is the first of the document
-  front_violates : (x : Violation) (step : Step)
-      → ((here : ℕ) → BeginsAt is.at.levels.here.bytes is.at.rest here → ValidatesFrontAt (IsCanonicalUpTo is.at.levels.inside) (FirstViolationTo is.at.levels.inside)
-      is.at.levels.here.known.sort (keys_of_frames is.at.frames) is.at.levels.here.bytes is.at.rest level.number x (step ∷ []) here)
-      → FirstViolationTo depth as_document (bytes_of document) x (at_path is.at ++ step ∷ []) level.offset
-  front_violates x step front =
+  front_violates : (x : Violation) (key : Option (List ℕ))
+      → ((here : ℕ) → BeginsAt is.at.levels.here.bytes is.at.rest here → IsFront violations is.at.levels.inside is.at.levels.here.known.sort is.at.frames is.at.levels.here.bytes
+      is.at.rest x (record { number = length is.at.frames; key = key } ∷ []) here)
+      → FirstViolationTo depth as_document (bytes_of document) x (at_path is.at ++ record { number = level.number; key = key } ∷ []) level.offset
+  front_violates x key front =
       let at = is.at in
-      rw (← is.depth_is) (front_outward at (violations_outward (bytes_of document) x) step (λ here begins.
-      (at.frames, at.rest, at.reaches, at.knows.keys_canonical, at.knows.canonical, rw (at.number_is) at (front here begins))))
+      let step : Step = record { number = length at.frames; key = key } in
+      rw (← is.depth_is, at.number_is) (front_outward at (violations_outward (bytes_of document) x) step (λ here begins.
+      (at.frames, at.rest, at.reaches, (at.knows.keys_canonical, at.knows.canonical), front here begins)))
 
   -- it continues like this, further on
   abbrev pub GoesFurther : Walk → Level → List KeysSoFar → List (Bor (List ℕ)) → KeysSoFar → Type 0
@@ -72,7 +72,7 @@ module _ {document : RawDocument} {depth : ℕ} {walk : Walk} {level : Level} {o
           (v, record { r = r; frame = frame; means = means; new_is = new_is }, holds, has, more)
 
       pub inside_within : IsWithin walk (with_left new level) e × (length (bytes_of inner) ≤ size_of (frame_of e))
-      inside_within = let (v, next, holds, has, more) = inside_next in (next_within is.at next, inside_fits is.at next inner (as_held v is_array inner holds))
+      inside_within = let (v, next, holds, has, more) = inside_next in (next_within is.at next, inside_fits is.at next inner (holds_bytes v (array_sort is_array) (bytes_of inner) holds))
 
       -- the level in it is entered
       pub validated_inside : {then : Walk} {to : Level} {j : KeysSoFar} → Enters walk (with_left new level) then to e inner → HasKeysSoFar j after (array_sort is_array) (texts after) []
@@ -81,9 +81,10 @@ module _ {document : RawDocument} {depth : ℕ} {walk : Walk} {level : Level} {o
           let (v, next, holds, has, more) = inside_next in
           let i = is.at.levels.here in
           let own : List (List ℕ) = keys_of_frames is.at.frames ++ (frame_of e).key ∷ [] in
+          let held = holds_bytes v (array_sort is_array) (bytes_of inner) holds in
           record {
             most = is.most;
-            at = at_inside is.at next inner (as_held v is_array inner holds) (record { sort = array_sort is_array; below = texts after; outer = outer ++ ks ∷ [] }) enters (λ n fewer. (
+            at = at_inside is.at next inner held (record { sort = array_sort is_array; below = texts after; outer = outer ++ ks ∷ [] }) enters (λ n fewer. (
               record {
                 k = ks;
                 outer_is = ap (λ (others : List KeysSoFar). others ++ ks ∷ []) is.at.knows.outer_is;
@@ -109,26 +110,13 @@ module _ {document : RawDocument} {depth : ℕ} {walk : Walk} {level : Level} {o
           let (v, next, holds, has, more) = inside_next in
           let l = is.at.levels in
           let deep : FirstViolationTo l.inside (array_sort is_array) (bytes_of inner) too_deep [] 0 = rw (none_inside is.at full) (refl, refl, refl) in
-          front_violates too_deep _ (λ here begins. inr (
-            frame_of e,
-            next.r,
-            next.frame,
-            inr (
-              more,
-              value v,
-              next.means,
-              inside_at (IsCanonicalUpTo l.inside) (FirstViolationTo l.inside) l.here.bytes is.at.rest next.r _ here v holds ([], 0, deep, refl, begins),
-            ),
-          ))
+          front_violates too_deep (Some (frame_of e).key) (λ here begins. violates_inside l.inside l.here.bytes l.here.known.sort is.at.frames v (array_sort is_array)
+          (bytes_of inner) here (next.frame, next.means, holds) more (too_deep, [], 0, deep) begins)
 
     -- it is a breach
     pub validated_breach : (key : Option (Bor (List ℕ))) (why : Cause) → x ≡ validated.Breach key why
         → FirstViolationTo depth as_document (bytes_of document) (breach_of why) (at_path is.at ++ record { number = level.number; key = option_copied key } ∷ []) level.offset
-    validated_breach key why x_is =
-        let l = is.at.levels in
-        front_violates (breach_of why) _ (λ here begins.
-        breach_front (IsCanonicalUpTo l.inside) (FirstViolationTo l.inside) l.here.known.sort (keys_of_frames is.at.frames) l.here.bytes is.at.rest level.number here (option_copied key) why
-        (rw x_is at is_told.tells) begins)
+    validated_breach key why x_is = front_violates (breach_of why) (option_copied key) (λ here begins. inl (option_copied key, (why, refl, rw x_is at is_told.tells), refl, begins))
 
     module _ (x_is : x ≡ validated.End) where
       final : is.at.rest ≡ 0 ∷ []

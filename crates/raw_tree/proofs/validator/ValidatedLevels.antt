@@ -1,12 +1,13 @@
 -- Levels that are being validated: what is known of each, and that a violation of the innermost is one of the document.
-use Rattle.std.proofs.Common.{◌≡◌, ◌∙◌, ◌++◌, ◌∷◌, [], inl, inr, ℕ, suc, List, Option, None, Some, length, drop, arith, ap, refl, sym, Bor, length-append}
+use Rattle.std.proofs.Common.{◌≡◌, ◌∙◌, ◌++◌, ◌∷◌, [], inr, ℕ, suc, List, Some, length, drop, arith, ap, refl, sym, Bor, length-append}
 use Rattle.std.proofs.lemmas.List.{same_from_push}
-use Rattle.raw_tree.proofs.Common.{AreFramesCanonical, AreKeysCanonical, Cause, Done, Frame, HoldsAs, IsCanonicalUpTo, IsValueCanonical, LeadsTo, Meaning, Means, RawValue, Sort, as_document}
+use Rattle.raw_tree.proofs.Common.{AreFramesCanonical, AreKeysCanonical, Done, Frame, HoldsAs, IsCanonicalUpTo, IsFrame, IsValueCanonical, LeadsTo, Means, RawValue, Sort, as_document}
 use Rattle.raw_tree.proofs.Common.{keys_of_frames, texts, value}
-use Rattle.raw_tree.proofs.walk.Common.{AreHeld, BeginsAt, BreachesHere, BreachesItself, FirstViolationTo, HasKeysSoFar, IsHeld, IsSingleWith, KeysSoFar, Span, Step, ValidatesFrontAt}
-use Rattle.raw_tree.proofs.walk.Common.{ValidatesMeaningAt, ValidatesNestedAt, Violation, Wait, all_stored, breach_of}
+use Rattle.raw_tree.proofs.walk.Common.{AreHeld, FirstViolationTo, HasKeysSoFar, IsHeld, IsOffsetOf, IsSingleWith, KeysSoFar, Span, Step, Violation, Wait, all_stored, violations}
 use Rattle.raw_view.proofs.Face.{LeadsTo-walk}
 use Rattle.raw_tree.proofs.validator.LevelKeys.{frames_more, keys_front, keys_more, no_keys}
+use Rattle.raw_tree.proofs.validator.OneViolation.{none_breaches}
+use Rattle.raw_tree.proofs.walk.First.{IsFront}
 use Rattle.raw_tree.proofs.walk.Levels.{IsOutward}
 
 -- values
@@ -14,7 +15,7 @@ use Rattle.raw_tree.proofs.walk.Levels.{IsOutward}
 single_canonical : (N : Sort → List ℕ → Type 0) (v : RawValue) → IsSingleWith (λ A. A) v → IsValueCanonical N v
 single_canonical N v h = grind arith
 
-held_canonical : (N : Sort → List ℕ → Type 0) (v : RawValue) (s : Sort) (d : List ℕ) → HoldsAs v s d → N s d → IsValueCanonical N v
+pub held_canonical : (N : Sort → List ℕ → Type 0) (v : RawValue) (s : Sort) (d : List ℕ) → HoldsAs v s d → N s d → IsValueCanonical N v
 held_canonical N v s d h c = grind arith
 
 -- levels
@@ -83,25 +84,14 @@ pub none_kept : (document : Span Keyed) (inside : ℕ) (ws : List (Wait Keyed)) 
 none_kept document inside [] i held none = refl
 none_kept document inside (w ∷ ws) i (held, more) none = absurd (omega (arith, ap length none, ap length held.knows.outer_is, length-append w.level.known.outer (held.knows.k ∷ [])))
 
--- what a frame means is this breach by itself, or its nested bytes have this violation
-
-module _ (P : Sort → List ℕ → Type 0) (N : Sort → List ℕ → Violation → List Step → ℕ → Type 0) (b s q : List ℕ) (step : Step) (offset : ℕ) where
-  itself_at : (m : Meaning) (why : Cause) → BreachesItself m why → BeginsAt b s offset → ValidatesMeaningAt P N b s step q m (breach_of why) (step ∷ []) offset
-  itself_at m why h begins = grind arith
-
-  pub inside_at : (v : RawValue) {sort : Sort} {d : List ℕ} {x : Violation} {path : List Step} → HoldsAs v sort d → ValidatesNestedAt P N b s step q sort d x path offset
-      → ValidatesMeaningAt P N b s step q (value v) x path offset
-  inside_at v {sort} {d} {x} {path} h is = grind arith
-
--- a breach by itself is at the front
-pub breach_front : (P : Sort → List ℕ → Type 0) (N : Sort → List ℕ → Violation → List Step → ℕ → Type 0) (sort : Sort) (keys : List (List ℕ)) (b s : List ℕ) (number offset : ℕ)
-    (key : Option (List ℕ)) (why : Cause) → BreachesHere sort keys s key why → BeginsAt b s offset
-    → ValidatesFrontAt P N sort keys b s number (breach_of why) (record { number = number; key = key } ∷ []) offset
-breach_front P N sort keys b s number offset None why (fault, key, stop, why_is) begins = inl (fault, key, stop, ap breach_of why_is, (refl, begins))
-breach_front P N sort keys b s number offset (Some key) why (f, r, at, key_is, inl breach) begins = inr (f, r, at, inl (why, breach, refl, (rw key_is refl, begins)))
-breach_front P N sort keys b s number offset (Some key) why (f, r, at, key_is, inr (more, m, means, itself)) begins =
-    let meant = itself_at P N b s r (record { number = number; key = Some f.key }) offset m why itself begins in
-    inr (f, r, at, inr (more, m, means, rw key_is meant))
+-- the nested bytes of a frame with a canonical key have the violation
+pub violates_inside : (n : ℕ) (b : List ℕ) (sort : Sort) (frames : List Frame) (v : RawValue) (held_as : Sort) (d : List ℕ) (offset : ℕ) {s : List ℕ} {f : Frame} {r : List ℕ}
+    → IsFrame s f r × Means f (value v) × HoldsAs v held_as d → AreKeysCanonical sort (keys_of_frames frames ++ f.key ∷ [])
+    → (h : (x : Violation) × (steps : List Step) × (inside : ℕ) × FirstViolationTo n held_as d x steps inside) → IsOffsetOf b s (d ++ r) h.1 h.2 offset
+    → IsFront violations n sort frames b s h.0 (record { number = length frames; key = Some f.key } ∷ h.1) offset
+violates_inside n b sort frames v held_as d offset {s} {f} {r} (frame, means, holds) more (x, steps, inside, violates) there =
+    let none = none_breaches sort (keys_of_frames frames) s v held_as d frame means holds more in
+    inr ((λ key y h. none key h.0 h.2), f, r, v, held_as, d, steps, inside, frame, means, holds, violates, refl, there)
 
 -- where the first violation of a level is
 abbrev pub ViolatesLevel : Violation → ℕ → Span Keyed → List Step → ℕ → Type 0
@@ -110,14 +100,8 @@ ViolatesLevel x n i path offset = FirstViolationTo n i.known.sort i.bytes x path
 pub violations_outward : (b : List ℕ) (x : Violation) → IsOutward IsKept b (ViolatesLevel x)
 violations_outward b x = record {
   out = λ n w i is first steps at place violates there.
-      let keys = keys_of_frames w.frames in
-      let step : Step = record { number = length w.frames; key = Some w.f.key } in
-      let meant = inside_at (IsCanonicalUpTo n) (FirstViolationTo n) w.level.bytes is.s is.r step place w.v is.knows.holds (first ∷ steps, at, violates, refl, there) in (
-        w.frames,
-        is.s,
-        is.reaches,
-        keys_front w.level.known.sort keys (w.f.key ∷ []) is.knows.keys_canonical,
-        is.knows.canonical,
-        inr (w.f, is.r, is.frame, inr (is.knows.keys_canonical, value w.v, is.means, meant)),
-      );
+      let keys = keys_front w.level.known.sort (keys_of_frames w.frames) (w.f.key ∷ []) is.knows.keys_canonical in
+      let inside = violates_inside n w.level.bytes w.level.known.sort w.frames w.v i.known.sort i.bytes place (is.frame, is.means, is.knows.holds) is.knows.keys_canonical
+      (x, first ∷ steps, at, violates) there in
+      (w.frames, is.s, is.reaches, (keys, is.knows.canonical), inside);
 }

@@ -1,7 +1,7 @@
 -- A walk that has come to some visits comes to one more, or to its end, or to a barrier.
-use Rattle.std.proofs.Common.{◌≡◌, ◌≤◌, ◌<◌, ◌+◌, ◌-◌, ◌++◌, ◌∷◌, [], inl, inr, ℕ, suc, List, Bor, Option, None, Some, length, drop, arith, ap, refl, sym, append-nil, length-append}
-use Rattle.raw_tree.proofs.Common.{BorrowedError, Frame, Holds, IsSingle, KeyedFault, LeadsTo, Nested, RawBsonRef, RawElement, ReadsUpTo, Tree, as_document, bytes_of, fault_of, frame_of, held_value, too_deep, value_of}
-use Rattle.raw_tree.proofs.walk.Common.{BarsFrontAt, BeginsAt, ComesTo, Enters, FailsAt, FirstFaultAt, GoesOn, HasCome, HasLooked, HasSeen, HasVisits, BarrierKind, IsBarrier, IsAt, IsBarrierAt, IsEntered, IsTooDeep, IsWithin, Leaves, Level, RawDocument, Span, Step}
+use Rattle.std.proofs.Common.{◌≡◌, ◌≤◌, ◌<◌, ◌+◌, ◌-◌, ◌++◌, ◌∷◌, [], inl, ℕ, suc, List, Bor, Option, Some, length, drop, arith, ap, refl, sym, append-nil, length-append}
+use Rattle.raw_tree.proofs.Common.{BorrowedError, FirstFaultAt, Frame, Holds, IsSingle, LeadsTo, Nested, RawBsonRef, RawElement, ReadsUpTo, Tree, as_document, barriers, bytes_of, fault_of, frame_of, held_value, too_deep, value_of}
+use Rattle.raw_tree.proofs.walk.Common.{BeginsAt, ComesTo, Enters, GoesOn, HasCome, HasLooked, HasSeen, HasVisits, BarrierKind, IsBarrier, IsAt, IsBarrierAt, IsEntered, IsTooDeep, IsWithin, Leaves, Level, RawDocument, Span, Step}
 use Rattle.raw_tree.proofs.walk.Common.{StoreSteps, TellsError, Visit, Waiting, Walk, WalkError, enter, leave, level_behind, option_copied, size_of, stored_level, whole, whole_span, with_left}
 use Rattle.raw_tree.specs.reader.WithinLimits as within
 use Rattle.raw_tree.specs.declared.walk.level.Next.{Next}
@@ -10,6 +10,8 @@ use Rattle.raw_tree.specs.declared.walk.barrier.BarrierKind.TheVariants as kind
 use Rattle.raw_tree.specs.declared.walk.WalkError.TheVariants as error
 use Rattle.raw_tree.specs.walk.Walks.{EndsWithin, IsThere}
 use Rattle.raw_tree.proofs.reader.Stacks.{held_holds}
+use Rattle.raw_tree.proofs.walk.First.{IsFront}
+use Rattle.raw_tree.proofs.reader.Faults.{bars_inside}
 use Rattle.raw_tree.proofs.walk.Levels.{IsNext, IsOutward, at_goes_on, at_inside, at_outside, at_path, at_resumed, at_steps, at_whole, at_within, front_outward, inside_fits, next_ends, next_within, none_inside, resumed_further}
 use Rattle.raw_tree.proofs.walk.Visits.{frames_stand, seen_front, seen_outside, seen_single, seen_there, seen_whole, visits_read}
 
@@ -19,23 +21,16 @@ use Rattle.raw_tree.proofs.walk.Visits.{frames_stand, seen_front, seen_outside, 
 abbrev BarsLevel : within.Barrier → ℕ → Span (List Visit) → List Step → ℕ → Type 0
 BarsLevel x n i path offset = FirstFaultAt n i.bytes x path offset
 
-front_bars : {seen : List Visit} {n number : ℕ} {i : Span (List Visit)} {frames : List Frame} {s : List ℕ} (x : within.Barrier) (path : List Step) (offset : ℕ) → HasSeen seen n i frames
-    → LeadsTo (drop 4 i.bytes) frames s → number ≡ length frames → BarsFrontAt (ReadsUpTo n) (FirstFaultAt n) i.bytes s number x path offset → FirstFaultAt (suc n) i.bytes x path offset
-front_bars {n = n} {i = i} {frames = frames} {s = s} x path offset is l number_is bars =
-    let (pairs, each) = frames_stand n (i.start + 4) frames is.visits is.each in
-    (frames, pairs, s, l, each, rw number_is at bars)
+front_bars : {seen : List Visit} {n : ℕ} {i : Span (List Visit)} {frames : List Frame} {s : List ℕ} (x : within.Barrier) (path : List Step) (offset : ℕ) → HasSeen seen n i frames
+    → LeadsTo (drop 4 i.bytes) frames s → IsFront barriers n as_document frames i.bytes s x path offset → BarsLevel x (suc n) i path offset
+front_bars {n = n} {i = i} {frames = frames} {s = s} x path offset is l bars = (frames, s, l, frames_stand n (i.start + 4) frames is.visits is.each, bars)
 
 bars_outward : (b : List ℕ) (x : within.Barrier) → IsOutward IsEntered b (BarsLevel x)
 bars_outward b x = record {
   out = λ n w i is first steps at place bars there.
-      front_bars x (record { number = length w.frames; key = Some w.f.key } ∷ first ∷ steps) place is.knows.seen is.reaches refl
-      (inr (w.f, is.r, is.frame, inr (w.v, i.bytes, first ∷ steps, at, is.means, is.holds, bars, refl, there)));
+      front_bars x (record { number = length w.frames; key = Some w.f.key } ∷ first ∷ steps) place is.knows.seen is.reaches
+      (bars_inside n w.level.bytes w.frames w.v i.bytes x (first ∷ steps) at place (is.frame, is.means, is.holds) bars there);
 }
-
-fault_front : (n : ℕ) (b s : List ℕ) (number offset : ℕ) (key : Option (List ℕ)) (fault : KeyedFault) → FailsAt s key fault → BeginsAt b s offset
-    → BarsFrontAt (ReadsUpTo n) (FirstFaultAt n) b s number (fault_of fault) (record { number = number; key = key } ∷ []) offset
-fault_front n b s number offset None fault fails begins = inl (fails, (refl, begins))
-fault_front n b s number offset (Some key) fault (f, r, at, m, key_is) begins = inr (f, r, at, inl (m, (rw key_is refl, begins)))
 
 -- a barrier with its place is the first of the document
 told_at : (most : ℕ) (b : List ℕ) (path : List Step) (step : Step) (offset : ℕ) (k : BarrierKind) (x : within.Barrier) → IsBarrier k x → FirstFaultAt (suc most) b x (path ++ step ∷ []) offset
@@ -72,19 +67,20 @@ module _ {document : RawDocument} {most : ℕ} {walk : Walk} {level : Level} {se
   comes_to x come further ends = record { come = come; further = further; within = (come_within come).0; ends = ends }
 
   -- a barrier at the front of the rest of the level is the first of the document
-  front_told : (x : within.Barrier) (step : Step)
-      → ((here : ℕ) → BeginsAt is.at.levels.here.bytes is.at.rest here → BarsFrontAt (ReadsUpTo is.at.levels.inside) (FirstFaultAt is.at.levels.inside)
-      is.at.levels.here.bytes is.at.rest level.number x (step ∷ []) here)
-      → FirstFaultAt (suc most) (bytes_of document) x (at_path is.at ++ step ∷ []) level.offset
-  front_told x step front = front_outward is.at (bars_outward (bytes_of document) x) step (λ here begins. front_bars x _ here is.at.knows is.at.reaches is.at.number_is (front here begins))
+  front_told : (x : within.Barrier) (key : Option (List ℕ))
+      → ((here : ℕ) → BeginsAt is.at.levels.here.bytes is.at.rest here → IsFront barriers is.at.levels.inside as_document is.at.frames is.at.levels.here.bytes is.at.rest x
+      (record { number = length is.at.frames; key = key } ∷ []) here)
+      → FirstFaultAt (suc most) (bytes_of document) x (at_path is.at ++ record { number = level.number; key = key } ∷ []) level.offset
+  front_told x key front =
+      let step : Step = record { number = length is.at.frames; key = key } in
+      rw (is.at.number_is) (front_outward is.at (bars_outward (bytes_of document) x) step (λ here begins. front_bars x _ here is.at.knows is.at.reaches (front here begins)))
 
   -- what a look at the level found
   module _ {new : Option (List ℕ)} {x : Next} (looked : HasLooked level.elements new x) where
     module _ (e : RawElement) (v : RawBsonRef) (x_is : x ≡ look.Whole e v) where
       whole_next : IsNext is.at.rest e (value_of v) new × IsSingle (value_of v)
       whole_next =
-          let (r, u, frame, m, none, new_is) = rw (x_is, is.at.left_is) at looked.sees in
-          let (means, single) = rw x_is at looked.value in
+          let (r, frame, means, single, new_is) = rw (x_is, is.at.left_is) at looked.finds in
           (record { r = r; frame = frame; means = means; new_is = new_is }, single)
 
       pub whole_within : IsWithin walk (with_left new level) e
@@ -102,8 +98,8 @@ module _ {document : RawDocument} {most : ℕ} {walk : Walk} {level : Level} {se
     module _ (e : RawElement) (inner : Nested) (x_is : x ≡ look.Inside e inner) where
       inside_next : IsNext is.at.rest e (held_value inner) new
       inside_next =
-          let (r, u, frame, m, holds, new_is) = rw (x_is, is.at.left_is) at looked.sees in
-          record { r = r; frame = frame; means = rw x_is at looked.value; new_is = new_is }
+          let (r, frame, means, new_is) = rw (x_is, is.at.left_is) at looked.finds in
+          record { r = r; frame = frame; means = means; new_is = new_is }
 
       inside_holds : Holds (held_value inner) (bytes_of inner.document)
       inside_holds = held_holds inner.holder (bytes_of inner.document)
@@ -131,7 +127,8 @@ module _ {document : RawDocument} {most : ℕ} {walk : Walk} {level : Level} {se
       told_deep answer ends = deep_told most (bytes_of document) walk level (at_path is.at) e (λ full.
           let next = inside_next in
           let deep : FirstFaultAt is.at.levels.inside (bytes_of inner.document) too_deep [] 0 = rw (none_inside is.at full) (refl, refl, refl) in
-          front_told too_deep _ (λ here begins. inr (frame_of e, next.r, next.frame, inr (held_value inner, bytes_of inner.document, [], 0, next.means, inside_holds, deep, refl, begins))))
+          front_told too_deep (Some (frame_of e).key) (λ here begins.
+          bars_inside is.at.levels.inside is.at.levels.here.bytes is.at.frames (held_value inner) (bytes_of inner.document) too_deep [] 0 here (next.frame, next.means, inside_holds) deep begins))
           answer (ends (at_path is.at) (at_steps is.at))
 
     -- a fault is at the front
@@ -139,14 +136,14 @@ module _ {document : RawDocument} {most : ℕ} {walk : Walk} {level : Level} {se
         → StoreSteps (bytes_of walk.document) walk.waiting.items path → IsBarrierAt path (record { number = level.number; key = option_copied key }) level.offset (kind.Fault e) answer)
         → TellsError most (bytes_of document) answer × IsThere level.offset answer
     told_fault key e x_is answer ends =
-        let (fault, fails, tells) = rw (x_is, is.at.left_is) at looked.sees in
+        let (fault, fails, tells) = rw (x_is, is.at.left_is) at looked.finds in
         told_at most (bytes_of document) (at_path is.at) _ level.offset (kind.Fault e) (fault_of fault) (fault, refl, tells)
-        (front_told (fault_of fault) _ (λ here begins. fault_front is.at.levels.inside is.at.levels.here.bytes is.at.rest level.number here (option_copied key) fault fails begins))
+        (front_told (fault_of fault) (option_copied key) (λ here begins. inl (option_copied key, fails, refl, begins)))
         answer (ends (at_path is.at) (at_steps is.at))
 
     module _ (x_is : x ≡ look.End) where
       final : is.at.rest ≡ 0 ∷ []
-      final = rw (x_is, is.at.left_is) at looked.sees
+      final = rw (x_is, is.at.left_is) at looked.finds
 
       pub come_goes_on : (outer : List Waiting) (w : Waiting) → walk.waiting.items ≡ outer ++ w ∷ [] → GoesOn (bytes_of walk.document) w (level.offset + 1)
       come_goes_on = at_goes_on is.at final

@@ -12,17 +12,18 @@ pub use Rattle.raw_tree.specs.declared.walk.level.Level.{Level}
 pub use Rattle.raw_tree.specs.declared.walk.level.Waiting.{Waiting}
 pub use Rattle.raw_tree.specs.declared.walk.place.PathStep.{PathStep}
 pub use Rattle.raw_tree.specs.declared.walk.place.Place.{Place}
-pub use Rattle.raw_tree.specs.validator.ValidationSteps.{BreachesHere, BreachesItself, EndsTooDeep, HoldsAsTold, IsSingleWith, Validates, TellsFound, TellsValidated, TellsOutermost, TellsValue, array_sort, first_number}
+pub use Rattle.raw_tree.specs.validator.ValidationSteps.{EndsTooDeep, HoldsAsTold, IsSingleWith, Validates, TellsFound, TellsValidated, TellsOutermost, TellsValue, array_sort, first_number}
 pub use Rattle.raw_tree.specs.validator.ValidationSteps.{violation_of}
-pub use Rattle.raw_tree.specs.validator.OpenKeys.{AreOpenKeys, HasKeysSoFar, LeavesOpenKeys, TellsOpenKey}
-pub use Rattle.raw_tree.specs.validator.Violations.{AllAreValidatedOneWayWithin, FirstViolation, FirstViolationTo, IsCanonicalWithin, ValidatesFrameAt, ValidatesFrontAt, ValidatesMeaningAt, ValidatesNestedAt}
-pub use Rattle.raw_tree.specs.validator.Violations.{TellsViolation, Violation, breach_of}
+pub use Rattle.raw_tree.specs.validator.ValidationSteps.{AreOpenKeys, HasKeysSoFar, LeavesOpenKeys, TellsOpenKey}
+pub use Rattle.raw_tree.specs.validator.Breaches.{AllAreValidatedOneWayWithin}
+pub use Rattle.raw_tree.specs.validator.Violations.{BreachesHere, BreachesItself, FirstViolation, FirstViolationTo, IsCanonicalWithin, TellsViolation, Violation, breach_of, violations}
 pub use Rattle.raw_tree.specs.walk.Barriers.{IsBarrier, TellsBarrier, TellsBarrierWithin, step_of, steps_of}
-pub use Rattle.raw_tree.specs.walk.Looking.{AreReadBefore, FailsAt, HasLooked, HasNoneBefore, HasValue, HoldsNone, Looks, Sees, TakesFrame, frames_in, size_of}
-pub use Rattle.raw_tree.specs.walk.Places.{AllAreBarredAtOnePlace, BarsFrameAt, BarsFrontAt, BeginsAt, FirstBarrierAt, FirstFaultAt, IsLastStep, IsOffsetOf, Step, last_key}
+pub use Rattle.raw_tree.specs.walk.Looking.{AreReadBefore, Finds, HasLooked, HasNoneBefore, TakesFrame, frames_in, size_of}
+pub use Rattle.raw_tree.specs.walk.First.{BeginsAt, IsFirst, IsHere, IsInside, IsOffsetOf, Sought, Step}
+pub use Rattle.raw_tree.specs.walk.Places.{AllAreBarredAtOnePlace, FirstBarrierAt, last_key}
 pub use Rattle.raw_tree.specs.walk.Rooms.{filled_from}
 pub use Rattle.raw_tree.specs.walk.Visits.{HasVisits, Visit, VisitsEach, VisitsLevel, VisitsValue, end_of, enter, leave, whole}
-pub use Rattle.raw_tree.specs.walk.Waits.{GoesOn, LiesAt, StoreSteps, StoresStep, entered_level, level_behind, outermost_of, resumed_level, stored_level}
+pub use Rattle.raw_tree.specs.walk.Walks.{GoesOn, LiesAt, StoreSteps, StoresStep, entered_level, level_behind, outermost_of, resumed_level, stored_level}
 pub use Rattle.raw_tree.specs.walk.Walks.{AreHeld, AreLevels, ComesTo, Enters, HasCome, HasSeen, IsAt, IsBarrierAt, IsBegun, IsBehind, IsEntered, IsHeld, IsTooDeep, IsWithin, Leaves, LeavesOrEnds, Span, TellsError, Wait}
 pub use Rattle.raw_tree.specs.walk.Walks.{all_stored, offset_in, path_of, step_at, stored_at, whole_span, with_left}
 pub use Rattle.raw_view.specs.Errors.{SaysFault}

@@ -18,7 +18,7 @@ module _ {K : Type 0} {Behind : ℕ → Wait K → Span K → Type 0} {b : List 
 
   -- what is at this offset of the inner bytes and at that offset of the document is at this offset of the outer bytes
   held_place : (first : Step) (steps : List Step) (at offset : ℕ) → i.start + at ≡ offset
-      → (place : ℕ) × IsOffsetOf w.level.bytes is.s i.bytes is.r (first ∷ steps) at place × (w.level.start + place ≡ offset)
+      → (place : ℕ) × IsOffsetOf w.level.bytes is.s (i.bytes ++ is.r) (first ∷ steps) at place × (w.level.start + place ≡ offset)
   held_place first steps at offset far =
       let p = held_placed in
       let start : ℕ = i.start - w.level.start in
@@ -29,7 +29,7 @@ module _ {K : Type 0} {Behind : ℕ → Wait K → Span K → Type 0} {b : List 
 -- what holds of a level, with these steps and at an offset in it, holds of the outer level
 pub record IsOutward {K : Type 0} (Behind : ℕ → Wait K → Span K → Type 0) (b : List ℕ) (Tells : ℕ → Span K → List Step → ℕ → Type 0) : Type 0 where
   pub out : (n : ℕ) (w : Wait K) (i : Span K) (is : IsHeld Behind b n w i) (first : Step) (steps : List Step) (at place : ℕ) → Tells n i (first ∷ steps) at
-      → IsOffsetOf w.level.bytes is.s i.bytes is.r (first ∷ steps) at place → Tells (suc n) w.level (step_at w ∷ first ∷ steps) place
+      → IsOffsetOf w.level.bytes is.s (i.bytes ++ is.r) (first ∷ steps) at place → Tells (suc n) w.level (step_at w ∷ first ∷ steps) place
 
 first_outer : (path : List Step) (step last : Step) → first_number ((path ++ step ∷ []) ++ last ∷ []) ≡ first_number (path ++ step ∷ [])
 first_outer [] step last = refl

@@ -4,7 +4,7 @@ use Rattle.std.specs.Prelude.{◌≡◌, ◌⊎◌, ℕ, suc, zero, ◌+◌, ◌
 use Rattle.bson_model.specs.Tree.{Tree}
 use Rattle.raw_view.specs.Frame.Envelope.{IsEnvelope}
 use Rattle.raw_view.specs.Errors.{IsOutOfMemory}
-use Rattle.raw_view.specs.Frame.{Frame, IsFrame, IsStop, End, IsWalk, LeadsTo}
+use Rattle.raw_view.specs.Frame.{Frame, HasNoFrame, IsFrame, End, IsWalk, LeadsTo}
 use Rattle.raw_view.specs.Meaning.{RawValue, KeyedFault, Meaning, Means, value, faulty}
 use Rattle.raw_view.specs.Meaning as raw
 use Rattle.raw_view.specs.declared.error.Error.{Error}
@@ -12,19 +12,19 @@ use Rattle.raw_tree.specs.reader.Reading.{StandForEach, ReadsAs, Holds, FirstFau
 
 -- counts; `Nested` says how many frames are in nested bytes
 module _ (Nested : List ℕ → ℕ → Type 0) where
-  -- n frames are inside the meaning of a frame: those of the nested bytes of a value. None are in a value that holds
-  -- no others or in a fault.
-  abbrev pub CountsIn : Meaning → ℕ → Type 0
-  CountsIn (value (raw.single l)) n = n ≡ 0
-  CountsIn (value (raw.document d)) n = Nested d n
-  CountsIn (value (raw.array d)) n = Nested d n
-  CountsIn (value (raw.scoped code d)) n = Nested d n
-  CountsIn (faulty fault) n = n ≡ 0
+  -- n is what `Nested` says of the nested bytes in the meaning of a frame; 0 for a value that holds no others, and for a
+  -- fault
+  abbrev pub HasInside : Meaning → ℕ → Type 0
+  HasInside (value (raw.single l)) n = n ≡ 0
+  HasInside (value (raw.document d)) n = Nested d n
+  HasInside (value (raw.array d)) n = Nested d n
+  HasInside (value (raw.scoped code d)) n = Nested d n
+  HasInside (faulty fault) n = n ≡ 0
 
   -- the number of these frames and of the frames inside their meanings
   abbrev pub CountsFrames : List Frame → ℕ → Type 0
   CountsFrames [] n = n ≡ 0
-  CountsFrames (f ∷ fs) n = (m : Meaning) × (inside : ℕ) × (others : ℕ) × Means f m × CountsIn m inside × CountsFrames fs others × (n ≡ 1 + inside + others)
+  CountsFrames (f ∷ fs) n = (m : Meaning) × (inside : ℕ) × (others : ℕ) × Means f m × HasInside m inside × CountsFrames fs others × (n ≡ 1 + inside + others)
 
 -- n frames are in these bytes, which have at most this many levels
 abbrev pub HasFrameCountUpTo : ℕ → List ℕ → ℕ → Type 0
@@ -35,38 +35,29 @@ HasFrameCountUpTo (suc levels) b n = (frames : List Frame) × (end : End) × IsW
 abbrev pub HasFrameCount : List ℕ → ℕ → Type 0
 HasFrameCount b n = (levels : ℕ) × HasFrameCountUpTo levels b n
 
--- frames up to a fault; `Nested` says how many there are in nested bytes
-module _ (Nested : List ℕ → ℕ → Type 0) where
-  -- n frames are in bytes up to their first fault. The fault is at r, and `before` frames are before r.
-  pub data CountsToFaultAt (r : List ℕ) (before n : ℕ) : Type 0 where
-    -- the walk stops there; a stop isn't a frame
-    stop : (fault : KeyedFault) → IsStop r fault.fault fault.key → n ≡ before → CountsToFaultAt r before n
-    -- the next frame means the fault, and counts
-    own_fault : (f : Frame) (q : List ℕ) (fault : KeyedFault) → IsFrame r f q → Means f (faulty fault) → n ≡ before + 1 → CountsToFaultAt r before n
-    -- the nested bytes in the value of the next frame have the fault; the frame counts, and so do the frames in it up
-    -- to the fault
-    nested_fault : (f : Frame) (q : List ℕ) (v : RawValue) (d : List ℕ) (fault : KeyedFault) (inside : ℕ) → IsFrame r f q → Means f (value v) → Holds v d
-        → FirstFault d fault → Nested d inside → n ≡ before + 1 + inside → CountsToFaultAt r before n
+-- n frames are in bytes up to their first fault, or to the end; `before` of them are before r, and `Nested` says how many are
+-- in nested bytes
+pub data CountsFront (Nested : List ℕ → ℕ → Type 0) (r : List ℕ) (before n : ℕ) : Type 0 where
+  -- no frame is left: the walk ends there, or stops
+  over : HasNoFrame r → n ≡ before → CountsFront Nested r before n
+  -- the next frame means the fault, and counts
+  own_fault : (f : Frame) (q : List ℕ) (fault : KeyedFault) → IsFrame r f q → Means f (faulty fault) → n ≡ before + 1 → CountsFront Nested r before n
+  -- the nested bytes in the value of the next frame have the fault; the frame counts, and so do the frames in it up to
+  -- the fault
+  nested_fault : (f : Frame) (q : List ℕ) (v : RawValue) (d : List ℕ) (fault : KeyedFault) (inside : ℕ) → IsFrame r f q → Means f (value v) → Holds v d
+      → FirstFault d fault → Nested d inside → n ≡ before + 1 + inside → CountsFront Nested r before n
 
-  -- n frames are in s, the rest of a document or an array, up to its first fault: frames that stand for trees, with
-  -- all frames inside them, then those up to the fault
-  abbrev pub CountsToFaultInRest : List ℕ → ℕ → Type 0
-  CountsToFaultInRest s n =
-      (passed : List Frame) × (pairs : List (List ℕ × Tree)) × (r : List ℕ) × (before : ℕ) × LeadsTo s passed r × StandForEach ReadsAs passed pairs
-      × CountsFrames HasFrameCount passed before × CountsToFaultAt r before n
+-- the same of these bytes, which have the fault at most this many levels deep: frames that stand for trees, with all frames
+-- inside them, then those up to the fault
+abbrev pub HasFramesUntilUpTo : ℕ → List ℕ → ℕ → Type 0
+HasFramesUntilUpTo zero b n = ⊥
+HasFramesUntilUpTo (suc levels) b n =
+    (passed : List Frame) × (pairs : List (List ℕ × Tree)) × (r : List ℕ) × (before : ℕ) × LeadsTo (drop 4 b) passed r × StandForEach ReadsAs passed pairs
+    × CountsFrames HasFrameCount passed before × CountsFront (HasFramesUntilUpTo levels) r before n
 
--- n frames are in these bytes up to their first fault, which is at most this many levels deep
-abbrev pub HasFramesToFaultUpTo : ℕ → List ℕ → ℕ → Type 0
-HasFramesToFaultUpTo zero b n = ⊥
-HasFramesToFaultUpTo (suc levels) b n = CountsToFaultInRest (HasFramesToFaultUpTo levels) (drop 4 b) n
-
--- n frames are in these bytes up to their first fault, including the frame that has it; a stop isn't a frame
-abbrev pub HasFramesToFault : List ℕ → ℕ → Type 0
-HasFramesToFault b n = (levels : ℕ) × HasFramesToFaultUpTo levels b n
-
--- the frames of these bytes up to their first fault; all of them if there is none
+-- the frames of these bytes up to their first fault, including the frame that has it; all of them if there is none
 abbrev pub HasFramesUntilFault : List ℕ → ℕ → Type 0
-HasFramesUntilFault b n = (((fault : KeyedFault) → ¬ FirstFault b fault) × HasFrameCount b n) ⊎ HasFramesToFault b n
+HasFramesUntilFault b n = (levels : ℕ) × HasFramesUntilUpTo levels b n
 
 -- all bytes with an envelope have exactly one frame count, which is at most half the number of bytes after the length
 abbrev pub AllHaveOneFrameCount : Type 0

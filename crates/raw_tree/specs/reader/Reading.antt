@@ -1,6 +1,6 @@
 -- The tree of bytes, and the first fault of bytes that have none. The bytes b of a document or of an array have an
 -- envelope.
-use Rattle.std.specs.Prelude.{◌≡◌, ◌⊎◌, ℕ, suc, zero, List, [], ◌∷◌, drop, map}
+use Rattle.std.specs.Prelude.{◌≡◌, ◌⊎◌, ℕ, suc, zero, List, [], ◌∷◌, Option, None, Some, drop, map}
 use Rattle.bson_model.specs.Leaf.{Leaf, regular_expression}
 use Rattle.bson_model.specs.Options.{sorted_options}
 use Rattle.bson_model.specs.Pairs.{keep}
@@ -8,15 +8,12 @@ use Rattle.bson_model.specs.Tree.{Tree, Entries, leaf, array, document, code_wit
 use Rattle.raw_view.specs.Errors.Answers.{Says}
 use Rattle.raw_view.specs.Frame.Envelope.{IsEnvelope}
 use Rattle.raw_view.specs.Errors.{IsOutOfMemory}
-use Rattle.raw_view.specs.Frame.{Frame, IsFrame, IsStop, IsWalk, Done, LeadsTo}
+use Rattle.raw_view.specs.Frame.{Frame, IsFrame, IsStop, IsWalk, Done}
 use Rattle.raw_view.specs.Meaning.{RawValue, KeyedFault, Means, value, faulty}
 use Rattle.raw_view.specs.Meaning as raw
 use Rattle.raw_view.specs.declared.error.Error.{Error}
-
--- bytes are read as a document, or as an array, whose keys are ignored
-pub data Sort : Type 0 where
-  as_document : Sort
-  as_array : Sort
+use Rattle.raw_tree.specs.walk.First.{IsFirst, Sought, Step}
+pub use Rattle.raw_tree.specs.walk.First.{HoldsAs, Sort, as_array, as_document}
 
 -- the tree of pairs of a key and a tree; in a document each key has its first place and its last tree, in an array
 -- there are the trees alone
@@ -73,48 +70,58 @@ Holds (raw.document e) d = d ≡ e
 Holds (raw.array e) d = d ≡ e
 Holds (raw.scoped code e) d = d ≡ e
 
--- first faults; `Nested` says which one nested bytes have
-module _ (Nested : List ℕ → KeyedFault → Type 0) where
-  -- the first fault of a value is that of the nested bytes in it
-  abbrev pub FailsInValue : RawValue → KeyedFault → Type 0
-  FailsInValue v fault = (d : List ℕ) × Holds v d × Nested d fault
+-- what ends a reading within limits: too many bytes, a level that is too deep, or a fault
+pub data Barrier : Type 0 where
+  too_many_bytes : Barrier
+  too_deep : Barrier
+  fault_of : KeyedFault → Barrier
 
-  -- the first fault of a frame is the one that it means, or that of the value that it means
-  abbrev pub FailsInFrame : Frame → KeyedFault → Type 0
-  FailsInFrame f fault = Means f (faulty fault) ⊎ ((v : RawValue) × Means f (value v) × FailsInValue v fault)
+-- the barrier is a fault, and this holds of it
+abbrev pub IsFaultWith : (KeyedFault → Type 0) → Barrier → Type 0
+IsFaultWith P (fault_of fault) = P fault
+IsFaultWith P too_many_bytes = ⊥
+IsFaultWith P too_deep = ⊥
 
-  -- The first fault of s, the rest of a document or an array. After frames that stand for trees, the walk stops with
-  -- this fault or the next frame has it.
-  abbrev pub FailsInRest : List ℕ → KeyedFault → Type 0
-  FailsInRest s fault =
-      (passed : List Frame) × (pairs : List (List ℕ × Tree)) × (r : List ℕ) × LeadsTo s passed r × StandForEach ReadsAs passed pairs
-      × (IsStop r fault.fault fault.key ⊎ ((f : Frame) × (q : List ℕ) × IsFrame r f q × FailsInFrame f fault))
+-- s stops with this fault; or the frame at its front has this key and means the fault
+abbrev pub FailsAt : List ℕ → Option (List ℕ) → KeyedFault → Type 0
+FailsAt s None fault = IsStop s fault.fault fault.key
+FailsAt s (Some key) fault = (f : Frame) × (r : List ℕ) × IsFrame s f r × Means f (faulty fault) × (key ≡ f.key)
 
--- The first fault of these bytes, depth first in byte order, if it is at most n levels deep. These bytes are the first
--- level.
-abbrev pub FirstFaultUpTo : ℕ → List ℕ → KeyedFault → Type 0
-FirstFaultUpTo zero b fault = ⊥
-FirstFaultUpTo (suc n) b fault = FailsInRest (FirstFaultUpTo n) (drop 4 b) fault
+-- the frames stand for trees; nested bytes have at most this many levels
+abbrev pub StandForTrees : ℕ → List Frame → Type 0
+StandForTrees inside frames = (pairs : List (List ℕ × Tree)) × StandForEach (ReadsUpTo inside) frames pairs
+
+-- faults are sought, and frames that stand for trees have none
+abbrev pub barriers : Sought Barrier
+barriers = record {
+  passes = λ inside sort passed. StandForTrees inside passed;
+  is_at = λ sort passed s key x. IsFaultWith (λ fault. FailsAt s key fault) x;
+  deep = too_deep;
+}
+
+-- the first of a fault and of a level deeper than n
+abbrev pub FirstFaultAt : ℕ → List ℕ → Barrier → List Step → ℕ → Type 0
+FirstFaultAt n b x path offset = IsFirst barriers n as_document b x path offset
 
 -- the first fault of these bytes
 abbrev pub FirstFault : List ℕ → KeyedFault → Type 0
-FirstFault b fault = (levels : ℕ) × FirstFaultUpTo levels b fault
+FirstFault b fault = (n : ℕ) × (path : List Step) × (offset : ℕ) × FirstFaultAt n b (fault_of fault) path offset
 
--- the first fault of a value
+-- the first fault of a value is that of the nested bytes in it
 abbrev pub FirstFaultOfValue : RawValue → KeyedFault → Type 0
-FirstFaultOfValue v fault = FailsInValue FirstFault v fault
+FirstFaultOfValue v fault = (d : List ℕ) × Holds v d × FirstFault d fault
 
--- the first fault of a frame
+-- the first fault of a frame is the one that it means, or that of the value that it means
 abbrev pub FirstFaultOfFrame : Frame → KeyedFault → Type 0
-FirstFaultOfFrame f fault = FailsInFrame FirstFault f fault
+FirstFaultOfFrame f fault = Means f (faulty fault) ⊎ ((v : RawValue) × Means f (value v) × FirstFaultOfValue v fault)
 
 -- Either there is exactly one tree of which `IsTree` holds, and no first fault; or exactly one first fault of which
--- `IsFirst` holds, and no tree.
-pub record HasOneReading (IsTree : Tree → Type 0) (IsFirst : KeyedFault → Type 0) : Type 0 where
-  pub either : ((t : Tree) × IsTree t) ⊎ ((fault : KeyedFault) × IsFirst fault)
-  pub not_both : (t : Tree) (fault : KeyedFault) → IsTree t → ¬ IsFirst fault
+-- `IsFault` holds, and no tree.
+pub record HasOneReading (IsTree : Tree → Type 0) (IsFault : KeyedFault → Type 0) : Type 0 where
+  pub either : ((t : Tree) × IsTree t) ⊎ ((fault : KeyedFault) × IsFault fault)
+  pub not_both : (t : Tree) (fault : KeyedFault) → IsTree t → ¬ IsFault fault
   pub one_tree : (t other : Tree) → IsTree t → IsTree other → other ≡ t
-  pub one_fault : (fault other : KeyedFault) → IsFirst fault → IsFirst other → other ≡ fault
+  pub one_fault : (fault other : KeyedFault) → IsFault fault → IsFault other → other ≡ fault
 
 -- bytes are read as one tree or have one first fault
 abbrev pub AreReadOneWay : Sort → List ℕ → Type 0

@@ -5,30 +5,23 @@ use Rattle.bson_model.specs.Tree.{Tree}
 use Rattle.raw_view.specs.Errors.Answers.{Says}
 use Rattle.raw_view.specs.Frame.Envelope.{IsEnvelope}
 use Rattle.raw_view.specs.Errors.{IsOutOfMemory, key_of}
-use Rattle.raw_view.specs.Frame.{Frame, IsFrame, IsStop, End, IsWalk, LeadsTo}
-use Rattle.raw_view.specs.Meaning.{RawValue, KeyedFault, Meaning, Means, value, faulty}
-use Rattle.raw_view.specs.Meaning as raw
+use Rattle.raw_view.specs.Frame.{Frame, End, IsWalk}
+use Rattle.raw_view.specs.Meaning.{Meaning, Means}
 use Rattle.raw_view.specs.declared.error.Error.{Error}
 use Rattle.raw_view.specs.declared.error.ErrorKind.TheVariants as kind
 use Rattle.raw_view.specs.declared.error.Reason.TheVariants as reason
-use Rattle.raw_tree.specs.reader.Reading.{StandForEach, ReadsUpTo, Reads, Holds}
+use Rattle.raw_tree.specs.reader.FrameCount.{HasInside}
+use Rattle.raw_tree.specs.reader.Reading.{FirstFaultAt, Reads}
+pub use Rattle.raw_tree.specs.reader.Reading.{Barrier, IsFaultWith, fault_of, too_deep, too_many_bytes}
 use Rattle.raw_tree.specs.declared.reader.limits.Limits.{Limits}
+use Rattle.raw_tree.specs.walk.First.{Step}
 
 -- depths; `Nested` says how deep nested bytes are
 module _ (Nested : List ℕ → ℕ → Type 0) where
-  -- the depth of the meaning of a frame: that of the nested bytes in a value; 0 for a value that holds no others, and
-  -- for a fault
-  abbrev pub IsSoDeep : Meaning → ℕ → Type 0
-  IsSoDeep (value (raw.single l)) n = n ≡ 0
-  IsSoDeep (value (raw.document d)) n = Nested d n
-  IsSoDeep (value (raw.array d)) n = Nested d n
-  IsSoDeep (value (raw.scoped code d)) n = Nested d n
-  IsSoDeep (faulty fault) n = n ≡ 0
-
   -- the greatest depth of the meanings of these frames; 0 if there is no frame
   abbrev pub IsGreatestDepth : List Frame → ℕ → Type 0
   IsGreatestDepth [] n = n ≡ 0
-  IsGreatestDepth (f ∷ fs) n = (m : Meaning) × (inside : ℕ) × (others : ℕ) × Means f m × IsSoDeep m inside × IsGreatestDepth fs others × (n ≡ max inside others)
+  IsGreatestDepth (f ∷ fs) n = (m : Meaning) × (inside : ℕ) × (others : ℕ) × Means f m × HasInside Nested m inside × IsGreatestDepth fs others × (n ≡ max inside others)
 
 -- the depth of these bytes, which have at most this many levels: one more than the greatest depth of nested bytes
 abbrev pub HasDepthUpTo : ℕ → List ℕ → ℕ → Type 0
@@ -43,35 +36,9 @@ HasDepth b n = (levels : ℕ) × HasDepthUpTo levels b n
 abbrev pub AllHaveOneDepth : Type 0
 AllHaveOneDepth = (b : List ℕ) → IsEnvelope b → (n : ℕ) × HasDepth b n × ((other : ℕ) → HasDepth b other → other ≡ n)
 
--- what ends a reading within limits: too many bytes, a level that is too deep, or a fault
-pub data Barrier : Type 0 where
-  too_many_bytes : Barrier
-  too_deep : Barrier
-  fault_of : KeyedFault → Barrier
-
--- the barrier is a fault, and this holds of it
-abbrev pub IsFaultWith : (KeyedFault → Type 0) → Barrier → Type 0
-IsFaultWith P (fault_of fault) = P fault
-IsFaultWith P too_many_bytes = ⊥
-IsFaultWith P too_deep = ⊥
-
--- first barriers; `Nested` says which one nested bytes have
-module _ (Nested : List ℕ → Barrier → Type 0) where
-  -- the first barrier of a frame is the fault that it means, or that of the nested bytes in the value that it means
-  abbrev pub BarsFrame : Frame → Barrier → Type 0
-  BarsFrame f x = IsFaultWith (λ fault. Means f (faulty fault)) x ⊎ ((v : RawValue) × (d : List ℕ) × Means f (value v) × Holds v d × Nested d x)
-
-  -- the walk stops at r with this fault, or the next frame has the barrier
-  abbrev pub BarsFront : List ℕ → Barrier → Type 0
-  BarsFront r x = IsFaultWith (λ fault. IsStop r fault.fault fault.key) x ⊎ ((f : Frame) × (q : List ℕ) × IsFrame r f q × BarsFrame f x)
-
--- The first of a fault and of the entry into a level deeper than n, depth first in byte order. These bytes are the
--- first level. Frames that stand for trees come first, then what has the barrier.
+-- the first of a fault and of a level deeper than n, wherever it is
 abbrev pub FirstFaultWithin : ℕ → List ℕ → Barrier → Type 0
-FirstFaultWithin zero b x = x ≡ too_deep
-FirstFaultWithin (suc n) b x =
-    (passed : List Frame) × (pairs : List (List ℕ × Tree)) × (r : List ℕ) × LeadsTo (drop 4 b) passed r × StandForEach (ReadsUpTo n) passed pairs
-    × BarsFront (FirstFaultWithin n) r x
+FirstFaultWithin n b x = (path : List Step) × (offset : ℕ) × FirstFaultAt n b x path offset
 
 -- the document b has few enough bytes and levels, and is read as this tree
 pub record ReadsWithin (limits : Limits) (b : List ℕ) (t : Tree) : Type 0 where

@@ -1,66 +1,21 @@
 -- The first breach of a document, depth first in byte order: where it isn't canonical, and why. The bytes b of a
 -- document or of an array have an envelope.
-use Rattle.std.specs.Prelude.{◌≡◌, ◌≢◌, ◌⊎◌, ◌++◌, ℕ, suc, zero, List, [], ◌∷◌, Option, None, Some, codes, drop, map, length, decimal}
-use Rattle.std.specs.List.{Contains}
-use Rattle.bson_model.specs.Proper.{DoLeafOptionsAscend}
+use Rattle.std.specs.Prelude.{◌≡◌, ◌⊎◌, ℕ, List, Option, None, Some, codes, map}
 use Rattle.raw_view.specs.Frame.Envelope.{IsEnvelope}
-use Rattle.raw_view.specs.Frame.{Frame, IsFrame, Fault, IsStop, LeadsTo}
-use Rattle.raw_view.specs.Meaning.{Meaning, Means, value, faulty}
-use Rattle.raw_view.specs.Meaning as raw
-use Rattle.raw_tree.specs.Canonical.{AreKeysCanonical, AreFramesCanonical, IsCanonicalAs, IsCanonical}
-use Rattle.raw_tree.specs.reader.Reading.{Sort, as_document, as_array}
+use Rattle.raw_tree.specs.Canonical.{IsCanonicalAs, IsCanonical}
+use Rattle.raw_tree.specs.reader.Reading.{Sort, as_document}
+use Rattle.raw_tree.specs.declared.reader.limits.Limits.{Limits}
 use Rattle.raw_tree.specs.declared.validator.breach.Breach.{Breach}
 use Rattle.raw_tree.specs.declared.validator.breach.Cause.{Cause}
 use Rattle.raw_tree.specs.declared.validator.breach.Cause.TheVariants as cause
+use Rattle.raw_tree.specs.validator.Violations.{Violation, breach_of, FirstViolationTo, FirstViolation, IsCanonicalWithin}
+use Rattle.raw_tree.specs.walk.Places.{Step}
 
--- the keys of frames, in order
-abbrev pub keys_of_frames : List Frame → List (List ℕ)
-keys_of_frames frames = map (λ f. f.key) frames
-
--- a key after these keys has this breach: in a document it is one of them; in an array it isn't the decimal of their
--- number
-abbrev pub BreachesKeys : Sort → List (List ℕ) → List ℕ → Cause → Type 0
-BreachesKeys as_document keys key why = Contains keys key × (why ≡ cause.RepeatedKey)
-BreachesKeys as_array keys key why = (key ≢ decimal (length keys)) × (why ≡ cause.ArrayKey)
-
--- First breaches. `Nested` says which path leads to the breach of nested bytes, and why it is one. The path of a stop,
--- and of a breach of the element itself, is empty.
-module _ (Nested : Sort → List ℕ → List ℕ → Cause → Type 0) where
-  -- the meaning of a frame has this breach: it is a fault, or its options descend, or its nested bytes have the breach
-  abbrev pub BreachesMeaning : Meaning → List ℕ → Cause → Type 0
-  BreachesMeaning (faulty fault) path why = (path ≡ []) × (why ≡ cause.Value)
-  BreachesMeaning (value (raw.single l)) path why = (¬ DoLeafOptionsAscend l) × (path ≡ []) × (why ≡ cause.Options)
-  BreachesMeaning (value (raw.document d)) path why = Nested as_document d path why
-  BreachesMeaning (value (raw.array d)) path why = Nested as_array d path why
-  BreachesMeaning (value (raw.scoped code d)) path why = Nested as_document d path why
-
-  -- A frame after frames with these keys has this breach. Its key is validated first, then its meaning.
-  abbrev pub BreachesFrame : Sort → List (List ℕ) → Frame → List ℕ → Cause → Type 0
-  BreachesFrame sort keys f path why =
-      (BreachesKeys sort keys f.key why × (path ≡ []))
-      ⊎ (AreKeysCanonical sort (keys ++ f.key ∷ []) × (m : Meaning) × Means f m × BreachesMeaning m path why)
-
-  -- after frames with these keys, the walk stops at r or the next frame has this breach
-  abbrev pub BreachesFront : Sort → List (List ℕ) → List ℕ → List ℕ → Cause → Type 0
-  BreachesFront sort keys r path why =
-      ((fault : Fault) × (key : Option (List ℕ)) × IsStop r fault key × (path ≡ []) × (why ≡ cause.Stop))
-      ⊎ ((f : Frame) × (q : List ℕ) × IsFrame r f q × BreachesFrame sort keys f path why)
-
-  -- The first breach of a document or an array; s is all that follows its length. It comes after frames whose keys and
-  -- values are canonical, and the first number of the path is how many these are.
-  abbrev pub Breaches : Sort → List ℕ → List ℕ → Cause → Type 0
-  Breaches sort s path why =
-      (passed : List Frame) × (r : List ℕ) × (inside : List ℕ) × LeadsTo s passed r × AreKeysCanonical sort (keys_of_frames passed)
-      × AreFramesCanonical IsCanonicalAs passed × BreachesFront sort (keys_of_frames passed) r inside why × (path ≡ length passed ∷ inside)
-
--- the first breach of these bytes, if it is at most n levels deep; these bytes are the first level
-abbrev pub HasBreachUpTo : ℕ → Sort → List ℕ → List ℕ → Cause → Type 0
-HasBreachUpTo zero sort b path why = ⊥
-HasBreachUpTo (suc n) sort b path why = Breaches (HasBreachUpTo n) sort (drop 4 b) path why
-
--- the first breach of these bytes as a document or as an array: the path to it, and why it is one
+-- the first breach of these bytes as a document or as an array, however deep it is: the numbers of the path to it, and
+-- why it is one
 abbrev pub HasBreachAs : Sort → List ℕ → List ℕ → Cause → Type 0
-HasBreachAs sort b path why = (levels : ℕ) × HasBreachUpTo levels sort b path why
+HasBreachAs sort b path why =
+    (depth : ℕ) × (steps : List Step) × (offset : ℕ) × FirstViolationTo depth sort b (breach_of why) steps offset × (path ≡ map (λ step. step.number) steps)
 
 -- the first breach of the document b
 abbrev pub HasBreach : List ℕ → Breach → Type 0
@@ -88,3 +43,15 @@ pub record IsValidatedOneWay (sort : Sort) (b : List ℕ) : Type 0 where
 -- this holds of all bytes with an envelope
 abbrev pub AllAreValidatedOneWay : Sort → Type 0
 AllAreValidatedOneWay sort = (b : List ℕ) → IsEnvelope b → IsValidatedOneWay sort b
+
+-- The document b has at most one violation within limits, at one place, and none if it is canonical. A breach within
+-- limits is also its first breach without them, and the numbers of its steps are the path.
+pub record IsValidatedOneWayWithin (limits : Limits) (b : List ℕ) : Type 0 where
+  pub not_both : (x : Violation) (path : List Step) (offset : ℕ) → FirstViolation limits b x path offset → ¬ IsCanonicalWithin limits b
+  pub one_violation : (x other : Violation) (path other_path : List Step) (offset other_offset : ℕ) → FirstViolation limits b x path offset
+      → FirstViolation limits b other other_path other_offset → (other ≡ x) × (other_path ≡ path) × (other_offset ≡ offset)
+  pub first_breach : (why : Cause) (path : List Step) (offset : ℕ) → FirstViolation limits b (breach_of why) path offset → HasBreachAs as_document b (map (λ step. step.number) path) why
+
+-- this holds of every document
+abbrev pub AllAreValidatedOneWayWithin : Limits → Type 0
+AllAreValidatedOneWayWithin limits = (b : List ℕ) → IsValidatedOneWayWithin limits b

@@ -1,25 +1,25 @@
--- What a step of a validation returns. No public contract cites this file.
-use Rattle.std.specs.Prelude.{◌≡◌, ◌⊎◌, ◌++◌, ◌∷◌, [], ℕ, List, Bool, true, false, length, Option, None, Some}
+-- The keys of a level that is being validated, and what a step of a validation returns. No public contract cites this
+-- file.
+use Rattle.std.specs.Prelude.{◌≡◌, ◌++◌, ◌∷◌, [], ℕ, List, Bool, true, false, length, Option, None, Some}
 use Rattle.std.specs.Option.{option_copied}
 use denote.Ref.{Bor}
 use Rattle.bson_model.specs.Proper.{DoLeafOptionsAscend}
 use Rattle.raw_view.specs.Document.{bytes_of}
 use Rattle.raw_view.specs.Frame.ElementSteps.{frame_of}
-use Rattle.raw_view.specs.Frame.{Frame, Fault, IsFrame, IsStop}
-use Rattle.raw_view.specs.Meaning.{RawValue, Meaning, Means, value, faulty}
+use Rattle.raw_view.specs.Frame.{IsFrame}
+use Rattle.raw_view.specs.Meaning.{RawValue, Meaning, Means, value}
 use Rattle.raw_view.specs.Meaning as raw
 use Rattle.raw_view.specs.declared.element.RawElement.{RawElement}
-use Rattle.raw_tree.specs.validator.Breaches.{BreachesKeys}
 use Rattle.raw_tree.specs.Canonical.{AreKeysCanonical, IsCanonicalUpTo}
-use Rattle.raw_tree.specs.validator.OpenKeys.{HasKeysSoFar}
-use Rattle.raw_tree.specs.reader.Reading.{Sort, as_document, as_array}
-use Rattle.raw_tree.specs.validator.Validating.{HoldsAs}
+use Rattle.key_set.specs.KeySets.{HasKeys}
+use Rattle.key_set.specs.References.{texts}
+use Rattle.raw_tree.specs.reader.Reading.{Sort, as_document, as_array, HoldsAs}
 use Rattle.raw_tree.specs.declared.validator.breach.Cause.{Cause}
-use Rattle.raw_tree.specs.declared.validator.breach.Cause.TheVariants as cause
 use Rattle.raw_tree.specs.declared.validator.keys_so_far.KeysSoFar.{KeysSoFar}
+use Rattle.raw_tree.specs.declared.validator.keys_so_far.KeysSoFar.TheVariants as kept
 use Rattle.raw_tree.specs.walk.Barriers.{steps_of}
 use Rattle.raw_tree.specs.walk.Places.{Step}
-use Rattle.raw_tree.specs.validator.Violations.{Violation, too_deep, breach_of, FirstViolationTo}
+use Rattle.raw_tree.specs.validator.Violations.{Violation, too_deep, breach_of, BreachesHere, BreachesItself, BreachesKeys, FirstViolationTo}
 use Rattle.raw_tree.specs.walk.Walks.{IsBehind}
 use Rattle.raw_tree.specs.declared.validator.step.Held.{Held}
 use Rattle.raw_tree.specs.declared.validator.step.Held.TheVariants as held
@@ -28,6 +28,30 @@ use Rattle.raw_tree.specs.declared.validator.step.Validated.TheVariants as valid
 use Rattle.raw_tree.specs.declared.validator.within.Found.{Found}
 use Rattle.raw_tree.specs.declared.walk.WalkError.{WalkError}
 use Rattle.raw_tree.specs.declared.walk.WalkError.TheVariants as error
+
+-- a level of this sort has its own keys so far; those of the outer levels are before them in the list
+abbrev pub HasKeysSoFar : KeysSoFar → List (Bor (List ℕ)) → Sort → List (List ℕ) → List (List ℕ) → Type 0
+HasKeysSoFar kept.Numbers listed sort below own = (sort ≡ as_array) × (texts listed ≡ below)
+HasKeysSoFar (kept.Distinct set) listed sort below own = (sort ≡ as_document) × HasKeys set listed below own
+
+-- these are the keys of some level, and are canonical
+abbrev pub AreOpenKeys : KeysSoFar → List (Bor (List ℕ)) → Type 0
+AreOpenKeys k listed = (sort : Sort) × (below : List (List ℕ)) × (own : List (List ℕ)) × HasKeysSoFar k listed sort below own × AreKeysCanonical sort own
+
+-- the key is after these from now on, and they are canonical; or it is a breach
+abbrev pub TellsOpenKey : Sort → List (List ℕ) → List (List ℕ) → List ℕ → KeysSoFar → List (Bor (List ℕ)) → Option Cause → Type 0
+TellsOpenKey sort below own key k listed None = HasKeysSoFar k listed sort below (own ++ key ∷ []) × AreKeysCanonical sort (own ++ key ∷ [])
+TellsOpenKey sort below own key k listed (Some why) = BreachesKeys sort own key why
+
+-- this holds whatever the keys of the level are
+abbrev pub AddsOpenKey : KeysSoFar → List (Bor (List ℕ)) → ℕ → List ℕ → KeysSoFar → List (Bor (List ℕ)) → Option Cause → Type 0
+AddsOpenKey old before number key new after answer =
+    (sort : Sort) (below own : List (List ℕ)) → HasKeysSoFar old before sort below own → AreKeysCanonical sort own → number ≡ length own
+    → TellsOpenKey sort below own key new after answer
+
+-- the level's own keys are removed from the list
+abbrev pub LeavesOpenKeys : KeysSoFar → List (Bor (List ℕ)) → List (Bor (List ℕ)) → Type 0
+LeavesOpenKeys k before after = (sort : Sort) (below own : List (List ℕ)) → HasKeysSoFar k before sort below own → texts after ≡ below
 
 -- the sort of a level, by whether it is an array
 abbrev pub array_sort : Bool → Sort
@@ -47,28 +71,12 @@ HoldsAsTold v held.Nothing = IsSingleWith (λ A. A) v
 HoldsAsTold v held.Descending = IsSingleWith (λ A. ¬ A) v
 HoldsAsTold v (held.Level inner is_array) = HoldsAs v (array_sort is_array) (bytes_of inner)
 
--- the meaning of a frame is a breach by itself: it is a fault, or its options descend
-abbrev pub BreachesItself : Meaning → Cause → Type 0
-BreachesItself (faulty fault) why = why ≡ cause.Value
-BreachesItself (value (raw.single l)) why = (¬ DoLeafOptionsAscend l) × (why ≡ cause.Options)
-BreachesItself (value (raw.document d)) why = ⊥
-BreachesItself (value (raw.array d)) why = ⊥
-BreachesItself (value (raw.scoped code d)) why = ⊥
-
 -- how a level continues after an element with a canonical key, by the meaning of the element
 abbrev pub TellsValue : RawElement → Validated → Type 0
 TellsValue e validated.End = ⊥
 TellsValue e (validated.Whole same) = (same ≡ e) × (v : RawValue) × Means (frame_of e) (value v) × IsSingleWith (λ A. A) v
 TellsValue e (validated.Inside same inner is_array) = (same ≡ e) × (v : RawValue) × Means (frame_of e) (value v) × HoldsAs v (array_sort is_array) (bytes_of inner)
 TellsValue e (validated.Breach key why) = (option_copied key ≡ Some (frame_of e).key) × (m : Meaning) × Means (frame_of e) m × BreachesItself m why
-
--- After elements with these keys, s stops; or the frame at its front has this key, and is a breach by its key or its
--- meaning, not by what is inside.
-abbrev pub BreachesHere : Sort → List (List ℕ) → List ℕ → Option (List ℕ) → Cause → Type 0
-BreachesHere sort own s None why = (fault : Fault) × (key : Option (List ℕ)) × IsStop s fault key × (why ≡ cause.Stop)
-BreachesHere sort own s (Some key) why =
-    (f : Frame) × (r : List ℕ) × IsFrame s f r × (key ≡ f.key)
-    × (BreachesKeys sort own f.key why ⊎ (AreKeysCanonical sort (own ++ f.key ∷ []) × (m : Meaning) × Means f m × BreachesItself m why))
 
 -- how k and the list continue, if they are those of a level with its own keys so far
 abbrev pub TellsValidated : Sort → List (List ℕ) → List (List ℕ) → List ℕ → Option (List ℕ) → KeysSoFar → List (Bor (List ℕ)) → Validated → Type 0

@@ -1,69 +1,64 @@
 -- Validation of a document within limits: it is canonical; or it has a first breach or a level that is too deep, at
 -- some place. The bytes b of a document or of an array have an envelope.
-use Rattle.std.specs.Prelude.{◌≡◌, ◌⊎◌, ◌≤◌, ◌<◌, ◌++◌, ℕ, suc, zero, List, [], ◌∷◌, Option, None, Some, Result, Ok, Err, drop, length, map}
+use Rattle.std.specs.Prelude.{◌≡◌, ◌≢◌, ◌⊎◌, ◌≤◌, ◌<◌, ◌++◌, ℕ, List, [], ◌∷◌, Option, None, Some, Result, Ok, Err, length, map, decimal}
+use Rattle.std.specs.List.{Contains}
 use Rattle.bson_model.specs.Proper.{DoLeafOptionsAscend}
-use Rattle.raw_view.specs.Frame.{Frame, IsFrame, Fault, IsStop, LeadsTo}
+use Rattle.raw_view.specs.Frame.{Frame, IsFrame, Fault, IsStop}
 use Rattle.raw_view.specs.Meaning.{Meaning, Means, value, faulty}
 use Rattle.raw_view.specs.Meaning as raw
-use Rattle.raw_tree.specs.validator.Breaches.{HasBreachAs, keys_of_frames, BreachesKeys}
 use Rattle.raw_tree.specs.Canonical.{AreKeysCanonical, AreFramesCanonical, IsCanonicalUpTo}
 use Rattle.raw_tree.specs.reader.Reading.{Sort, as_document, as_array}
 use Rattle.raw_tree.specs.declared.validator.breach.Cause.{Cause}
 use Rattle.raw_tree.specs.declared.validator.breach.Cause.TheVariants as cause
 use Rattle.raw_tree.specs.declared.reader.limits.Limits.{Limits}
 use Rattle.raw_tree.specs.walk.Barriers.{steps_of}
-use Rattle.raw_tree.specs.walk.Places.{Step, IsLastStep, IsOffsetOf}
+use Rattle.raw_tree.specs.walk.First.{IsFirst, Sought, Step}
 use Rattle.raw_tree.specs.declared.validator.within.PlacedBreach.{PlacedBreach}
 use Rattle.raw_tree.specs.declared.validator.within.ValidateError.{ValidateError}
 use Rattle.raw_tree.specs.declared.validator.within.ValidateError.TheVariants as error
+
+-- the keys of frames, in order
+abbrev pub keys_of_frames : List Frame → List (List ℕ)
+keys_of_frames frames = map (λ f. f.key) frames
+
+-- a key after these keys has this breach: in a document it is one of them; in an array it isn't the decimal of their
+-- number
+abbrev pub BreachesKeys : Sort → List (List ℕ) → List ℕ → Cause → Type 0
+BreachesKeys as_document keys key why = Contains keys key × (why ≡ cause.RepeatedKey)
+BreachesKeys as_array keys key why = (key ≢ decimal (length keys)) × (why ≡ cause.ArrayKey)
+
+-- the meaning of a frame is a breach by itself: it is a fault, or its options descend
+abbrev pub BreachesItself : Meaning → Cause → Type 0
+BreachesItself (faulty fault) why = why ≡ cause.Value
+BreachesItself (value (raw.single l)) why = (¬ DoLeafOptionsAscend l) × (why ≡ cause.Options)
+BreachesItself (value (raw.document d)) why = ⊥
+BreachesItself (value (raw.array d)) why = ⊥
+BreachesItself (value (raw.scoped code d)) why = ⊥
+
+-- After elements with these keys, s stops; or the frame at its front has this key, and is a breach by its key, which is
+-- validated first, or by its meaning.
+abbrev pub BreachesHere : Sort → List (List ℕ) → List ℕ → Option (List ℕ) → Cause → Type 0
+BreachesHere sort own s None why = (fault : Fault) × (key : Option (List ℕ)) × IsStop s fault key × (why ≡ cause.Stop)
+BreachesHere sort own s (Some key) why =
+    (f : Frame) × (r : List ℕ) × IsFrame s f r × (key ≡ f.key)
+    × (BreachesKeys sort own f.key why ⊎ (AreKeysCanonical sort (own ++ f.key ∷ []) × (m : Meaning) × Means f m × BreachesItself m why))
 
 -- what ends a validation to a depth: a breach, or a level that is too deep
 pub data Violation : Type 0 where
   too_deep : Violation
   breach_of : Cause → Violation
 
--- Violations and their places. `Passes` says which nested bytes are canonical, and `Nested` which violation nested
--- bytes have and where.
-module _ (Passes : Sort → List ℕ → Type 0) (Nested : Sort → List ℕ → Violation → List Step → ℕ → Type 0) where
-  -- the violation of the nested bytes d in the frame at the front of s, to which this step leads and which q follows
-  abbrev pub ValidatesNestedAt : (b s : List ℕ) → Step → (q : List ℕ) → Sort → List ℕ → Violation → List Step → ℕ → Type 0
-  ValidatesNestedAt b s step q sort d x path offset =
-      (steps : List Step) × (inside : ℕ) × Nested sort d x steps inside × (path ≡ step ∷ steps) × IsOffsetOf b s d q steps inside offset
+-- breaches are sought, and frames whose keys and values are canonical have none
+abbrev pub violations : Sought Violation
+violations = record {
+  passes = λ inside sort passed. AreKeysCanonical sort (keys_of_frames passed) × AreFramesCanonical (IsCanonicalUpTo inside) passed;
+  is_at = λ sort passed s key x. (why : Cause) × (x ≡ breach_of why) × BreachesHere sort (keys_of_frames passed) s key why;
+  deep = too_deep;
+}
 
-  -- the violation of the meaning of the frame: it is a fault, or its options descend, or it is that of the nested
-  -- bytes
-  abbrev pub ValidatesMeaningAt : (b s : List ℕ) → Step → (q : List ℕ) → Meaning → Violation → List Step → ℕ → Type 0
-  ValidatesMeaningAt b s step q (faulty fault) x path offset = (x ≡ breach_of cause.Value) × IsLastStep b s step path offset
-  ValidatesMeaningAt b s step q (value (raw.single l)) x path offset = (¬ DoLeafOptionsAscend l) × (x ≡ breach_of cause.Options) × IsLastStep b s step path offset
-  ValidatesMeaningAt b s step q (value (raw.document d)) x path offset = ValidatesNestedAt b s step q as_document d x path offset
-  ValidatesMeaningAt b s step q (value (raw.array d)) x path offset = ValidatesNestedAt b s step q as_array d x path offset
-  ValidatesMeaningAt b s step q (value (raw.scoped code d)) x path offset = ValidatesNestedAt b s step q as_document d x path offset
-
-  -- The violation of the frame f, which is at the front of s, after frames with these keys. Its key is validated
-  -- first, then its meaning.
-  abbrev pub ValidatesFrameAt : Sort → List (List ℕ) → (b s : List ℕ) → Step → Frame → (q : List ℕ) → Violation → List Step → ℕ → Type 0
-  ValidatesFrameAt sort keys b s step f q x path offset =
-      ((why : Cause) × BreachesKeys sort keys f.key why × (x ≡ breach_of why) × IsLastStep b s step path offset)
-      ⊎ (AreKeysCanonical sort (keys ++ f.key ∷ []) × (m : Meaning) × Means f m × ValidatesMeaningAt b s step q m x path offset)
-
-  -- after this many frames of b with these keys, s is left: its walk stops there, or the next frame has the violation
-  abbrev pub ValidatesFrontAt : Sort → List (List ℕ) → (b s : List ℕ) → ℕ → Violation → List Step → ℕ → Type 0
-  ValidatesFrontAt sort keys b s number x path offset =
-      ((fault : Fault) × (key : Option (List ℕ)) × IsStop s fault key × (x ≡ breach_of cause.Stop) × IsLastStep b s (record { number = number; key = None }) path offset)
-      ⊎ ((f : Frame) × (q : List ℕ) × IsFrame s f q × ValidatesFrameAt sort keys b s (record { number = number; key = Some f.key }) f q x path offset)
-
-  -- the violation of a document or an array, after frames whose keys and values are canonical
-  abbrev pub ValidatesAt : Sort → List ℕ → Violation → List Step → ℕ → Type 0
-  ValidatesAt sort b x path offset =
-      (passed : List Frame) × (s : List ℕ) × LeadsTo (drop 4 b) passed s × AreKeysCanonical sort (keys_of_frames passed)
-      × AreFramesCanonical Passes passed × ValidatesFrontAt sort (keys_of_frames passed) b s (length passed) x path offset
-
--- The first of a breach and of the entry into a level deeper than n, where these bytes are the first level; the path
--- to it; and the offset in these bytes at which it begins. The path to these bytes themselves is empty, and the offset
--- 0.
+-- the first of a breach and of a level deeper than n; the path to it, and its offset
 abbrev pub FirstViolationTo : ℕ → Sort → List ℕ → Violation → List Step → ℕ → Type 0
-FirstViolationTo zero sort b x path offset = (x ≡ too_deep) × (path ≡ []) × (offset ≡ 0)
-FirstViolationTo (suc n) sort b x path offset = ValidatesAt (IsCanonicalUpTo n) (FirstViolationTo n) sort b x path offset
+FirstViolationTo n sort b x path offset = IsFirst violations n sort b x path offset
 
 -- the document b has few enough bytes, and this is the first violation within the depth
 abbrev pub FirstViolation : Limits → List ℕ → Violation → List Step → ℕ → Type 0
@@ -81,15 +76,3 @@ TellsViolation limits b (Ok (Some breach)) = FirstViolation limits b (breach_of 
 TellsViolation limits b (Err error.TooManyBytes) = limits.bytes < length b
 TellsViolation limits b (Err (error.TooDeep place)) = FirstViolation limits b too_deep (steps_of place) place.offset
 TellsViolation limits b (Err error.OutOfMemory) = (length b ≤ limits.bytes) × (0 < limits.depth)
-
--- The document b has at most one violation, at one place, and none if it is canonical. A breach within limits is also its first breach
--- without them, and the numbers of its steps are the path.
-pub record IsValidatedOneWayWithin (limits : Limits) (b : List ℕ) : Type 0 where
-  pub not_both : (x : Violation) (path : List Step) (offset : ℕ) → FirstViolation limits b x path offset → ¬ IsCanonicalWithin limits b
-  pub one_violation : (x other : Violation) (path other_path : List Step) (offset other_offset : ℕ) → FirstViolation limits b x path offset
-      → FirstViolation limits b other other_path other_offset → (other ≡ x) × (other_path ≡ path) × (other_offset ≡ offset)
-  pub first_breach : (why : Cause) (path : List Step) (offset : ℕ) → FirstViolation limits b (breach_of why) path offset → HasBreachAs as_document b (map (λ step. step.number) path) why
-
--- this holds of every document
-abbrev pub AllAreValidatedOneWayWithin : Limits → Type 0
-AllAreValidatedOneWayWithin limits = (b : List ℕ) → IsValidatedOneWayWithin limits b

@@ -6,11 +6,11 @@ use Rattle.raw_view.specs.Errors.{IsOutOfMemory}
 use Rattle.raw_view.specs.Frame.Front.{TellsBorrowed}
 use Rattle.raw_view.specs.Meaning.{KeyedFault}
 use Rattle.raw_view.specs.declared.error.Error.{Error}
-use Rattle.raw_tree.specs.reader.Reading.{as_document, ReadsUpTo}
+use Rattle.raw_tree.specs.reader.Reading.{as_document, FirstFaultAt, ReadsUpTo}
 use Rattle.raw_tree.specs.reader.WithinLimits.{FirstBarrier, ReadsWithin, fault_of, too_deep, too_many_bytes}
 use Rattle.raw_tree.specs.reader.WithinLimits as within
 use Rattle.raw_tree.specs.declared.reader.limits.Limits.{Limits}
-use Rattle.raw_tree.specs.walk.Places.{Step, FirstFaultAt, FirstBarrierAt}
+use Rattle.raw_tree.specs.walk.Places.{Step, FirstBarrierAt}
 use Rattle.raw_tree.specs.declared.walk.barrier.Barrier.{Barrier}
 use Rattle.raw_tree.specs.declared.walk.barrier.BarrierKind.{BarrierKind}
 use Rattle.raw_tree.specs.declared.walk.barrier.BarrierKind.TheVariants as kind

@@ -1,5 +1,6 @@
 -- The bytes of trees. BSON 1.1, `document`.
-use Rattle.std.specs.Prelude.{◌≡◌, ◌<◌, ◌≤◌, None, ℕ, ◌+◌, List, [], ◌++◌, length, decimal}
+use Rattle.std.specs.Prelude.{◌≡◌, ◌<◌, ◌≤◌, Option, None, Some, ℕ, ◌+◌, ◌-◌, ◌^◌, List, [], ◌++◌, length, min, decimal, Vec, vec_len, vec_capacity}
+use Rattle.std.specs.Global.{Global}
 use Rattle.bson_model.specs.Proper.{IsNulFree}
 use Rattle.bson_model.specs.Tree.{Tree, Trees, Entries, leaf, array, document, code_with_scope, no_tree, tree_then, no_entry, entry_then}
 use Rattle.raw_view.specs.Errors.{key_of}
@@ -77,3 +78,13 @@ IsEncoded t bytes = IsNulFree t × (encoded_len t ≤ max_length) × (bytes ≡ 
 -- otherwise why there is none, without a key
 abbrev pub IsRefused : Tree → Error → Type 0
 IsRefused t e = RefusesTree t e.kind × (key_of e ≡ None)
+
+-- what is returned for a tree before it is written: its length, or the greatest number of 64 bits if it is more;
+-- nothing if and only if a key, a pattern or options contain a 0
+abbrev pub Measures : Tree → Option ℕ → Type 0
+Measures t None = ¬ IsNulFree t
+Measures t (Some len) = IsNulFree t × (len ≡ min (encoded_len t) (2 ^ 64 - 1))
+
+-- no bytes yet, with room for those of the tree, which may be written
+abbrev pub HasRoomFor : Tree → Vec ℕ Global → Type 0
+HasRoomFor t out = IsNulFree t × (encoded_len t ≤ max_length) × (out.items ≡ []) × (vec_len out ≡ 0) × (encoded_len t ≤ vec_capacity out)

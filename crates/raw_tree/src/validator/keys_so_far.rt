@@ -2,7 +2,7 @@
 #![tactic(auto)]
 
 ghost use Rattle.std.specs.Prelude.{◌≡◌, ◌↔◌, [], decimal, IsTrue, IfOk, IfErr};
-ghost use Rattle.raw_tree.specs.validator.OpenKeys.{AddsOpenKey, AreOpenKeys, HasKeysSoFar, LeavesOpenKeys};
+ghost use Rattle.raw_tree.specs.validator.ValidationSteps.{AddsOpenKey, AreOpenKeys, HasKeysSoFar, LeavesOpenKeys};
 ghost use Rattle.raw_tree.specs.reader.Reading.{as_array, as_document};
 ghost use Rattle.key_set.specs.References.{texts};
 ghost use Rattle.raw_view.specs.Errors.{IsOutOfMemory};

@@ -2,8 +2,7 @@
 #![tactic(auto)]
 
 ghost use Rattle.std.specs.Prelude.{[], IfOk, IfErr};
-ghost use Rattle.raw_tree.specs.validator.ValidationSteps.{HoldsAsTold, TellsValue, Validates, array_sort};
-ghost use Rattle.raw_tree.specs.validator.OpenKeys.{AreOpenKeys, HasKeysSoFar};
+ghost use Rattle.raw_tree.specs.validator.ValidationSteps.{AreOpenKeys, HasKeysSoFar, HoldsAsTold, TellsValue, Validates, array_sort};
 ghost use Rattle.key_set.specs.References.{texts};
 ghost use Rattle.raw_view.specs.Errors.{IsOutOfMemory};
 ghost use Rattle.raw_view.specs.Meaning.Value.{value_of};

@@ -3,7 +3,8 @@
 
 ghost use Rattle.std.specs.Prelude.{◌<◌, IfOk, IfErr};
 ghost use Rattle.raw_tree.specs.validator.ValidationSteps.{EndsTooDeep, TellsFound, TellsOutermost};
-ghost use Rattle.raw_tree.specs.validator.Violations.{AllAreValidatedOneWayWithin, TellsViolation};
+ghost use Rattle.raw_tree.specs.validator.Breaches.{AllAreValidatedOneWayWithin};
+ghost use Rattle.raw_tree.specs.validator.Violations.{TellsViolation};
 ghost use Rattle.raw_view.specs.Document.{bytes_of};
 ghost use Rattle.raw_view.specs.Errors.{IsOutOfMemory};
 
@@ -152,7 +153,7 @@ fn too_deep(error: WalkError<'_>, outermost: usize) -> Result<Option<Found<'_>>>
 /// let Some(breach) = validate_within(alloc, document, limits)? else { unreachable!() };
 /// assert_eq!(rt; (breach.cause, breach.place.offset), (Cause::RepeatedKey, 11));
 /// ```
-#[tactic(auto, using(crate::proofs::validator::OneViolation::validated_one_way))]
+#[tactic(auto, using(crate::proofs::validator::OneBreach::validated_one_way_within))]
 pub fn validate_within<'a>(
     alloc: Global,
     document: RawDocument<'a>,

@@ -3,7 +3,7 @@
 
 ghost use Rattle.std.specs.Prelude.{◌≡◌, ◌≤◌, ◌<◌, ◌+◌, ◌^◌, ℕ, List, length};
 ghost use Rattle.raw_tree.specs.walk.Looking.{HasLooked, size_of};
-ghost use Rattle.raw_tree.specs.walk.Waits.{GoesOn, LiesAt, entered_level, resumed_level};
+ghost use Rattle.raw_tree.specs.walk.Walks.{GoesOn, LiesAt, entered_level, resumed_level};
 ghost use Rattle.raw_view.specs.Document.{bytes_of};
 ghost use Rattle.raw_view.specs.Frame.ElementSteps.{frame_of};
 

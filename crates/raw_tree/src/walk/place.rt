@@ -6,7 +6,7 @@ ghost use Rattle.std.specs.Option.{option_copied};
 ghost use Rattle.raw_tree.specs.walk.Barriers.{step_of, steps_of};
 ghost use Rattle.raw_tree.specs.walk.Rooms.{filled_from};
 ghost use Rattle.raw_tree.specs.walk.Places.{Step, last_key};
-ghost use Rattle.raw_tree.specs.walk.Waits.{StoreSteps};
+ghost use Rattle.raw_tree.specs.walk.Walks.{StoreSteps};
 ghost use Rattle.raw_view.specs.Document.{bytes_of};
 ghost use Rattle.raw_view.specs.Errors.{IsOutOfMemory};
 

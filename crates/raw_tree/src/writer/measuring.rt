@@ -4,7 +4,7 @@
 ghost use Rattle.std.specs.Prelude.{◌≡◌, ◌+◌};
 ghost use Rattle.bson_model.specs.Leaf.{Leaf};
 ghost use Rattle.bson_model.specs.Tree.{leaf};
-ghost use Rattle.raw_tree.specs.writer.Measuring.{Measures};
+ghost use Rattle.raw_tree.specs.writer.Encoding.{Measures};
 ghost use Rattle.raw_tree.specs.writer.Members.{opening_len, tree_of_container};
 ghost use Rattle.raw_view.specs.Meaning.{single};
 ghost use Rattle.raw_view.specs.Meaning.Value.{value_of};

@@ -1,7 +1,7 @@
 -- A search for the first barrier may begin at the element of the outermost level that breaches or holds what breaches; what is before it is
 -- written as it is.
-use Rattle.std.proofs.Common.{◌≡◌, ◌≢◌, ◌∙◌, ◌+◌, ◌∷◌, [], ℕ, zero, suc, List, None, Some, map, slice_index_or, length, drop, arith, ap, refl, sym}
-use Rattle.raw_form.proofs.canonical.Common.{FirstViolationTo, Frame, IsCanonicalUpTo, ValidatesFrontAt, LeadsTo, PathStep, Sort, Start, Step, Violation, as_document, canonical_frames_read, length-map, one_frame, step_of, steps_of, bytes_of}
+use Rattle.std.proofs.Common.{◌≡◌, ◌≢◌, ◌⊎◌, ◌∙◌, ◌+◌, ◌∷◌, [], ℕ, zero, suc, List, None, Some, map, slice_index_or, length, drop, arith, ap, refl, sym}
+use Rattle.raw_form.proofs.canonical.Common.{FirstViolationTo, Frame, IsHere, IsInside, LeadsTo, PathStep, Start, Step, Violation, violations, as_document, canonical_frames_read, length-map, one_frame, step_of, steps_of, bytes_of}
 use Rattle.raw_tree.specs.ValidationSteps.{TellsFound, TellsOutermost, first_number, violation_of}
 use Rattle.raw_tree.proofs.Face.{first_begins}
 use Rattle.raw_form.specs.Staying.{TellsStart}
@@ -10,9 +10,9 @@ use Rattle.raw_form.proofs.rewritten.Members.{known_to, known_to_first}
 use Rattle.raw_form.proofs.canonical.start_of.Goals as goal
 
 -- the number of the first step is the number of frames before it
-front_begins : (P : Sort → List ℕ → Type 0) (N : Sort → List ℕ → Violation → List Step → ℕ → Type 0) (sort : Sort) (keys : List (List ℕ)) (b s : List ℕ) (number : ℕ) (x : Violation)
-    (path : List Step) (offset : ℕ) → ValidatesFrontAt P N sort keys b s number x path offset → first_number path ≡ number
-front_begins P N sort keys b s number x path offset h = grind arith
+front_begins : (n : ℕ) (passed : List Frame) (b s : List ℕ) (x : Violation) (path : List Step) (offset : ℕ)
+    → IsHere violations as_document passed b s x path offset ⊎ IsInside violations (FirstViolationTo n) as_document passed b s x path offset → first_number path ≡ length passed
+front_begins n passed b s x path offset h = grind arith
 
 -- as many frames lead to the same bytes
 led_same : (s : List ℕ) (fs gs : List Frame) (r q : List ℕ) → LeadsTo s fs r → LeadsTo s gs q → length fs ≡ length gs → r ≡ q
@@ -25,9 +25,9 @@ led_same s fs gs r q l k e = absurd (omega (arith, e))
 found_begins : (depth : ℕ) (b : List ℕ) (found : Found) (start : Start) → TellsFound depth b (Some found) → TellsOutermost b (Some found)
     → length found.place.path.items ≢ 0 → start.number ≡ first_number (steps_of found.place) → start.offset ≡ found.outermost → TellsStart depth b (Some start)
 found_begins zero b found start told outermost some number offset = absurd (some (sym (length-map found.place.path.items step_of) ∙ ap length told.1))
-found_begins (suc n) b found start (passed, s, reaches, keys, canonical, front) there some number offset =
+found_begins (suc n) b found start (passed, s, reaches, (keys, canonical), front) there some number offset =
     let counted : first_number (steps_of found.place) ≡ length passed =
-    front_begins (IsCanonicalUpTo n) (FirstViolationTo n) as_document _ b s (length passed) (violation_of found.cause) (steps_of found.place) found.place.offset front in
+    front_begins n passed b s (violation_of found.cause) (steps_of found.place) found.place.offset front in
     let left : there.s ≡ s = led_same (drop 4 b) there.frames passed there.s s there.reaches reaches (omega (arith, there.number_is, counted)) in
     let read = canonical_frames_read n passed canonical in
     let begins : start.offset + length s ≡ length b = omega (arith, there.begins, ap length left, offset) in (

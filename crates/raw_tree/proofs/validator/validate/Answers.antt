@@ -1,6 +1,6 @@
 use Rattle.std.proofs.Common.{arith}
 use Rattle.raw_tree.proofs.Common.{bytes_of}
-use Rattle.raw_tree.proofs.validator.Unlimited.{breach_found, most, never_too_deep}
+use Rattle.raw_tree.proofs.validator.OneBreach.{breach_found, most, never_too_deep}
 use Rattle.raw_tree.proofs.walk.Rooms.{numbers_of}
 use Rattle.raw_tree.proofs.validator.validate.Goals as goal
 

@@ -1,6 +1,6 @@
 use Rattle.std.proofs.Common.{◌≡◌, ℕ, List, Bor, Option, None, Some, Ok, Err, refl, subst, sym, inl, inr}
 use Rattle.raw_tree.proofs.Common.{BorrowedError, RawElement, StepsFront, frame_of}
-use Rattle.raw_tree.specs.validator.OpenKeys.{AddsOpenKey}
+use Rattle.raw_tree.specs.validator.ValidationSteps.{AddsOpenKey}
 use Rattle.raw_tree.proofs.walk.Common.{BreachesHere, KeysSoFar, TellsValue, Validated, Validates, option_copied}
 use Rattle.raw_tree.specs.declared.validator.breach.Cause.{Cause}
 use Rattle.raw_tree.specs.declared.validator.breach.Cause.TheVariants as cause
