@@ -21,7 +21,7 @@ use Rattle.raw_view.specs.Meaning as raw
 use Rattle.raw_view.proofs.Face.{AreBytes-element, AreBytes-framed, AreBytes-leaf, AreBytes-scoped, declared_shape, framed_is_envelope, leaf_means, leaf_shape, length-framed, scoped_means}
 use Rattle.raw_tree.specs.Encoding.{encoded_len, encoding, entries_bytes, entries_len, items_bytes, items_len, kind_of_tree, tree_payload}
 use Rattle.raw_tree.specs.Members.{numbered}
-use Rattle.raw_tree.specs.Reading.{FirstFaultUpTo, Reads, ReadsUpTo, Sort, StandForEach, StandsFor, as_array, as_document, leaf_in_order, tree_of_pairs}
+use Rattle.raw_tree.specs.Reading.{Reads, ReadsUpTo, Sort, StandForEach, StandsFor, as_array, as_document, leaf_in_order, tree_of_pairs}
 use Rattle.raw_tree.specs.WithinLimits.{Barrier, FirstBarrier, FirstFaultWithin, fault_of, too_deep, too_many_bytes}
 use Rattle.raw_tree.specs.declared.reader.limits.Limits.{Limits}
 use Rattle.raw_tree.proofs.Face.{bytes_one_way, each_read, length-tree_payload}
@@ -169,13 +169,6 @@ document_read b l (es, readable, e) =
 
 -- no first fault
 
-fault_found : (n : ℕ) (b : List ℕ) (fault : KeyedFault) → FirstFaultWithin n b (fault_of fault) → FirstFaultUpTo n b fault
-fault_found zero b fault e = cc
-fault_found (suc n) b fault (passed, pairs, r, leads, stand, inl stop) = (passed, pairs, r, leads, each_read n passed pairs stand, inl stop)
-fault_found (suc n) b fault (passed, pairs, r, leads, stand, inr (f, q, frame, inl means)) = (passed, pairs, r, leads, each_read n passed pairs stand, inr (f, q, frame, inl means))
-fault_found (suc n) b fault (passed, pairs, r, leads, stand, inr (f, q, frame, inr (v, d, means, holds, nested))) =
-    (passed, pairs, r, leads, each_read n passed pairs stand, inr (f, q, frame, inr (v, means, (d, holds, fault_found n d fault nested))))
-
 other_barrier : (fault : KeyedFault) → fault_of fault ≡ too_many_bytes → ⊥
 other_barrier fault e = cc
 
@@ -183,4 +176,5 @@ other_barrier fault e = cc
 pub no_fault : (limits : Limits) (b : List ℕ) (x : Barrier) (fault : KeyedFault) → IsReadAgain b → FirstBarrier limits b x → x ≡ fault_of fault → ⊥
 no_fault limits b x fault (env, (t, read)) (inl (many, is)) e = other_barrier fault (sym e ∙ is)
 no_fault limits b x fault (env, (t, read)) (inr (few, first)) e =
-    (bytes_one_way as_document b env).not_both t fault read (limits.depth, fault_found limits.depth b fault (subst (FirstFaultWithin limits.depth b) e first))
+    let (path, offset, at) = subst (FirstFaultWithin limits.depth b) e first in
+    (bytes_one_way as_document b env).not_both t fault read (limits.depth, path, offset, at)
