@@ -5,7 +5,7 @@ use Rattle.raw_bson.specs.ErrorKind.TheVariants as kind
 use Rattle.raw_bson.specs.Limits.{Limits}
 use Rattle.raw_bson.specs.Reason.{Reason}
 use Rattle.raw_bson.specs.Tree.{Tree}
-use Rattle.raw_bson.specs.WithinLimits.{Barrier, FirstBarrier, ReadsWithin, fault_of, too_deep, too_many_bytes}
+use Rattle.raw_bson.specs.WithinLimits.{Barrier, ReadsWithin, fault_of, too_deep, too_many_bytes}
 use Rattle.raw_form.specs.Places.{FirstBarrierAt, Step}
 use Rattle.raw_form.specs.Tokens.{filled_from, last_key}
 use Rattle.bsonraw_c.specs.Codes.{IsNoFault, SaysKind, TellsFaultCode}
@@ -93,7 +93,6 @@ pub record ReportsBarrier (limits : Limits) (b room path : List ℕ) (report : R
   pub x : Barrier
   pub steps : List Step
   pub offset : ℕ
-  pub first : FirstBarrier limits b x
   pub there : FirstBarrierAt limits b x steps offset
   pub why : SaysWhy x report.fault.why
   pub place : HasPlace (length b) offset (length steps) (key_at steps x) report

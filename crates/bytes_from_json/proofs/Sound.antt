@@ -22,9 +22,10 @@ use Rattle.raw_view.proofs.Face.{AreBytes-element, AreBytes-framed, AreBytes-lea
 use Rattle.raw_tree.specs.Encoding.{encoded_len, encoding, entries_bytes, entries_len, items_bytes, items_len, kind_of_tree, tree_payload}
 use Rattle.raw_tree.specs.Members.{numbered}
 use Rattle.raw_tree.specs.Reading.{Reads, ReadsUpTo, Sort, StandForEach, StandsFor, as_array, as_document, leaf_in_order, tree_of_pairs}
-use Rattle.raw_tree.specs.WithinLimits.{Barrier, FirstBarrier, FirstFaultWithin, fault_of, too_deep, too_many_bytes}
+use Rattle.raw_tree.specs.WithinLimits.{Barrier, fault_of, too_deep, too_many_bytes}
+use Rattle.raw_tree.specs.Places.{FirstBarrierAt, Step}
 use Rattle.raw_tree.specs.declared.reader.limits.Limits.{Limits}
-use Rattle.raw_tree.proofs.Face.{bytes_one_way, each_read, length-tree_payload}
+use Rattle.raw_tree.proofs.Face.{bytes_one_way, length-tree_payload}
 use Rattle.bytes_from_json.specs.Depths.{entries_depth, items_depth, tree_depth}
 use Rattle.bytes_from_json.specs.Levels.{IsLeafReadable, IsReadAgain, IsReadable, IsReadableDocument, readable_parts}
 
@@ -173,8 +174,6 @@ other_barrier : (fault : KeyedFault) → fault_of fault ≡ too_many_bytes → �
 other_barrier fault e = cc
 
 -- what is read again has no fault
-pub no_fault : (limits : Limits) (b : List ℕ) (x : Barrier) (fault : KeyedFault) → IsReadAgain b → FirstBarrier limits b x → x ≡ fault_of fault → ⊥
-no_fault limits b x fault (env, (t, read)) (inl (many, is)) e = other_barrier fault (sym e ∙ is)
-no_fault limits b x fault (env, (t, read)) (inr (few, first)) e =
-    let (path, offset, at) = subst (FirstFaultWithin limits.depth b) e first in
-    (bytes_one_way as_document b env).not_both t fault read (limits.depth, path, offset, at)
+pub no_fault : (limits : Limits) (b : List ℕ) (x : Barrier) (fault : KeyedFault) {path : List Step} {offset : ℕ} → IsReadAgain b → FirstBarrierAt limits b x path offset → x ≡ fault_of fault → ⊥
+no_fault limits b x fault (env, (t, read)) (inl (many, is, whole, none)) e = other_barrier fault (sym e ∙ is)
+no_fault limits b x fault {path} {offset} (env, (t, read)) (inr (few, first)) e = (bytes_one_way as_document b env).not_both t fault read (limits.depth, path, offset, rw e at first)

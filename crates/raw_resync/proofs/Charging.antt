@@ -80,9 +80,9 @@ module _ (x : Barrier) (path : List Step) (s text behind : List ℕ) (tag : ℕ)
 pub costs_fault : (limits : Limits) (b : List ℕ) (barrier : told.Barrier) (m : ℕ) → IsEnvelope b → TellsBarrier limits b (Some barrier) → AllAreAnsweredOneWay limits
     → ((x : Barrier) → barriers.IsBarrier barrier.kind x → LooksAt x (steps_of barrier.place) (drop barrier.place.offset b) m)
     → (¬ IsSound limits b) × Costs limits b (barrier.place.offset + m)
-costs_fault limits b barrier m envelope (x, first, is, at) one looks =
-    let damaged : ¬ IsSound limits b = λ sound. (one b envelope).not_both sound.tree x sound.reads first in
+costs_fault limits b barrier m envelope (x, is, at) one looks =
+    let damaged : ¬ IsSound limits b = λ sound. (one b envelope).not_both sound.tree x sound.reads (steps_of barrier.place, barrier.place.offset, at) in
     (damaged, inr (inr (envelope, damaged, (x, steps_of barrier.place, barrier.place.offset, m, at, looks x is, refl))))
 
 pub offset_within : (limits : Limits) (b : List ℕ) (barrier : told.Barrier) → TellsBarrier limits b (Some barrier) → barrier.place.offset ≤ length b
-offset_within limits b barrier (x, first, is, at) = barrier_bound limits b x (steps_of barrier.place) barrier.place.offset at
+offset_within limits b barrier (x, is, at) = barrier_bound limits b x (steps_of barrier.place) barrier.place.offset at

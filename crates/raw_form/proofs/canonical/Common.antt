@@ -6,7 +6,7 @@ pub use Rattle.bson_model.specs.Tree.{Tree, document, entries, leaf, trees}
 pub use Rattle.raw_tree.specs.Barriers.{step_of, steps_of}
 pub use Rattle.raw_form.specs.Forms.{IsFormOf, RefusesFormOf}
 pub use Rattle.raw_tree.specs.Looking.{TakesFrame, left_of, size_of}
-pub use Rattle.raw_tree.specs.First.{BeginsAt, IsHere, IsInside, Step}
+pub use Rattle.raw_tree.specs.First.{BeginsAt, HasNothing, IsHere, IsInside, Step}
 pub use Rattle.raw_form.specs.Rewriting.{AreLeftOwn, FailsFor, HasCode, IsLater, IsLeft, IsMemberOf, IsPlain, IsRest, PutsMember, TakesNext, TakesPair, ended_by, header_len, held_opening, member_key}
 pub use Rattle.raw_form.specs.Staying.{IsOwnForm, IsOwnUpTo, IsWrittenAs, put_at}
 pub use Rattle.raw_form.specs.Tokens.{AreInside, AreTokens, AreTokensOf, HasTokens, IsTokenOf, NestedUpTo, filled_from}

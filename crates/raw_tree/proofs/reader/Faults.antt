@@ -78,7 +78,7 @@ pub bars_inside : (n : ℕ) (b : List ℕ) (frames : List Frame) (v : RawValue) 
 bars_inside n b frames v d x steps inside offset {s} {f} {r} (frame, means, holds) bars there =
     let (held_as, held) = held_some v d holds in
     let none = λ (key : Option (List ℕ)) (y : Barrier) (h : IsFaultWith (λ fault. FailsAt s key fault) y). let fault = some_fault _ y h in not_fails s f r v frame means key fault.0 fault.1 in
-    inr (none, f, r, v, held_as, d, steps, inside, frame, means, held, any_sort n as_document held_as d x steps inside bars, refl, there)
+    inr (none, (f, r, v, held_as, d, steps, inside, frame, means, held, any_sort n as_document held_as d x steps inside bars, refl, there))
 
 pub apart_within : (n : ℕ) (sort : Sort) (b : List ℕ) (t : Tree) (x : Barrier) → ReadsUpTo n sort b t → FirstFaultWithin n b x → ⊥
 apart_within n sort b t x h (path, offset, bars) = apart barriers_unique n sort b x path offset (any_sort n as_document sort b x path offset bars) (read_passed n sort b t h)
@@ -94,7 +94,7 @@ deep_long n b (path, offset, h) = first.deep_long barriers (λ sort ps s key bad
 many_nowhere : (n : ℕ) (sort : Sort) (b : List ℕ) (path : List Step) (offset : ℕ) → IsFirst barriers n sort b too_many_bytes path offset → ⊥
 many_nowhere zero sort b path offset h = let bad : too_many_bytes ≡ too_deep = h.0 in cc
 many_nowhere (suc n) sort b path offset (ps, s, leads, before, inl (key, here, path_is, begins)) = here
-many_nowhere (suc n) sort b path offset (ps, s, leads, before, inr (none, f, q, v, held_as, d, steps, inside, frame, means, holds, nested, path_is, there)) =
+many_nowhere (suc n) sort b path offset (ps, s, leads, before, inr (none, (f, q, v, held_as, d, steps, inside, frame, means, holds, nested, path_is, there))) =
     many_nowhere n held_as d steps inside nested
 
 pub never_too_many : (n : ℕ) (b : List ℕ) → FirstFaultWithin n b too_many_bytes → ⊥

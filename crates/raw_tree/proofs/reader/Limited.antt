@@ -1,11 +1,13 @@
 -- Within limits, bytes are read as one tree or have one first barrier, and never both. To a depth that no document has, all bytes are read.
-use Rattle.std.proofs.Common.{◌≡◌, ◌∙◌, ◌⊎◌, inl, inr, ◌<◌, ◌≤◌, ℕ, List, Result, Ok, Err, IfOk, IfErr, length, arith, refl, sym}
+use Rattle.std.proofs.Common.{◌≡◌, ◌∙◌, ◌⊎◌, inl, inr, ◌<◌, ◌≤◌, [], ℕ, List, Result, Ok, Err, IfOk, IfErr, length, arith, refl, sym}
 use Rattle.raw_tree.proofs.Common.{cases_lt, Tree, IsEnvelope, Barrier, too_many_bytes, ReadsWithin, FirstBarrier, AllAreAnsweredOneWay, as_document, ReadsUpTo, Limits, bytes_of, max_length, Error}
 use Rattle.raw_tree.proofs.Common.{TellsFrames, TellsFramesWithin, AreRead, TellsReading, fault_of, too_deep, FirstFaultWithin, TellsFirstFault, Contents, Nested}
 use Rattle.raw_tree.proofs.reader.Decides.{decided_within}
 use Rattle.raw_tree.proofs.reader.Depths.{shallow_within, read_to_depth}
-use Rattle.raw_tree.proofs.reader.Faults.{apart_within, deep_long, never_too_many, one_barrier_within}
+use Rattle.raw_tree.proofs.reader.Faults.{apart_within, barriers_unique, deep_long, never_too_many}
 use Rattle.raw_tree.proofs.reader.OneTree.{one_tree}
+use Rattle.raw_tree.proofs.walk.Common.{AllAreBarredAtOnePlace}
+use Rattle.raw_tree.proofs.walk.First.{one_first}
 
 -- limits
 
@@ -14,36 +16,45 @@ read_within limits b t few h =
     let k = shallow_within limits.depth as_document b t h in
     record { few_bytes = few; read = (limits.depth, h); shallow = (k.0, (limits.depth, k.1), k.2) }
 
+-- a document has at most one first barrier, at one place
+pub barred_at_one_place : (limits : Limits) → AllAreBarredAtOnePlace limits
+barred_at_one_place limits b x other path other_path offset other_offset (inl h) (inl g) = (g.1 ∙ sym h.1, g.2 ∙ sym h.2, g.3 ∙ sym h.3)
+barred_at_one_place limits b x other path other_path offset other_offset (inl h) (inr g) = absurd (omega (arith, h.0, g.0))
+barred_at_one_place limits b x other path other_path offset other_offset (inr h) (inl g) = absurd (omega (arith, h.0, g.0))
+barred_at_one_place limits b x other path other_path offset other_offset (inr h) (inr g) =
+    one_first barriers_unique limits.depth as_document b x other path other_path offset other_offset h.1 g.1
+
 module _ (limits : Limits) (b : List ℕ) where
+  -- too many bytes are a first barrier, and otherwise what is first within the depth
+  pub barred_whole : limits.bytes < length b → FirstBarrier limits b too_many_bytes
+  barred_whole many = ([], 0, inl (many, refl, refl, refl))
+
+  pub barred_within : (x : Barrier) → length b ≤ limits.bytes → FirstFaultWithin limits.depth b x → FirstBarrier limits b x
+  barred_within x few (path, offset, bars) = (path, offset, inr (few, bars))
+
   pub to_depth : (t : Tree) → ReadsWithin limits b t → ReadsUpTo limits.depth as_document b t
   to_depth t h = read_to_depth limits.depth as_document b t h.shallow.0 h.read h.shallow.1 h.shallow.2
 
   either_way : IsEnvelope b → ((t : Tree) × ReadsWithin limits b t) ⊎ ((x : Barrier) × FirstBarrier limits b x)
   either_way env =
       elim (cases_lt limits.bytes (length b)) [
-        | inl many ↦ inr (too_many_bytes, inl (many, refl))
+        | inl many ↦ inr (too_many_bytes, barred_whole many)
         | inr few ↦ elim (decided_within limits.depth as_document b env) [
           | inl t ↦ inl (t.0, read_within limits b t.0 few t.1)
-          | inr bad ↦ inr (bad.0, inr (few, bad.1))
+          | inr bad ↦ inr (bad.0, barred_within bad.0 few bad.1)
         ]
       ]
 
   tree_or_barrier : (t : Tree) (x : Barrier) → ReadsWithin limits b t → FirstBarrier limits b x → ⊥
-  tree_or_barrier t x h (inl many) = omega (arith, h.few_bytes, many.0)
-  tree_or_barrier t x h (inr bars) = apart_within limits.depth as_document b t x (to_depth t h) bars.1
-
-  one_barrier : (x other : Barrier) → FirstBarrier limits b x → FirstBarrier limits b other → other ≡ x
-  one_barrier x other (inl h) (inl k) = k.1 ∙ sym h.1
-  one_barrier x other (inl h) (inr k) = absurd (omega (arith, h.0, k.0))
-  one_barrier x other (inr h) (inl k) = absurd (omega (arith, h.0, k.0))
-  one_barrier x other (inr h) (inr k) = one_barrier_within limits.depth b other x k.1 h.1
+  tree_or_barrier t x h (path, offset, inl many) = omega (arith, h.few_bytes, many.0)
+  tree_or_barrier t x h (path, offset, inr bars) = apart_within limits.depth as_document b t x (to_depth t h) (path, offset, bars.1)
 
 pub answered_one_way : (limits : Limits) → AllAreAnsweredOneWay limits
 answered_one_way limits b env = record {
   either = either_way limits b env;
   not_both = tree_or_barrier limits b;
   one_tree = λ t other r s. one_tree as_document b other t s.read r.read;
-  one_barrier = one_barrier limits b;
+  one_fault = λ x other h k. (barred_at_one_place limits b x other h.0 k.0 h.1 k.1 h.2 k.2).0;
 }
 
 -- all levels

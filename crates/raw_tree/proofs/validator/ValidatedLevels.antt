@@ -91,7 +91,7 @@ pub violates_inside : (n : ℕ) (b : List ℕ) (sort : Sort) (frames : List Fram
     → IsFront violations n sort frames b s h.0 (record { number = length frames; key = Some f.key } ∷ h.1) offset
 violates_inside n b sort frames v held_as d offset {s} {f} {r} (frame, means, holds) more (x, steps, inside, violates) there =
     let none = none_breaches sort (keys_of_frames frames) s v held_as d frame means holds more in
-    inr ((λ key y h. none key h.0 h.2), f, r, v, held_as, d, steps, inside, frame, means, holds, violates, refl, there)
+    inr ((λ key y h. none key h.0 h.2), (f, r, v, held_as, d, steps, inside, frame, means, holds, violates, refl, there))
 
 -- where the first violation of a level is
 abbrev pub ViolatesLevel : Violation → ℕ → Span Keyed → List Step → ℕ → Type 0

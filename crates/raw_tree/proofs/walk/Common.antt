@@ -19,7 +19,7 @@ pub use Rattle.raw_tree.specs.validator.Breaches.{AllAreValidatedOneWayWithin}
 pub use Rattle.raw_tree.specs.validator.Violations.{BreachesHere, BreachesItself, FirstViolation, FirstViolationTo, IsCanonicalWithin, TellsViolation, Violation, breach_of, violations}
 pub use Rattle.raw_tree.specs.walk.Barriers.{IsBarrier, TellsBarrier, TellsBarrierWithin, step_of, steps_of}
 pub use Rattle.raw_tree.specs.walk.Looking.{AreReadBefore, Finds, HasLooked, HasNoneBefore, TakesFrame, frames_in, size_of}
-pub use Rattle.raw_tree.specs.walk.First.{BeginsAt, IsFirst, IsHere, IsInside, IsOffsetOf, Sought, Step}
+pub use Rattle.raw_tree.specs.walk.First.{BeginsAt, HasNothing, IsFirst, IsHere, IsInside, IsOffsetOf, Sought, Step}
 pub use Rattle.raw_tree.specs.walk.Places.{AllAreBarredAtOnePlace, FirstBarrierAt, last_key}
 pub use Rattle.raw_tree.specs.walk.Rooms.{filled_from}
 pub use Rattle.raw_tree.specs.walk.Visits.{HasVisits, Visit, VisitsEach, VisitsLevel, VisitsValue, end_of, enter, leave, whole}

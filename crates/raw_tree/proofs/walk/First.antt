@@ -1,7 +1,7 @@
 -- What is sought is first at one place only, is within the bytes, and isn't in bytes that are passed as a whole.
 use Rattle.std.proofs.Common.{◌≡◌, ◌≢◌, inl, inr, ◌⊎◌, ◌≤◌, ◌+◌, ◌-◌, ◌++◌, ◌∷◌, [], ℕ, zero, suc, List, Option, length, drop, arith, refl, sym, ◌∙◌, length-append, length-drop}
 use Rattle.raw_tree.proofs.Common.{Done, Frame, Holds, HoldsAs, IsWalk, Means, RawValue, Sort, value}
-use Rattle.raw_tree.proofs.walk.Common.{IsFirst, IsHere, IsInside, IsOffsetOf, Sought, Step}
+use Rattle.raw_tree.proofs.walk.Common.{HasNothing, IsFirst, IsHere, IsInside, IsOffsetOf, Sought, Step}
 use Rattle.raw_view.proofs.Face.{LeadsTo-bound, no_frame_at_final, one_frame}
 use Rattle.raw_tree.proofs.reader.Loops.{holds_bytes, nested_shorter}
 use Rattle.raw_tree.proofs.reader.OneTree.{one_value_of}
@@ -40,12 +40,12 @@ module _ {X : Type 0} (sought : Sought X) where
 
   -- x is at the front of s, or in the frame there
   abbrev pub IsFront : ℕ → Sort → List Frame → (b s : List ℕ) → X → List Step → ℕ → Type 0
-  IsFront n sort ps b s x path offset = IsHere sought sort ps b s x path offset ⊎ IsInside sought (IsFirst sought n) sort ps b s x path offset
+  IsFront n sort ps b s x path offset = IsHere sought sort ps b s x path offset ⊎ (HasNothing sought sort ps s × IsInside (IsFirst sought n) ps b s x path offset)
 
   pub first_bound : (n : ℕ) (sort : Sort) (b : List ℕ) (x : X) (path : List Step) (offset : ℕ) → IsFirst sought n sort b x path offset → offset ≤ length b
   first_bound zero sort b x path offset h = omega (arith, h.2)
   first_bound (suc n) sort b x path offset (ps, s, leads, before, inl (key, here, path_is, begins)) = omega (arith, begins)
-  first_bound (suc n) sort b x path offset (ps, s, leads, before, inr (none, f, q, v, held_as, d, steps, inside, frame, means, holds, nested, path_is, there)) =
+  first_bound (suc n) sort b x path offset (ps, s, leads, before, inr (none, (f, q, v, held_as, d, steps, inside, frame, means, holds, nested, path_is, there))) =
       offset_bound b s d q steps inside offset (first_bound n held_as d x steps inside nested) there
 
   -- bytes with a level that is too deep are at least as many as the allowed levels
@@ -53,7 +53,7 @@ module _ {X : Type 0} (sought : Sought X) where
       → (n : ℕ) (sort : Sort) (b : List ℕ) (path : List Step) (offset : ℕ) → IsFirst sought n sort b sought.deep path offset → n ≤ length b
   deep_long never zero sort b path offset h = omega arith
   deep_long never (suc n) sort b path offset (ps, s, leads, before, inl (key, here, path_is, begins)) = absurd (never sort ps s key here)
-  deep_long never (suc n) sort b path offset (ps, s, leads, before, inr (none, f, q, v, held_as, d, steps, inside, frame, means, holds, nested, path_is, there)) =
+  deep_long never (suc n) sort b path offset (ps, s, leads, before, inr (none, (f, q, v, held_as, d, steps, inside, frame, means, holds, nested, path_is, there))) =
       let shorter = nested_shorter s f q v d frame means (holds_bytes v held_as d holds) in
       omega (arith, deep_long never n held_as d steps inside nested, shorter, LeadsTo-bound (drop 4 b) ps s leads, length-drop 4 b)
 
@@ -63,10 +63,10 @@ module _ {X : Type 0} (sought : Sought X) where
   deeper more zero m l sort b x path offset other h = absurd (other h.0)
   deeper more (suc n) zero l sort b x path offset other h = absurd (omega (arith, l))
   deeper more (suc n) (suc m) l sort b x path offset other (ps, s, leads, before, inl here) = (ps, s, leads, more n m (omega (arith, l)) sort ps before, inl here)
-  deeper more (suc n) (suc m) l sort b x path offset other (ps, s, leads, before, inr (none, f, q, v, held_as, d, steps, inside, frame, means, holds, nested, path_is, there)) =
+  deeper more (suc n) (suc m) l sort b x path offset other (ps, s, leads, before, inr (none, (f, q, v, held_as, d, steps, inside, frame, means, holds, nested, path_is, there))) =
       let few : n ≤ m = omega (arith, l) in
       let deep = deeper more n m few held_as d x steps inside other nested in
-      (ps, s, leads, more n m few sort ps before, inr (none, f, q, v, held_as, d, steps, inside, frame, means, holds, deep, path_is, there))
+      (ps, s, leads, more n m few sort ps before, inr (none, (f, q, v, held_as, d, steps, inside, frame, means, holds, deep, path_is, there)))
 
 -- What makes places unique. One thing at most is at a front, and none at the final 0. Frames aren't passed if they have one at their front, or if their
 -- nested bytes aren't passed.
@@ -85,13 +85,13 @@ module _ {X : Type 0} {sought : Sought X} (is : IsUnique sought) where
   front_blocks : (n : ℕ) → AreApart n → (sort : Sort) (ps : List Frame) (b s : List ℕ) (x : X) (path : List Step) (offset : ℕ) → IsFront sought n sort ps b s x path offset
       → IsBlocked (sought.passes n sort) ps s
   front_blocks n apart sort ps b s x path offset (inl (key, here, path_is, begins)) f r more at passed = is.blocks n sort ps s key x here f r more at passed
-  front_blocks n apart sort ps b s x path offset (inr (none, g, q, v, held_as, d, steps, inside, frame, means, holds, nested, path_is, there)) f r more at passed =
+  front_blocks n apart sort ps b s x path offset (inr (none, (g, q, v, held_as, d, steps, inside, frame, means, holds, nested, path_is, there))) f r more at passed =
       let same = (one_frame s g f q r frame at).0 in
       apart held_as d x steps inside nested (is.inside n sort ps f more v held_as d passed (rw same at means) holds)
 
   front_over : (n : ℕ) (sort : Sort) (ps : List Frame) (b s : List ℕ) (x : X) (path : List Step) (offset : ℕ) → s ≡ 0 ∷ [] → IsFront sought n sort ps b s x path offset → ⊥
   front_over n sort ps b s x path offset e (inl (key, here, path_is, begins)) = is.over sort ps s key x e here
-  front_over n sort ps b s x path offset e (inr (none, f, q, v, held_as, d, steps, inside, frame, means, holds, nested, path_is, there)) = no_frame_at_final s e f q frame
+  front_over n sort ps b s x path offset e (inr (none, (f, q, v, held_as, d, steps, inside, frame, means, holds, nested, path_is, there))) = no_frame_at_final s e f q frame
 
   pub apart : (n : ℕ) → AreApart n
   apart zero sort b x path offset h passed = absurd passed
@@ -105,8 +105,8 @@ module _ {X : Type 0} {sought : Sought X} (is : IsUnique sought) where
       → (y ≡ x) × (other ≡ path) × (at ≡ offset)
 
   module _ (n : ℕ) (one : AreOne n) (sort : Sort) (ps : List Frame) (b s : List ℕ) {x y : X} {path other : List Step} {offset at : ℕ} where
-    one_inside : IsInside sought (IsFirst sought n) sort ps b s x path offset → IsInside sought (IsFirst sought n) sort ps b s y other at → (y ≡ x) × (other ≡ path) × (at ≡ offset)
-    one_inside (none, f, q, v, held_as, d, steps, inside, frame, means, holds, nested, path_is, there) (never, g, r, w, kept_as, e, others, within, at_front, also, keeps, inner, other_is, here) =
+    one_inside : IsInside (IsFirst sought n) ps b s x path offset → IsInside (IsFirst sought n) ps b s y other at → (y ≡ x) × (other ≡ path) × (at ≡ offset)
+    one_inside (f, q, v, held_as, d, steps, inside, frame, means, holds, nested, path_is, there) (g, r, w, kept_as, e, others, within, at_front, also, keeps, inner, other_is, here) =
         let (f_is, r_is) = one_frame s g f r q at_front frame in
         let v_is = one_value_of f w v (rw f_is at also) means in
         let (sort_is, d_is) = one_held v held_as kept_as d e holds (rw v_is at keeps) in
@@ -119,7 +119,7 @@ module _ {X : Type 0} {sought : Sought X} (is : IsUnique sought) where
         (x_is, rw (path_is, other_is, key_is) refl, omega (arith, begins, ends))
     one_front (inl (key, here, path_is, begins)) (inr g) = absurd (g.0 key x here)
     one_front (inr h) (inl (key, here, path_is, begins)) = absurd (h.0 key y here)
-    one_front (inr h) (inr g) = one_inside h g
+    one_front (inr h) (inr g) = one_inside h.1 g.1
 
   pub one_first : (n : ℕ) → AreOne n
   one_first zero sort b x y path other offset at h g = (g.0 ∙ sym h.0, g.1 ∙ sym h.1, g.2 ∙ sym h.2)

@@ -115,13 +115,13 @@ FirstFaultOfValue v fault = (d : List ℕ) × Holds v d × FirstFault d fault
 abbrev pub FirstFaultOfFrame : Frame → KeyedFault → Type 0
 FirstFaultOfFrame f fault = Means f (faulty fault) ⊎ ((v : RawValue) × Means f (value v) × FirstFaultOfValue v fault)
 
--- Either there is exactly one tree of which `IsTree` holds, and no first fault; or exactly one first fault of which
--- `IsFault` holds, and no tree.
-pub record HasOneReading (IsTree : Tree → Type 0) (IsFault : KeyedFault → Type 0) : Type 0 where
-  pub either : ((t : Tree) × IsTree t) ⊎ ((fault : KeyedFault) × IsFault fault)
-  pub not_both : (t : Tree) (fault : KeyedFault) → IsTree t → ¬ IsFault fault
+-- Either there is exactly one tree of which `IsTree` holds, and no fault or barrier of which `IsFault` holds; or
+-- exactly one of these, and no tree.
+pub record HasOneReading {X : Type 0} (IsTree : Tree → Type 0) (IsFault : X → Type 0) : Type 0 where
+  pub either : ((t : Tree) × IsTree t) ⊎ ((fault : X) × IsFault fault)
+  pub not_both : (t : Tree) (fault : X) → IsTree t → ¬ IsFault fault
   pub one_tree : (t other : Tree) → IsTree t → IsTree other → other ≡ t
-  pub one_fault : (fault other : KeyedFault) → IsFault fault → IsFault other → other ≡ fault
+  pub one_fault : (fault other : X) → IsFault fault → IsFault other → other ≡ fault
 
 -- bytes are read as one tree or have one first fault
 abbrev pub AreReadOneWay : Sort → List ℕ → Type 0

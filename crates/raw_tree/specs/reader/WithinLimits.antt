@@ -1,6 +1,6 @@
 -- Reading within limits: the depth of a document, the trees of documents within the limits, and the first barrier of
 -- all others. The bytes b of a document or of an array have an envelope.
-use Rattle.std.specs.Prelude.{◌≡◌, ◌⊎◌, ◌≤◌, ◌<◌, ◌+◌, max, ℕ, suc, zero, List, [], ◌∷◌, None, drop, length}
+use Rattle.std.specs.Prelude.{◌≡◌, ◌⊎◌, ◌≤◌, ◌+◌, max, ℕ, suc, zero, List, [], ◌∷◌, None, drop, length}
 use Rattle.bson_model.specs.Tree.{Tree}
 use Rattle.raw_view.specs.Errors.Answers.{Says}
 use Rattle.raw_view.specs.Frame.Envelope.{IsEnvelope}
@@ -11,10 +11,11 @@ use Rattle.raw_view.specs.declared.error.Error.{Error}
 use Rattle.raw_view.specs.declared.error.ErrorKind.TheVariants as kind
 use Rattle.raw_view.specs.declared.error.Reason.TheVariants as reason
 use Rattle.raw_tree.specs.reader.FrameCount.{HasInside}
-use Rattle.raw_tree.specs.reader.Reading.{FirstFaultAt, Reads}
+use Rattle.raw_tree.specs.reader.Reading.{FirstFaultAt, HasOneReading, Reads}
 pub use Rattle.raw_tree.specs.reader.Reading.{Barrier, IsFaultWith, fault_of, too_deep, too_many_bytes}
 use Rattle.raw_tree.specs.declared.reader.limits.Limits.{Limits}
 use Rattle.raw_tree.specs.walk.First.{Step}
+use Rattle.raw_tree.specs.walk.Places.{FirstBarrierAt}
 
 -- depths; `Nested` says how deep nested bytes are
 module _ (Nested : List ℕ → ℕ → Type 0) where
@@ -46,20 +47,13 @@ pub record ReadsWithin (limits : Limits) (b : List ℕ) (t : Tree) : Type 0 wher
   pub read : Reads b t
   pub shallow : (n : ℕ) × HasDepth b n × (n ≤ limits.depth)
 
--- the first barrier of the document b: too many bytes, otherwise the first one within the depth
+-- the first barrier of the document b, wherever it is
 abbrev pub FirstBarrier : Limits → List ℕ → Barrier → Type 0
-FirstBarrier limits b x = ((limits.bytes < length b) × (x ≡ too_many_bytes)) ⊎ ((length b ≤ limits.bytes) × FirstFaultWithin limits.depth b x)
+FirstBarrier limits b x = (path : List Step) × (offset : ℕ) × FirstBarrierAt limits b x path offset
 
--- a document within the limits is read as one tree or has one first barrier, and never both
-pub record IsAnsweredOneWay (limits : Limits) (b : List ℕ) : Type 0 where
-  pub either : ((t : Tree) × ReadsWithin limits b t) ⊎ ((x : Barrier) × FirstBarrier limits b x)
-  pub not_both : (t : Tree) (x : Barrier) → ReadsWithin limits b t → ¬ FirstBarrier limits b x
-  pub one_tree : (t other : Tree) → ReadsWithin limits b t → ReadsWithin limits b other → other ≡ t
-  pub one_barrier : (x other : Barrier) → FirstBarrier limits b x → FirstBarrier limits b other → other ≡ x
-
--- this holds of all documents
+-- a document is read as one tree within the limits or has one first barrier, and never both
 abbrev pub AllAreAnsweredOneWay : Limits → Type 0
-AllAreAnsweredOneWay limits = (b : List ℕ) → IsEnvelope b → IsAnsweredOneWay limits b
+AllAreAnsweredOneWay limits = (b : List ℕ) → IsEnvelope b → HasOneReading (ReadsWithin limits b) (FirstBarrier limits b)
 
 -- the error says the barrier: without a key for too many bytes and for a level that is too deep; with the key of the
 -- fault for a fault

@@ -9,6 +9,8 @@ use Rattle.raw_tree.specs.declared.validator.breach.Breach.{Breach}
 use Rattle.raw_tree.specs.declared.validator.breach.Cause.{Cause}
 use Rattle.raw_tree.specs.declared.validator.breach.Cause.TheVariants as cause
 use Rattle.raw_tree.specs.validator.Violations.{Violation, breach_of, FirstViolationTo, FirstViolation, IsCanonicalWithin}
+use Rattle.raw_tree.specs.declared.validator.within.PlacedBreach.{PlacedBreach}
+use Rattle.raw_tree.specs.walk.Barriers.{steps_of}
 use Rattle.raw_tree.specs.walk.Places.{Step}
 
 -- the first breach of these bytes as a document or as an array, however deep it is: the numbers of the path to it, and
@@ -51,6 +53,11 @@ pub record IsValidatedOneWayWithin (limits : Limits) (b : List ℕ) : Type 0 whe
   pub one_violation : (x other : Violation) (path other_path : List Step) (offset other_offset : ℕ) → FirstViolation limits b x path offset
       → FirstViolation limits b other other_path other_offset → (other ≡ x) × (other_path ≡ path) × (other_offset ≡ offset)
   pub first_breach : (why : Cause) (path : List Step) (offset : ℕ) → FirstViolation limits b (breach_of why) path offset → HasBreachAs as_document b (map (λ step. step.number) path) why
+
+-- a breach at a place is the first of the document b, however deep that is: the same cause, at the numbers of its steps
+abbrev pub IsFirstBreach : List ℕ → Option PlacedBreach → Type 0
+IsFirstBreach b None = Unit {0}
+IsFirstBreach b (Some breach) = HasBreachAs as_document b (map (λ step. step.number) (steps_of breach.place)) breach.cause
 
 -- this holds of every document
 abbrev pub AllAreValidatedOneWayWithin : Limits → Type 0

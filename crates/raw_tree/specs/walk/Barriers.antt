@@ -7,7 +7,7 @@ use Rattle.raw_view.specs.Frame.Front.{TellsBorrowed}
 use Rattle.raw_view.specs.Meaning.{KeyedFault}
 use Rattle.raw_view.specs.declared.error.Error.{Error}
 use Rattle.raw_tree.specs.reader.Reading.{as_document, FirstFaultAt, ReadsUpTo}
-use Rattle.raw_tree.specs.reader.WithinLimits.{FirstBarrier, ReadsWithin, fault_of, too_deep, too_many_bytes}
+use Rattle.raw_tree.specs.reader.WithinLimits.{ReadsWithin, fault_of, too_deep, too_many_bytes}
 use Rattle.raw_tree.specs.reader.WithinLimits as within
 use Rattle.raw_tree.specs.declared.reader.limits.Limits.{Limits}
 use Rattle.raw_tree.specs.walk.Places.{Step, FirstBarrierAt}
@@ -40,7 +40,7 @@ IsOutOfMemoryWithin limits b e = IsOutOfMemory e × (length b ≤ limits.bytes) 
 abbrev pub TellsBarrier : Limits → List ℕ → Option Barrier → Type 0
 TellsBarrier limits b None = (t : Tree) × ReadsWithin limits b t
 TellsBarrier limits b (Some answer) =
-    (x : within.Barrier) × FirstBarrier limits b x × IsBarrier answer.kind x × FirstBarrierAt limits b x (steps_of answer.place) answer.place.offset
+    (x : within.Barrier) × IsBarrier answer.kind x × FirstBarrierAt limits b x (steps_of answer.place) answer.place.offset
 
 -- the same within a depth
 abbrev pub TellsBarrierWithin : ℕ → List ℕ → Option Barrier → Type 0

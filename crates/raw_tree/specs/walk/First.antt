@@ -27,11 +27,18 @@ pub record Step : Type 0 where
 abbrev pub BeginsAt : List ℕ → List ℕ → ℕ → Type 0
 BeginsAt b s offset = offset + length s ≡ length b
 
--- The offset `inside` in nested bytes, as an offset in b. The end of b that begins with the nested bytes is `nested`,
--- and the one that begins with the frame around them is s. Without further steps the frame is meant.
+-- Where in b a place is that is in the nested bytes of a frame. The frame begins s, an end of b, and its nested bytes begin
+-- `nested`, a later end of b. The place is `inside` bytes after those begin. With no further step it is the frame.
 abbrev pub IsOffsetOf : (b s nested : List ℕ) → List Step → (inside offset : ℕ) → Type 0
 IsOffsetOf b s nested [] inside offset = BeginsAt b s offset
 IsOffsetOf b s nested (step ∷ steps) inside offset = (start : ℕ) × BeginsAt b nested start × (offset ≡ start + inside)
+
+-- x is in the nested bytes of the frame at the front of s, to which these frames of b lead; `Nested` says where in these
+abbrev pub IsInside : {X : Type 0} → (Sort → List ℕ → X → List Step → ℕ → Type 0) → List Frame → (b s : List ℕ) → X → List Step → ℕ → Type 0
+IsInside Nested passed b s x path offset =
+    (f : Frame) × (q : List ℕ) × (v : RawValue) × (sort : Sort) × (d : List ℕ) × (steps : List Step) × (inside : ℕ)
+    × IsFrame s f q × Means f (value v) × HoldsAs v sort d × Nested sort d x steps inside
+    × (path ≡ record { number = length passed; key = Some f.key } ∷ steps) × IsOffsetOf b s (d ++ q) steps inside offset
 
 -- what is sought in the levels of a document
 pub record Sought (X : Type 0) : Type 1 where
@@ -48,18 +55,15 @@ module _ {X : Type 0} (sought : Sought X) where
   IsHere sort passed b s x path offset =
       (key : Option (List ℕ)) × sought.is_at sort passed s key x × (path ≡ record { number = length passed; key = key } ∷ []) × BeginsAt b s offset
 
-  -- nothing is at the front of s, but x is in the nested bytes d of the frame there; `Nested` says where in these
-  abbrev pub IsInside : (Sort → List ℕ → X → List Step → ℕ → Type 0) → Sort → List Frame → (b s : List ℕ) → X → List Step → ℕ → Type 0
-  IsInside Nested sort passed b s x path offset =
-      ((key : Option (List ℕ)) (y : X) → ¬ sought.is_at sort passed s key y)
-      × (f : Frame) × (q : List ℕ) × (v : RawValue) × (held_as : Sort) × (d : List ℕ) × (steps : List Step) × (inside : ℕ)
-      × IsFrame s f q × Means f (value v) × HoldsAs v held_as d × Nested held_as d x steps inside
-      × (path ≡ record { number = length passed; key = Some f.key } ∷ steps) × IsOffsetOf b s (d ++ q) steps inside offset
+  -- nothing is at the front of s
+  abbrev pub HasNothing : Sort → List Frame → List ℕ → Type 0
+  HasNothing sort passed s = (key : Option (List ℕ)) (y : X) → ¬ sought.is_at sort passed s key y
 
-  -- The first x in these bytes; the path to it; and the offset in these bytes at which it begins. These bytes are the
-  -- first level, and a level deeper than n is too deep. The path to these bytes themselves is empty, and the offset 0.
+  -- The first x in these bytes; the path to it; and the offset in these bytes at which it begins. After frames in which it
+  -- isn't, it is at the front of what is left, or inside the frame there. These bytes are the first level, and a level deeper
+  -- than n is too deep. The path to these bytes themselves is empty, and the offset 0.
   abbrev pub IsFirst : ℕ → Sort → List ℕ → X → List Step → ℕ → Type 0
   IsFirst zero sort b x path offset = (x ≡ sought.deep) × (path ≡ []) × (offset ≡ 0)
   IsFirst (suc n) sort b x path offset =
       (passed : List Frame) × (s : List ℕ) × LeadsTo (drop 4 b) passed s × sought.passes n sort passed
-      × (IsHere sort passed b s x path offset ⊎ IsInside (IsFirst n) sort passed b s x path offset)
+      × (IsHere sort passed b s x path offset ⊎ (HasNothing sort passed s × IsInside (IsFirst n) passed b s x path offset))

@@ -42,7 +42,7 @@ pub struct Limits {
 /// let limits = Limits { bytes: 1000, depth: 10 };
 /// assert!(rt; document_from_raw_within(alloc, document, limits).is_ok());
 /// ```
-#[tactic(auto, using(crate::proofs::Laws::documents_read, crate::proofs::Forms::bytes_spelled_one_way, crate::proofs::reader::Depths::one_depth, crate::proofs::reader::Limited::read_within))]
+#[tactic(auto, using(crate::proofs::Laws::documents_read, crate::proofs::Forms::bytes_spelled_one_way, crate::proofs::reader::Depths::one_depth, crate::proofs::reader::Limited::read_within, crate::proofs::reader::Limited::barred_whole, crate::proofs::reader::Limited::barred_within))]
 pub fn document_from_raw_within(
     alloc: Global,
     document: RawDocument<'_>,

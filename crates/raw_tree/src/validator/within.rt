@@ -3,7 +3,7 @@
 
 ghost use Rattle.std.specs.Prelude.{◌<◌, IfOk, IfErr};
 ghost use Rattle.raw_tree.specs.validator.ValidationSteps.{EndsTooDeep, TellsFound, TellsOutermost};
-ghost use Rattle.raw_tree.specs.validator.Breaches.{AllAreValidatedOneWayWithin};
+ghost use Rattle.raw_tree.specs.validator.Breaches.{AllAreValidatedOneWayWithin, IsFirstBreach};
 ghost use Rattle.raw_tree.specs.validator.Violations.{TellsViolation};
 ghost use Rattle.raw_view.specs.Document.{bytes_of};
 ghost use Rattle.raw_view.specs.Errors.{IsOutOfMemory};
@@ -153,13 +153,14 @@ fn too_deep(error: WalkError<'_>, outermost: usize) -> Result<Option<Found<'_>>>
 /// let Some(breach) = validate_within(alloc, document, limits)? else { unreachable!() };
 /// assert_eq!(rt; (breach.cause, breach.place.offset), (Cause::RepeatedKey, 11));
 /// ```
-#[tactic(auto, using(crate::proofs::validator::OneBreach::validated_one_way_within))]
+#[tactic(auto, using(crate::proofs::validator::OneBreach::validated_one_way_within, crate::proofs::validator::OneBreach::breach_found))]
 pub fn validate_within<'a>(
     alloc: Global,
     document: RawDocument<'a>,
     limits: Limits,
 ) -> std::result::Result<Option<PlacedBreach<'a>>, ValidateError<'a>>
     ensures violation { TellsViolation limits (bytes_of document.entry) result }
+    ensures first_breach { IfOk result (IsFirstBreach (bytes_of document.entry)) }
     ensures one_violation { AllAreValidatedOneWayWithin limits }
 {
     if document.as_bytes().len() > limits.bytes {

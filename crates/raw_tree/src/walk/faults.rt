@@ -106,7 +106,7 @@ fn told(error: WalkError<'_>) -> Result<Option<Barrier<'_>>>
 /// let Some(barrier) = first_fault_within(alloc, document, limits)? else { unreachable!() };
 /// assert_eq!(rt; (barrier.place.offset, barrier.place.key()), (4, Some("a")));
 /// ```
-#[tactic(auto, using(crate::proofs::walk::OneBarrier::barred_at_one_place))]
+#[tactic(auto, using(crate::proofs::reader::Limited::barred_at_one_place))]
 pub fn first_fault_within<'a>(
     alloc: Global,
     document: RawDocument<'a>,

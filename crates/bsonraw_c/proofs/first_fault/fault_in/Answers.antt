@@ -8,4 +8,4 @@ pub at-requires : goal.at-requires
 at-requires c =
     let barrier = c.in-Ok-Some.barrier in
     let told = subst (TellsBarrier c.args.limits (bytes_of c.args.document)) c.in-Ok-Some.field-0-is c.in-Ok-Some.ensures.barrier in
-    omega (arith, barrier_bound c.args.limits (bytes_of c.args.document) told.0 (steps_of barrier.place) barrier.place.offset told.3, c.ranges.document)
+    omega (arith, barrier_bound c.args.limits (bytes_of c.args.document) told.0 (steps_of barrier.place) barrier.place.offset told.2, c.ranges.document)

@@ -11,6 +11,6 @@ pub unreachable-requires-in-Fault : goal.unreachable-requires-in-Fault
 unreachable-requires-in-Fault c =
     let b = bytes_of c.in-Ok.document in
     let read : IsReadAgain b = subst IsReadAgain (sym c.in-Ok.ensures.same) c.requires in
-    let (x, first, is, at) = subst (λ (o : Option Barrier). TellsBarrier c.args.limits b o) c.in-Ok-Some.field-0-is c.in-Ok-Some.ensures.barrier in
+    let (x, is, at) = subst (λ (o : Option Barrier). TellsBarrier c.args.limits b o) c.in-Ok-Some.field-0-is c.in-Ok-Some.ensures.barrier in
     let (fault, same, told) = subst (λ (k : BarrierKind). IsBarrier k x) c.in-Fault.is is in
-    no_fault c.args.limits b x fault read first same
+    no_fault c.args.limits b x fault read at same

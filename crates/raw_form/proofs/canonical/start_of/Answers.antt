@@ -1,7 +1,7 @@
 -- A search for the first barrier may begin at the element of the outermost level that breaches or holds what breaches; what is before it is
 -- written as it is.
 use Rattle.std.proofs.Common.{◌≡◌, ◌≢◌, ◌⊎◌, ◌∙◌, ◌+◌, ◌∷◌, [], ℕ, zero, suc, List, None, Some, map, slice_index_or, length, drop, arith, ap, refl, sym}
-use Rattle.raw_form.proofs.canonical.Common.{FirstViolationTo, Frame, IsHere, IsInside, LeadsTo, PathStep, Start, Step, Violation, violations, as_document, canonical_frames_read, length-map, one_frame, step_of, steps_of, bytes_of}
+use Rattle.raw_form.proofs.canonical.Common.{FirstViolationTo, Frame, HasNothing, IsHere, IsInside, LeadsTo, PathStep, Start, Step, Violation, violations, as_document, canonical_frames_read, length-map, one_frame, step_of, steps_of, bytes_of}
 use Rattle.raw_tree.specs.ValidationSteps.{TellsFound, TellsOutermost, first_number, violation_of}
 use Rattle.raw_tree.proofs.Face.{first_begins}
 use Rattle.raw_form.specs.Staying.{TellsStart}
@@ -11,7 +11,7 @@ use Rattle.raw_form.proofs.canonical.start_of.Goals as goal
 
 -- the number of the first step is the number of frames before it
 front_begins : (n : ℕ) (passed : List Frame) (b s : List ℕ) (x : Violation) (path : List Step) (offset : ℕ)
-    → IsHere violations as_document passed b s x path offset ⊎ IsInside violations (FirstViolationTo n) as_document passed b s x path offset → first_number path ≡ length passed
+    → IsHere violations as_document passed b s x path offset ⊎ (HasNothing violations as_document passed s × IsInside (FirstViolationTo n) passed b s x path offset) → first_number path ≡ length passed
 front_begins n passed b s x path offset h = grind arith
 
 -- as many frames lead to the same bytes
