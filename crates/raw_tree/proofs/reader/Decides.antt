@@ -116,24 +116,24 @@ single_stands {inside} {s} {f} {v} {r} at t single stands =
     record { tree = none.0; counts = none.1; small = omega (arith, IsFrame-shorter s f r at.frame) }
 
 module _ {inside n : ℕ} {b s : List ℕ} {pairs : List (List ℕ × Tree)} (is : Passed inside b s pairs n) where
-  counts_to : (levels m : ℕ) → CountsFront (HasFramesUntilUpTo levels) s n m → HasFramesUntilFault b m
-  counts_to levels m at = (suc levels, (is.frames, pairs, s, n, is.leads, each_read inside is.frames pairs is.each, each_counted inside is.frames n is.counts, at))
+  counts_to : (levels m k : ℕ) → CountsFront (HasFramesUntilUpTo levels) s k → m ≡ n + k → HasFramesUntilFault b m
+  counts_to levels m k at sum = (suc levels, (is.frames, pairs, s, n, k, is.leads, each_read inside is.frames pairs is.each, each_counted inside is.frames n is.counts, at, sum))
 
   -- the walk ends, and the bytes are read
   pub ends : (sort : Sort) → s ≡ 0 ∷ [] → ReadsUpTo (suc inside) sort b (tree_of_pairs sort pairs) × HasFrameCountUpTo (suc inside) b n × HasFramesUntilFault b n
   ends sort final =
       let walk = LeadsTo-walk (drop 4 b) is.frames s Done is.leads final in
-      ((pairs, (is.frames, walk, is.each), refl), (is.frames, Done, walk, is.counts), counts_to 0 n (over (no_frame_at_final s final) refl))
+      ((pairs, (is.frames, walk, is.each), refl), (is.frames, Done, walk, is.counts), counts_to 0 n 0 (over (no_frame_at_final s final) refl) (omega arith))
 
   -- or it fails there
   fails : (key : Option (List ℕ)) (fault : KeyedFault) → FailsAt s key fault → FirstFaultWithin (suc inside) b (fault_of fault)
   fails key fault at = (record { number = length is.frames; key = key } ∷ [], length b - length s, (is.frames, s, is.leads, (pairs, is.each), inl (key, at, refl, omega (arith, is.small))))
 
   pub stops : (sort : Sort) (fault : KeyedFault) → IsStop s fault.fault fault.key → IsOutcome (suc inside) sort b (Some (fault_of fault)) n
-  stops sort fault at = (fails None fault at, λ g e. counts_to 0 n (over (no_frame_at_stop s fault.fault fault.key at) refl))
+  stops sort fault at = (fails None fault at, λ g e. counts_to 0 n 0 (over (no_frame_at_stop s fault.fault fault.key at) refl) (omega arith))
 
   pub means_fault : (sort : Sort) (fault : KeyedFault) (f : Frame) (r : List ℕ) → IsFrame s f r → Means f (faulty fault) → IsOutcome (suc inside) sort b (Some (fault_of fault)) (n + 1)
-  means_fault sort fault f r at m = (fails (Some f.key) fault (f, r, at, m, refl), λ g e. counts_to 0 (n + 1) (own_fault f r fault at m refl))
+  means_fault sort fault f r at m = (fails (Some f.key) fault (f, r, at, m, refl), λ g e. counts_to 0 (n + 1) 1 (own_fault f r fault at m refl) refl)
 
   module _ {f : Frame} {v : RawValue} {r : List ℕ} (at : IsAhead s f v r) where
     -- or the nested bytes of a frame have a barrier
@@ -142,7 +142,7 @@ module _ {inside n : ℕ} {b s : List ℕ} {pairs : List (List ℕ × Tree)} (is
         let beside = nested_beside s f r v d at.frame at.means holds in
         let (offset, there) = some_offset b s d r path within (omega (arith, is.small)) (omega (arith, beside)) in
         let to = λ (fault : KeyedFault) (e : x ≡ fault_of fault).
-        counts_to (until fault e).0 (n + 1 + m) (nested_fault f r v d fault m at.frame at.means holds (inside, path, within, rw e at bars) (until fault e).1 refl) in
+        counts_to (until fault e).0 (n + 1 + m) (1 + m) (nested_fault f r v d fault m at.frame at.means holds (inside, path, within, rw e at bars) (until fault e).1 refl) (omega arith) in
         let front = bars_inside inside b is.frames v d x path within offset (at.frame, at.means, holds) bars there in
         ((record { number = length is.frames; key = Some f.key } ∷ path, offset, (is.frames, s, is.leads, (pairs, is.each), front)), to)
 

@@ -102,35 +102,22 @@ one_frame_count b env =
 -- up to the first fault
 
 -- where a count ends no frame is passed
-front_counted : (N : List ℕ → ℕ → Type 0) (fs : List Frame) (r : List ℕ) (before n : ℕ) → CountsFront N r before n → IsBlocked (AreRead ReadsAs) fs r
-front_counted N fs r before n (over none is) g p more there passed = none g p there
-front_counted N fs r before n (own_fault f q fault at m is) g p more there passed = front_blocks fs r fault (inl (Some f.key, (f, q, at, m, refl))) g p more there passed
-front_counted N fs r before n (nested_fault f q v d fault inside at m holds first h is) g p more there passed =
-    front_blocks fs r fault (inr (f, q, v, at, m, (d, holds, first))) g p more there passed
+front_counted : (N : List ℕ → ℕ → Type 0) (fs : List Frame) (r : List ℕ) (n : ℕ) → CountsFront N r n → IsBlocked (AreRead ReadsAs) fs r
+front_counted N fs r n (over none is) g p more there passed = none g p there
+front_counted N fs r n (own_fault f q fault at m is) g p more there passed = front_blocks fs r fault (inl (Some f.key, (f, q, at, m, refl))) g p more there passed
+front_counted N fs r n (nested_fault f q v d fault inside at m holds first h is) g p more there passed = front_blocks fs r fault (inr (f, q, v, at, m, (d, holds, first))) g p more there passed
 
-at_fault_same : (N M : List ℕ → ℕ → Type 0) → AgreeOn N M → (r : List ℕ) (before j k : ℕ) → CountsFront N r before j → CountsFront M r before k → j ≡ k
-at_fault_same N M same r before j k (over none a) (over other b) = a ∙ sym b
-at_fault_same N M same r before j k (over none a) (own_fault g p y there is b) = absurd (none g p there)
-at_fault_same N M same r before j k (over none a) (nested_fault g p w e y inner there is holding behind l b) = absurd (none g p there)
-at_fault_same N M same r before j k (own_fault f q x at m a) (over none b) = absurd (none f q at)
-at_fault_same N M same r before j k (own_fault f q x at m a) (own_fault g p y there is b) = a ∙ sym b
-at_fault_same N M same r before j k (own_fault f q x at m a) (nested_fault g p w e y inner there is holding behind l b) = absurd (value_nor_fault g w x is (rw (one_frame r f g q p at there).0 at m))
-at_fault_same N M same r before j k (nested_fault f q v d x inside at m holds first h a) (over none b) = absurd (none f q at)
-at_fault_same N M same r before j k (nested_fault f q v d x inside at m holds first h a) (own_fault g p y there is b) = absurd (value_nor_fault f v y m (rw (one_frame r g f p q there at).0 at is))
-at_fault_same N M same r before j k (nested_fault f q v d x inside at m holds first h a) (nested_fault g p w e y inner there is holding behind l b) =
-    let frames : g ≡ f = (one_frame r g f p q there at).0 in
-    let values : w ≡ v = one_value_of f w v (rw frames at is) m in
-    let counts : inside ≡ inner = same d inside inner h (rw (one_nested v e d (rw values at holding) holds) at l) in
-    omega (arith, a, b, counts)
+front_same : (N M : List ℕ → ℕ → Type 0) → AgreeOn N M → (r : List ℕ) (j k : ℕ) → CountsFront N r j → CountsFront M r k → j ≡ k
+front_same N M same r j k h g = grind (arith, one_frame, one_value_of, value_nor_fault, one_nested)
 
 to_fault_same : (n m : ℕ) → AgreeOn (HasFramesUntilUpTo n) (HasFramesUntilUpTo m)
 to_fault_same zero m b j k h i = absurd h
 to_fault_same (suc n) zero b j k h i = absurd i
 to_fault_same (suc n) (suc m) b j k h i =
-    let same = passed_once (AreRead ReadsAs) (drop 4 b) h.0 i.0 h.2 i.2 h.4 (h.1, h.5) (front_counted (HasFramesUntilUpTo n) h.0 h.2 h.3 j h.7)
-    i.4 (i.1, i.5) (front_counted (HasFramesUntilUpTo m) i.0 i.2 i.3 k i.7) in
-    let before : i.3 ≡ h.3 = counts_each_same HasFrameCount HasFrameCount one_count h.0 i.3 h.3 (rw same.0 at i.6) h.6 in
-    at_fault_same (HasFramesUntilUpTo n) (HasFramesUntilUpTo m) (to_fault_same n m) h.2 h.3 j k h.7 (rw (same.1, before) at i.7)
+    let same = passed_once (AreRead ReadsAs) (drop 4 b) h.0 i.0 h.2 i.2 h.5 (h.1, h.6) (front_counted (HasFramesUntilUpTo n) h.0 h.2 h.4 h.8)
+    i.5 (i.1, i.6) (front_counted (HasFramesUntilUpTo m) i.0 i.2 i.4 i.8) in
+    let before : i.3 ≡ h.3 = counts_each_same HasFrameCount HasFrameCount one_count h.0 i.3 h.3 (rw same.0 at i.7) h.7 in
+    omega (arith, h.9, i.9, before, front_same (HasFramesUntilUpTo n) (HasFramesUntilUpTo m) (to_fault_same n m) h.2 h.4 i.4 h.8 (rw same.1 at i.8))
 
 -- bytes have at most one number of frames up to the first fault
 pub one_until : (b : List ℕ) (j k : ℕ) → HasFramesUntilFault b j → HasFramesUntilFault b k → j ≡ k

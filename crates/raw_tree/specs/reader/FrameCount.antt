@@ -35,25 +35,24 @@ HasFrameCountUpTo (suc levels) b n = (frames : List Frame) × (end : End) × IsW
 abbrev pub HasFrameCount : List ℕ → ℕ → Type 0
 HasFrameCount b n = (levels : ℕ) × HasFrameCountUpTo levels b n
 
--- n frames are in bytes up to their first fault, or to the end; `before` of them are before r, and `Nested` says how many are
--- in nested bytes
-pub data CountsFront (Nested : List ℕ → ℕ → Type 0) (r : List ℕ) (before n : ℕ) : Type 0 where
+-- n frames are at the front of r up to the first fault, or to the end: r begins with none, or with the one that is at
+-- fault; `Nested` says how many are in nested bytes
+pub data CountsFront (Nested : List ℕ → ℕ → Type 0) (r : List ℕ) (n : ℕ) : Type 0 where
   -- no frame is left: the walk ends there, or stops
-  over : HasNoFrame r → n ≡ before → CountsFront Nested r before n
-  -- the next frame means the fault, and counts
-  own_fault : (f : Frame) (q : List ℕ) (fault : KeyedFault) → IsFrame r f q → Means f (faulty fault) → n ≡ before + 1 → CountsFront Nested r before n
-  -- the nested bytes in the value of the next frame have the fault; the frame counts, and so do the frames in it up to
-  -- the fault
+  over : HasNoFrame r → n ≡ 0 → CountsFront Nested r n
+  -- the frame means the fault
+  own_fault : (f : Frame) (q : List ℕ) (fault : KeyedFault) → IsFrame r f q → Means f (faulty fault) → n ≡ 1 → CountsFront Nested r n
+  -- the nested bytes in its value have the fault; the frame counts, and so do the frames in it up to the fault
   nested_fault : (f : Frame) (q : List ℕ) (v : RawValue) (d : List ℕ) (fault : KeyedFault) (inside : ℕ) → IsFrame r f q → Means f (value v) → Holds v d
-      → FirstFault d fault → Nested d inside → n ≡ before + 1 + inside → CountsFront Nested r before n
+      → FirstFault d fault → Nested d inside → n ≡ 1 + inside → CountsFront Nested r n
 
--- the same of these bytes, which have the fault at most this many levels deep: frames that stand for trees, with all frames
--- inside them, then those up to the fault
+-- n frames are in these bytes up to their first fault, which is at most this many levels deep, or to the end: frames that
+-- stand for trees, with all frames inside them, then those at the front of what is left
 abbrev pub HasFramesUntilUpTo : ℕ → List ℕ → ℕ → Type 0
 HasFramesUntilUpTo zero b n = ⊥
 HasFramesUntilUpTo (suc levels) b n =
-    (passed : List Frame) × (pairs : List (List ℕ × Tree)) × (r : List ℕ) × (before : ℕ) × LeadsTo (drop 4 b) passed r × StandForEach ReadsAs passed pairs
-    × CountsFrames HasFrameCount passed before × CountsFront (HasFramesUntilUpTo levels) r before n
+    (passed : List Frame) × (pairs : List (List ℕ × Tree)) × (r : List ℕ) × (before front : ℕ) × LeadsTo (drop 4 b) passed r × StandForEach ReadsAs passed pairs
+    × CountsFrames HasFrameCount passed before × CountsFront (HasFramesUntilUpTo levels) r front × (n ≡ before + front)
 
 -- the frames of these bytes up to their first fault, including the frame that has it; all of them if there is none
 abbrev pub HasFramesUntilFault : List ℕ → ℕ → Type 0
