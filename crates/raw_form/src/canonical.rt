@@ -51,6 +51,7 @@ fn start_of(alloc: Global, document: RawDocument<'_>, depth: usize) -> Result<Op
 }
 
 /// The canonical form of a document within limits.
+#[tactic(auto, using(raw_tree::proofs::Face::barred_whole))]
 fn form_within(alloc: Global, document: RawDocument<'_>, limits: Limits) -> Result<Vec<u8>>
     ensures form { IfOk result
         (λ form. IsFormWithin limits (bytes_of document.entry) form.items) }

@@ -7,7 +7,7 @@ pub use Rattle.raw_tree.proofs.Spelled.{frame_spelled, value_spelled}
 pub use Rattle.raw_tree.proofs.reader.Loops.{each_read, stand_more, nested_beside}
 pub use Rattle.raw_tree.proofs.reader.OneTree.{one_value_of}
 pub use Rattle.raw_tree.proofs.reader.Stacks.{held_holds}
-pub use Rattle.raw_tree.proofs.reader.Limited.{answered_one_way, barred_at_one_place, read_within, to_depth}
+pub use Rattle.raw_tree.proofs.reader.Limited.{answered_one_way, barred_at_one_place, barred_whole, read_within, to_depth}
 -- canonical forms, and trees that are written level by level
 pub use Rattle.raw_tree.proofs.CanonicalForms.{canonical_form, canonical_is_own_form, one_form}
 pub use Rattle.raw_tree.proofs.Forms.{document_reads, canonical_frames_read}

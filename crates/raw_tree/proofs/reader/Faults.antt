@@ -2,9 +2,8 @@
 -- too deep.
 use Rattle.std.proofs.Common.{◌≡◌, inl, inr, ◌⊎◌, ◌≤◌, ◌+◌, ◌++◌, ◌∷◌, [], ℕ, zero, suc, List, Option, None, Some, length, arith, refl, sym}
 use Rattle.raw_tree.proofs.Common.{Barrier, FailsAt, FirstFault, FirstFaultOfValue, FirstFaultWithin, Frame, Holds, HoldsAs, IsFaultWith, IsFrame, KeyedFault, Means, RawValue, ReadsAs, ReadsUpTo, Sort}
-use Rattle.raw_tree.proofs.Common.{StandsFor, Tree, as_document, barriers, document, fault_of, too_deep, too_many_bytes, value}
+use Rattle.raw_tree.proofs.Common.{StandsFor, Tree, as_document, barriers, fault_of, too_deep, too_many_bytes, value}
 use Rattle.raw_tree.proofs.walk.Common.{IsFirst, IsOffsetOf, Step}
-use Rattle.raw_view.specs.Meaning as raw
 use Rattle.raw_view.proofs.Face.{no_frame_at_final, no_frame_at_stop, no_stop_at_final, one_frame}
 use Rattle.raw_tree.proofs.reader.Loops.{reads_up_to, stand_each_on}
 use Rattle.raw_tree.proofs.reader.OneTree.{AreRead, one_fault_of, one_nested, one_value_of, read_among, some_fault, stop_same, value_nor_fault}
@@ -19,16 +18,12 @@ read_passed zero sort b t h = absurd h
 read_passed (suc n) sort b t (pairs, (frames, walk, each), same) = (frames, walk, (pairs, each))
 
 held_read : (N : Sort → List ℕ → Tree → Type 0) (v : RawValue) (t : Tree) (sort : Sort) (d : List ℕ) → StandsFor N v t → HoldsAs v sort d → (u : Tree) × N sort d u
-held_read N (raw.single l) t sort d h holds = absurd holds
-held_read N (raw.document e) t sort d h (s, same) = (t, rw (s, same) h)
-held_read N (raw.array e) t sort d h (s, same) = (t, rw (s, same) h)
-held_read N (raw.scoped code e) t sort d h (s, same) = (document h.0, rw (s, same) h.1)
+held_read N v t sort d h holds = grind arith
 
 -- faults at a front
 
 fails_over : (s : List ℕ) (key : Option (List ℕ)) (fault : KeyedFault) → s ≡ 0 ∷ [] → ¬ FailsAt s key fault
-fails_over s None fault e h = no_stop_at_final s fault.fault fault.key e h
-fails_over s (Some key) fault e (f, r, at, means, key_is) = no_frame_at_final s e f r at
+fails_over s key fault e h = grind (arith, no_stop_at_final, no_frame_at_final)
 
 fails_same : (s : List ℕ) (key other : Option (List ℕ)) (a c : KeyedFault) → FailsAt s key a → FailsAt s other c → (other ≡ key) × (c ≡ a)
 fails_same s None None a c h g = (refl, stop_same s c a g h)

@@ -108,7 +108,17 @@ front_counted N fs r n (own_fault f q fault at m is) g p more there passed = fro
 front_counted N fs r n (nested_fault f q v d fault inside at m holds first h is) g p more there passed = front_blocks fs r fault (inr (f, q, v, at, m, (d, holds, first))) g p more there passed
 
 front_same : (N M : List ℕ → ℕ → Type 0) → AgreeOn N M → (r : List ℕ) (j k : ℕ) → CountsFront N r j → CountsFront M r k → j ≡ k
-front_same N M same r j k h g = grind (arith, one_frame, one_value_of, value_nor_fault, one_nested)
+front_same N M same r j k (over none a) (over other b) = a ∙ sym b
+front_same N M same r j k (over none a) (own_fault g p y there is b) = absurd (none g p there)
+front_same N M same r j k (over none a) (nested_fault g p w e y inner there is holding behind l b) = absurd (none g p there)
+front_same N M same r j k (own_fault f q x at m a) (over none b) = absurd (none f q at)
+front_same N M same r j k (own_fault f q x at m a) (own_fault g p y there is b) = a ∙ sym b
+front_same N M same r j k (own_fault f q x at m a) (nested_fault g p w e y inner there is holding behind l b) = absurd (value_nor_fault g w x is (rw (one_frame r f g q p at there).0 at m))
+front_same N M same r j k (nested_fault f q v d x inside at m holds first h a) (over none b) = absurd (none f q at)
+front_same N M same r j k (nested_fault f q v d x inside at m holds first h a) (own_fault g p y there is b) = absurd (value_nor_fault f v y m (rw (one_frame r g f p q there at).0 at is))
+front_same N M same r j k (nested_fault f q v d x inside at m holds first h a) (nested_fault g p w e y inner there is holding behind l b) =
+    let w_is = one_value_of f w v (rw (one_frame r g f p q there at).0 at is) m in
+    omega (arith, a, b, same d inside inner h (rw (one_nested v e d (rw w_is at holding) holds) at l))
 
 to_fault_same : (n m : ℕ) → AgreeOn (HasFramesUntilUpTo n) (HasFramesUntilUpTo m)
 to_fault_same zero m b j k h i = absurd h

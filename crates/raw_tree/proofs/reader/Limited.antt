@@ -18,11 +18,7 @@ read_within limits b t few h =
 
 -- a document has at most one first barrier, at one place
 pub barred_at_one_place : (limits : Limits) → AllAreBarredAtOnePlace limits
-barred_at_one_place limits b x other path other_path offset other_offset (inl h) (inl g) = (g.1 ∙ sym h.1, g.2 ∙ sym h.2, g.3 ∙ sym h.3)
-barred_at_one_place limits b x other path other_path offset other_offset (inl h) (inr g) = absurd (omega (arith, h.0, g.0))
-barred_at_one_place limits b x other path other_path offset other_offset (inr h) (inl g) = absurd (omega (arith, h.0, g.0))
-barred_at_one_place limits b x other path other_path offset other_offset (inr h) (inr g) =
-    one_first barriers_unique limits.depth as_document b x other path other_path offset other_offset h.1 g.1
+barred_at_one_place limits b x other path other_path offset other_offset h g = grind (arith, one_first barriers_unique)
 
 module _ (limits : Limits) (b : List ℕ) where
   -- too many bytes are a first barrier, and otherwise what is first within the depth

@@ -10,8 +10,8 @@ pub returns-in-Some-2-clause-refused : goal.returns-in-Some-2-clause-refused
 returns-in-Some-2-clause-refused c =
     let few = rw c.as_bytes-bytes.ensures.bytes at c.if-bytes-limits.false in
     let told = rw c.in-Some-2.is at c.in_ok-barrier.ensures.told in
-    let (x, first, is, there) = barrier_told c.args.limits _ (Ok (Some c.in-Some-2.barrier)) few told in
-    inr (c.args.document.envelope, inl (inr (x, first, c.error_of.ensures x is)))
+    let (x, is, there) = barrier_told c.args.limits _ (Ok (Some c.in-Some-2.barrier)) few told in
+    inr (c.args.document.envelope, inl (inr (x, (_, _, there), c.error_of.ensures x is)))
 
 pub returns-in_default-clause-form : goal.returns-in_default-clause-form
 returns-in_default-clause-form c =
