@@ -3,7 +3,7 @@ use Rattle.std.proofs.Common.{◌≡◌, ◌⊎◌, inl, inr, ◌≤◌, ◌<◌
 use Rattle.raw_tree.proofs.Common.{AreBytes, Tree, IsEnvelope, Frame, IsFrame, IsStop, IsWalk, End, Done, Stopped, LeadsTo, RawValue, KeyedFault, Means, Meaning, value, faulty, Barrier, FirstFaultWithin}
 use Rattle.raw_tree.proofs.Common.{fault_of, too_deep, too_many_bytes, HasInside, CountsFrames, CountsFront, HasFrameCountUpTo, HasFramesUntilFault, HasFramesUntilUpTo, HoldsAs, IsSingle}
 use Rattle.raw_tree.proofs.Common.{Sort, as_document, as_array, code_with_scope, leaf, leaf_in_order, tree_of_pairs, StandsFor, StandForEach, ReadsUpTo, ReadsAs, Holds, FailsAt, FirstFault, FirstFaultOfValue}
-use Rattle.raw_tree.specs.reader.FrameCount.{over, own_fault, nested_fault}
+use Rattle.raw_tree.specs.reader.FrameCount.{over, at_fault}
 use Rattle.bson_model.proofs.Face.{AreBytes-drop}
 use Rattle.raw_view.specs.Meaning as raw
 use Rattle.raw_view.proofs.Face.{LeadsTo-walk, LeadsTo-more, IsFrame-shorter, has_meaning, AreBytes-rest, document_has_walk, one_frame, no_frame_at_stop, no_frame_at_final}
@@ -75,8 +75,8 @@ held_stands depth (raw.scoped code e) sort d t (s, same) read =
     let scope = document_read e t (depth, whole) in
     (code_with_scope code scope.0, (scope.0, rw scope.1 at whole, refl))
 
-pub held_counts : (depth : ℕ) (v : RawValue) (sort : Sort) (d : List ℕ) (n : ℕ) → HoldsAs v sort d → HasFrameCountUpTo depth d n → HasInside (HasFrameCountUpTo depth) (value v) n
-held_counts depth v sort d n holds count = grind arith
+held_counts : (N : List ℕ → ℕ → Type 0) (v : RawValue) (d : List ℕ) (n : ℕ) → Holds v d → N d n → HasInside N (value v) n
+held_counts N v d n holds count = grind arith
 
 -- a value without nested bytes stands for the same tree to any depth, and no frame is in it
 none_inside : (inside : ℕ) (v : RawValue) (t : Tree) → IsSingle v → StandsFor ReadsAs v t → StandsFor (ReadsUpTo inside) v t × HasInside (HasFrameCountUpTo inside) (value v) 0
@@ -105,7 +105,7 @@ pub nested_stands : {inside : ℕ} {s : List ℕ} {f : Frame} {v : RawValue} {r 
     → StandsFor (ReadsUpTo inside) v t → HasFrameCountUpTo inside d m → 2 * m + 4 ≤ length d → Stands inside s v r t m
 nested_stands {inside} {s} {f} {v} {r} at sort d t m holds stands count small = record {
   tree = stands;
-  counts = held_counts inside v sort d m holds count;
+  counts = held_counts (HasFrameCountUpTo inside) v d m (holds_bytes v sort d holds) count;
   small = omega (arith, small, nested_beside s f r v d at.frame at.means (holds_bytes v sort d holds));
 }
 
@@ -133,7 +133,7 @@ module _ {inside n : ℕ} {b s : List ℕ} {pairs : List (List ℕ × Tree)} (is
   stops sort fault at = (fails None fault at, λ g e. counts_to 0 n 0 (over (no_frame_at_stop s fault.fault fault.key at) refl) (omega arith))
 
   pub means_fault : (sort : Sort) (fault : KeyedFault) (f : Frame) (r : List ℕ) → IsFrame s f r → Means f (faulty fault) → IsOutcome (suc inside) sort b (Some (fault_of fault)) (n + 1)
-  means_fault sort fault f r at m = (fails (Some f.key) fault (f, r, at, m, refl), λ g e. counts_to 0 (n + 1) 1 (own_fault f r fault at m refl) refl)
+  means_fault sort fault f r at m = (fails (Some f.key) fault (f, r, at, m, refl), λ g e. counts_to 0 (n + 1) 1 (at_fault f r (faulty fault) fault 0 at m (inl m) refl refl) refl)
 
   module _ {f : Frame} {v : RawValue} {r : List ℕ} (at : IsAhead s f v r) where
     -- or the nested bytes of a frame have a barrier
@@ -142,7 +142,8 @@ module _ {inside n : ℕ} {b s : List ℕ} {pairs : List (List ℕ × Tree)} (is
         let beside = nested_beside s f r v d at.frame at.means holds in
         let (offset, there) = some_offset b s d r path within (omega (arith, is.small)) (omega (arith, beside)) in
         let to = λ (fault : KeyedFault) (e : x ≡ fault_of fault).
-        counts_to (until fault e).0 (n + 1 + m) (1 + m) (nested_fault f r v d fault m at.frame at.means holds (inside, path, within, rw e at bars) (until fault e).1 refl) (omega arith) in
+        counts_to (until fault e).0 (n + 1 + m) (1 + m) (at_fault f r (value v) fault m at.frame at.means (inr (v, at.means, (d, holds, (inside, path, within, rw e at bars))))
+        (held_counts (HasFramesUntilUpTo (until fault e).0) v d m holds (until fault e).1) refl) (omega arith) in
         let front = bars_inside inside b is.frames v d x path within offset (at.frame, at.means, holds) bars there in
         ((record { number = length is.frames; key = Some f.key } ∷ path, offset, (is.frames, s, is.leads, (pairs, is.each), front)), to)
 

@@ -1,7 +1,7 @@
 -- First faults and first barriers. Bytes have at most one, and none if they are read as a tree. To a depth greater than the length nothing is
 -- too deep.
 use Rattle.std.proofs.Common.{◌≡◌, inl, inr, ◌⊎◌, ◌≤◌, ◌+◌, ◌++◌, ◌∷◌, [], ℕ, zero, suc, List, Option, None, Some, length, arith, refl, sym}
-use Rattle.raw_tree.proofs.Common.{Barrier, FailsAt, FirstFault, FirstFaultOfValue, FirstFaultWithin, Frame, Holds, HoldsAs, IsFaultWith, IsFrame, KeyedFault, Means, RawValue, ReadsAs, ReadsUpTo, Sort}
+use Rattle.raw_tree.proofs.Common.{Barrier, FailsAt, FirstFault, FirstFaultOfFrame, FirstFaultOfValue, FirstFaultWithin, Frame, Holds, HoldsAs, IsFaultWith, IsFrame, KeyedFault, Means, RawValue, ReadsAs, ReadsUpTo, Sort}
 use Rattle.raw_tree.proofs.Common.{StandsFor, Tree, as_document, barriers, fault_of, too_deep, too_many_bytes, value}
 use Rattle.raw_tree.proofs.walk.Common.{IsFirst, IsOffsetOf, Step}
 use Rattle.raw_view.proofs.Face.{no_frame_at_final, no_frame_at_stop, no_stop_at_final, one_frame}
@@ -78,9 +78,6 @@ bars_inside n b frames v d x steps inside offset {s} {f} {r} (frame, means, hold
 pub apart_within : (n : ℕ) (sort : Sort) (b : List ℕ) (t : Tree) (x : Barrier) → ReadsUpTo n sort b t → FirstFaultWithin n b x → ⊥
 apart_within n sort b t x h (path, offset, bars) = apart barriers_unique n sort b x path offset (any_sort n as_document sort b x path offset bars) (read_passed n sort b t h)
 
-pub one_barrier_within : (n : ℕ) (b : List ℕ) (x y : Barrier) → FirstFaultWithin n b x → FirstFaultWithin n b y → x ≡ y
-one_barrier_within n b x y (path, offset, h) (other, at, g) = sym ((one_first barriers_unique n as_document b x y path other offset at h g).0)
-
 -- bytes with a level that is too deep are at least as many as the allowed levels
 pub deep_long : (n : ℕ) (b : List ℕ) → FirstFaultWithin n b too_deep → n ≤ length b
 deep_long n b (path, offset, h) = first.deep_long barriers (λ sort ps s key bad. bad) n as_document b path offset h
@@ -118,8 +115,8 @@ tree_or_fault_of_value v t fault h (d, holds, bad) =
 -- bytes have at most one first fault
 pub one_first_fault : (b : List ℕ) (x y : KeyedFault) → FirstFault b x → FirstFault b y → x ≡ y
 one_first_fault b x y (n, path, offset, h) (m, other, at, g) =
-    let same : fault_of x ≡ fault_of y = one_barrier_within (n + m) b (fault_of x) (fault_of y) (path, offset, fault_deeper n (n + m) (omega arith) b x path offset h)
-    (other, at, fault_deeper m (n + m) (omega arith) b y other at g) in
+    let (same, path_is, offset_is) = one_first barriers_unique (n + m) as_document b (fault_of x) (fault_of y) path other offset at (fault_deeper n (n + m) (omega arith) b x path offset h)
+    (fault_deeper m (n + m) (omega arith) b y other at g) in
     cc
 
 -- a value has at most one first fault
@@ -128,13 +125,10 @@ one_first_fault_of_value v x y h k = one_first_fault h.0 x y h.2 (rw (one_nested
 
 -- after frames that stand for trees
 
--- s stops with the fault; or the frame at its front means it, or a value that has it
-abbrev pub FailsFront : List ℕ → KeyedFault → Type 0
-FailsFront s fault = ((key : Option (List ℕ)) × FailsAt s key fault) ⊎ ((f : Frame) × (q : List ℕ) × (v : RawValue) × IsFrame s f q × Means f (value v) × FirstFaultOfValue v fault)
-
-pub front_blocks : (fs : List Frame) (s : List ℕ) (fault : KeyedFault) → FailsFront s fault → IsBlocked (AreRead ReadsAs) fs s
-front_blocks fs s fault (inl (key, fails)) f r more at passed = fails_block ReadsAs fs s key fault fails f r more at passed
-front_blocks fs s fault (inr (g, q, w, there, means, bad)) f r more at (pairs, each) =
+-- one with a fault isn't passed
+pub front_blocks : (fs : List Frame) (s : List ℕ) (g : Frame) (q : List ℕ) (fault : KeyedFault) → IsFrame s g q → FirstFaultOfFrame g fault → IsBlocked (AreRead ReadsAs) fs s
+front_blocks fs s g q fault there (inl means) f r more at passed = fails_block ReadsAs fs s (Some g.key) fault (g, q, there, means, refl) f r more at passed
+front_blocks fs s g q fault there (inr (w, means, bad)) f r more at (pairs, each) =
     let (v, t, also, stands) = read_among ReadsAs fs f more pairs each in
     let same = one_value_of f w v (rw ((one_frame s g f q r there at).0) at means) also in
     tree_or_fault_of_value v t fault stands (rw same at bad)

@@ -3,7 +3,7 @@
 use Rattle.std.proofs.Common.{◌≡◌, inl, inr, ◌≤◌, ◌+◌, ◌*◌, ◌++◌, ◌∷◌, [], ℕ, max, zero, suc, List, Some, length, drop, arith, refl, sym, ◌∙◌, length-drop}
 use Rattle.raw_tree.proofs.Common.{AreBytes, IsEnvelope, Frame, IsFrame, IsWalk, End, Meaning, Means, AllHaveOneFrameCount, HasInside, CountsFrames, HasFrameCountUpTo}
 use Rattle.raw_tree.proofs.Common.{HasFrameCount, CountsFront, HasFramesUntilUpTo, HasFramesUntilFault, IsGreatestDepth, HasDepthUpTo, ReadsAs}
-use Rattle.raw_tree.specs.reader.FrameCount.{over, own_fault, nested_fault}
+use Rattle.raw_tree.specs.reader.FrameCount.{over, at_fault}
 use Rattle.bson_model.proofs.Face.{AreBytes-drop}
 use Rattle.raw_view.proofs.Face.{IsFrame-shorter, AreBytes-rest, document_has_walk, has_meaning, one_frame, one_walk, one_meaning}
 use Rattle.raw_tree.proofs.reader.Loops.{nested_envelope, nested_beside, nested_shorter}
@@ -104,21 +104,15 @@ one_frame_count b env =
 -- where a count ends no frame is passed
 front_counted : (N : List ℕ → ℕ → Type 0) (fs : List Frame) (r : List ℕ) (n : ℕ) → CountsFront N r n → IsBlocked (AreRead ReadsAs) fs r
 front_counted N fs r n (over none is) g p more there passed = none g p there
-front_counted N fs r n (own_fault f q fault at m is) g p more there passed = front_blocks fs r fault (inl (Some f.key, (f, q, at, m, refl))) g p more there passed
-front_counted N fs r n (nested_fault f q v d fault inside at m holds first h is) g p more there passed = front_blocks fs r fault (inr (f, q, v, at, m, (d, holds, first))) g p more there passed
+front_counted N fs r n (at_fault f q m fault inside at means first h is) g p more there passed = front_blocks fs r f q fault at first g p more there passed
 
 front_same : (N M : List ℕ → ℕ → Type 0) → AgreeOn N M → (r : List ℕ) (j k : ℕ) → CountsFront N r j → CountsFront M r k → j ≡ k
 front_same N M same r j k (over none a) (over other b) = a ∙ sym b
-front_same N M same r j k (over none a) (own_fault g p y there is b) = absurd (none g p there)
-front_same N M same r j k (over none a) (nested_fault g p w e y inner there is holding behind l b) = absurd (none g p there)
-front_same N M same r j k (own_fault f q x at m a) (over none b) = absurd (none f q at)
-front_same N M same r j k (own_fault f q x at m a) (own_fault g p y there is b) = a ∙ sym b
-front_same N M same r j k (own_fault f q x at m a) (nested_fault g p w e y inner there is holding behind l b) = absurd (value_nor_fault g w x is (rw (one_frame r f g q p at there).0 at m))
-front_same N M same r j k (nested_fault f q v d x inside at m holds first h a) (over none b) = absurd (none f q at)
-front_same N M same r j k (nested_fault f q v d x inside at m holds first h a) (own_fault g p y there is b) = absurd (value_nor_fault f v y m (rw (one_frame r g f p q there at).0 at is))
-front_same N M same r j k (nested_fault f q v d x inside at m holds first h a) (nested_fault g p w e y inner there is holding behind l b) =
-    let w_is = one_value_of f w v (rw (one_frame r g f p q there at).0 at is) m in
-    omega (arith, a, b, same d inside inner h (rw (one_nested v e d (rw w_is at holding) holds) at l))
+front_same N M same r j k (over none a) (at_fault g p l y inner there is behind i b) = absurd (none g p there)
+front_same N M same r j k (at_fault f q m x inside at means first h a) (over none b) = absurd (none f q at)
+front_same N M same r j k (at_fault f q m x inside at means first h a) (at_fault g p l y inner there is behind i b) =
+    let l_is = one_meaning f l m (rw (one_frame r g f p q there at).0 at is) means in
+    omega (arith, a, b, counts_same N M same m inside inner h (rw l_is at i))
 
 to_fault_same : (n m : ℕ) → AgreeOn (HasFramesUntilUpTo n) (HasFramesUntilUpTo m)
 to_fault_same zero m b j k h i = absurd h

@@ -56,10 +56,13 @@ abbrev BreachesFrame : Sort → List (List ℕ) → Frame → Cause → Type 0
 BreachesFrame sort keys f why = BreachesKeys sort keys f.key why ⊎ (AreKeysCanonical sort (keys ++ f.key ∷ []) × (m : Meaning) × Means f m × BreachesItself m why)
 
 one_of_frame : (sort : Sort) (keys : List (List ℕ)) (f : Frame) (why other : Cause) → BreachesFrame sort keys f why → BreachesFrame sort keys f other → other ≡ why
-one_of_frame sort keys f why other (inl h) (inl g) = one_of_keys sort keys f.key why other h g
-one_of_frame sort keys f why other (inl h) (inr g) = absurd (key_nor_breach sort keys f.key why g.0 h)
-one_of_frame sort keys f why other (inr h) (inl g) = absurd (key_nor_breach sort keys f.key other h.0 g)
-one_of_frame sort keys f why other (inr h) (inr g) = one_itself h.1 why other h.3 (rw (one_meaning f g.1 h.1 g.2 h.2) at g.3)
+one_of_frame sort keys f why other h g = grind (arith, key_nor_breach, one_meaning, one_itself, one_of_keys)
+
+-- none whose key is canonical and whose value is none by itself
+frame_nor_breach : (sort : Sort) (keys : List (List ℕ)) (f : Frame) (v : RawValue) (why : Cause) → AreKeysCanonical sort (keys ++ f.key ∷ []) → Means f (value v) → ¬ BreachesItself (value v) why
+    → ¬ BreachesFrame sort keys f why
+frame_nor_breach sort keys f v why more means none (inl bad) = key_nor_breach sort keys f.key why more bad
+frame_nor_breach sort keys f v why more means none (inr bad) = none (rw (one_meaning f bad.1 (value v) bad.2 means) at bad.3)
 
 module _ (sort : Sort) (keys : List (List ℕ)) (s : List ℕ) where
   breach_over : (key : Option (List ℕ)) (why : Cause) → s ≡ 0 ∷ [] → ¬ BreachesHere sort keys s key why
@@ -78,22 +81,14 @@ module _ (sort : Sort) (keys : List (List ℕ)) (s : List ℕ) where
       → (key : Option (List ℕ)) (why : Cause) → ¬ BreachesHere sort keys s key why
   none_breaches {f} {r} v held_as d at means holds more None why (fault, key, stop, why_is) = no_frame_at_stop s fault key stop f r at
   none_breaches {f} {r} v held_as d at means holds more (Some key) why (g, q, there, key_is, breach) =
-      let same = (one_frame s g f q r there at).0 in
-      elim (rw same at breach) [
-        | inl bad ↦ key_nor_breach sort keys f.key why more bad
-        | inr bad ↦ itself_not_held v held_as d why holds (rw (one_meaning f bad.1 (value v) bad.2 means) at bad.3)
-      ]
+      frame_nor_breach sort keys f v why more means (itself_not_held v held_as d why holds) (rw (one_frame s g f q r there at).0 at breach)
 
 breach_blocks : (n : ℕ) (sort : Sort) (ps : List Frame) (s : List ℕ) (key : Option (List ℕ)) (why : Cause) → BreachesHere sort (keys_of_frames ps) s key why
     → IsBlocked (AreCanonical (IsCanonicalUpTo n) sort) ps s
 breach_blocks n sort ps s None why h f r more at c = no_frame_at_stop s h.0 h.1 h.2 f r at
 breach_blocks n sort ps s (Some key) why (g, q, there, key_is, breach) f r more at c =
     let (keys, v, means, canonical) = among (IsCanonicalUpTo n) sort ps f more c in
-    let same = (one_frame s g f q r there at).0 in
-    elim (rw same at breach) [
-      | inl bad ↦ key_nor_breach sort (keys_of_frames ps) f.key why keys bad
-      | inr bad ↦ itself_not_canonical (IsCanonicalUpTo n) v why (rw (one_meaning f bad.1 (value v) bad.2 means) at bad.3) canonical
-    ]
+    frame_nor_breach sort (keys_of_frames ps) f v why keys means (λ bad. itself_not_canonical (IsCanonicalUpTo n) v why bad canonical) (rw (one_frame s g f q r there at).0 at breach)
 
 -- violations
 

@@ -8,7 +8,7 @@ use Rattle.raw_view.specs.Frame.{Frame, HasNoFrame, IsFrame, End, IsWalk, LeadsT
 use Rattle.raw_view.specs.Meaning.{RawValue, KeyedFault, Meaning, Means, value, faulty}
 use Rattle.raw_view.specs.Meaning as raw
 use Rattle.raw_view.specs.declared.error.Error.{Error}
-use Rattle.raw_tree.specs.reader.Reading.{StandForEach, ReadsAs, Holds, FirstFault}
+use Rattle.raw_tree.specs.reader.Reading.{StandForEach, ReadsAs, FirstFaultOfFrame}
 
 -- counts; `Nested` says how many frames are in nested bytes
 module _ (Nested : List ℕ → ℕ → Type 0) where
@@ -35,16 +35,13 @@ HasFrameCountUpTo (suc levels) b n = (frames : List Frame) × (end : End) × IsW
 abbrev pub HasFrameCount : List ℕ → ℕ → Type 0
 HasFrameCount b n = (levels : ℕ) × HasFrameCountUpTo levels b n
 
--- n frames are at the front of r up to the first fault, or to the end: r begins with none, or with the one that is at
--- fault; `Nested` says how many are in nested bytes
+-- n frames are at the front of r up to the first fault, or to the end; `Nested` says how many are in nested bytes
 pub data CountsFront (Nested : List ℕ → ℕ → Type 0) (r : List ℕ) (n : ℕ) : Type 0 where
   -- no frame is left: the walk ends there, or stops
   over : HasNoFrame r → n ≡ 0 → CountsFront Nested r n
-  -- the frame means the fault
-  own_fault : (f : Frame) (q : List ℕ) (fault : KeyedFault) → IsFrame r f q → Means f (faulty fault) → n ≡ 1 → CountsFront Nested r n
-  -- the nested bytes in its value have the fault; the frame counts, and so do the frames in it up to the fault
-  nested_fault : (f : Frame) (q : List ℕ) (v : RawValue) (d : List ℕ) (fault : KeyedFault) (inside : ℕ) → IsFrame r f q → Means f (value v) → Holds v d
-      → FirstFault d fault → Nested d inside → n ≡ 1 + inside → CountsFront Nested r n
+  -- the frame there has the first fault; it counts, and so do the frames inside its meaning up to the fault
+  at_fault : (f : Frame) (q : List ℕ) (m : Meaning) (fault : KeyedFault) (inside : ℕ) → IsFrame r f q → Means f m → FirstFaultOfFrame f fault → HasInside Nested m inside
+      → n ≡ 1 + inside → CountsFront Nested r n
 
 -- n frames are in these bytes up to their first fault, which is at most this many levels deep, or to the end: frames that
 -- stand for trees, with all frames inside them, then those at the front of what is left
