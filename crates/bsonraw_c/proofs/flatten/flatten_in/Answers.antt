@@ -12,4 +12,4 @@ at-requires c =
     let barrier = c.in-Err-Barrier.barrier in
     let told = subst (λ (e : FlattenError). Flattens c.args.limits b c.args.tokens.now c.flatten_within.new.tokens (Err e)) c.in-Err-Barrier.field-0-is
     c.in-Err-Barrier.ensures.flat in
-    omega (arith, barrier_bound c.args.limits b told.0 (steps_of barrier.place) barrier.place.offset told.3, c.ranges.document)
+    omega (arith, barrier_bound c.args.limits b told.0 (steps_of barrier.place) barrier.place.offset told.2, c.ranges.document)
