@@ -271,7 +271,7 @@ look_at_old_processors() {
 # threads: none reads what another writes.
 look_at_memory() {
     if ! command -v valgrind >/dev/null; then
-        skip valgrind
+        skip "valgrind (valgrind)"
         return
     fi
     valgrind -q --error-exitcode=9 "$work/agree" 4000 >"$work/said" 2>&1 || fails "valgrind: $(head -5 "$work/said")"
@@ -407,7 +407,7 @@ use_machine() {
     if command -v pkg-config >/dev/null; then
         flags=$(PKG_CONFIG_PATH=$prefix/lib/pkgconfig pkg-config --cflags --libs bsonraw) || fails "pkg-config doesn't find the library"
     else
-        skip pkg-config
+        skip "pkg-config (pkg-config)"
     fi
     try_examples
     warns_of_slips
@@ -422,7 +422,7 @@ use_machine() {
     c++ -x c++ -o "$work/machine" c/tests/greeting.c -x none $flags || fails "the greeting doesn't compile as C++"
     [ "$("$work/machine" <"$work/greeting")" = "02 hi" ] || fails "the greeting's elements aren't printed from C++"
     for compiler in g++ clang++; do
-        command -v $compiler >/dev/null || { skip "$compiler for bsonraw.hpp"; continue; }
+        command -v $compiler >/dev/null || { skip "$compiler for bsonraw.hpp (g++, clang)"; continue; }
         for standard in c++17 c++20; do
             # shellcheck disable=SC2086
             $compiler -std=$standard -Wall -Wextra -Wconversion -Wold-style-cast -Weffc++ -Werror -O1 -o "$work/machine" c/tests/hpp.cpp $flags &&
@@ -439,7 +439,7 @@ try_examples() {
             printf "%s", text; next }
         { print }' "$work/examples.c" >"$work/examples.cpp"
     for compiler in gcc clang; do
-        command -v $compiler >/dev/null || { skip "$compiler"; continue; }
+        command -v $compiler >/dev/null || { skip "$compiler (gcc, g++, clang)"; continue; }
         for standard in c89 c99 c11 c17 c2x; do
             $compiler -std=$standard "-I$prefix/include" -Wall -Wextra -Wconversion -Werror -O2 -c -o "$work/example.o" "$work/examples.c" ||
                 fails "the examples of the header don't compile by $compiler as $standard"
@@ -455,7 +455,7 @@ try_examples() {
             fails "BSONRAW_STR takes no pointer by $compiler in C"
     done
     for compiler in g++ clang++; do
-        command -v $compiler >/dev/null || { skip "$compiler"; continue; }
+        command -v $compiler >/dev/null || { skip "$compiler (gcc, g++, clang)"; continue; }
         for standard in c++11 c++14 c++17 c++20; do
             $compiler -x c++ -std=$standard "-I$prefix/include" -Wall -Wextra -Wconversion -Wold-style-cast -Werror -O2 -c \
                 -o "$work/example.o" "$work/examples.cpp" || fails "the examples of the header don't compile by $compiler as $standard"
@@ -471,7 +471,7 @@ try_examples() {
 # GCC warns of each line of c/tests/warned.txt, and of nothing else around it.
 warns_of_slips() {
     if ! command -v gcc >/dev/null || [ "$(gcc -dumpversion | cut -d . -f 1)" -lt 10 ]; then
-        skip "warnings of GCC 10"
+        skip "warnings of GCC 10 (gcc)"
         return
     fi
     echo '(void)!bsonraw_iter_init(&it, eight, 8);' >"$work/right"
@@ -502,20 +502,20 @@ try_others() {
         cp examples/go/keys.go "$work" && (cd "$work" && PKG_CONFIG_PATH=$prefix/lib/pkgconfig GO111MODULE=off GOCACHE=$work/go go build -o keys_go keys.go) &&
             says "02 hi" "$work/keys_go"
     else
-        skip Go
+        skip "Go (golang-go)"
     fi
     if command -v bindgen >/dev/null; then
         line=$(sed -n "s|^    bindgen bsonraw.h|bindgen $prefix/include/bsonraw.h|p" examples/c/README.md)
         sh -c "$line" 2>/dev/null | grep -o 'pub fn bsonraw_[a-z0-9_]*' | sed 's/pub fn //' | sort | diff "$work/declared" - >&2 || fails "bindgen doesn't declare what the library has"
     else
-        skip bindgen
+        skip "bindgen (bindgen)"
     fi
 }
 
 # Some tests under AddressSanitizer and UndefinedBehaviorSanitizer.
 run_sanitized() {
     if [ -z "$sanitized" ]; then
-        skip "AddressSanitizer"
+        skip "AddressSanitizer (gcc, libc6-dev)"
         return
     fi
     for name in agree build changes daily pieces slips streams; do
@@ -549,7 +549,7 @@ look_at_manual() {
         grep -q "$name" man/*.3 || fails "no manual page has $name"
     done
     if ! command -v groff >/dev/null; then
-        skip "groff for the manual pages"
+        skip "groff for the manual pages (groff-base)"
         return
     fi
     for manual in man/*.[13]; do
@@ -560,8 +560,8 @@ look_at_manual() {
 
 has_cc= has_cxx=
 printf '#include <stdio.h>\nint main(void) { return 0; }\n' >"$work/probe.c"
-if cc -o "$work/probe" "$work/probe.c" 2>/dev/null; then has_cc=yes; else skip "the machine's C compiler and headers"; fi
-if c++ -x c++ -o "$work/probe" "$work/probe.c" 2>/dev/null; then has_cxx=yes; else skip "the machine's C++ compiler and headers"; fi
+if cc -o "$work/probe" "$work/probe.c" 2>/dev/null; then has_cc=yes; else skip "the machine's C compiler and headers (gcc, libc6-dev)"; fi
+if c++ -x c++ -o "$work/probe" "$work/probe.c" 2>/dev/null; then has_cxx=yes; else skip "the machine's C++ compiler and headers (g++)"; fi
 sanitized='-fsanitize=address,undefined -fno-sanitize-recover=all'
 # shellcheck disable=SC2086 # a list of flags
 cc $sanitized -o "$work/probe" "$work/probe.c" 2>/dev/null || sanitized=

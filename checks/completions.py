@@ -1,6 +1,6 @@
 """What the shells that are there complete of the words of bsonraw-dump, with the files that a script makes.
 
-    completions.py SCRIPT
+    python3 -m checks.completions SCRIPT
 """
 
 import re
@@ -10,6 +10,8 @@ import sys
 import tempfile
 from pathlib import Path
 from typing import Callable, Dict, List, Set, Tuple
+
+from checks.programs import skip
 
 # The words before the cursor, and what is completed.
 WANTED: List[Tuple[str, Set[str]]] = [
@@ -76,6 +78,8 @@ SHELLS: Dict[str, Callable[[Path, str], Set[str]]] = {"bash": by_bash, "fish": b
 def main(script: str) -> int:
     wrong = 0
     there = [it for it in SHELLS if shutil.which(it)]
+    for shell in SHELLS.keys() - there:
+        skip(f"{shell} ({shell})")
     with tempfile.TemporaryDirectory() as made:
         folder = Path(made)
         (folder / "there").mkdir()

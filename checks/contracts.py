@@ -1,8 +1,10 @@
+#!/usr/bin/env python3
 """Writes docs/CONTRACTS.md: a row for each public item of the crates that a user names, with a link to its file, and a
 row for each file of specs/ with words that clauses of these items, of the programs and of the exported functions for C cite,
 or the definitions of such words.
 
     contracts.py FOLDER           prints the page for the crates below FOLDER/crates
+    contracts.py --write FOLDER   writes it into FOLDER/docs
     contracts.py --uncalled FOLDER
                                   prints each public function, and each `clone` and `from`, that no line of crates/calls/stdin, no
                                   test and no example calls
@@ -367,8 +369,8 @@ def page(crates: Crates) -> Iterator[str]:
     yield "# Contracts\n"
     yield "Every public item of `raw_bson`, `raw_form`, `raw_shelf`, `bson_json`, `bson_from_json` and `json_round_trip`, by the first sentence of its comment."
     yield "The contract is in the source to which the link leads: the whole comment, the signature and its clauses."
-    yield "[DEFINITIONS.md](DEFINITIONS.md) says how a clause reads and what its words mean. `checks/contracts.sh --write` writes this page;"
-    yield "don't edit it."
+    yield "[DEFINITIONS.md](DEFINITIONS.md) says how a clause reads and what its words mean. `checks/contracts.py --write .` writes this"
+    yield "page; don't edit it."
     shown = [item for item in crates.all() if crates.is_shown(item)]
     for group, names in crates.lists.items():
         found = {name: [item for item in shown if name in (item.owner or item.name, item.owner)] for name in names}
@@ -398,6 +400,8 @@ def main(arguments: List[str]) -> int:
     if arguments[0] == "--uncalled":
         for name in uncalled(crates):
             print(name)
+    elif arguments[0] == "--write":
+        (Path(arguments[-1]) / "docs" / "CONTRACTS.md").write_text("\n".join(page(crates)) + "\n", encoding="utf-8")
     else:
         print("\n".join(page(crates)))
     return 0

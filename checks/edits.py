@@ -564,7 +564,7 @@ class Store:
 
     def face(self, crate):
         """Returns a checksum of what crates above see of one whose library a run beside has built: its definitions, its lemmas, and its
-        functions without their bodies. The proofs of functions are cited nowhere else (checks/faces.sh)."""
+        functions without their bodies. The proofs of functions are cited nowhere else (checks/test_sources.py)."""
         if (crate, "face") not in self.sums:
             texts = [it for it in self.files_of(crate, "specs", "proofs") if it.suffix == ".antt" and it.name not in OF_FUNCTIONS]
             rlib = f"out/rlib/{crate}.rlib"
@@ -618,6 +618,21 @@ def edits_of(top, crates):
                 edit.settle(BAD, "an old text isn't in its file once")
             found.append(edit)
     return found
+
+
+def frozen(top, room):
+    """Returns a copy of what edits are tried on, in this folder, so that nothing changes under them; what is built is the repository's."""
+    for crate in libraries(top):
+        for part in (*PARTS, "edits"):
+            if (top / "crates" / crate / part).is_dir():
+                shutil.copytree(top / "crates" / crate / part, room / "crates" / crate / part)
+        (room / "crates" / crate).mkdir(parents=True, exist_ok=True)
+        (room / "crates" / crate / "out").symlink_to(top / "crates" / crate / "out")
+    for file in ("crates.txt", "HANDLES"):
+        if (top / file).is_file():
+            shutil.copy(top / file, room)
+    (room / "bin").symlink_to(top / "bin")
+    return room
 
 
 def compile_rounds(prover, crate, edits, folder):
@@ -716,21 +731,27 @@ def main():
     words.add_argument("--top", type=pathlib.Path, default=TOP, help=argparse.SUPPRESS)
     given = words.parse_args()
 
+    with tempfile.TemporaryDirectory(prefix="edits-") as room:
+        return try_edits(given, frozen(given.top.resolve(), pathlib.Path(room)))
+
+
+def try_edits(given, top):
+    """Tries the edits of the crates in this folder as the words of the command line ask for; returns the status."""
     begun = time.monotonic()
     proves = not (given.applies or given.compiles)
-    edits = edits_of(given.top, given.crates or libraries(given.top))
+    edits = edits_of(top, given.crates or libraries(top))
     checks = 0
     if given.compiles:
-        checks = compile_all(given.top, edits, given.jobs)
+        checks = compile_all(top, edits, given.jobs)
     if proves:
-        store = Store(given.top, is_read=not given.anew)
+        store = Store(top, is_read=not given.anew)
         for edit in edits:
             if not edit.verdict:
                 store.recall(edit)
         left = [it for it in edits if not it.verdict]
         print(f"edits: {len(edits)}, of which {len(edits) - len(left)} were settled before", flush=True)
         if left:
-            checks = try_all(given.top, left, given.jobs, given.at_once, store, given.from_nothing, given.beside)
+            checks = try_all(top, left, given.jobs, given.at_once, store, given.from_nothing, given.beside)
     wrong = [it for it in edits if it.verdict in (NOT_REFUSED, BAD)]
     spent = resource.getrusage(resource.RUSAGE_CHILDREN)
     print(

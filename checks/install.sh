@@ -62,7 +62,7 @@ try_compilers() {
     (cd "$work" && sh -c "$(grep '^cc ' lines)") || fails "the line that it says to try doesn't compile"
     [ "$("$work/a.out" <"$work/greeting")" = "02 hi" ] || fails "the greeting's elements aren't printed"
     if ! command -v pkg-config >/dev/null; then
-        skip "pkg-config"
+        skip "pkg-config (pkg-config)"
         return
     fi
     eval "$(sed -n 's/^pkg-config finds.* by \(PKG_CONFIG_PATH=\)/export \1/p' "$work/said")"

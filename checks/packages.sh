@@ -249,7 +249,7 @@ try_builds() {
 # A key that this run alone has, to sign with.
 make_key() {
     if ! command -v gpg >/dev/null; then
-        skip gpg
+        skip "gpg (gnupg)"
         return
     fi
     export GNUPGHOME="$work/gnupg"
@@ -294,7 +294,7 @@ has_licences() {
 # debugger looks for it by the build-id; GDB is one that has to find a function's name by it
 names_functions() {
     if ! command -v readelf >/dev/null; then
-        skip "symbol tables, since readelf isn't there"
+        skip "symbol tables, without readelf (binutils)"
         return
     fi
     id=$(readelf -n "$1" | sed -n 's/.*Build ID: //p')
@@ -321,7 +321,7 @@ unpack() {
         case $source in *-linux.tar.gz) ;; *) break ;; esac
     done
     if ! command -v dpkg-deb >/dev/null; then
-        skip "dpkg-deb"
+        skip "dpkg-deb (dpkg)"
         return
     fi
     for package in "$made"/*.deb; do dpkg-deb -x "$package" "$debs" || exit 1; done
@@ -357,7 +357,7 @@ on() {
 # program says why it doesn't run, in one line.
 try_old_processors() {
     if ! command -v qemu-x86_64 >/dev/null; then
-        skip "processors without SSE4.1, since qemu-x86_64 isn't there"
+        skip "processors without SSE4.1, without qemu-x86_64 (qemu-user)"
         return
     fi
     # a document whose one text is forty times the sign of the euro
@@ -423,7 +423,7 @@ try_arm() {
 # A copy of the archive's crate in one of the new user, which cargo builds over the library that the crate carries, and no other.
 try_crate() {
     if ! command -v cargo >/dev/null || [ -z "$has_compiler" ]; then
-        skip "the crate for Rust"
+        skip "the crate for Rust (cargo)"
         return
     fi
     cargo new --quiet --vcs none "$work/user" 2>"$work/said" && cp -r "$archive/rust" "$work/carried" && (
@@ -456,7 +456,7 @@ try_packages() {
     env -i PATH=/usr/bin:/bin $has_compiler PKG_CONFIG_PATH="$library/pkgconfig" PKG_CONFIG_SYSROOT_DIR="$debs" \
         LD_LIBRARY_PATH="$library" sh "$work/new user/try-release.sh" "$debs/usr/bin" "$said" || fails "the Debian packages don't do"
     if ! command -v lintian >/dev/null; then
-        skip lintian
+        skip "lintian (lintian)"
         return
     fi
     lintian --allow-root --fail-on error,warning "$made"/*.deb >&2 || fails "lintian has something against the Debian packages"
@@ -466,7 +466,7 @@ try_wheels() {
     python3 -B checks/wheel_test.py >"$work/said" 2>&1 || fails "$(cat "$work/said")"
     python=/usr/bin/python3
     if ! "$python" -m venv "$work/venv" 2>/dev/null; then
-        skip "Python's venv"
+        skip "Python's venv (python3-venv)"
         return
     fi
     [ "$(find "$made" -name 'bsonraw-*-cp311-abi3-*.manylinux2014_x86_64.whl' | wc -l)" = 1 ] || fails "the package's wheel isn't of manylinux2014"
@@ -544,9 +544,9 @@ has_compiler=
 if command -v pkg-config >/dev/null && echo 'int main(void) { return 0; }' | cc -x c -o "$work/probe" - 2>/dev/null; then
     has_compiler=PKG_CONFIG=yes
 else
-    skip "C programs, since there is no compiler or no pkg-config"
+    skip "C programs, without a compiler or pkg-config (gcc, pkg-config)"
 fi
-gdb=$(command -v gdb) || skip gdb
+gdb=$(command -v gdb) || skip "gdb (gdb)"
 said=$(root=$PWD && . bin/release.sh && echo "bsonraw-dump $version ($(crates_commit))")
 lane try_record
 make_all "$made"

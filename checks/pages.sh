@@ -3,10 +3,10 @@
 # that; a block that calls bin/bsonraw has one. Any other command has to end well, after those of README, which install everything.
 # pages.py says how. What was skipped, since a tool is missing, is said in the last line.
 #
-#   checks/pages.sh            with what bin/install built here, and `--unproved` left away, since checks/examples.sh tries that
+#   checks/pages.sh            with what bin/install built here, and `--unproved` left away, since `bin/test unproved` tries that
 #   checks/pages.sh --fresh    with nothing built, as a newcomer types them: for a release; half an hour to an hour
 #
-# What pages name beside their blocks is run by others: `rt try` by examples.sh, the program of `reader` by `rt ci`, `cargo` by rust.sh,
+# What pages name beside their blocks is run by others: `rt try` by `bin/test unproved`, the program of `reader` by `rt ci`, `cargo` by rust.sh,
 # `apt` by packages.sh, `--target aarch64` by arm.sh.
 set -u
 cd "$(dirname "$(realpath "$0")")/.." || exit 1
@@ -46,11 +46,11 @@ skip_lines() {
 # Debian's Python, by which README has the package built, is the first in PATH where it can.
 mkdir "$work/bin" || exit 1
 /usr/bin/python3 -c 'import ensurepip, setuptools, wheel' 2>/dev/null && ln -s /usr/bin/python3 "$work/bin/python3"
-[ -e "$work/bin/python3" ] || skip_lines "the Python package, without setuptools or wheel" "bsonraw/bin/,venv"
-"$work/bin/python3" -c 'import dask.distributed' 2>/dev/null || skip_lines Dask "--workers 4"
-command -v jq >/dev/null || skip_lines jq jq
+[ -e "$work/bin/python3" ] || skip_lines "the Python package, without venv, setuptools or wheel (python3-venv, python3-setuptools, python3-wheel)" "bsonraw/bin/,venv"
+"$work/bin/python3" -c 'import dask.distributed' 2>/dev/null || skip_lines "Dask (python3-distributed)" "--workers 4"
+command -v jq >/dev/null || skip_lines "jq (jq)" jq
 minor=$(cargo --version 2>/dev/null | sed -n 's/^cargo 1\.\([0-9]*\)\..*/\1/p')
-[ "${minor:-0}" -ge 81 ] || skip_lines cargo "cargo"
+[ "${minor:-0}" -ge 81 ] || skip_lines "cargo (cargo)" "cargo"
 
 export HOME="$work/home" PATH="$work/home/.local/bin:$work/bin:$PATH" CARGO_NET_OFFLINE=true
 export CARGO_HOME="${CARGO_HOME-$home/.cargo}" RUSTUP_HOME="${RUSTUP_HOME-$home/.rustup}"

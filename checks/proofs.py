@@ -1,16 +1,13 @@
-#!/usr/bin/env python3
-"""proofs.py FOLDER LIMITS: what is too long to read in the specs and proofs of the crates in FOLDER, and what nothing cites.
+"""What is too long to read in the specs and proofs of the crates in FOLDER, and what nothing cites.
 
 That is a line of more than 200 columns, imports left out, a lemma of more than eight premises or of more than twelve
 explicit arguments, and a lemma that nothing cites: no proof, no face, no code and no comment of specs. A premise is what an
 arrow of the statement follows, unless it binds names alone: a record with named fields holds those that belong together.
 The explicit arguments are the premises and the names in parentheses, those of the modules around the lemma included.
 LIMITS has a line for each crate with proofs: its name, and how many lines of proofs it has at most.
-It prints a line for each, and gives 0 where there is none.
 """
 
 import re
-import sys
 from collections import Counter
 from pathlib import Path
 
@@ -125,15 +122,15 @@ def over_limits(files, folder, limits):
             yield f"{folder / crate}: {count} lines of proofs; {limits.name} allows {allowed.get(crate, 'none')}"
 
 
-def main():
-    folder, limits = map(Path, sys.argv[1:])
+def found(folder, limits):
+    """What is wrong, a line each."""
     files = {path: path.read_text(encoding="utf-8").split("\n") for path in sorted(path for kind in ("specs", "proofs") for path in folder.glob(f"*/{kind}/**/*.antt"))}
     code = words(line for path in folder.glob("*/src/**/*.rt") for line in re.sub("::", " ", path.read_text(encoding="utf-8")).split("\n"))
-    found = [*over_limits(files, folder, limits)]
+    wrong = [*over_limits(files, folder, limits)]
     everywhere = sum((words((line for line in lines if not re.match("use ", line)), "specs" in path.parts) for path, lines in files.items()), Counter())
     for path, lines in files.items():
         kind = path.relative_to(folder).parts[1]
-        found += too_long(path, lines)
+        wrong += too_long(path, lines)
         if kind != "proofs":
             continue
         for at, behind, name, statement, _, unfolds in lemmas(lines):
@@ -141,9 +138,5 @@ def main():
                 continue
             own = words(lines[at:behind])[name]
             if everywhere[name] + code[name] == own:
-                found.append(f"{path}:{at + 1}: nothing cites {name}")
-    print("\n".join(found), end="\n" if found else "")
-    return 1 if found else 0
-
-
-sys.exit(main())
+                wrong.append(f"{path}:{at + 1}: nothing cites {name}")
+    return wrong

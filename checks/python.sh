@@ -108,7 +108,7 @@ if "$python" -m pip --version >/dev/null 2>&1; then
     (cd "$work/empty" && "$python" -m pip install --no-build-isolation --no-index --no-deps --no-compile --target "$work/site" "$work"/archive/bsonraw-*.tar.gz) \
         >"$work/said" 2>&1
 else
-    skip "pip"
+    skip "pip (python3-pip)"
     built "$work"/empty/bsonraw-* "$work/site"
 fi || {
     cat "$work/said" >&2

@@ -62,12 +62,12 @@ look_at() {
     if cargo fmt --version >/dev/null 2>&1; then
         in_crate sh -c "cd $1 && cargo fmt --check" || fails "the crate in $1 isn't laid out by cargo fmt"
     else
-        skip "cargo fmt"
+        skip "cargo fmt (rustfmt)"
     fi
     if cargo clippy --version >/dev/null 2>&1; then
         in_crate sh -c "cd $1 && cargo clippy --all-targets --all-features -- -D warnings" || fails "cargo clippy has something against the crate in $1"
     else
-        skip "cargo clippy"
+        skip "cargo clippy (rust-clippy)"
     fi
 }
 
@@ -112,7 +112,7 @@ if command -v objcopy >/dev/null; then
         grep -q bsonraw_layout_2 "$work/said" || fails "that a library has another layout isn't why it isn't linked"
     done
 else
-    skip objcopy
+    skip "objcopy (binutils)"
 fi
 cc -std=gnu99 -fsyntax-only c/exported.c 2>"$work/said" || fails "c/exported.c isn't compiled"
 sed 's/^struct bsonraw_entry {/&\n    uint32_t more;/' c/bsonraw.h >"$work/other/include/bsonraw.h" && cp c/exported.c "$work/other/include" || exit 1
@@ -122,7 +122,7 @@ if command -v valgrind >/dev/null; then
     suite=$(find "$work/target/debug/deps" -name 'suite-*' -perm -u+x -type f | head -n 1)
     BSONRAW_COUNT=1000 in_crate valgrind -q --error-exitcode=9 "$suite" --test-threads 1 made:: || fails "valgrind has something against the crate"
 else
-    skip valgrind
+    skip "valgrind (valgrind)"
 fi
 
 # A crate that takes a number, a field or a kind for another one, or drops an error, fails its tests.
@@ -211,7 +211,7 @@ if ls -d $registry/serde-1* $registry/serde_derive-1* $registry/serde_json-1* >/
         fails "the page's program with serde prints something else: $(cat "$work/said")"
     export CARGO_TARGET_DIR="$work/target"
 else
-    skip "the crate with serde"
+    skip "the crate with serde (librust-serde+serde-derive-dev, librust-serde-json-dev)"
 fi
 
 if [ -n "${BSONRAW_BESIDE-}" ]; then

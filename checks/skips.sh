@@ -1,14 +1,14 @@
 # What the scripts of checks/ say of what they can't try, since a tool isn't there. They source this file.
 #
-# Each such thing is a line `NAME: WHAT` in the file that SKIPS names, where it names one: bin/test lists them at its end. A script that
-# could try nothing ends with the status 77, as automake and meson have it.
+# Each such thing is a line `NAME: WHAT` in the file that SKIPS names, where it names one: bin/test lists them at its end, by the name that
+# CHECK has. WHAT names Debian's package in parentheses. A script that could try nothing ends with the status 77, as automake and meson have it.
 
 skipped=
 
 # skip WHAT: notes that this isn't tried
 skip() {
     skipped="$skipped${skipped:+, }$1"
-    [ -z "${SKIPS-}" ] || echo "$(basename "$0" .sh): $1" >>"$SKIPS"
+    [ -z "${SKIPS-}" ] || echo "${CHECK-$(basename "$0" .sh)}: $1" >>"$SKIPS"
 }
 
 # skip_all WHAT: ends the script, of which nothing can be tried

@@ -99,7 +99,7 @@ def main(program: str, crate: str, is_written: bool) -> int:
     if is_written:
         file.write_text(text, encoding="utf-8")
     elif not file.exists() or file.read_text(encoding="utf-8") != text:
-        print(f"words: bin/words/{crate} hasn't what {crate} prints now: checks/words.sh --write writes it", file=sys.stderr)
+        print(f"words: bin/words/{crate} hasn't what {crate} prints now: checks/words.py --write {program} {crate} writes it", file=sys.stderr)
         return 1
     with tempfile.TemporaryDirectory() as folder:
         (Path(folder) / "folder").mkdir()
@@ -115,4 +115,4 @@ if __name__ == "__main__":
     given: List[str] = [it for it in sys.argv[1:] if it != "--write"]
     if len(given) != 2:
         sys.exit(__doc__)
-    sys.exit(main(given[0], given[1], "--write" in sys.argv))
+    sys.exit(main(os.path.realpath(given[0]), given[1], "--write" in sys.argv))

@@ -3,7 +3,7 @@
 
     docs/pictures/make.py [FOLDER]    writes bytes.svg, crates.svg, rescue.svg and speed.svg there, or beside this file
 
-Their colours are readable on a light and on a dark page. Graphviz's dot draws crates.svg. checks/pictures.sh sees that they are up to
+Their colours are readable on a light and on a dark page. Graphviz's dot draws crates.svg. `bin/test shown` sees that they are up to
 date, and that nothing in them runs over an edge.
 """
 

@@ -1,10 +1,5 @@
-#!/usr/bin/env python3
-"""answers.py PROGRAM: runs the program bsonraw on the rows of answers.txt, on documents of many levels and long keys, on damaged documents
-beside the slow reader of python/tests/plain.py, and with reads and writes that fail or come in pieces. It prints each run that goes
-wrong. First it sees that a wrong result is found.
-
-answers.py --rows COMMAND FOLDER: writes the rows of a command into a folder: NUMBER.text, and NUMBER.wanted, whose last line is the status.
-"""
+"""The program bsonraw on the rows of answers.txt, on documents of many levels and long keys, on damaged documents beside the slow reader of
+python/tests/plain.py, and with reads and writes that fail or come in pieces."""
 
 import fcntl
 import os
@@ -20,11 +15,12 @@ import time
 from concurrent.futures import ThreadPoolExecutor
 from functools import partial
 from itertools import islice
-from pathlib import Path
 from typing import Callable, Iterator, List, NamedTuple, Tuple
 
-CHECKS = Path(__file__).resolve().parent
-sys.path.insert(0, str(CHECKS.parent / "python" / "tests"))
+from checks.checklist import ROOT
+from checks.programs import BSONRAW, Case
+
+sys.path.insert(0, str(ROOT / "python" / "tests"))
 
 import plain  # noqa: E402
 from made import cut_off, flipped, framed  # noqa: E402
@@ -36,67 +32,67 @@ USAGE = b"usage: bsonraw list|canon|check\n"
 PAGE = 4096
 
 Result = Tuple[int, bytes]
-Way = Callable[[str, str, bytes], Result]
+Way = Callable[[str, bytes], Result]
 """How a program is run with a command on a text."""
 
 
-def at_once(program: str, command: str, text: bytes) -> Result:
+def at_once(command: str, text: bytes) -> Result:
     """What is written to standard error counts as output, so that there is none."""
-    done = subprocess.run([program, command], input=text, stdout=subprocess.PIPE, stderr=subprocess.STDOUT)
+    done = subprocess.run([BSONRAW, command], input=text, stdout=subprocess.PIPE, stderr=subprocess.STDOUT)
     return done.returncode, done.stdout
 
 
-def read_to_failure(program: str, command: str, text: bytes) -> Result:
+def read_to_failure(command: str, text: bytes) -> Result:
     """Standard input gives the text, and then a read fails: its other end was closed with a byte that nothing had read."""
     other, stdin = socket.socketpair()
     with stdin:
         stdin.send(b"x")
         other.sendall(text)
         other.close()
-        done = subprocess.run([program, command], stdin=stdin, stdout=subprocess.PIPE, stderr=subprocess.STDOUT)
+        done = subprocess.run([BSONRAW, command], stdin=stdin, stdout=subprocess.PIPE, stderr=subprocess.STDOUT)
     return done.returncode, done.stdout
 
 
-def read_nothing(program: str, command: str, text: bytes) -> Result:
+def read_nothing(command: str, text: bytes) -> Result:
     """Each read of standard input fails, as it is a folder."""
     stdin = os.open("/", os.O_RDONLY)
-    done = subprocess.run([program, command], stdin=stdin, stdout=subprocess.PIPE, stderr=subprocess.STDOUT)
+    done = subprocess.run([BSONRAW, command], stdin=stdin, stdout=subprocess.PIPE, stderr=subprocess.STDOUT)
     os.close(stdin)
     return done.returncode, done.stdout
 
 
-def read_by_bytes(program: str, command: str, text: bytes) -> Result:
+def read_by_bytes(command: str, text: bytes) -> Result:
     """Each read of standard input gives a byte."""
     other, stdin = socket.socketpair(socket.AF_UNIX, socket.SOCK_SEQPACKET)
     with stdin:
         for byte in text:
             other.send(bytes([byte]))
         other.close()
-        done = subprocess.run([program, command], stdin=stdin, stdout=subprocess.PIPE, stderr=subprocess.STDOUT)
+        done = subprocess.run([BSONRAW, command], stdin=stdin, stdout=subprocess.PIPE, stderr=subprocess.STDOUT)
     return done.returncode, done.stdout
 
 
-def write_to_failure(program: str, command: str, text: bytes, room: int) -> Result:
+def write_to_failure(command: str, text: bytes, room: int) -> Result:
     """Standard output takes so many bytes, and then a write fails; of an unknown command nothing may be read before."""
     with tempfile.TemporaryFile() as stdin, tempfile.TemporaryFile() as stdout:
         stdin.write(text)
         stdin.seek(0)
         limits = partial(resource.setrlimit, resource.RLIMIT_FSIZE, (room, room))
-        done = subprocess.run([program, command], stdin=stdin, stdout=stdout, preexec_fn=limits, restore_signals=False)
+        done = subprocess.run([BSONRAW, command], stdin=stdin, stdout=stdout, preexec_fn=limits, restore_signals=False)
         if command not in COMMANDS and os.lseek(stdin.fileno(), 0, os.SEEK_CUR) != 0:
             return -1, b"standard input was read"
         stdout.seek(0)
         return done.returncode, stdout.read()
 
 
-def write_by_pages(program: str, command: str, text: bytes) -> Result:
+def write_by_pages(command: str, text: bytes) -> Result:
     """Standard output is a pipe with room for a page, and a stop cuts each write short that waits for more."""
     out, stdout = os.pipe()
     fcntl.fcntl(stdout, 1031, PAGE)  # F_SETPIPE_SZ
     with tempfile.TemporaryFile() as stdin:
         stdin.write(text)
         stdin.seek(0)
-        process = subprocess.Popen([program, command], stdin=stdin, stdout=stdout)
+        process = subprocess.Popen([BSONRAW, command], stdin=stdin, stdout=stdout)
     os.close(stdout)
     pieces = []
     while process.poll() is None and waits_for_room(out):
@@ -128,9 +124,9 @@ class Row(NamedTuple):
     output: bytes
     way: Way = at_once
 
-    def difference(self, program: str) -> str:
+    def difference(self) -> str:
         """What goes wrong; empty where nothing does."""
-        found = self.way(program, self.command, self.text)
+        found = self.way(self.command, self.text)
         if found == (self.status, self.output):
             return ""
         way = self.way.func if isinstance(self.way, partial) else self.way
@@ -221,41 +217,19 @@ def rows_of_streams() -> Iterator[Row]:
     yield Row("list", nulls.hex().encode(), 0, b"0a - 0\n" * 2000 + b"end\n", write_by_pages)
 
 
-def wrong_rows(rows: List[Row]) -> Iterator[Row]:
-    """Of one row of each way another status, and other outputs."""
-    for row in {row.way.func if isinstance(row.way, partial) else row.way: row for row in rows}.values():
-        yield row._replace(status=row.status + 1)
-        yield row._replace(output=row.output + b"\n")
-        yield row._replace(output=row.output[1:] + b"x")
+def table() -> List[Row]:
+    """The rows of answers.txt."""
+    return list(rows_of((ROOT / "checks" / "answers.txt").read_text()))
 
 
-def write_rows(rows: List[Row], folder: Path) -> None:
-    for number, row in enumerate(rows):
-        (folder / f"{number}.text").write_bytes(row.text)
-        (folder / f"{number}.wanted").write_bytes(row.output + lines(f"status {row.status}"))
+class Answers(Case):
+    programs = (BSONRAW,)
 
+    def test_rows(self) -> None:
+        rows = table()
+        with ThreadPoolExecutor(os.cpu_count()) as pool:
+            wrong = [it for it in pool.map(Row.difference, dict.fromkeys([*rows, *made_rows(), *damaged_rows(rows)])) if it]
+        self.none_of(wrong[:50])
 
-def main(words: List[str]) -> int:
-    table = list(rows_of((CHECKS / "answers.txt").read_text()))
-    if words[0] == "--rows":
-        write_rows([row for row in table if row.command == words[1]], Path(words[2]))
-        return 0
-    program = os.path.realpath(words[0])
-    rows = list(dict.fromkeys([*table, *made_rows(), *damaged_rows(table)]))
-    streams = list(rows_of_streams())
-    for row in wrong_rows(rows[:1] + streams):
-        if not row.difference(program):
-            print(f"answers: it isn't found that this is wrong: {row}")
-            return 1
-    with ThreadPoolExecutor(os.cpu_count()) as pool:
-        differences = list(pool.map(lambda row: row.difference(program), rows))
-    differences += [row.difference(program) for row in streams]
-    wrong = [difference for difference in differences if difference]
-    for difference in wrong[:50]:
-        print(f"answers: {difference}")
-    print(f"answers: {len(differences)} runs, of which {len(wrong)} go wrong")
-    return int(bool(wrong))
-
-
-if __name__ == "__main__":
-    sys.exit(main(sys.argv[1:]))
+    def test_streams(self) -> None:
+        self.none_of([it for it in map(Row.difference, rows_of_streams()) if it][:50])
