@@ -9,6 +9,7 @@ bytes. A line without blanks before it is the name of what follows; below it are
       [STATUS]            the status, if it isn't 0
 """
 
+import codecs
 import os
 import re
 import subprocess
@@ -62,7 +63,7 @@ def is_as(line: str, wanted: str) -> bool:
     if wanted.endswith(" (re)"):
         return re.fullmatch(wanted[:-5], line) is not None
     if wanted.endswith(" (esc)"):
-        return line == wanted[:-6].encode("latin-1", "backslashreplace").decode("unicode_escape").encode("latin-1", "surrogateescape").decode(errors="surrogateescape")
+        return line.encode(errors="surrogateescape") == codecs.escape_decode(wanted[:-6].encode())[0]
     return line == wanted
 
 
