@@ -1,13 +1,13 @@
 -- First faults and first barriers. Bytes have at most one, and none if they are read as a tree. To a depth greater than the length nothing is
 -- too deep.
-use Rattle.std.proofs.Common.{◌≡◌, inl, inr, ◌⊎◌, ◌≤◌, ◌+◌, ◌++◌, ◌∷◌, [], ℕ, zero, suc, List, Option, None, Some, length, arith, refl, sym}
+use Rattle.std.proofs.Common.{◌≡◌, inl, inr, ◌≤◌, ◌+◌, ◌++◌, ◌∷◌, [], ℕ, zero, suc, List, Option, None, Some, length, arith, refl}
 use Rattle.raw_tree.proofs.Common.{Barrier, FailsAt, FirstFault, FirstFaultOfFrame, FirstFaultOfValue, FirstFaultWithin, Frame, Holds, HoldsAs, IsFaultWith, IsFrame, KeyedFault, Means, RawValue, ReadsAs, ReadsUpTo, Sort}
 use Rattle.raw_tree.proofs.Common.{StandsFor, Tree, as_document, barriers, fault_of, too_deep, too_many_bytes, value}
 use Rattle.raw_tree.proofs.walk.Common.{IsFirst, IsOffsetOf, Step}
 use Rattle.raw_view.proofs.Face.{no_frame_at_final, no_frame_at_stop, no_stop_at_final, one_frame}
 use Rattle.raw_tree.proofs.reader.Loops.{reads_up_to, stand_each_on}
 use Rattle.raw_tree.proofs.reader.OneTree.{AreRead, one_fault_of, one_nested, one_value_of, read_among, some_fault, stop_same, value_nor_fault}
-use Rattle.raw_tree.proofs.walk.First.{IsFront, IsPassed, IsUnique, apart, deeper, held_some, one_first, some_offset}
+use Rattle.raw_tree.proofs.walk.First.{IsFront, IsPassed, IsUnique, apart, deeper, held_some, one_first}
 use Rattle.raw_tree.proofs.walk.First as first
 use Rattle.raw_tree.proofs.walk.OneEnd.{IsBlocked}
 

@@ -1,6 +1,6 @@
 -- The number of frames in bytes. All bytes with an envelope have exactly one, as they have exactly one depth, and at most one up to the
 -- first fault.
-use Rattle.std.proofs.Common.{◌≡◌, inl, inr, ◌≤◌, ◌+◌, ◌*◌, ◌++◌, ◌∷◌, [], ℕ, max, zero, suc, List, Some, length, drop, arith, refl, sym, ◌∙◌, length-drop}
+use Rattle.std.proofs.Common.{◌≡◌, ◌≤◌, ◌+◌, ◌*◌, ◌++◌, ◌∷◌, [], ℕ, max, zero, suc, List, length, drop, arith, refl, sym, ◌∙◌, length-drop}
 use Rattle.raw_tree.proofs.Common.{AreBytes, IsEnvelope, Frame, IsFrame, IsWalk, End, Meaning, Means, AllHaveOneFrameCount, HasInside, CountsFrames, HasFrameCountUpTo}
 use Rattle.raw_tree.proofs.Common.{HasFrameCount, CountsFront, HasFramesUntilUpTo, HasFramesUntilFault, IsGreatestDepth, HasDepthUpTo, ReadsAs}
 use Rattle.raw_tree.specs.reader.FrameCount.{over, at_fault}
@@ -8,7 +8,7 @@ use Rattle.bson_model.proofs.Face.{AreBytes-drop}
 use Rattle.raw_view.proofs.Face.{IsFrame-shorter, AreBytes-rest, document_has_walk, has_meaning, one_frame, one_walk, one_meaning}
 use Rattle.raw_tree.proofs.reader.Loops.{nested_envelope, nested_beside, nested_shorter}
 use Rattle.raw_tree.proofs.reader.Faults.{front_blocks}
-use Rattle.raw_tree.proofs.reader.OneTree.{AreRead, one_nested, one_value_of, value_nor_fault}
+use Rattle.raw_tree.proofs.reader.OneTree.{AreRead}
 use Rattle.raw_tree.proofs.walk.OneEnd.{IsBlocked, passed_once}
 
 -- counts

@@ -1,5 +1,5 @@
 -- Within limits, bytes are read as one tree or have one first barrier, and never both. To a depth that no document has, all bytes are read.
-use Rattle.std.proofs.Common.{◌≡◌, ◌∙◌, ◌⊎◌, inl, inr, ◌<◌, ◌≤◌, [], ℕ, List, Result, Ok, Err, IfOk, IfErr, length, arith, refl, sym}
+use Rattle.std.proofs.Common.{◌⊎◌, inl, inr, ◌<◌, ◌≤◌, [], ℕ, List, Result, Ok, Err, IfOk, IfErr, length, arith, refl}
 use Rattle.raw_tree.proofs.Common.{cases_lt, Tree, IsEnvelope, Barrier, too_many_bytes, ReadsWithin, FirstBarrier, AllAreAnsweredOneWay, as_document, ReadsUpTo, Limits, bytes_of, max_length, Error}
 use Rattle.raw_tree.proofs.Common.{TellsFrames, TellsFramesWithin, AreRead, TellsReading, fault_of, too_deep, FirstFaultWithin, TellsFirstFault, Contents, Nested}
 use Rattle.raw_tree.proofs.reader.Decides.{decided_within}

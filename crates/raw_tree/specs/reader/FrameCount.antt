@@ -5,7 +5,7 @@ use Rattle.bson_model.specs.Tree.{Tree}
 use Rattle.raw_view.specs.Frame.Envelope.{IsEnvelope}
 use Rattle.raw_view.specs.Errors.{IsOutOfMemory}
 use Rattle.raw_view.specs.Frame.{Frame, HasNoFrame, IsFrame, End, IsWalk, LeadsTo}
-use Rattle.raw_view.specs.Meaning.{RawValue, KeyedFault, Meaning, Means, value, faulty}
+use Rattle.raw_view.specs.Meaning.{KeyedFault, Meaning, Means, value, faulty}
 use Rattle.raw_view.specs.Meaning as raw
 use Rattle.raw_view.specs.declared.error.Error.{Error}
 use Rattle.raw_tree.specs.reader.Reading.{StandForEach, ReadsAs, FirstFaultOfFrame}
