@@ -9,11 +9,14 @@ from enum import Enum
 from functools import lru_cache
 from pathlib import PurePath
 from typing import Any, Callable, Dict, List, Literal, Mapping, Sequence, Tuple, TypeVar, Union, get_args, get_origin, get_type_hints
+from uuid import UUID
 
-from ._values import Decimal128
+from ._values import Binary, Decimal128
 
 Keys = Tuple[str, ...]
 Maker = Callable[[Any, Keys], Any]
+Variables = Mapping[Any, Any]
+"""The types that are in the place of a generic class's variables."""
 
 
 class MismatchError(ValueError):
@@ -75,6 +78,13 @@ def _decimal(value: Any, keys: Keys) -> Decimal:
 
 def _date(value: Any, keys: Keys) -> date:
     return value.date() if isinstance(value, datetime) else _refuse(value, keys, date)  # type: ignore[no-any-return]
+
+
+def _uuid(value: Any, keys: Keys) -> UUID:
+    """A UUID, or the binary that one is stored as; of older subtypes nothing says in which order the bytes are."""
+    if isinstance(value, Binary) and value.subtype == 4 and len(value) == 16:
+        return UUID(bytes=bytes(value))
+    return value if isinstance(value, UUID) else _refuse(value, keys, UUID)  # type: ignore[no-any-return]
 
 
 def _called(kind: Any) -> Maker:
@@ -182,26 +192,39 @@ def _fields(kind: Any, hints: Mapping[str, Any], needed: Sequence[str], names: M
     return make
 
 
-def _dataclass(kind: Any) -> Maker:
+def _filled(hint: Any, variables: Variables) -> Any:
+    """A type with types in the place of its variables."""
+    if isinstance(hint, TypeVar):
+        return variables.get(hint, hint)
+    inside = getattr(hint, "__parameters__", ()) if get_origin(hint) is not None else ()
+    return hint[tuple(variables.get(one, one) for one in inside)] if variables and inside else hint
+
+
+def _hints(kind: Any, variables: Variables) -> Dict[str, Any]:
+    return {name: _filled(hint, variables) for name, hint in get_type_hints(kind).items()}
+
+
+def _dataclass(kind: Any, variables: Variables) -> Maker:
     fields = [field for field in dataclasses.fields(kind) if field.init]
     needed = [field.name for field in fields if field.default is dataclasses.MISSING and field.default_factory is dataclasses.MISSING]
-    return _fields(kind, get_type_hints(kind), needed, {field.name: field.name for field in fields}, lambda found: kind(**found))
+    return _fields(kind, _hints(kind, variables), needed, {field.name: field.name for field in fields}, lambda found: kind(**found))
 
 
-def _attrs(kind: Any) -> Maker:
+def _attrs(kind: Any, variables: Variables) -> Maker:
     import attr
 
     fields = [field for field in attr.fields(kind) if field.init]
-    hints = {**{field.name: Any if field.type is None else field.type for field in fields}, **get_type_hints(kind)}
+    hints = {**{field.name: Any if field.type is None else field.type for field in fields}, **_hints(kind, variables)}
     names = {field.name: field.name for field in fields}
     given = {field.name: getattr(field, "alias", None) or field.name.lstrip("_") for field in fields}
     needed = [field.name for field in fields if field.default is attr.NOTHING]
     return _fields(kind, hints, needed, names, lambda found: kind(**{given[name]: value for name, value in found.items()}))
 
 
-def _typed_dict(kind: Any) -> Maker:
-    hints = get_type_hints(kind)
-    return _fields(kind, hints, sorted(kind.__required_keys__) if hasattr(kind, "__required_keys__") else list(hints), {key: key for key in hints}, dict)
+def _typed_dict(kind: Any, variables: Variables) -> Maker:
+    hints = _hints(kind, variables)
+    needed = sorted(kind.__required_keys__) if hasattr(kind, "__required_keys__") else list(hints) if kind.__total__ else []
+    return _fields(kind, hints, needed, {key: key for key in hints}, dict)
 
 
 def _pydantic(kind: Any) -> Maker:
@@ -220,8 +243,29 @@ def _pydantic(kind: Any) -> Maker:
     return make
 
 
-_KNOWN: Dict[Any, Maker] = {Any: _as_it_is, object: _as_it_is, float: _float, Decimal: _decimal, int: _plain_int, date: _date}
+_KNOWN: Dict[Any, Maker] = {Any: _as_it_is, object: _as_it_is, float: _float, Decimal: _decimal, int: _plain_int, date: _date, UUID: _uuid}
 _ARRAYS: Dict[Any, Callable[[List[Any]], Any]] = {list: list, set: set, frozenset: frozenset}
+
+
+_CLASSES = ("__dataclass_fields__", "__attrs_attrs__", "__total__")
+"""What a class has whose fields are of types."""
+
+
+def _class_maker(kind: Any, variables: Variables) -> Maker:
+    """Of a class with fields, which is made when it is first used: it may have a field of its own class."""
+    made: List[Maker] = []
+
+    def first(value: Any, keys: Keys) -> Any:
+        if not made:
+            make = _dataclass if dataclasses.is_dataclass(kind) else _attrs if hasattr(kind, "__attrs_attrs__") else _typed_dict
+            made.append(make(kind, variables))
+        return made[0](value, keys)
+
+    return first
+
+
+def _has_fields(kind: Any) -> bool:
+    return isinstance(kind, type) and any(hasattr(kind, mark) for mark in _CLASSES)
 
 
 def _plain_maker(kind: Any) -> Maker:
@@ -234,14 +278,10 @@ def _plain_maker(kind: Any) -> Maker:
         if callable(getattr(kind, "__supertype__", None)):  # NewType
             return _maker(kind.__supertype__)
         raise TypeError(f"type is {kind!r}, which isn't known")
-    if dataclasses.is_dataclass(kind):
-        return _dataclass(kind)
-    if hasattr(kind, "__attrs_attrs__"):
-        return _attrs(kind)
+    if _has_fields(kind):
+        return _class_maker(kind, {})
     if hasattr(kind, "model_validate") or (hasattr(kind, "parse_obj") and hasattr(kind, "__fields__")):
         return _pydantic(kind)
-    if issubclass(kind, dict) and hasattr(kind, "__total__"):
-        return _typed_dict(kind)
     if issubclass(kind, (Enum, PurePath)):
         return _called(kind)
     if kind in _ARRAYS:
@@ -266,7 +306,7 @@ def _maker(kind: Any) -> Maker:
         return _KNOWN[kind]
     origin, parts = get_origin(kind), get_args(kind)
     if origin is None:
-        return _later(_plain_maker, kind)
+        return _plain_maker(kind)
     if origin in _UNIONS:
         return _either(parts)
     if origin is Literal:
@@ -280,23 +320,11 @@ def _maker(kind: Any) -> Maker:
         return _many(array, parts[0])
     if isinstance(origin, type) and issubclass(dict, origin):
         return _mapping(parts[1])
+    if _has_fields(origin):
+        return _class_maker(origin, dict(zip(getattr(origin, "__parameters__", ()), parts)))
     if isinstance(origin, type):
-        return _later(_plain_maker, origin)
+        return _plain_maker(origin)
     raise TypeError(f"type is {kind!r}, which isn't known")
-
-
-def _later(make: Callable[[Any], Maker], kind: Any) -> Maker:
-    """The maker of a class, which may have a field of its own class: it is asked for when it is first used."""
-    if not isinstance(kind, type) or not (dataclasses.is_dataclass(kind) or hasattr(kind, "__attrs_attrs__") or hasattr(kind, "__total__")):
-        return make(kind)
-    made: List[Maker] = []
-
-    def first(value: Any, keys: Keys) -> Any:
-        if not made:
-            made.append(make(kind))
-        return made[0](value, keys)
-
-    return first
 
 
 def into_of(kind: Any) -> Callable[[Any], Any]:

@@ -5,6 +5,7 @@
 
 #define NONE UINT32_MAX
 #define FEW 8 /* more steps of one level are looked up by a dict */
+#define FIRST 4 /* changes that need no memory of their own */
 #define MOST_STEPS 500
 #define ENTRIES 32
 
@@ -27,24 +28,32 @@ struct editing {
     struct state *state;
     const struct bytes *bytes;
     struct out out;
+    PyObject *owners; /* a list of what keeps the steps of paths that are no texts; or NULL */
     struct change *changes;
     uint32_t count, room;
+    struct change first[FIRST];
 };
 
 /* ---- the changes ---- */
 
+/* Makes room for twice as many changes: 0, or -1 with an error set. */
+static int grow_changes(struct editing *all) {
+    int is_first = all->changes == all->first;
+    size_t size = 2 * all->room * sizeof *all->changes;
+    struct change *changes = all->room > UINT32_MAX / 8 ? NULL : PyMem_Realloc(is_first ? NULL : all->changes, size);
+    if (changes == NULL) {
+        PyErr_NoMemory();
+        return -1;
+    }
+    if (is_first) memcpy(changes, all->first, sizeof all->first);
+    all->changes = changes;
+    all->room *= 2;
+    return 0;
+}
+
 static uint32_t new_change(struct editing *all, const uint8_t *key, size_t key_len) {
     struct change *change;
-    if (all->count == all->room) {
-        uint32_t room = 2 * all->room + 16;
-        change = room > UINT32_MAX / 4 ? NULL : PyMem_Realloc(all->changes, room * sizeof *change);
-        if (change == NULL) {
-            PyErr_NoMemory();
-            return NONE;
-        }
-        all->changes = change;
-        all->room = room;
-    }
+    if (all->count == all->room && grow_changes(all) < 0) return NONE;
     change = &all->changes[all->count];
     memset(change, 0, sizeof *change);
     change->key = key;
@@ -139,15 +148,30 @@ static uint32_t go_along_list(struct editing *all, PyObject *path, PyObject *ste
     return level;
 }
 
-/* Notes what is to be at a path. The steps of it, which are as long as it is used, go into a list. */
-static int note_change(struct editing *all, PyObject *path, PyObject *value, PyObject *default_, PyObject *owners) {
-    PyObject *steps = PyUnicode_CheckExact(path) ? NULL : PyObject_CallFunctionObjArgs(all->state->classes.steps, path, NULL);
-    uint32_t number = NONE;
+/* The steps of a path that is no text, which are kept as long as they are used; or NULL with an error set. */
+static PyObject *kept_steps(struct editing *all, PyObject *path) {
+    PyObject *steps = PyObject_CallFunctionObjArgs(all->state->classes.steps, path, NULL);
+    if (all->owners == NULL) all->owners = PyList_New(0);
+    if (steps == NULL || all->owners == NULL || !PyList_Check(steps) || PyList_Append(all->owners, steps) < 0) {
+        Py_XDECREF(steps);
+        return NULL;
+    }
+    Py_DECREF(steps);
+    return steps;
+}
+
+/* The change at the end of a path; or NONE with an error set. */
+static uint32_t go_along(struct editing *all, PyObject *path) {
+    PyObject *steps;
+    if (PyUnicode_CheckExact(path)) return go_along_text(all, path);
+    steps = kept_steps(all, path);
+    return steps == NULL ? NONE : go_along_list(all, path, steps);
+}
+
+/* Notes what is to be at a path. */
+static int note_change(struct editing *all, PyObject *path, PyObject *value, PyObject *default_) {
+    uint32_t number = go_along(all, path);
     size_t at = all->out.len;
-    if (steps != NULL && (!PyList_Check(steps) || PyList_Append(owners, steps) < 0)) Py_CLEAR(steps);
-    if (PyUnicode_CheckExact(path)) number = go_along_text(all, path);
-    else if (steps != NULL) number = go_along_list(all, path, steps);
-    Py_XDECREF(steps);
     if (number == NONE) return -1;
     if (value == all->state->classes.remove) {
         all->changes[number].kind = REMOVED;
@@ -381,52 +405,64 @@ static int put_level(struct editing *all, uint32_t level, uint32_t at, uint32_t 
 
 /* ---- the call ---- */
 
-/* Notes all changes: 0, or -1 with an error set. */
-static int note_all(struct editing *all, PyObject *items, PyObject *default_, PyObject *owners) {
-    Py_ssize_t number, count = PyList_Size(items);
-    if (new_change(all, NULL, 0) == NONE) return -1;
+/* Notes the changes of a list of pairs: 0, or -1 with an error set. */
+static int note_items(struct editing *all, PyObject *items, PyObject *default_) {
+    Py_ssize_t number, count = items == NULL ? -1 : PyList_Size(items);
     for (number = 0; number < count; number++) {
         PyObject *pair = PyList_GetItem(items, number);
         if (!PyTuple_Check(pair) || PyTuple_Size(pair) != 2) {
             PyErr_SetString(PyExc_TypeError, "changes are a mapping of paths and values");
             return -1;
         }
-        if (note_change(all, PyTuple_GetItem(pair, 0), PyTuple_GetItem(pair, 1), default_, owners) < 0) return -1;
+        if (note_change(all, PyTuple_GetItem(pair, 0), PyTuple_GetItem(pair, 1), default_) < 0) return -1;
     }
     return count < 0 ? -1 : 0;
 }
 
-static PyObject *edited(struct state *state, const struct bytes *bytes, PyObject *items, PyObject *default_) {
-    struct editing all = {state, bytes, {0}, NULL, 0, 0};
-    PyObject *owners = PyList_New(0), *made = NULL;
+/* Notes all changes; *kept is what keeps their paths: 0, or -1 with an error set. */
+static int note_all(struct editing *all, PyObject *changes, PyObject *default_, PyObject **kept) {
+    PyObject *path, *value;
+    Py_ssize_t at = 0;
+    int status;
+    if (new_change(all, NULL, 0) == NONE) return -1;
+    if (!PyDict_CheckExact(changes) || PyDict_Size(changes) != 1 || !PyDict_Next(changes, &at, &path, &value))
+        return note_items(all, *kept = PyMapping_Items(changes), default_);
+    Py_INCREF(*kept = path);
+    Py_INCREF(value);
+    status = note_change(all, path, value, default_);
+    Py_DECREF(value);
+    return status;
+}
+
+static PyObject *edited(struct state *state, const struct bytes *bytes, PyObject *changes, PyObject *default_) {
+    struct editing all;
+    PyObject *kept = NULL, *made = NULL;
     struct bsonraw_iter iter;
     int32_t status = bsonraw_iter_init(&iter, bytes->at, bytes->len);
+    all.state = state, all.bytes = bytes, all.owners = NULL;
+    all.changes = all.first, all.count = 0, all.room = FIRST;
     out_open(state, &all.out, SIZE_MAX);
-    if (owners != NULL && note_all(&all, items, default_, owners) == 0) {
+    if (note_all(&all, changes, default_, &kept) == 0) {
         size_t from = all.out.len;
         if (status != BSONRAW_OK) set_cursor_error(state, bytes, status, &iter);
         else if (put_level(&all, 0, 0, (uint32_t)bytes->len, 0) == 0)
             made = PyBytes_FromStringAndSize((const char *)all.out.at + from, (Py_ssize_t)(all.out.len - from));
     }
     while (all.count > 0) Py_XDECREF(all.changes[--all.count].numbers);
-    PyMem_Free(all.changes);
+    if (all.changes != all.first) PyMem_Free(all.changes);
     out_close(&all.out);
-    Py_XDECREF(owners);
+    Py_XDECREF(all.owners);
+    Py_XDECREF(kept);
     return made;
 }
 
 CALL(py_edit) {
     struct options options;
     struct bytes bytes;
-    PyObject *data[MOST_PLACES], *items, *made = NULL;
+    PyObject *data[MOST_PLACES], *made;
     options_begin(&options, state_of(module));
-    if (options_given(&OF_EDIT, &options, data, args, count, names) < 0) return NULL;
-    items = PyMapping_Items(data[1]);
-    if (items == NULL) return NULL;
-    if (bytes_open(options.state, &bytes, data[0]) == 0) {
-        made = edited(options.state, &bytes, items, options.other);
-        bytes_close(&bytes);
-    }
-    Py_DECREF(items);
+    if (options_given(&OF_EDIT, &options, data, args, count, names) < 0 || bytes_open(options.state, &bytes, data[0]) < 0) return NULL;
+    made = edited(options.state, &bytes, data[1], options.other);
+    bytes_close(&bytes);
     return made;
 }

@@ -4,8 +4,11 @@ import copy
 import datetime
 import decimal
 import io
+import json
+import math
 import pickle
 import re
+import types
 import unittest
 import uuid
 from collections import OrderedDict
@@ -97,6 +100,19 @@ class Codecs(unittest.TestCase):
             if bson is not None:
                 self.assertEqual(bson.encode({"u": value, "l": [value]}, codec_options=TheirOptions(uuid_representation=representation)), data)
 
+    def test_uuids_inside(self) -> None:
+        value = uuid.UUID("00112233-4455-6677-8899-aabbccddeeff")
+        options = CodecOptions(uuid_representation=UuidRepresentation.JAVA_LEGACY)
+        written = compat.Binary.from_uuid(value, UuidRepresentation.JAVA_LEGACY)
+        data = compat.encode({"r": compat.DBRef("c", value, x=[value]), "f": compat.Code("f", {"u": value})}, codec_options=options)
+        self.assertEqual(data, compat.encode({"r": {"$ref": "c", "$id": written, "x": [written]}, "f": compat.Code("f", {"u": written})}))
+        self.assertEqual(compat.encode(bsonraw.Pairs([("u", value), ("u", 1)]), codec_options=options), compat.encode(bsonraw.Pairs([("u", written), ("u", 1)])))
+        raw = RawBSONDocument(compat.encode({"u": value}))
+        self.assertEqual(compat.encode({"x": raw}, codec_options=options), compat.encode({"x": raw}))
+        if bson is not None:
+            theirs = {"r": bson.DBRef("c", value, x=[value]), "f": bson.Code("f", {"u": value})}
+            self.assertEqual(bson.encode(theirs, codec_options=TheirOptions(uuid_representation=UuidRepresentation.JAVA_LEGACY)), data)
+
     def test_classes_of_others(self) -> None:
         class Money:
             def __init__(self, amount: str) -> None:
@@ -145,6 +161,16 @@ class Codecs(unittest.TestCase):
         self.assertEqual(str(rounded), "1.234567890123456789012345678901234")  # ties to even
         self.assertEqual(str(compat.Decimal128(create_decimal128_context().create_decimal(".13.1"))), "NaN")
 
+    def test_first_key(self) -> None:
+        class Backwards(dict):  # type: ignore[type-arg]
+            pass
+
+        wanted = compat.encode({"_id": 1, "a": 2})
+        for document in ({"a": 2, "_id": 1}, SON([("a", 2), ("_id", 1)]), types.MappingProxyType({"a": 2, "_id": 1}), Backwards(a=2, _id=1)):
+            self.assertEqual(compat.encode(document), wanted)
+            if bson is not None and isinstance(document, dict):
+                self.assertEqual(bson.encode(document), wanted)
+
     def test_errors(self) -> None:
         for call, error in (
             (lambda: compat.decode(b"\5\0\0\0"), InvalidBSON), (lambda: compat.encode({"a": object()}), InvalidDocument), (lambda: compat.ObjectId("zz"), InvalidId),
@@ -181,6 +207,21 @@ class Codecs(unittest.TestCase):
 
 
 class Json(unittest.TestCase):
+    def test_options_of_modes(self) -> None:
+        dates = json_util.DatetimeRepresentation
+        for mode, long, when, uuids in ((json_util.JSONMode.RELAXED, False, dates.ISO8601, True), (json_util.JSONMode.CANONICAL, True, dates.NUMBERLONG, True)):
+            options = json_util.JSONOptions(strict_number_long=long, datetime_representation=when, strict_uuid=uuids, json_mode=mode)
+            self.assertEqual(options, json_util.JSONOptions(json_mode=mode))
+            for wrong in ({"strict_number_long": not long}, {"datetime_representation": dates.LEGACY}, {"strict_uuid": False}):
+                with self.assertRaises(ValueError):
+                    json_util.JSONOptions(json_mode=mode, **wrong)  # type: ignore[arg-type]
+                with self.assertRaises(ValueError):
+                    options.with_options(**wrong)
+        self.assertRaises(ValueError, json_util.JSONOptions, datetime_representation=7)
+        legacy = json_util.JSONOptions(True, dates.ISO8601, True, json_util.JSONMode.LEGACY)
+        text = json_util.dumps([compat.Int64(1), WHEN, uuid.UUID(int=1)], json_options=legacy)
+        self.assertEqual(text, '[{"$numberLong": "1"}, {"$date": "2020-01-02T03:04:05.678Z"}, {"$binary": "AAAAAAAAAAAAAAAAAAAAAQ==", "$type": "04"}]')
+
     @unittest.skipIf(their_json is None, "MongoDB's json_util isn't there")
     def test_texts_are_mongodbs(self) -> None:
         for value in VALUES + [uuid.UUID(int=5), float("nan"), float("-inf")]:
@@ -197,6 +238,13 @@ class Json(unittest.TestCase):
             for options in (json_util.CANONICAL_JSON_OPTIONS, json_util.LEGACY_JSON_OPTIONS, json_util.RELAXED_JSON_OPTIONS):
                 reading = options.with_options(tz_aware=isinstance(value, datetime.datetime) and value.tzinfo is not None)
                 self.assertEqual(json_util.loads(json_util.dumps(value, json_options=options), json_options=reading), value)
+        for number, text in ((1e300, "1e+300"), (5e-324, "5e-324"), (-0.0, "-0.0"), (1e22, "1e+22"), (float("inf"), "Infinity"), (float("-inf"), "-Infinity"), (float("nan"), "NaN")):
+            wanted = '{"$numberDouble": "%s"}' % text
+            self.assertEqual(json_util.dumps(number, json_options=json_util.CANONICAL_JSON_OPTIONS), wanted)
+            self.assertEqual(json_util.dumps(number), repr(number) if math.isfinite(number) else wanted)
+            self.assertEqual(json_util.dumps(number, json_options=json_util.LEGACY_JSON_OPTIONS), json.dumps(number))
+            if their_json is not None:
+                self.assertEqual(their_json.dumps(number, json_options=their_json.CANONICAL_JSON_OPTIONS), wanted)
         self.assertEqual(json_util.dumps({"a": [compat.Int64(1)]}, indent=1), '{\n "a": [\n  1\n ]\n}')
 
     def test_forms_of_old(self) -> None:

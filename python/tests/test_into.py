@@ -8,10 +8,11 @@ import pathlib
 import pickle
 import unittest
 from decimal import Decimal
-from typing import Any, Dict, FrozenSet, List, Mapping, NewType, Optional, Sequence, Set, Tuple, TypedDict, Union
+from typing import Any, Dict, FrozenSet, Generic, List, Mapping, NewType, Optional, Sequence, Set, Tuple, TypedDict, TypeVar, Union
+from uuid import UUID
 
 import bsonraw
-from bsonraw import Decimal128, Int64, MismatchError, ObjectId
+from bsonraw import Binary, Decimal128, Int64, MismatchError, ObjectId
 
 try:
     import attr
@@ -39,6 +40,20 @@ class Address:
 class Point(TypedDict):
     x: float
     y: float
+
+
+class Some(TypedDict, total=False):
+    x: float
+
+
+T = TypeVar("T")
+
+
+@dataclasses.dataclass
+class Box(Generic[T]):
+    item: T
+    items: List[T] = dataclasses.field(default_factory=list)
+    inner: "Optional[Box[T]]" = None
 
 
 @dataclasses.dataclass
@@ -121,6 +136,32 @@ class Into(unittest.TestCase):
         data = bsonraw.encode({"id": kinds.id, "at": kinds.at, "data": kinds.data})
         self.assertEqual(bsonraw.decode(data, type=Kinds), kinds)
         self.assertEqual(bsonraw.decode(data, type=Kinds, tz_aware=False).at.tzinfo, None)
+
+    def test_uuids(self) -> None:
+        @dataclasses.dataclass
+        class Holder:
+            id: UUID
+
+        value = UUID("00112233-4455-6677-8899-aabbccddeeff")
+        for uuid in (False, True):
+            self.assertEqual(bsonraw.decode(bsonraw.encode({"id": value}), type=Holder, uuid=uuid), Holder(value))
+        for wrong in (Binary(value.bytes, 3), Binary(value.bytes[1:], 4), value.bytes, str(value)):
+            with self.assertRaises(MismatchError):
+                bsonraw.decode(bsonraw.encode({"id": wrong}), type=Holder)
+
+    def test_generic_classes(self) -> None:
+        data = bsonraw.encode({"item": 1, "items": [2], "inner": {"item": 3, "inner": {"item": 4}}})
+        self.assertEqual(bsonraw.decode(data, type=Box[int]), Box(1, [2], Box(3, [], Box(4))))
+        self.assertEqual(bsonraw.decode(bsonraw.encode({"item": {"city": "a"}}), type=Box[Address]), Box(Address("a")))
+        self.assertEqual(bsonraw.decode(bsonraw.encode({"item": "x"}), type=Box), Box("x"))
+        for changes, keys in (({"item": "x"}, ("item",)), ({"items": [1, "x"]}, ("items", "1")), ({"inner": {"item": "x"}}, ("inner", "item"))):
+            with self.assertRaises(MismatchError) as caught:
+                bsonraw.decode(bsonraw.encode({"item": 1, **changes}), type=Box[int])
+            self.assertEqual(caught.exception.keys, keys)
+
+    def test_a_typed_dict_that_may_lack_keys(self) -> None:
+        self.assertEqual(bsonraw.decode(bsonraw.encode({}), type=Some), {})
+        self.assertEqual(bsonraw.decode(bsonraw.encode({"x": 1, "y": 2}), type=Some), {"x": 1.0})
 
     @unittest.skipIf(attr is None, "attrs isn't there")
     def test_attrs(self) -> None:

@@ -8,9 +8,13 @@ from typing import Any, Callable, Mapping, Optional
 from .. import _native
 from .._edit import RawDocument
 from .._types import BSONError, BsonError
-from .._values import Binary, Pairs
+from .._values import Binary, Code, Pairs
 from ._classes import RawBSONDocument
 from ._options import CodecOptions
+
+
+# The marks of classes, ours and MongoDB's: of a code, of a DBRef, and of documents as bytes.
+_CODE, _REFERENCE, _RAW = 13, 100, 101
 
 
 class InvalidDocument(BSONError):
@@ -41,7 +45,14 @@ def _changed(value: Any, change: Callable[[Any], Any]) -> Any:
     made = change(value)
     if made is not value:
         return _changed(made, change) if type(made) is not type(value) else made
-    if isinstance(value, Mapping) and not hasattr(value, "raw"):
+    mark = getattr(value, "_type_marker", None)
+    if mark == _REFERENCE:
+        return _changed(value.as_doc(), change)
+    if mark == _CODE:
+        return value if value.scope is None else Code(str(value), _changed(value.scope, change))
+    if isinstance(value, Pairs):
+        return Pairs((key, _changed(one, change)) for key, one in value)
+    if isinstance(value, Mapping) and mark != _RAW:
         return {key: _changed(one, change) for key, one in value.items()}
     return [_changed(one, change) for one in value] if isinstance(value, (list, tuple)) else value
 
@@ -66,7 +77,7 @@ def _default(options: CodecOptions) -> Optional[Callable[[Any], Any]]:
 
 def _id_first(document: Any) -> Any:
     """A document whose _id comes first."""
-    if isinstance(document, dict) and "_id" in document and next(iter(document)) != "_id":
+    if isinstance(document, Mapping) and "_id" in document and next(iter(document)) != "_id":
         return {"_id": document["_id"], **document}
     return document
 

@@ -7,6 +7,7 @@ import json
 import re
 import uuid as uuids
 from datetime import datetime, timedelta, timezone, tzinfo
+from math import isfinite
 from typing import Any, Callable, Dict, List, Mapping, NamedTuple, Optional, Tuple, Union
 
 from .. import _native
@@ -49,6 +50,26 @@ class DatetimeRepresentation:
     ISO8601 = 2
 
 
+# What each mode but LEGACY has of strict_number_long, datetime_representation and strict_uuid.
+_OF_MODES = {
+    JSONMode.RELAXED: (False, DatetimeRepresentation.ISO8601, True),
+    JSONMode.CANONICAL: (True, DatetimeRepresentation.NUMBERLONG, True),
+}
+
+
+def _of_mode(mode: int, long: Optional[bool], dates: Optional[int], uuid: Optional[bool]) -> Tuple[Any, ...]:
+    """The three options in a mode. Raises ValueError for one that the mode has otherwise."""
+    if dates not in (None, DatetimeRepresentation.LEGACY, DatetimeRepresentation.NUMBERLONG, DatetimeRepresentation.ISO8601):
+        raise ValueError("JSONOptions.datetime_representation must be one of LEGACY, NUMBERLONG, or ISO8601 from DatetimeRepresentation.")
+    if mode == JSONMode.LEGACY:
+        return bool(long), dates or DatetimeRepresentation.LEGACY, bool(uuid)
+    of_mode, name = _OF_MODES[mode], "RELAXED" if mode == JSONMode.RELAXED else "CANONICAL"
+    for option, given, there in zip(("strict_number_long", "datetime_representation", "strict_uuid"), (long, dates, uuid), of_mode):
+        if given is not None and given != there:
+            raise ValueError(f"{option} is {there!r} with JSONMode.{name}, and can't be {given!r}")
+    return of_mode
+
+
 class _Fields(NamedTuple):
     json_mode: int
     strict_number_long: bool
@@ -79,20 +100,9 @@ class JSONOptions(_Fields):
     ) -> JSONOptions:
         if json_mode not in (0, 1, 2):
             raise ValueError("JSONOptions.json_mode must be one of LEGACY, RELAXED, or CANONICAL from JSONMode.")
-        strict = json_mode == JSONMode.CANONICAL
-        dates = {0: 0, 1: 2, 2: 1}[json_mode] if datetime_representation is None else datetime_representation
+        long, dates, uuid = _of_mode(json_mode, strict_number_long, datetime_representation, strict_uuid)
         CodecOptions(tz_aware=bool(tz_aware), tzinfo=tzinfo, uuid_representation=uuid_representation, **unused)
-        return super().__new__(
-            cls,
-            json_mode,
-            strict if strict_number_long is None else strict_number_long,
-            dates,
-            json_mode != 0 if strict_uuid is None else strict_uuid,
-            document_class or dict,
-            bool(tz_aware),
-            uuid_representation,
-            tzinfo,
-        )
+        return super().__new__(cls, json_mode, long, dates, uuid, document_class or dict, bool(tz_aware), uuid_representation, tzinfo)
 
     def with_options(self, **kwargs: Any) -> JSONOptions:
         """The same with some of them changed."""
@@ -139,6 +149,8 @@ def default(obj: Any, json_options: JSONOptions = DEFAULT_JSON_OPTIONS) -> Any:
         return str(obj) if isinstance(obj, str) else obj
     if isinstance(obj, int) and not isinstance(obj, DatetimeMS):
         return _int(obj, json_options)
+    if isinstance(obj, float):
+        return _double(float(obj), mode)
     if mode == JSONMode.LEGACY or isinstance(obj, (datetime, DatetimeMS, uuids.UUID)):
         return _legacy(obj, json_options)
     style: Any = "canonical" if mode == JSONMode.CANONICAL else "relaxed"
@@ -150,6 +162,13 @@ def _int(value: int, options: JSONOptions) -> Any:
         is_long = isinstance(value, Int64) or not -(1 << 31) <= value < 1 << 31
         return {"$numberLong" if is_long else "$numberInt": str(int(value))}
     return {"$numberLong": str(int(value))} if options.strict_number_long and isinstance(value, Int64) else int(value)
+
+
+def _double(value: float, mode: int) -> Any:
+    if mode == JSONMode.LEGACY or (mode == JSONMode.RELAXED and isfinite(value)):
+        return value
+    text = repr(value) if isfinite(value) else "NaN" if value != value else "Infinity" if value > 0 else "-Infinity"
+    return {"$numberDouble": text}
 
 
 def _iso(value: datetime) -> str:
@@ -202,7 +221,6 @@ def _code(value: Code, options: JSONOptions) -> Any:
 
 
 _LEGACY: Dict[Any, Callable[[Any, JSONOptions], Any]] = {
-    float: lambda value, options: float(value),
     ObjectId: lambda value, options: {"$oid": str(value)},
     Regex: lambda value, options: {"$regex": value.pattern, "$options": value.options},
     Binary: lambda value, options: _of_binary(bytes(value), value.subtype, options),
