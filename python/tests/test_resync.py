@@ -96,9 +96,30 @@ def is_behind_key(data: bytes, place: int) -> bool:
         return False
 
 
+def explained(data: bytes, at: int) -> int:
+    """Where the document ends that begins here, if its elements follow one another up to there, whatever their values are; or where it begins."""
+    size = struct.unpack("<i", data[at : at + 4])[0] if at + 4 <= len(data) else 0
+    try:
+        return at + size * (at + size <= len(data) and len(list(bsonraw.elements(data[at : at + size]))) > 0)
+    except BsonError:
+        return at
+
+
+def is_in_explained(data: bytes, place: int, kept: List[Tuple[int, bytes]]) -> bool:
+    """Whether damaged documents whose lengths are believed go on from what was kept last over this place."""
+    at = max((at + len(one) for at, one in kept if at + len(one) <= place), default=0)
+    while at <= place:
+        end = explained(data, at)
+        if end <= at:
+            return False
+        at = end
+    return True
+
+
 def may_be_lost(place: int, one: bytes, data: bytes, kept: List[Tuple[int, bytes]]) -> bool:
-    """Whether a document may be nested, or lies in one that nobody wrote and that has no damage."""
-    return is_behind_key(data, place) or any(at < place + len(one) and place < at + len(other) for at, other in kept)
+    """Whether a document may be nested, or lies in one that nobody wrote and that has no damage, or in a damaged one whose length is believed."""
+    overlaps = any(at < place + len(one) and place < at + len(other) for at, other in kept)
+    return overlaps or is_behind_key(data, place) or is_in_explained(data, place, kept)
 
 
 class Resync(unittest.TestCase):
