@@ -1717,6 +1717,21 @@ BSONRAW_USE int32_t bsonraw_json_write(const uint8_t *bytes, size_t len, size_t 
                                        struct bsonraw_report *report, uint64_t *path, size_t path_room)
                                        BSONRAW_READS(1, 2) BSONRAW_WRITES(9, 10);
 
+/* The front of what bsonraw_json prints, as far as there is room, for a text that is shown or logged: BSONRAW_OK where that is all of it;
+ * BSONRAW_SMALL_BUFFER where it ends earlier, after a whole character. With both a 0 follows it, unless room is 0, and count is its bytes
+ * without that 0. No more is printed than there is room for. Else as bsonraw_json_write; with BSONRAW_NO_MEMORY what is in text isn't said.
+ *
+ *     char text[41];
+ *     struct bsonraw_report r;
+ *     uint64_t path[16];
+ *     if (bsonraw_json_front(bytes, len, 1 << 20, 100, 0, text, sizeof text, &r, path, 16) == BSONRAW_SMALL_BUFFER)
+ *         printf("%s..\n", text);
+ */
+BSONRAW_USE int32_t bsonraw_json_front(const uint8_t *bytes, size_t len, size_t max_bytes, size_t max_depth, uint32_t flags,
+                                       char *BSONRAW_RESTRICT text, size_t room, struct bsonraw_report *report, uint64_t *path,
+                                       size_t path_room)
+                                       BSONRAW_READS(1, 2) BSONRAW_WRITES(6, 7) BSONRAW_WRITES(9, 10);
+
 /* The value of the element that a cursor is at as bsonraw_json prints it; its document or array is the first of max_depth levels.
  * BSONRAW_OK, and the text is at the front of text, with a 0 after it; report->count is its bytes without that 0. BSONRAW_SMALL_BUFFER
  * where room is less than 1 + count, and what is in text isn't said; BSONRAW_FAULT, BSONRAW_TOO_DEEP and BSONRAW_NO_MEMORY as
@@ -2104,6 +2119,12 @@ BSONRAW_TOUCHING(BSONRAW_USE int32_t, json_write, (const uint8_t *bytes, size_t 
                  BSONRAW_LACKS(bytes, len) + BSONRAW_LACKS(path, path_room),
                  (bytes, len, max_bytes, max_depth, flags, write, context, report, path, path_room))
 #define bsonraw_json_write bsonraw_touching_json_write
+BSONRAW_TOUCHING(BSONRAW_USE int32_t, json_front, (const uint8_t *bytes, size_t len, size_t max_bytes, size_t max_depth,
+                  uint32_t flags, char *BSONRAW_RESTRICT text, size_t room, struct bsonraw_report *report, uint64_t *path,
+                  size_t path_room),
+                 BSONRAW_LACKS(bytes, len) + BSONRAW_LACKS(text, room) + BSONRAW_LACKS(path, path_room),
+                 (bytes, len, max_bytes, max_depth, flags, text, room, report, path, path_room))
+#define bsonraw_json_front bsonraw_touching_json_front
 BSONRAW_TOUCHING(BSONRAW_USE int32_t, iter_json, (const struct bsonraw_iter *iter, const uint8_t *bytes, size_t len, size_t max_depth,
                   uint32_t flags, char *BSONRAW_RESTRICT text, size_t room, struct bsonraw_report *report),
                  BSONRAW_LACKS(bytes, len) + BSONRAW_LACKS(text, room),

@@ -1,6 +1,6 @@
 // bsonraw.hpp: bsonraw.h for C++17. Views don't own the bytes that they name; a buffer owns the document that it builds. Nothing here
 // throws but what takes memory of std::string: a call that may find nothing returns a result, which is a value or the status why there is
-// none. Tested, not proved, over the functions of bsonraw.h. A view of what is gone at the end of the line doesn't compile.
+// none. Tested, not proved, over the functions of bsonraw.h. A view of a vector or a text that is a temporary doesn't compile.
 #ifndef BSONRAW_HPP
 #define BSONRAW_HPP
 
@@ -51,6 +51,10 @@ struct binary {
     uint8_t subtype = 0;
     const uint8_t *data = nullptr;
     size_t size = 0;
+    bool operator==(const binary &other) const noexcept {
+        return subtype == other.subtype && size == other.size && (size == 0 || std::memcmp(data, other.data, size) == 0);
+    }
+    bool operator!=(const binary &other) const noexcept { return !(*this == other); }
 };
 
 // Seconds from 1970 on, and a number among those of one second.
@@ -89,6 +93,23 @@ struct regex {
 };
 
 class view;
+
+// What C takes for a key or a path: the text; or one that no element has, and that is refused as a key, for one with a 0 in it.
+template <class Text>
+const char *without_nul(const Text &text, const char *kept) noexcept {
+    return text.find('\0') == Text::npos ? kept : "\xff";
+}
+
+// Whether a type is an integer, which a bool isn't; and the kind that it is written as, where it fits.
+template <class T>
+inline constexpr bool is_integer = std::is_integral_v<T> && !std::is_same_v<T, bool>;
+template <class T>
+using integer_kind = std::conditional_t<std::numeric_limits<T>::digits <= 31, int32_t, int64_t>;
+template <class T>
+constexpr bool fits(T number) noexcept {
+    if constexpr (std::numeric_limits<T>::digits > 63) return number <= static_cast<T>(std::numeric_limits<int64_t>::max());
+    else return (void)number, true;
+}
 
 inline uint32_t json_flags(bool canonical, bool indented) noexcept {
     return (canonical ? static_cast<uint32_t>(BSONRAW_JSON_CANONICAL) : 0u) | (indented ? static_cast<uint32_t>(BSONRAW_JSON_INDENTED) : 0u);
@@ -211,7 +232,7 @@ public:
     // The values at several paths, in one walk: of each path its value, or the status why there is none.
     std::vector<result<bsonraw_value>> find_many(const std::vector<std::string> &paths) const {
         std::vector<bsonraw_field> fields(paths.size());
-        for (size_t i = 0; i < paths.size(); i++) fields[i].path = paths[i].c_str();
+        for (size_t i = 0; i < paths.size(); i++) fields[i].path = without_nul(paths[i], paths[i].c_str());
         (void)!bsonraw_find_many(data_, size_, fields.data(), fields.size());
         std::vector<result<bsonraw_value>> values;
         for (const bsonraw_field &field : fields) values.emplace_back(field.status, field.value);
@@ -348,8 +369,8 @@ result<T> element::as() const {
 class key_text {
 public:
     key_text(const char *text) noexcept : own_(), text_(text) {}
-    key_text(const std::string &text) noexcept : own_(), text_(text.find('\0') == std::string::npos ? text.c_str() : "\xff") {}
-    key_text(std::string_view text) : own_(text), text_(text.find('\0') == std::string_view::npos ? own_.c_str() : "\xff") {}
+    key_text(const std::string &text) noexcept : own_(), text_(without_nul(text, text.c_str())) {}
+    key_text(std::string_view text) : own_(text), text_(without_nul(own_, own_.c_str())) {}
     key_text(const key_text &) = delete;
     key_text &operator=(const key_text &) = delete;
     const char *text() const noexcept { return text_; }
@@ -359,32 +380,54 @@ private:
     const char *text_;
 };
 
-// Changes of elements by path, for buffer::edit; as bsonraw_buffer_edit. Paths, keys and texts are kept here.
+// Changes of elements by path, for buffer::edit; as bsonraw_buffer_edit. Paths, keys, texts and numbers are kept here. Values are of the
+// types that buffer::append takes.
 class edits {
 public:
     edits() : texts_(), changes_() {}
-    edits &remove(std::string_view path) { return add(bsonraw_change_remove(keep(path))); }
+    edits &remove(std::string_view path) { return add(bsonraw_change_remove(keep_path(path))); }
     edits &rename(std::string_view path, std::string_view key) {
-        const char *kept = keep(path);
-        return add(bsonraw_change_rename(kept, keep(key)));
+        const char *kept = keep_path(path);
+        return add(bsonraw_change_rename(kept, keep_path(key)));
     }
-    edits &set(std::string_view path, int32_t number) { return add(bsonraw_change_int32(keep(path), number)); }
-    edits &set(std::string_view path, int64_t number) { return add(bsonraw_change_int64(keep(path), number)); }
-    edits &set(std::string_view path, double number) { return add(bsonraw_change_double(keep(path), number)); }
+    edits &set(std::string_view path, int32_t number) { return add(bsonraw_change_int32(keep_path(path), number)); }
+    edits &set(std::string_view path, int64_t number) { return add(bsonraw_change_int64(keep_path(path), number)); }
+    template <class T, std::enable_if_t<is_integer<T>, int> = 0>
+    edits &set(std::string_view path, T number) {
+        if (!fits(number)) return add(bsonraw_change_value(keep_path(path), BSONRAW_TAG_INT64, nullptr, 0, nullptr, 0));
+        return set(path, static_cast<integer_kind<T>>(number));
+    }
+    edits &set(std::string_view path, double number) { return add(bsonraw_change_double(keep_path(path), number)); }
     template <class T, std::enable_if_t<std::is_same_v<T, bool>, int> = 0>
-    edits &set(std::string_view path, T is_true) { return add(bsonraw_change_bool(keep(path), is_true)); }
-    edits &set(std::string_view path, std::nullptr_t) { return add(bsonraw_change_null(keep(path))); }
-    edits &set(std::string_view path, date_time time) { return add(bsonraw_change_date_time(keep(path), time.time_since_epoch().count())); }
-    edits &set(std::string_view path, const char *text) { return set(path, std::string_view(text)); }
-    edits &set(std::string_view path, std::string_view text) {
-        const char *kept = keep(path), *value = keep(text);
-        return add(bsonraw_change_value(kept, BSONRAW_TAG_STRING, value, text.size(), nullptr, 0));
+    edits &set(std::string_view path, T is_true) { return add(bsonraw_change_bool(keep_path(path), is_true)); }
+    edits &set(std::string_view path, std::nullptr_t) { return add(bsonraw_change_null(keep_path(path))); }
+    edits &set(std::string_view path, date_time time) { return add(bsonraw_change_date_time(keep_path(path), time.time_since_epoch().count())); }
+    edits &set(std::string_view path, std::chrono::system_clock::time_point time) {
+        return set(path, std::chrono::floor<std::chrono::milliseconds>(time));
     }
-    // A document or an array, and the value of an element, which are pointed to.
+    edits &set(std::string_view path, const timestamp &time) {
+        const bsonraw_number number = bsonraw_number_of(uint64_t{time.time} << 32 | time.increment);
+        return set_kept(path, BSONRAW_TAG_TIMESTAMP, number.bytes, 8);
+    }
+    edits &set(std::string_view path, const decimal128 &number) {
+        return set_kept(path, BSONRAW_TAG_DECIMAL128, number.bytes.data(), number.bytes.size());
+    }
+    edits &set(std::string_view path, const oid &id) { return set_kept(path, BSONRAW_TAG_OBJECT_ID, id.data(), id.size()); }
+    edits &set(std::string_view path, const regex &expression) {
+        const std::string &options = keep(expression.options);
+        return set_kept(path, BSONRAW_TAG_REGEX, expression.pattern.data(), expression.pattern.size(), options.data(), options.size());
+    }
+    edits &set(std::string_view path, const char *text) { return add(bsonraw_change_utf8(keep_path(path), text == nullptr ? nullptr : keep(text).c_str())); }
+    edits &set(std::string_view path, std::string_view text) { return set_kept(path, BSONRAW_TAG_STRING, text.data(), text.size()); }
+    // A document, an array, a binary, and the value of an element, which are pointed to.
     edits &set(std::string_view path, view part) {
-        return add(bsonraw_change_value(keep(path), part.tag(), part.data(), part.size(), nullptr, 0));
+        return add(bsonraw_change_value(keep_path(path), part.tag(), part.data(), part.size(), nullptr, 0));
     }
-    edits &set(std::string_view path, const element &e) { return add(bsonraw_change_iter(keep(path), &e.iter(), e.bytes(), e.len())); }
+    edits &set(std::string_view path, const binary &part) {
+        const std::string &subtype = keep(std::string_view(reinterpret_cast<const char *>(&part.subtype), 1));
+        return add(bsonraw_change_value(keep_path(path), BSONRAW_TAG_BINARY, part.data, part.size, subtype.data(), 1));
+    }
+    edits &set(std::string_view path, const element &e) { return add(bsonraw_change_iter(keep_path(path), &e.iter(), e.bytes(), e.len())); }
 
     bsonraw_change *data() noexcept { return changes_.data(); }
     size_t size() const noexcept { return changes_.size(); }
@@ -392,7 +435,15 @@ public:
     uint64_t count(size_t number) const { return changes_.at(number).count; }
 
 private:
-    const char *keep(std::string_view text) { return texts_.emplace_back(text).c_str(); }
+    const std::string &keep(std::string_view text) { return texts_.emplace_back(text); }
+    const char *keep_path(std::string_view text) {
+        const std::string &kept = keep(text);
+        return without_nul(kept, kept.c_str());
+    }
+    edits &set_kept(std::string_view path, uint32_t tag, const void *one, size_t one_len, const void *two = nullptr, size_t two_len = 0) {
+        const std::string &kept = keep(one_len == 0 ? std::string_view() : std::string_view(static_cast<const char *>(one), one_len));
+        return add(bsonraw_change_value(keep_path(path), tag, kept.data(), kept.size(), two, two_len));
+    }
     edits &add(const bsonraw_change &change) {
         changes_.push_back(change);
         return *this;
@@ -419,13 +470,10 @@ public:
     // BSONRAW_OTHER_KIND. Of pointers only a text is taken.
     buffer &append(const key_text &key, int32_t number) noexcept { return said(bsonraw_buffer_int32(&buffer_, key.text(), number)); }
     buffer &append(const key_text &key, int64_t number) noexcept { return said(bsonraw_buffer_int64(&buffer_, key.text(), number)); }
-    template <class T, std::enable_if_t<std::is_integral_v<T> && !std::is_same_v<T, bool>, int> = 0>
+    template <class T, std::enable_if_t<is_integer<T>, int> = 0>
     buffer &append(const key_text &key, T number) noexcept {
-        using kind = std::conditional_t<std::numeric_limits<T>::digits <= 31, int32_t, int64_t>;
-        if constexpr (std::numeric_limits<T>::digits > 63)
-            if (number > static_cast<T>(std::numeric_limits<int64_t>::max()))
-                return said(bsonraw_buffer_append(&buffer_, BSONRAW_TAG_INT64, key.text(), nullptr, 0, nullptr, 0));
-        return append(key, static_cast<kind>(number));
+        if (!fits(number)) return said(bsonraw_buffer_append(&buffer_, BSONRAW_TAG_INT64, key.text(), nullptr, 0, nullptr, 0));
+        return append(key, static_cast<integer_kind<T>>(number));
     }
     template <class T, std::enable_if_t<std::is_same_v<T, bool>, int> = 0>
     buffer &append(const key_text &key, T is_true) noexcept { return said(bsonraw_buffer_bool(&buffer_, key.text(), is_true)); }

@@ -926,6 +926,35 @@ int32_t bsonraw_json_write(const uint8_t *bytes, size_t len, size_t max_bytes, s
     return j.status;
 }
 
+/* How many of these bytes, which are the front of a text, are whole characters. */
+static size_t whole_characters(const char *text, size_t len) {
+    size_t begins = len, wanted = 1;
+    while (begins > 0 && ((uint8_t)text[begins - 1] & 0xc0) == 0x80) begins--;
+    if (begins == 0) return 0;
+    if ((uint8_t)text[begins - 1] >= 0xc0) wanted = (uint8_t)text[begins - 1] < 0xe0 ? 2 : (uint8_t)text[begins - 1] < 0xf0 ? 3 : 4;
+    return len - (begins - 1) < wanted ? begins - 1 : len;
+}
+
+/* As much as there is room for with a 0 after it; then no more is printed. */
+static int32_t put_front_in_room(void *context, const char *text, size_t len) {
+    struct out *out = context;
+    size_t left = out->room > 0 ? out->room - 1 - out->len : 0, part = len < left ? len : left;
+    if (part > 0) memcpy(out->text + out->len, text, part);
+    out->len += part;
+    return part == len ? BSONRAW_OK : BSONRAW_SMALL_BUFFER;
+}
+
+int32_t bsonraw_json_front(const uint8_t *bytes, size_t len, size_t max_bytes, size_t max_depth, uint32_t flags, char *text, size_t room,
+                           struct bsonraw_report *report, uint64_t *path, size_t path_room) {
+    struct out out = {text, room, 0};
+    int32_t status;
+    if (BSONRAW_LACKS(text, room)) return BSONRAW_NULL;
+    status = bsonraw_json_write(bytes, len, max_bytes, max_depth, flags, put_front_in_room, &out, report, path, path_room);
+    if (status == BSONRAW_SMALL_BUFFER) report->count = out.len = whole_characters(text, out.len);
+    if (room > 0 && (status == BSONRAW_OK || status == BSONRAW_SMALL_BUFFER)) text[out.len] = 0;
+    return status;
+}
+
 /* Whether what an element has inside has a fault, or is too deep; offsets are from the first of the bytes. */
 static int32_t look_inside(const struct bsonraw_iter *iter, const uint8_t *bytes, size_t len, size_t max_depth, struct bsonraw_report *report) {
     struct bsonraw_value value;

@@ -160,7 +160,7 @@ page() {
 
 look_at_examples() {
     examples c/bsonraw.h >"$work/examples.c"
-    [ "$(grep -c '^void example_.*{$' "$work/examples.c")" = 37 ] || fails "the header doesn't have an example of each group of calls"
+    [ "$(grep -c '^void example_.*{$' "$work/examples.c")" = 38 ] || fails "the header doesn't have an example of each group of calls"
     # shellcheck disable=SC2086
     compile -std=c99 $warnings -O1 -fPIE -c -o "$work/examples.o" "$work/examples.c" &&
         run_examples || fails "an example of the header doesn't do what it says"
@@ -186,15 +186,24 @@ says() {
 }
 
 run_programs() {
-    for name in edit fields json json_text merge orders path unique validate; do
+    for name in edit fields from_json good json json_text keys merge orders path unique validate; do
         # shellcheck disable=SC2086
         compile -std=c99 $warnings -O1 -fPIE -c -o "$work/$name.o" "examples/c/$name.c" &&
             link libbsonraw.a "$work/$name" "$work/$name.o" || return 1
     done
+    cat "$work/greeting" "$work/greeting" >"$work/twice"
     says "{\"hi\": \"y'all\"}" "$work/json"
     says "{\"hi\":\"y'all\"}" "$work/json_text"
     says "y'all" "$work/path" hi
     says sound "$work/validate"
+    says "02 hi" "$work/keys"
+    says "{\"hi\":\"y'all\"}" sh -c "$work/good | $work/json_text"
+    [ "$(echo "{\"hi\": \"y'all\"}" | "$work/from_json" | od -An -tx1)" = "$(od -An -tx1 <"$work/greeting")" ] || fails "from_json doesn't make the greeting"
+    [ "$(printf '{"a":\n tru}' | "$work/from_json" 2>&1)" = "line 2, column 2: expected a value" ] || fails "from_json doesn't say where a text is wrong"
+    # {"a": 2 as a boolean} between two
+    { cat "$work/greeting"; printf '\011\0\0\0\010a\0\2\0'; cat "$work/greeting"; } >"$work/one_bad"
+    "$work/good" <"$work/one_bad" 2>"$work/said" | cmp -s - "$work/twice" && [ "$(cat "$work/said")" = "19: a boolean is neither 0 nor 1" ] ||
+        fails "good doesn't keep two documents of three"
     says "{\"hi\":\"y'all\"}" sh -c "cat - $work/greeting | $work/unique | $work/json_text"
     says "" "$work/path" ho
     # {"ho": "changed"}
@@ -355,9 +364,9 @@ for parts in [(identifier, text(b"name", b"Emmy"), born, home), (born, home, tex
 twin() {
     name=$1
     shift
-    "$work/$name" "$@" <"$work/input" >"$work/ours"
+    "$work/$name" "$@" <"$work/input" >"$work/ours" 2>"$work/said"
     ended=$?
-    "$work/twin_$name" "$@" <"$work/input" >"$work/theirs"
+    "$work/twin_$name" "$@" <"$work/input" >"$work/theirs" 2>"$work/said"
     theirs=$?
     if [ "$name" = json_text ]; then
         as_values "$work/ours" && as_values "$work/theirs" || fails "json_text and the one with libbson print no JSON"
@@ -367,7 +376,7 @@ twin() {
 
 # Each program of examples/c does what one with libbson does, in at most its lines.
 run_twins() {
-    for name in edit fields json json_text merge orders path unique validate; do
+    for name in edit fields from_json good json json_text keys merge orders path unique validate; do
         [ "$(lines_of "examples/c/$name.c")" -le "$(lines_of "c/tests/twins/$name.c")" ] || fails "examples/c/$name.c has too many lines"
         # shellcheck disable=SC2046 # a list of flags
         cc -std=c99 -O1 -o "$work/twin_$name" "c/tests/twins/$name.c" $(pkg-config --cflags --libs libbson-1.0) || return 1
@@ -375,15 +384,30 @@ run_twins() {
     for document in examples/*.hex; do
         python3 -c 'import sys; sys.stdout.buffer.write(bytes.fromhex(open(sys.argv[1]).read()))' "$document" >"$work/input"
         twin json
-        # an element of tag 0 ends a document for libbson
+        # an element of tag 0 ends a document for libbson, which prints the keys before a fault
         [ "$document" = examples/tag-zero.hex ] || twin json_text
+        "$work/validate" <"$work/input" >/dev/null && twin keys
     done
     twin orders 120
     "$work/orders" 120 >"$work/built"
     people >"$work/input"
     twin fields
+    twin keys
+    if [ -n "$has_cxx" ]; then
+        [ "$(lines_of examples/c/people.cpp)" -le "$(lines_of c/tests/twins/people.cpp)" ] || fails "examples/c/people.cpp has too many lines"
+        # shellcheck disable=SC2046,SC2086 # lists of flags
+        c++ -std=c++17 -Wall -Wextra -Werror -O1 -o "$work/people" examples/c/people.cpp $flags &&
+            c++ -std=c++17 -O1 -o "$work/twin_people" c/tests/twins/people.cpp $(pkg-config --cflags --libs libbson-1.0) || return 1
+        twin people
+    fi
     cat "$work/greeting" "$work/over" "$work/greeting" "$work/built" "$work/over" >"$work/input"
     twin unique
+    cat "$work/one_bad" "$work/built" "$work/one_bad" >"$work/input"
+    twin good
+    for text in '{"a": [1, {"$oid": "5f2b00000000000000000001"}], "b": {"$date": "2020-01-01T00:00:00Z"}}' '{"a": 1, "a": {"b": [true, null, 1.5, "x"]}}' '{"a": [1 2]}' '{"a": tru}'; do
+        echo "$text" >"$work/input"
+        twin from_json
+    done
     people | head -c 104 >"$work/input" # the first of them
     twin edit address.street name
     twin edit _id address
@@ -444,7 +468,7 @@ try_examples() {
             $compiler -std=$standard "-I$prefix/include" -Wall -Wextra -Wconversion -Werror -O2 -c -o "$work/example.o" "$work/examples.c" ||
                 fails "the examples of the header don't compile by $compiler as $standard"
         done
-        for name in edit fields json json_text merge orders path unique validate; do
+        for name in edit fields from_json good json json_text keys merge orders path unique validate; do
             $compiler -std=c99 "-I$prefix/include" -Wall -Wextra -Wconversion -Werror -O2 -c -o "$work/example.o" "examples/c/$name.c" ||
                 fails "examples/c/$name.c doesn't compile by $compiler"
         done

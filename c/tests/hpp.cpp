@@ -29,6 +29,16 @@ static_assert(takes<char>::value && takes<unsigned short>::value && takes<unsign
 static_assert(takes<std::chrono::system_clock::time_point>::value && takes<bsonraw::timestamp>::value && takes<bsonraw::decimal128>::value && takes<bsonraw::regex>::value);
 static_assert(!takes<const unsigned char *>::value && !takes<void *>::value && !takes<int *>::value && !takes<std::vector<bool>>::value);
 
+// Whether an element is set to a value of this type.
+template <class T, class = void>
+struct is_set : std::false_type {};
+template <class T>
+struct is_set<T, std::void_t<decltype(std::declval<bsonraw::edits &>().set("k", std::declval<T>()))>> : std::true_type {};
+
+static_assert(is_set<bool>::value && is_set<char>::value && is_set<unsigned>::value && is_set<long long>::value && is_set<size_t>::value && is_set<float>::value);
+static_assert(is_set<bsonraw::oid>::value && is_set<bsonraw::binary>::value && is_set<std::vector<uint8_t> &>::value && is_set<std::string>::value);
+static_assert(!is_set<const unsigned char *>::value && !is_set<void *>::value && !is_set<int *>::value && !is_set<std::vector<uint8_t>>::value);
+
 // {"a": 7, "l": [true, "x"], "n": {"i": an ObjectId}}
 static const unsigned char sample[] = "\70\0\0\0\20a\0\7\0\0\0\4l\0\22\0\0\0\0100\0\1\0021\0\2\0\0\0x\0\0\3n\0\24\0\0\0\7i\0abcdefghijkl\0";
 
@@ -79,6 +89,35 @@ static void look_at_changes() {
     expect(b.reset().begin_array("l").append(nullptr, 1).finish().status() == BSONRAW_MISUSE && !b.document(), "a level that isn't ended");
 }
 
+// Elements that are set to values of each kind; paths with a 0 in them.
+static void look_at_sets() {
+    auto one = bsonraw::from_json("{\"a\": 1, \"b\": 2}");
+    bsonraw::view doc(*one);
+    const auto time = std::chrono::system_clock::time_point(std::chrono::milliseconds(-1)) - std::chrono::system_clock::duration(1);
+    const uint8_t two[] = {1, 2}, other[] = {1, 3};
+    const bsonraw::binary part{128, two, 2};
+    expect(part == bsonraw::binary{128, two, 2} && bsonraw::binary() == bsonraw::binary(), "equal binaries");
+    expect(part != bsonraw::binary{128, other, 2} && part != bsonraw::binary{0, two, 2} && part != bsonraw::binary{128, two, 1}, "other binaries");
+    bsonraw::buffer b;
+    bsonraw::edits each;
+    each.set("a", 4000000000u).set("b", -5LL).set("h", short{-2}).set("t", time).set("s", bsonraw::timestamp{7, 8});
+    each.set("d", *bsonraw::decimal128::of("0.5")).set("i", bsonraw::oid{1, 2}).set("r", bsonraw::regex{"^a", "i"}).set("e", bsonraw::regex{}).set("v", std::string("t\0x", 3)).set("p", part);
+    auto set = b.edit(doc, each).finish();
+    expect(set && *set->json(true) == "{\"a\":{\"$numberLong\":\"4000000000\"},\"b\":{\"$numberLong\":\"-5\"},\"h\":{\"$numberInt\":\"-2\"},"
+                                    "\"t\":{\"$date\":{\"$numberLong\":\"-2\"}},\"s\":{\"$timestamp\":{\"t\":7,\"i\":8}},\"d\":{\"$numberDecimal\":\"0.5\"},"
+                                    "\"i\":{\"$oid\":\"010200000000000000000000\"},\"r\":{\"$regularExpression\":{\"pattern\":\"^a\",\"options\":\"i\"}},"
+                                    "\"e\":{\"$regularExpression\":{\"pattern\":\"\",\"options\":\"\"}},\"v\":\"t\\u0000x\",\"p\":{\"$binary\":{\"base64\":\"AQI=\",\"subType\":\"80\"}}}",
+           "values of each kind are set");
+    bsonraw::edits most, over, none, cut, renamed;
+    expect(b.reset().edit(doc, most.set("a", std::numeric_limits<uint64_t>::max() / 2)).finish()->get<int64_t>("a").value_or(0) == INT64_MAX, "the greatest int64 is set");
+    expect(b.reset().edit(doc, over.set("a", std::numeric_limits<uint64_t>::max())).status() == BSONRAW_OTHER_KIND, "a number is set that no int64 is");
+    expect(b.reset().edit(doc, none.set("a", static_cast<const char *>(nullptr))).status() == BSONRAW_NULL, "no text is set");
+    expect(b.reset().edit(doc, cut.remove(std::string_view("a\0b", 3))).finish().value_or({}) == doc && cut.count(0) == 0, "what a path with a 0 removes");
+    expect(b.reset().edit(doc, renamed.rename("a", std::string_view("x\0y", 3))).status() == BSONRAW_FAULT, "a new key with a 0");
+    expect(doc.find_many({std::string("a\0b", 3), "a"})[0].status() == BSONRAW_NONE, "what is found at a path with a 0");
+    expect(doc.find(std::string_view("a\0b", 3)).status() == BSONRAW_NONE, "an element at a path with a 0");
+}
+
 // Documents of a file, of which one is damaged.
 static void look_at_stream() {
     auto one = bsonraw::from_json("{\"a\": 1}");
@@ -111,6 +150,7 @@ static void look_at_stream() {
 int main() {
     look_at_kinds();
     look_at_changes();
+    look_at_sets();
     look_at_stream();
     const bsonraw::oid id = {'a', 'b', 'c', 'd', 'e', 'f', 'g', 'h', 'i', 'j', 'k', 'l'};
     bsonraw::buffer b;

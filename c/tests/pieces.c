@@ -67,6 +67,31 @@ static void compare(const struct document *d, uint32_t canonical, uint32_t inden
     free(p.text);
 }
 
+/* Every front of a text beside the whole one. */
+static void look_at_fronts(const struct document *d, uint32_t flags) {
+    struct bsonraw_report wanted, r;
+    uint64_t path[STEPS], other[STEPS];
+    char *whole = NULL, *into;
+    size_t room;
+    int32_t status = bsonraw_json_new(d->bytes, d->len, 1 << 24, LEVELS, flags, &whole, &wanted);
+    into = needed(wanted.count + 2);
+    for (room = 0; room <= wanted.count + 1 && room < 500; room++) {
+        size_t len = room == 0 ? 0 : room - 1;
+        memset(into, 1, wanted.count + 2);
+        if (status != BSONRAW_OK) {
+            (void)!bsonraw_first_fault(d->bytes, d->len, 1 << 24, LEVELS, &wanted, path, STEPS);
+            expect(bsonraw_json_front(d->bytes, d->len, 1 << 24, LEVELS, flags, into, 1, &r, other, STEPS) == status && into[0] == 1, d->name, "another status of a front");
+            expect(memcmp(&r, &wanted, sizeof r) == 0 && (r.path_len > STEPS || memcmp(path, other, r.path_len * sizeof *path) == 0), d->name, "another report of a front");
+            break;
+        }
+        while (len > 0 && len < wanted.count && (whole[len] & 0xc0) == 0x80) len--; /* what is after it begins a character */
+        expect(bsonraw_json_front(d->bytes, d->len, 1 << 24, LEVELS, flags, into, room, &r, path, STEPS) == (room > wanted.count ? BSONRAW_OK : BSONRAW_SMALL_BUFFER), d->name, "a front's status");
+        expect(r.count == len && memcmp(into, whole, len) == 0 && (room == 0 || into[len] == 0) && into[room] == 1, d->name, "another front");
+    }
+    free(whole);
+    free(into);
+}
+
 /* The text of a document with this element alone, without what is around the value. */
 static size_t value_of(const struct document *d, const struct bsonraw_iter *it, uint32_t canonical, uint32_t indented, char *text) {
     static uint8_t room[ROOM], whole[80 * ROOM];
@@ -114,6 +139,8 @@ static void compare_each(const struct document *d) {
         compare(d, style & 1, style & 2);
         compare_values(d, style & 1, style & 2);
     }
+    look_at_fronts(d, 0);
+    look_at_fronts(d, BSONRAW_JSON_CANONICAL | BSONRAW_JSON_INDENTED);
 }
 
 static uint32_t random_number(void) {
@@ -208,6 +235,16 @@ static void look_at_large_values(void) {
     bsonraw_buffer_free(&b);
 }
 
+/* Fronts that end within characters of two, three and four bytes. */
+static void look_at_characters(void) {
+    static uint8_t bytes[] = "\26\0\0\0\2k\0\12\0\0\0\303\251\346\227\245\360\237\230\200\0";
+    static struct document d;
+    snprintf(d.name, sizeof d.name, "characters");
+    d.bytes = bytes, d.len = sizeof bytes;
+    look_at_fronts(&d, 0);
+    look_at_fronts(&d, BSONRAW_JSON_INDENTED);
+}
+
 static void look_at_null(void) {
     static const uint8_t bytes[] = "\5\0\0\0";
     struct bsonraw_iter it;
@@ -220,6 +257,9 @@ static void look_at_null(void) {
     expect(bsonraw_json_write(NULL, 0, 9, 9, 0, NULL, NULL, &r, NULL, 0) == BSONRAW_NO_DOCUMENT, "NULL", "no bytes");
     expect(bsonraw_json_write(bytes, 5, 9, 9, 0, NULL, NULL, NULL, NULL, 0) == BSONRAW_NULL, "NULL", "a report");
     expect(bsonraw_json_write(bytes, 5, 9, 9, 0, NULL, NULL, &r, NULL, 1) == BSONRAW_NULL, "NULL", "a path");
+    expect(bsonraw_json_front(NULL, 5, 9, 9, 0, text, 9, &r, NULL, 0) == BSONRAW_NULL && bsonraw_json_front(bytes, 5, 9, 9, 0, NULL, 9, &r, NULL, 0) == BSONRAW_NULL, "NULL", "a front");
+    expect(bsonraw_json_front(bytes, 5, 9, 9, BSONRAW_JSON_ARRAY, text, 3, &r, NULL, 0) == BSONRAW_OK && strcmp(text, "[]") == 0, "array", "a front");
+    expect(bsonraw_json_front(bytes, 5, 9, 9, 0, NULL, 0, &r, NULL, 0) == BSONRAW_SMALL_BUFFER && r.count == 0, "NULL", "a front without room");
     expect(bsonraw_iter_json(NULL, bytes, 5, 9, 0, text, 9, &r) == BSONRAW_NULL, "NULL", "a cursor");
     expect(bsonraw_iter_json(&it, NULL, 5, 9, 0, text, 9, &r) == BSONRAW_NULL, "NULL", "bytes");
     expect(bsonraw_iter_json(&it, bytes, 5, 9, 0, NULL, 9, &r) == BSONRAW_NULL, "NULL", "a text");
@@ -338,6 +378,7 @@ int main(void) {
     for (at = 0; at < all.count; at++) compare_each(&all.items[at]);
     look_at_large();
     look_at_large_values();
+    look_at_characters();
     look_at_null();
     look_at_any_cursor();
     look_at_decimals();

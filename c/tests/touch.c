@@ -101,6 +101,7 @@ static int use(int call, uint8_t *bytes, size_t len) {
     case 51: bsonraw_buffer_edit(&b, bytes, len, NULL, 0); break;
     case 52: (void)!bsonraw_from_json_next(room, len, &part_len, 9, 9, &made, &told); break;
     case 53: (void)!bsonraw_check_keys(bytes, len, 9, 9, 0, &r, NULL, 0); break;
+    case 54: (void)!bsonraw_json_front(bytes, len, 9, 9, 0, NULL, 0, &r, NULL, 0); break;
     default: return 0;
     }
     return 1;
@@ -122,7 +123,7 @@ int main(void) {
     expect(is_touched(pages + 4096, 4096), "a right length", "it ends the process");
     expect(!is_touched(pages + 4096, 4097), "a length that is too long", "it isn't seen");
     expect(!is_touched(pages + 4095, 4096), "bytes that begin too early", "they aren't seen");
-    for (call = 0; call < 54; call++) {
+    for (call = 0; call < 55; call++) {
         expect(is_used(call, pages + 4096, 4096), "a right length", "it ends the process");
         expect(!is_used(call, pages + 4096, 4097), "a length that is too long", "it isn't seen");
     }
