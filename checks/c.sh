@@ -186,7 +186,7 @@ says() {
 }
 
 run_programs() {
-    for name in edit fields from_json good json json_text keys merge orders path unique validate; do
+    for name in edit fields good json json_text keys merge orders path read_json unique validate; do
         # shellcheck disable=SC2086
         compile -std=c99 $warnings -O1 -fPIE -c -o "$work/$name.o" "examples/c/$name.c" &&
             link libbsonraw.a "$work/$name" "$work/$name.o" || return 1
@@ -198,8 +198,8 @@ run_programs() {
     says sound "$work/validate"
     says "02 hi" "$work/keys"
     says "{\"hi\":\"y'all\"}" sh -c "$work/good | $work/json_text"
-    [ "$(echo "{\"hi\": \"y'all\"}" | "$work/from_json" | od -An -tx1)" = "$(od -An -tx1 <"$work/greeting")" ] || fails "from_json doesn't make the greeting"
-    [ "$(printf '{"a":\n tru}' | "$work/from_json" 2>&1)" = "line 2, column 2: expected a value" ] || fails "from_json doesn't say where a text is wrong"
+    [ "$(echo "{\"hi\": \"y'all\"}" | "$work/read_json" | od -An -tx1)" = "$(od -An -tx1 <"$work/greeting")" ] || fails "read_json doesn't make the greeting"
+    [ "$(printf '{"a":\n tru}' | "$work/read_json" 2>&1)" = "line 2, column 2: expected a value" ] || fails "read_json doesn't say where a text is wrong"
     # {"a": 2 as a boolean} between two
     { cat "$work/greeting"; printf '\011\0\0\0\010a\0\2\0'; cat "$work/greeting"; } >"$work/one_bad"
     "$work/good" <"$work/one_bad" 2>"$work/said" | cmp -s - "$work/twice" && [ "$(cat "$work/said")" = "19: a boolean is neither 0 nor 1" ] ||
@@ -376,7 +376,7 @@ twin() {
 
 # Each program of examples/c does what one with libbson does, in at most its lines.
 run_twins() {
-    for name in edit fields from_json good json json_text keys merge orders path unique validate; do
+    for name in edit fields good json json_text keys merge orders path read_json unique validate; do
         [ "$(lines_of "examples/c/$name.c")" -le "$(lines_of "c/tests/twins/$name.c")" ] || fails "examples/c/$name.c has too many lines"
         # shellcheck disable=SC2046 # a list of flags
         cc -std=c99 -O1 -o "$work/twin_$name" "c/tests/twins/$name.c" $(pkg-config --cflags --libs libbson-1.0) || return 1
@@ -406,7 +406,7 @@ run_twins() {
     twin good
     for text in '{"a": [1, {"$oid": "5f2b00000000000000000001"}], "b": {"$date": "2020-01-01T00:00:00Z"}}' '{"a": 1, "a": {"b": [true, null, 1.5, "x"]}}' '{"a": [1 2]}' '{"a": tru}'; do
         echo "$text" >"$work/input"
-        twin from_json
+        twin read_json
     done
     people | head -c 104 >"$work/input" # the first of them
     twin edit address.street name
@@ -468,7 +468,7 @@ try_examples() {
             $compiler -std=$standard "-I$prefix/include" -Wall -Wextra -Wconversion -Werror -O2 -c -o "$work/example.o" "$work/examples.c" ||
                 fails "the examples of the header don't compile by $compiler as $standard"
         done
-        for name in edit fields from_json good json json_text keys merge orders path unique validate; do
+        for name in edit fields good json json_text keys merge orders path read_json unique validate; do
             $compiler -std=c99 "-I$prefix/include" -Wall -Wextra -Wconversion -Werror -O2 -c -o "$work/example.o" "examples/c/$name.c" ||
                 fails "examples/c/$name.c doesn't compile by $compiler"
         done

@@ -1,4 +1,4 @@
-/* examples/c/from_json.c with libbson. */
+/* examples/c/read_json.c with libbson. */
 #include <bson/bson.h>
 #include <stdio.h>
 
