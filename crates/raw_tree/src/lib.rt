@@ -46,7 +46,7 @@ pub use walk::element::{element_at, next_element};
 pub use walk::faults::first_fault_within;
 #[doc(hidden)]
 pub use walk::faults::{FIRST, Start, first_behind};
-// For `raw_form` and `bson_json`, which produce output for each event of a walk.
+// For `raw_form` and `bson_to_json`, which produce output for each event of a walk.
 #[doc(hidden)]
 pub use walk::level::{Level, Waiting, behind};
 pub use walk::place::{PathStep, Place};
