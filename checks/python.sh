@@ -33,7 +33,7 @@ for wants in bson sys; do
 done
 python=${python:-python3}
 missing=$(lacks "$python")
-command -v cc >/dev/null || missing="a C compiler"
+command -v cc >/dev/null || missing="a C compiler (gcc, libc6-dev)"
 . checks/skips.sh
 [ -z "$missing" ] || skip_all "$(echo "$missing" | head -1)"
 

@@ -88,7 +88,7 @@ class Runs(unittest.TestCase):
         """bin/test, begun, until its rt ci waits."""
         (self.kit / "hold").touch()
         ran = subprocess.Popen(["bin/test", *words], cwd=self.top, env=self.environment, stdout=subprocess.PIPE, stderr=subprocess.STDOUT, text=True)
-        for _ in range(200):
+        for _ in range(1000):
             if (self.kit / "asked").exists():
                 return ran
             time.sleep(0.1)
@@ -163,7 +163,7 @@ class Runs(unittest.TestCase):
         ran = self.begun()
         self.put("checks/list.txt", LIST + "worse | | | exit 1\n")
         (self.kit / "hold").unlink()
-        said = ran.communicate(timeout=60)[0]
+        said = ran.communicate(timeout=300)[0]
         self.assertEqual(ran.returncode, 0, said)
         self.assertIn("bin/package has nothing to say", said)
         self.assertFalse((self.top / "out/passed").exists())
@@ -174,7 +174,7 @@ class Runs(unittest.TestCase):
         before = self.sleepers()
         self.assertTrue(before)
         ran.send_signal(signal.SIGTERM)
-        ran.communicate(timeout=60)
+        ran.communicate(timeout=300)
         self.assertNotEqual(ran.returncode, 0)
         for _ in range(100):
             if not self.sleepers():

@@ -6,7 +6,7 @@ cd "$(dirname "$(realpath "$0")")/../crates/$2" || exit 1
 work=$(mktemp -d) || exit 1
 trap 'rm -rf "$work"' EXIT
 if [ "$1" = tests ]; then
-    rt try --test >"$work/said" 2>&1 </dev/null && grep -q '^test result: ok' "$work/said" && exit
+    rt try --test --seconds 1000 >"$work/said" 2>&1 </dev/null && grep -q '^test result: ok' "$work/said" && exit
 else
     stored=/dev/null
     [ ! -e stdin ] || stored=stdin
@@ -14,7 +14,7 @@ else
     for file in data/*; do [ ! -f "$file" ] || set -- "$@" --data "${file#data/}=$PWD/$file"; done
     set -- "$@" --
     [ ! -e args ] || while IFS= read -r word; do set -- "$@" "$word"; done <args
-    rt try --steps 1 "$@" <"$stored" >"$work/output" 2>"$work/said"
+    rt try --steps 1 --seconds 1000 "$@" <"$stored" >"$work/output" 2>"$work/said"
     [ $? = "$(cat status 2>/dev/null || echo 0)" ] && cmp stdout "$work/output" && exit
 fi
 cat "$work/said" >&2
