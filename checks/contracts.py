@@ -24,10 +24,9 @@ PROGRAMS = {
     "bsonraw/src/answer.rt": ["answer"],
     "bsonraw/src/run.rt": ["run"],
     "dump_commands/src/reporting.rt": ["put_summary"],
-    "dump_runs/src/dumps/batch.rt": ["run_all"],
+    "dump_runs/src/batch.rt": ["run_all"],
     "dump_runs/src/dumps/run.rt": ["run"],
     "dump_runs/src/texts/reading.rt": ["read_texts"],
-    "dump_runs/src/texts/batch.rt": ["run_texts"],
 }
 KINDS = "fn|struct|enum|type|const|trait"
 

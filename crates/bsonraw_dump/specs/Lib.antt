@@ -1,2 +1,1 @@
-pub mod command_line
 pub mod files

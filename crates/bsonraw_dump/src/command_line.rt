@@ -6,13 +6,11 @@ mod builder;
 mod commands;
 mod folders;
 mod names;
-mod reading;
 mod task;
 mod words;
 
 pub use commands::printing_of;
 pub use folders::listing;
 pub use names::{copied, expanded};
-pub use reading::Reading;
 pub use task::{Task, parsed};
 pub use words::{Words, given_words};

@@ -1,9 +1,7 @@
 //! Runs a command over files.
 #![tactic(auto)]
 
-use crate::command_line::{
-    Reading, Task, Words, copied, expanded, given_words, parsed, printing_of,
-};
+use crate::command_line::{Task, Words, copied, expanded, given_words, parsed, printing_of};
 use crate::files::findings::Findings;
 use crate::files::inputs::{Files, Unread, are_one, node_of, size_of};
 use crate::files::output::{BLOCK, Fill, into_file};
@@ -16,7 +14,7 @@ use dump_io::input::status::Status;
 use dump_io::lines::failure::Failure;
 use dump_io::lines::find::most_allowed;
 use dump_io::lines::style::Style;
-use dump_runs::{Writers, run_all, run_texts};
+use dump_runs::{Reading, Writers, run_all};
 use std::alloc::{AllocError, Global};
 use std::fs::File;
 use std::io::{BufWriter, ErrorKind, IsTerminal, Write};
@@ -220,13 +218,8 @@ fn each<'a, D: Write, W: Write>(
     };
     let progress = Progress::new(rt, shows, size);
     let inputs = files_of(&*rt, &*run, &progress);
-    let done = match run.reading {
-        Reading::Dumps(job) => {
-            let mut writers = Writers { out: data, report };
-            run_all(rt.alloc(), job, &inputs, &run.inputs, &mut writers)
-        }
-        Reading::Texts(job) => run_texts(rt.alloc(), job, &inputs, &run.inputs, data, report),
-    };
+    let mut writers = Writers { out: data, report };
+    let done = run_all(rt.alloc(), run.reading, &inputs, &run.inputs, &mut writers);
     if let Some(Lack::Failed(failure)) = &done.lack {
         tell_failure(rt, run, failure);
     }

@@ -20,6 +20,14 @@ count_finding finding.Unvalidated n = n
 abbrev pub count_document : Counts → (len : ℕ) → Finding → (findings : ℕ) → Counts
 count_document n len found findings = count_finding found (record n { documents = n.documents + 1; bytes = n.bytes + len; findings = n.findings + findings })
 
+-- one more document of this length, which a text says
+abbrev pub count_said : Counts → (len : ℕ) → Counts
+count_said n len = record n { documents = n.documents + 1; bytes = n.bytes + len }
+
+-- one more text that has a fault, of which a line tells
+abbrev pub count_fault : Counts → Counts
+count_fault n = record n { damaged = n.damaged + 1; findings = n.findings + 1 }
+
 -- this number of bytes more that are passed over, of which a line tells
 abbrev pub count_gap : Counts → ℕ → Counts
 count_gap n count = record n { passed_over = n.passed_over + count; findings = n.findings + 1 }

@@ -78,8 +78,20 @@ abbrev pub name_members : Option (List ℕ) → List Token
 name_members None = []
 name_members (Some name) = key (codes "file") ∷ string name ∷ []
 
--- the line that tells what was counted of an input, or of all
+-- the line that tells these counts of an input, or of all
+abbrev pub counts_line : Style → Option (List ℕ) → (documents : ℕ) → List Count → List ℕ
+counts_line style.Words name documents counts = name_text name ++ counts_text documents counts ++ codes "\n"
+counts_line style.Json name documents counts = object_line (name_members name ++ count_members (codes "documents", documents) ++ flat_map count_members counts)
+counts_line style.Quiet name documents counts = []
+
+-- the same of what a command counted
 abbrev pub summary_line : Style → Option (List ℕ) → Option ℕ → Command → Counts → ℕ → List ℕ
-summary_line style.Words name limit c n kept = name_text name ++ counts_text n.documents (counts_of limit c n kept) ++ codes "\n"
-summary_line style.Json name limit c n kept = object_line (name_members name ++ count_members (codes "documents", n.documents) ++ flat_map count_members (counts_of limit c n kept))
-summary_line style.Quiet name limit c n kept = []
+summary_line style name limit c n kept = counts_line style name n.documents (counts_of limit c n kept)
+
+-- what is counted of texts beside the documents: the texts with a fault, and the files that aren't read to their end
+abbrev pub text_counts : Option ℕ → Counts → List Count
+text_counts limit n = (codes "bytes", n.bytes) ∷ (codes "faults", n.damaged) ∷ (codes "files that can't be read", n.files) ∷ hidden_counts limit n
+
+-- the line that tells it
+abbrev pub text_summary : Style → Option ℕ → Counts → List ℕ
+text_summary style limit n = counts_line style None n.documents (text_counts limit n)

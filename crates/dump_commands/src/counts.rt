@@ -1,5 +1,5 @@
 ghost use Rattle.std.specs.Prelude.{◌≡◌, IfSome, IsNone};
-ghost use Rattle.dump_commands.specs.Counting.{AreInRange, count_document, count_gap, count_left, count_rest, no_counts, plus};
+ghost use Rattle.dump_commands.specs.Counting.{AreInRange, count_document, count_fault, count_gap, count_left, count_rest, count_said, no_counts, plus};
 
 use dump_io::lines::find::Finding;
 
@@ -12,7 +12,7 @@ pub struct Counts {
     pub bytes: u64,
     /// those without damage that aren't canonical
     pub breached: u64,
-    /// those with damage
+    /// those with damage; of texts, those with a fault
     pub damaged: u64,
     /// those that are too deep
     pub too_deep: u64,
@@ -70,6 +70,30 @@ impl Counts {
                 ..read
             }),
         }
+    }
+
+    /// One document more, of `len` bytes, that a text says; `None` where a count would be over its range.
+    pub fn with_said(self, len: usize) -> Option<Counts>
+        ensures counted { IfSome result (λ n. n ≡ count_said self len) }
+        ensures none { IsNone result → ¬ AreInRange (count_said self len) }
+    {
+        Some(Counts {
+            documents: self.documents.checked_add(1)?,
+            bytes: self.bytes.checked_add(len as u64)?,
+            ..self
+        })
+    }
+
+    /// One text more that has a fault; `None` where a count would be over its range.
+    pub fn with_fault(self) -> Option<Counts>
+        ensures counted { IfSome result (λ n. n ≡ count_fault self) }
+        ensures none { IsNone result → ¬ AreInRange (count_fault self) }
+    {
+        Some(Counts {
+            damaged: self.damaged.checked_add(1)?,
+            findings: self.findings.checked_add(1)?,
+            ..self
+        })
     }
 
     /// `count` bytes more that were passed over; `None` where they would be over the range of a count.

@@ -1,7 +1,7 @@
 //! Reports what a command finds in a document, and what was counted.
 #![tactic(auto)]
 
-ghost use Rattle.std.specs.Prelude.{◌≡◌, ℕ, List, IfErr, IfOk, OnErr, OnOk};
+ghost use Rattle.std.specs.Prelude.{◌≡◌, ℕ, List, IfErr, IfOk, OnErr, OnOk, map};
 ghost use Rattle.std.specs.Option.{option_copied, option_map};
 ghost use Rattle.std.specs.Io.KnownBytes.{Appends};
 ghost use Rattle.dump_io.specs.lines.Fronts.{AppendsFront};
@@ -10,14 +10,15 @@ ghost use Rattle.dump_commands.specs.elements.Listing.{HasListingFront, ListsDoc
 ghost use Rattle.dump_io.specs.lines.Find.{account_of};
 ghost use Rattle.dump_commands.specs.state.Forms.{repeat_at};
 ghost use Rattle.dump_io.specs.lines.Origins.{origin_of};
-ghost use Rattle.dump_commands.specs.Summary.{summary_line};
+ghost use Rattle.dump_commands.specs.Summary.{count_of, counts_line, summary_line, text_summary};
 ghost use Rattle.dump_io.specs.lines.Failing.{IsReading};
 ghost use Rattle.dump_commands.specs.Reporting as says;
 
 use crate::command::Command;
 use crate::counts::Counts;
 use crate::elements::listing::list_levels;
-use crate::summary::{summary, summary_object};
+use crate::job::Job;
+use crate::summary::{Count, counted, counts_object, counts_words, text_counted};
 use dump_io::lines::failure::Failure;
 use dump_io::lines::find::{Finding, Found, Told};
 use dump_io::lines::object::{repeat_object, told_object};
@@ -119,26 +120,65 @@ fn put_elements<W: Write>(alloc: Global, bytes: &[u8], report: &mut W) -> Result
     list_levels(alloc, document, report)
 }
 
-/// Writes the line that tells what was counted of an input, or of all.
+/// Writes the line that tells what a command counted of an input, or of all.
 pub fn put_summary<W: Write>(
     alloc: Global,
-    style: Style,
+    job: Job<'_>,
     name: Option<&str>,
-    limit: Option<u64>,
-    command: Command<'_>,
     counts: &Counts,
     kept: u64,
     report: &mut W,
 ) -> Result<(), Failure>
     ensures written { OnOk result (Appends (W.contents report.old) (W.contents report.new)
-        (summary_line style (option_copied name.entry) limit command.entry counts.now kept)) }
+        (summary_line job.entry.style (option_copied name.entry) job.entry.limit job.entry.command counts.now kept)) }
     ensures front { OnErr result (AppendsFront (W.contents report.old) (W.contents report.new)
-        (summary_line style (option_copied name.entry) limit command.entry counts.now kept)) }
+        (summary_line job.entry.style (option_copied name.entry) job.entry.limit job.entry.command counts.now kept)) }
+    ensures failed { IfErr result (λ failure. ¬ IsReading failure) }
+{
+    if matches!(job.style, Style::Quiet) {
+        return Ok(());
+    }
+    let all = counted(alloc, job.limit, job.command, counts, kept)?;
+    put_counts(alloc, job.style, name, counts.documents, &all, report)
+}
+
+/// Writes the line that tells what was counted of texts.
+pub fn put_text_summary<W: Write>(
+    alloc: Global,
+    style: Style,
+    limit: Option<u64>,
+    counts: &Counts,
+    report: &mut W,
+) -> Result<(), Failure>
+    ensures written { OnOk result (Appends (W.contents report.old) (W.contents report.new) (text_summary style limit counts.now)) }
+    ensures front { OnErr result (AppendsFront (W.contents report.old) (W.contents report.new) (text_summary style limit counts.now)) }
+    ensures failed { IfErr result (λ failure. ¬ IsReading failure) }
+{
+    if matches!(style, Style::Quiet) {
+        return Ok(());
+    }
+    let all = text_counted(alloc, limit, counts)?;
+    put_counts(alloc, style, None, counts.documents, &all, report)
+}
+
+/// Writes the line that tells these counts of an input, or of all.
+fn put_counts<W: Write>(
+    alloc: Global,
+    style: Style,
+    name: Option<&str>,
+    documents: u64,
+    counts: &[Count],
+    report: &mut W,
+) -> Result<(), Failure>
+    ensures written { OnOk result (Appends (W.contents report.old) (W.contents report.new)
+        (counts_line style (option_copied name.entry) documents (map count_of counts.now))) }
+    ensures front { OnErr result (AppendsFront (W.contents report.old) (W.contents report.new)
+        (counts_line style (option_copied name.entry) documents (map count_of counts.now))) }
     ensures failed { IfErr result (λ failure. ¬ IsReading failure) }
 {
     let text = match style {
-        Style::Words => summary(alloc, name, limit, command, counts, kept)?,
-        Style::Json => summary_object(alloc, name, limit, command, counts, kept)?,
+        Style::Words => counts_words(alloc, name, documents, counts)?,
+        Style::Json => counts_object(alloc, name, documents, counts)?,
         Style::Quiet => Vec::new(alloc),
     };
     put(report, &text)

@@ -4,7 +4,7 @@
 ghost use Rattle.std.specs.Prelude.{◌≡◌, ◌++◌, ◌∷◌, [], IfOk, OnOk, flat_map, map};
 ghost use Rattle.std.specs.Option.{option_copied};
 ghost use Rattle.dump_io.specs.lines.Told.{Grows};
-ghost use Rattle.dump_commands.specs.Summary.{breached_counts, count_members, count_of, count_text, counts_of, damaged_counts, hidden_counts, kept_counts, left_counts, name_members, name_text, next_text, summary_line};
+ghost use Rattle.dump_commands.specs.Summary.{breached_counts, count_members, count_of, count_text, counts_line, counts_of, damaged_counts, hidden_counts, kept_counts, left_counts, name_members, name_text, next_text, text_counts};
 ghost use Rattle.dump_io.specs.declared.lines.style.Style.TheVariants.{Json, Words};
 
 use crate::command::Command;
@@ -123,8 +123,8 @@ fn push_hidden(all: &mut Vec<Count>, limit: Option<u64>, counts: &Counts) -> Res
     }
 }
 
-/// All that was counted beside the documents.
-fn counted(
+/// All that a command counted beside the documents.
+pub fn counted(
     alloc: Global,
     limit: Option<u64>,
     command: Command<'_>,
@@ -139,6 +139,22 @@ fn counted(
     push_breached(&mut all, command, counts)?;
     push_damaged(&mut all, command, counts)?;
     push_left(&mut all, counts)?;
+    push_hidden(&mut all, limit, counts)?;
+    Ok(all)
+}
+
+/// All that was counted of texts beside the documents.
+pub fn text_counted(
+    alloc: Global,
+    limit: Option<u64>,
+    counts: &Counts,
+) -> Result<Vec<Count>, AllocError>
+    ensures { IfOk result (λ all. map count_of all.items ≡ text_counts limit counts.now) }
+{
+    let mut all = Vec::new(alloc);
+    push(&mut all, "bytes", counts.bytes)?;
+    push(&mut all, "faults", counts.damaged)?;
+    push(&mut all, "files that can't be read", counts.files)?;
     push_hidden(&mut all, limit, counts)?;
     Ok(all)
 }
@@ -175,21 +191,19 @@ fn push_name(text: &mut Vec<u8>, name: Option<&str>) -> Result<(), AllocError>
     }
 }
 
-/// The line that tells what was counted of an input, or of all.
-pub fn summary(
+/// The line that tells these counts of an input, or of all.
+pub fn counts_words(
     alloc: Global,
     name: Option<&str>,
-    limit: Option<u64>,
-    command: Command<'_>,
-    counts: &Counts,
-    kept: u64,
+    documents: u64,
+    counts: &[Count],
 ) -> Result<Vec<u8>, AllocError>
-    ensures { IfOk result (λ text. text.items ≡ summary_line Words (option_copied name.entry) limit command.entry counts.now kept) }
+    ensures { IfOk result (λ text. text.items ≡ counts_line Words (option_copied name.entry) documents (map count_of counts.now)) }
 {
     let mut text = Vec::new(alloc);
     push_name(&mut text, name)?;
-    push_count(&mut text, "documents", counts.documents)?;
-    push_counts(&mut text, &counted(alloc, limit, command, counts, kept)?)?;
+    push_count(&mut text, "documents", documents)?;
+    push_counts(&mut text, counts)?;
     push_words(&mut text, "\n")?;
     Ok(text)
 }
@@ -214,19 +228,17 @@ fn put_name(object: &mut Writer, name: Option<&str>) -> Result<(), AllocError>
 }
 
 /// The same as an object of JSON.
-pub fn summary_object(
+pub fn counts_object(
     alloc: Global,
     name: Option<&str>,
-    limit: Option<u64>,
-    command: Command<'_>,
-    counts: &Counts,
-    kept: u64,
+    documents: u64,
+    counts: &[Count],
 ) -> Result<Vec<u8>, AllocError>
-    ensures { IfOk result (λ text. text.items ≡ summary_line Json (option_copied name.entry) limit command.entry counts.now kept) }
+    ensures { IfOk result (λ text. text.items ≡ counts_line Json (option_copied name.entry) documents (map count_of counts.now)) }
 {
     let mut object = begun(alloc)?;
     put_name(&mut object, name)?;
-    put_number(&mut object, "documents", counts.documents)?;
-    put_counts(&mut object, &counted(alloc, limit, command, counts, kept)?)?;
+    put_number(&mut object, "documents", documents)?;
+    put_counts(&mut object, counts)?;
     ended(object)
 }

@@ -1,0 +1,2 @@
+mod Plays
+mod Summing

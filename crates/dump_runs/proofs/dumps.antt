@@ -1,9 +1,7 @@
 mod Findings
-mod Plays
 mod Giving
 mod Passing
 mod Nexting
 mod Lines
 mod Choosing
-mod Ending
-mod Summing
+pub mod Ending

@@ -2,5 +2,6 @@ mod Advancing
 mod Words
 mod Whole
 mod Parts
-mod Passing
-mod Summing
+mod Gaps
+mod Becoming
+pub mod Passing

@@ -1,8 +1,5 @@
-pub mod Batch
 pub mod Ends
 pub mod Halting
-pub mod Plays
 pub mod Portion
 pub mod Run
-pub mod Status
 pub mod Steps

@@ -1,4 +1,4 @@
-pub mod Reading
 pub mod Faults
+pub mod Reading
 pub mod Run
-pub mod Batch
+pub mod Steps

@@ -1,16 +1,24 @@
 //! Runs of `bsonraw-dump` over its inputs, in order: dumps, which the commands read, and texts of documents, which `bson` reads.
 //!
-//! - `dumps`: `run` cuts one input into documents, and hands each to its command; `run_all` does so with all, and writes the sums.
-//! - `texts`: `read_texts` cuts one input into texts, and writes the document of each; `run_texts` does so with all.
+//! - `batch`: `run_all` runs over all inputs, writes what was counted, and says how that ended.
+//! - `dumps`: `run` cuts one input into documents, and hands each to its command.
+//! - `texts`: `read_texts` cuts one input into texts, and writes the document of each.
 //!
-//! Begin at `run` in `dumps/run.rt`: its contract says what was read, written, reported and counted, whether it ended well (`EndsRun`) or
-//! failed (`Halts`). To change what a part of an input gives, and in which order, change `events_of` in `specs/dumps/Run.antt` first,
-//! then `specs/dumps/Halting.antt`, which says of what fronts a run that fails may give. What a command makes of a document is `dump_commands`; how bytes are read and lines are spelled
-//! is `dump_io`. Files are opened in `bsonraw_dump` alone.
+//! Begin at `run_all` in `batch.rt`: its contract says what was read, written, reported and counted of all inputs, and the exit status.
+//! What one input gives is a list of events, in order (`specs/Plays.antt`). To change what a part of an input gives, change `events_of`
+//! in `specs/dumps/Run.antt` or `specs/texts/Run.antt` first. What a command makes of a document is `dump_commands`; how bytes are read
+//! and lines are spelled is `dump_io`. Files are opened in `bsonraw_dump` alone.
 #![tactic(auto)]
 
+mod batch;
 mod dumps;
+mod ends;
+mod reading;
+mod style;
+mod sums;
 mod texts;
+mod writers;
 
-pub use dumps::{Writers, run_all};
-pub use texts::{TextJob, run_texts};
+pub use batch::run_all;
+pub use reading::{Reading, TextJob};
+pub use writers::Writers;

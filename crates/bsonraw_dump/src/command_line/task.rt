@@ -3,14 +3,13 @@
 
 use crate::command_line::args::command_line;
 use crate::command_line::commands::{command_of, printing_of};
-use crate::command_line::reading::Reading;
 use clap::{ArgMatches, Error};
 use dump_commands::command::Command;
 use dump_commands::job::Job;
 use dump_io::input::portion::Portion;
 use dump_io::lines::find::most_allowed;
 use dump_io::lines::style::Style;
-use dump_runs::TextJob;
+use dump_runs::{Reading, TextJob};
 use raw_tree::Limits;
 use std::alloc::Global;
 

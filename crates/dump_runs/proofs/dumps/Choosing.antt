@@ -8,7 +8,7 @@ use Rattle.dump_io.proofs.Face.{some_any}
 use Rattle.dump_commands.specs.Counting.{count_finding}
 use Rattle.dump_commands.specs.declared.counts.Counts.{Counts}
 use Rattle.dump_commands.specs.declared.job.Job.{Job}
-use Rattle.dump_runs.specs.dumps.Plays.{Held}
+use Rattle.dump_runs.specs.Plays.{Held}
 use Rattle.dump_runs.specs.dumps.Portion.{AreAsked, IsChosen, IsRunOver, documents_of_parts}
 use Rattle.dump_runs.specs.dumps.Run.{Part, Passed, Point, after, after_all, findings_in, piece, gap, repeats_in, skipped, start_of}
 use Rattle.dump_runs.specs.dumps.Steps.{Place}

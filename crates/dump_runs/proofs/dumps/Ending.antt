@@ -1,5 +1,5 @@
 -- How a run over an input ends, and how it fails.
-use Rattle.std.proofs.Common.{◌≡◌, ℕ, ◌+◌, ◌-◌, List, [], ◌∷◌, ◌++◌, Bool, true, false, Option, None, Some, IfSome, IsNone, ap, append_assoc, arith, inl, inr, length, length-append, refl, subst, sym, ◌∙◌}
+use Rattle.std.proofs.Common.{◌≡◌, ℕ, ◌+◌, ◌-◌, List, [], ◌∷◌, ◌++◌, Bool, true, false, Option, None, Some, IfSome, ap, append_assoc, arith, inl, inr, length, length-append, refl, subst, sym, ◌∙◌}
 use Rattle.std.proofs.KnownBytes.{Consumes-nil}
 use Rattle.std.specs.Io.KnownBytes.{Consumes, IsAtEnd}
 use Rattle.std.specs.declared.io.Error.{Error}
@@ -13,21 +13,24 @@ use Rattle.dump_io.specs.lines.Origins.{Origin}
 use Rattle.dump_io.specs.declared.input.ending.Ending.{Ending}
 use Rattle.dump_io.specs.declared.input.rest.Rest.TheVariants as comes
 use Rattle.dump_io.specs.declared.lines.failure.ReadFailure.{ReadFailure}
+use Rattle.dump_runs.specs.declared.ends.Ended.{Ended}
+use Rattle.dump_runs.specs.declared.ends.Ended.TheVariants as how
 use Rattle.dump_io.specs.declared.lines.style.Style.{Style}
 use Rattle.dump_commands.specs.Counting.{count_left}
 use Rattle.dump_commands.specs.declared.counts.Counts.{Counts}
 use Rattle.dump_commands.specs.declared.job.Job.{Job}
-use Rattle.dump_runs.specs.dumps.Ends.{EndsAs, EndsRun, events_of_rest}
+use Rattle.dump_runs.specs.dumps.Ends.{EndsAs, EndsRun, FailsAfter, events_of_rest}
 use Rattle.dump_runs.specs.dumps.Halting.{Halts, IsNextFront}
-use Rattle.dump_runs.specs.dumps.Plays.{Event, Held, Played}
+use Rattle.dump_runs.specs.Plays.{Event, Held, Played}
 use Rattle.dump_runs.specs.dumps.Portion.{IsChosen, IsEnough}
-use Rattle.dump_runs.specs.dumps.Run.{Passed, Point, after_all, bytes_of_parts, from, skipped, start_of, style_at}
-use Rattle.dump_runs.specs.dumps.Steps.{FailsAt, HasFailed, HaltsLeaving, HaltsNext, Leaves, Looks, PassesAll, PassesSomeFront, Place, EndsParts, end_of, place_of}
+use Rattle.dump_runs.specs.Limits.{style_at}
+use Rattle.dump_runs.specs.dumps.Run.{Passed, Point, after_all, bytes_of_parts, from, skipped, start_of}
+use Rattle.dump_runs.specs.dumps.Steps.{EndsAt, FailsAt, HasFailed, HaltsLeaving, HaltsNext, Leaves, Looks, PassesAll, PassesSomeFront, Place, EndsParts, end_of, place_of}
 use Rattle.dump_runs.specs.declared.dumps.run.Stop.{Stop}
 use Rattle.dump_runs.specs.declared.dumps.run.Stop.TheVariants as stop
 use Rattle.dump_runs.proofs.dumps.Choosing.{HasPassedPortion, chosen_front, in_front_none}
 use Rattle.dump_runs.proofs.dumps.Passing.{counts_passed, has_front, name_behind, offset_of_parts, passed_ahead, passed_same, read_from}
-use Rattle.dump_runs.proofs.dumps.Plays.{played_count, played_none, played_on}
+use Rattle.dump_runs.proofs.Plays.{played_count, played_none, played_on}
 
 -- what was read is in front of the input
 read_front : (bytes x : List ℕ) (r r' : Option (List ℕ)) → Consumes r r' (bytes ++ x) → IfSome r (λ s. HasFront s bytes)
@@ -43,9 +46,6 @@ rest_front (Some s) (Some t) x read = (t, read)
 
 pub not_early : false ≡ true → ⊥
 not_early same = let impossible : ⊥ = cc in absurd impossible
-
-some_none : {A : Type 0} (x : A) → IsNone (Some x) → ⊥
-some_none x none = not_early (sym none)
 
 module _ {job : Job} {name : List ℕ} {input : Option (List ℕ)} where
   -- parts were passed, and of what is next a front is played
@@ -185,11 +185,23 @@ stops_before {job = job} {z = z} {y = y} {old = old} from s fails at unworked p 
       stops = fails_here job y (length (bytes_of_parts h.passed.ps)) from (ahead_of y.window) s fails (at ∙ end) (ap (λ (n : ℕ). n + length (ahead_of y.window)) end);
     }
 
+-- a rest is read
+rest_ends : (job : Job) (e : Ending) (ended : Ended) (at : ℕ) (rest : List ℕ) (left : Option (List ℕ)) → EndsWith job.limits.bytes e rest → job.resync ≡ false
+    → (ended ≡ how.Cut → IsAtEnd left) → EndsAt at ended → EndsAs job false (Some e) ended rest left
+rest_ends job e how.Whole at rest left ends unasked to_end ends_at = absurd ends_at
+rest_ends job e how.Cut at rest left ends unasked to_end ends_at = (ends, unasked, to_end refl)
+rest_ends job e (how.Failed f) at rest left ends unasked to_end ends_at = (ends, unasked)
+
+rest_fails : (ended : Ended) (at : ℕ) → EndsAt at ended → FailsAfter ended at
+rest_fails how.Whole at ends = absurd ends
+rest_fails how.Cut at ends = tt
+rest_fails (how.Failed f) at ends = ends
+
 -- how a run ends after that
 module _ {job : Job} {x y : Place} {old new : Held} where
   -- without a failure
-  ends_read : {s : Stop} (early : Bool) (q : PassesAll job x y old new s) → (HasFailed s → ⊥) → EndsAs job early None None q.rest y.left → (early ≡ true → IsEnough job.portion q.passed.ps)
-      → EndsRun job x.name x.left old new None
+  ends_read : {s : Stop} (early : Bool) (q : PassesAll job x y old new s) → (HasFailed s → ⊥) → EndsAs job early None how.Whole q.rest y.left → (early ≡ true → IsEnough job.portion q.passed.ps)
+      → EndsRun job x.name x.left old new how.Whole
   ends_read early q read ends enough =
       let whole : IsAllInFront job.portion job.limits.bytes x.left q.front = elim q.to_front [
         | inl all ↦ all
@@ -208,19 +220,19 @@ module _ {job : Job} {x y : Place} {old new : Held} where
         fails = tt;
         last = played_none refl;
         kept = refl;
-        to_front = λ none. whole;
+        to_front = λ read. whole;
         to_last = enough;
       }
 
-  pub ends_run : PassesAll job x y old new stop.End → EndsRun job x.name x.left old new None
+  pub ends_run : PassesAll job x y old new stop.End → EndsRun job x.name x.left old new how.Whole
   ends_run q = ends_read false q (λ failed. failed) q.stops (λ early. absurd (not_early early))
 
-  pub ends_early : PassesAll job x y old new stop.Enough → EndsRun job x.name x.left old new None
+  pub ends_early : PassesAll job x y old new stop.Enough → EndsRun job x.name x.left old new how.Whole
   ends_early q = ends_read true q (λ failed. failed) (refl, refl) (λ early. q.to_last refl)
 
   -- where reading failed
   pub ends_failed : (from : ℕ) (error : Error) (f : ReadFailure) (n : Counts) → PassesAll job x y old new (stop.Failed from error) → f.at ≡ end_of y → n ≡ count_left new.counts (f.at - from)
-      → EndsRun job x.name x.left old (record new { counts = n }) (Some f)
+      → EndsRun job x.name x.left old (record new { counts = n }) (how.Failed f)
   ends_failed from error f n q at counts =
       let start : from ≡ length (bytes_of_parts q.passed.ps) = q.stops.0 in
       let end : end_of y ≡ length (bytes_of_parts q.passed.ps) + length q.rest = q.stops.1 in
@@ -238,7 +250,7 @@ module _ {job : Job} {x y : Place} {old new : Held} where
         fails = at ∙ end;
         last = played_count (λ m. count_left m (length q.rest)) (counts ∙ ap (λ (a : ℕ). count_left new.counts a) left) [] (played_none refl);
         kept = refl;
-        to_front = λ none. absurd (some_none f none);
+        to_front = λ read. absurd (read tt);
         to_last = λ early. absurd (not_early early);
       }
 
@@ -260,13 +272,11 @@ module _ {job : Job} {x y : Place} {old new : Held} where
     ]
 
     -- with what no document begins with
-    pub ends_left : {z : Place} {last : Held} {failed : Option ReadFailure} → Leaves job e y z new last failed → EndsRun job x.name x.left old last failed
-    ends_left {z = z} {last = last} {failed = failed} l =
+    pub ends_left : {z : Place} {last : Held} {ended : Ended} → Leaves job e y z new last ended → EndsRun job x.name x.left old last ended
+    ends_left {z = z} {last = last} {ended = ended} l =
         let (ahead, at, ends, behind, unasked) = q.stops in
-        let is : EndsAs job false (Some e) failed l.rest z.left = elim failed as (λ f. (IsNone f → IsAtEnd z.left) → EndsAs job false (Some e) f l.rest z.left) [
-          | None ↦ λ to_end. (l.ends, unasked, to_end refl)
-          | Some f ↦ λ to_end. (l.ends, unasked)
-        ] l.to_end in
+        let is : EndsAs job false (Some e) ended l.rest z.left =
+        rest_ends job e ended _ l.rest z.left l.ends unasked l.to_end l.ends_at in
         record {
           rest = l.rest;
           left = z.left;
@@ -277,12 +287,12 @@ module _ {job : Job} {x y : Place} {old new : Held} where
           early = false;
           end = Some e;
           ends = is;
-          fails = subst (λ (m : ℕ). IfSome failed (λ (f : ReadFailure). f.at ≡ m + length l.rest)) at l.fails;
+          fails = rest_fails ended _ (subst (λ (m : ℕ). EndsAt (m + length l.rest) ended) at l.ends_at);
           last =
               subst (λ (a : Origin). Played (events_of_rest (style_at job.style job.limit (after_all job (start_of x.name old) q.passed.ps).counts) a e (length l.rest)) new last) (sym last_place)
               (subst (λ (s : Style). Played (events_of_rest s (place_of y) e (length l.rest)) new last) (sym last_style) l.played);
           kept = l.kept;
-          to_front = λ none. all_front;
+          to_front = λ read. all_front;
           to_last = λ early. absurd (not_early early);
         }
 

@@ -20,11 +20,12 @@ use Rattle.dump_commands.specs.declared.counts.Counts.{Counts}
 use Rattle.dump_commands.specs.declared.job.Job.{Job}
 use Rattle.dump_commands.specs.declared.state.kept.Kept.{Kept}
 use Rattle.dump_commands.proofs.Face.{writes_kept}
-use Rattle.dump_runs.specs.dumps.Plays.{Played, given, reported}
-use Rattle.dump_runs.specs.dumps.Run.{Entry, findings_in, repeats_in, style_at}
+use Rattle.dump_runs.specs.Plays.{Played, given, reported}
+use Rattle.dump_runs.specs.Limits.{style_at}
+use Rattle.dump_runs.specs.dumps.Run.{Entry, findings_in, repeats_in}
 use Rattle.dump_runs.specs.dumps.Steps.{GivesPiece, HaltsPiece, point_at}
 use Rattle.dump_runs.specs.declared.dumps.piece.Piece.{Piece}
-use Rattle.dump_runs.proofs.dumps.Plays.{holds, played_made, played_text, played_texts}
+use Rattle.dump_runs.proofs.Plays.{holds, played_made, played_text, played_texts}
 
 repeats_counted : (at : Origin) (first : Option Origin) → length (repeat_at at first) ≡ cond (is_some first) 1 0
 repeats_counted at None = refl

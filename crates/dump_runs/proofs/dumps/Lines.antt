@@ -19,10 +19,11 @@ use Rattle.dump_commands.specs.Counting.{count_gap}
 use Rattle.dump_commands.specs.declared.counts.Counts.{Counts}
 use Rattle.dump_commands.specs.declared.job.Job.{Job}
 use Rattle.dump_commands.specs.declared.state.kept.Kept.{Kept}
-use Rattle.dump_runs.specs.dumps.Plays.{Held, Played, reported}
-use Rattle.dump_runs.specs.dumps.Run.{events_of_gap, style_at}
+use Rattle.dump_runs.specs.Plays.{Held, Played, reported}
+use Rattle.dump_runs.specs.Limits.{style_at}
+use Rattle.dump_runs.specs.dumps.Run.{events_of_gap}
 use Rattle.dump_runs.specs.dumps.Steps.{HaltsLine, IsGapLine, IsLeft, IsRestLine, Place, place_of}
-use Rattle.dump_runs.proofs.dumps.Plays.{holds, played_count, played_none, played_text}
+use Rattle.dump_runs.proofs.Plays.{holds, played_count, played_none, played_text}
 
 -- it is the same line where it is told in the same way of the same place
 pub line_same : {s s' : Style} {a a' : Origin} (end : Ending) (rest : Rest) → s ≡ s' → a ≡ a' → ending_line s a.name a.offset end rest ≡ ending_line s' a'.name a'.offset end rest

@@ -28,14 +28,15 @@ use Rattle.dump_commands.specs.Reporting.{IsJudged, lines_of_repeats}
 use Rattle.dump_commands.specs.declared.counts.Counts.{Counts}
 use Rattle.dump_commands.specs.declared.job.Job.{Job}
 use Rattle.dump_runs.specs.dumps.Halting.{IsNextFront, IsNextPiece, IsPieceFront}
-use Rattle.dump_runs.specs.dumps.Plays.{Held, Played}
+use Rattle.dump_runs.specs.Plays.{Held, Played}
 use Rattle.dump_runs.specs.dumps.Portion.{IsRunOver}
-use Rattle.dump_runs.specs.dumps.Run.{Entry, Gap, IsGap, IsPart, IsTaken, Part, Point, after, events_of, events_of_gap, findings_in, gap, memory_of, piece, repeats_in, style_at, style_here, texts_of}
+use Rattle.dump_runs.specs.Limits.{style_at}
+use Rattle.dump_runs.specs.dumps.Run.{Entry, Gap, IsGap, IsPart, IsTaken, Part, Point, after, events_of, events_of_gap, findings_in, gap, memory_of, piece, repeats_in, style_here, texts_of}
 use Rattle.dump_runs.specs.dumps.Steps.{GivesEntry, GivesPiece, HaltsGap, HaltsNext, HaltsPiece, IsPassed, IsPieceOf, Looks, Passes, PassesGap, PassesNext, Place, next_of, place_of, point_at, point_of}
 use Rattle.dump_runs.specs.declared.dumps.piece.Piece.{Piece}
 use Rattle.dump_runs.specs.declared.dumps.piece.Step.{Step}
 use Rattle.dump_runs.specs.declared.dumps.piece.Step.TheVariants as step
-use Rattle.dump_runs.proofs.dumps.Plays.{played_count, played_none}
+use Rattle.dump_runs.proofs.Plays.{played_count, played_none}
 
 -- what is so of all bytes from here on, where they are known
 if_known : (rest r : Option (List ℕ)) (x : List ℕ) (P : List ℕ → Type 0) → ((s : List ℕ) → Consumes (Some s) r x → P s) → Consumes rest r x → IfSome rest P

@@ -6,12 +6,12 @@ use Rattle.std.specs.Io.KnownBytes.{Consumes}
 use Rattle.dump_io.specs.input.Reading.{ahead_of, offset_of}
 use Rattle.dump_io.proofs.Face.{read_behind}
 use Rattle.dump_commands.specs.declared.job.Job.{Job}
-use Rattle.dump_runs.specs.dumps.Plays.{Event, Held, Played, count_event}
+use Rattle.dump_runs.specs.Plays.{Event, Held, Played, count_event}
 use Rattle.dump_runs.specs.dumps.Run.{AreParts, IsPart, Part, Passed, Point, after, after_all, bytes_of_part, bytes_of_parts, events_of, events_of_parts, from, memory_of, skipped, start_of}
 use Rattle.dump_runs.specs.dumps.Steps.{Passes, Place, point_of}
 use Rattle.dump_io.specs.input.InFront.{HasPassedFront}
 use Rattle.raw_resync.specs.Seeking.{no_work}
-use Rattle.dump_runs.proofs.dumps.Plays.{played_none, played_on}
+use Rattle.dump_runs.proofs.Plays.{played_none, played_on}
 
 module _ (job : Job) where
   pub parts_more : (input : Option (List ℕ)) (here : Point) (ps : List Part) (p : Part) → AreParts job input here ps

@@ -71,75 +71,92 @@ no_line_more p [] b none now = (now, tt)
 no_line_more p (x ∷ gap) b (first, rest) now = (first, no_line_more (position_behind p x) gap b rest now)
 
 -- one byte is ahead, and is passed
-advances_byte : (a b : Option (List ℕ)) (x y z : Cursor) (bytes : List ℕ) (byte : ℕ) (rest : List ℕ) → Advances a b x y bytes → ahead_of y.window ≡ byte ∷ rest
-    → PassesAhead y z 1 → Advances a b x z (bytes ++ byte ∷ [])
-advances_byte a b x y z bytes byte rest p ahead passed =
+advances_byte : (a b : Option (List ℕ)) (x y z : Cursor) (bytes : List ℕ) (byte : ℕ) (rest : List ℕ) (t : Turn) → Advances a b x y bytes → ahead_of y.window ≡ byte ∷ rest
+    → PassesAhead (record y { turn = t }) z 1 → Advances a b x z (bytes ++ byte ∷ [])
+advances_byte a b x y z bytes byte rest t p ahead passed =
     let behind : ahead_of z.window ≡ rest = passed.1 ∙ ap (drop 1) ahead in
     let place : z.place ≡ position_over y.place (byte ∷ []) = passed.2 ∙ ap (λ l. position_over y.place (take 1 l)) ahead in
     advances_more a b x y z bytes (byte ∷ []) p passed.0 (ahead ∙ ap (λ l. byte ∷ l) (sym behind)) place passed.3
 
 -- this was passed between documents
-abbrev pub HasBetween : (a b : Option (List ℕ)) (x y : Cursor) (t u : Turn) → Type 0
-HasBetween a b x y t u = (front : List ℕ) × Advances a b x y front × (turn_over t front ≡ Some u)
+abbrev pub HasBetween : (a b : Option (List ℕ)) (x y : Cursor) → Type 0
+HasBetween a b x y = (front : List ℕ) × Advances a b x y front × (turn_over x.turn front ≡ Some y.turn)
 
-pub between_none : (r : Option (List ℕ)) (x : Cursor) (t : Turn) → IsWindow x.window → HasBetween r r x x t t
-between_none r x t is = ([], advances_none r x is, refl)
+pub between_none : (r : Option (List ℕ)) (x : Cursor) → IsWindow x.window → HasBetween r r x x
+between_none r x is = ([], advances_none r x is, refl)
 
 module _ {b c : Option (List ℕ)} {y z : Cursor} {o : Option ℕ} {byte : ℕ} where
-  pub between_more : (a : Option (List ℕ)) (x w : Cursor) (t u v : Turn) → HasBetween a b x y t u → LooksOn b c y z × IsAhead c z o → o ≡ Some byte
-      → turn_behind u byte ≡ Some v → PassesAhead z w 1 → HasBetween a c x w t v
-  between_more a x w t u v (front, p, turns) (looks, is) some now passed =
+  pub between_more : (a : Option (List ℕ)) (x w : Cursor) (v : Turn) → HasBetween a b x y → LooksOn b c y z × IsAhead c z o → o ≡ Some byte
+      → turn_behind z.turn byte ≡ Some v → PassesAhead (record z { turn = v }) w 1 → HasBetween a c x w
+  between_more a x w v (front, p, turns) (looks, is) some now passed =
       let (rest, ahead) = subst (IsAhead c z) some is in
-      (front ++ byte ∷ [], advances_byte a c x z w front byte rest (advances_ahead a b c x y z front p looks) ahead passed, turn_more t u v front byte turns now)
+      let same : turn_over x.turn front ≡ Some z.turn = turns ∙ ap Some (sym looks.turn) in (
+        front ++ byte ∷ [],
+        advances_byte a c x z w front byte rest v (advances_ahead a b c x y z front p looks) ahead passed,
+        turn_more x.turn z.turn v front byte same now ∙ ap Some (sym passed.4),
+      )
 
 module _ {b c : Option (List ℕ)} {y z : Cursor} {q : Option ℕ} where
-  pub between_ends : (a : Option (List ℕ)) (x : Cursor) (t u : Turn) (o : Option ℕ) → HasBetween a b x y t u → LooksOn b c y z × IsAhead c z o → o ≡ q
-      → IfSome q (λ byte. turn_behind u byte ≡ None) → PassesBetween a c x z t u q
-  between_ends a x t u o (front, p, turns) (looks, is) same stops =
-      record { front = front; advances = advances_ahead a b c x y z front p looks; turns = turns; is = subst (IsAhead c z) same is; stops = stops }
+  pub between_ends : (a : Option (List ℕ)) (x : Cursor) (o : Option ℕ) → HasBetween a b x y → LooksOn b c y z × IsAhead c z o → o ≡ q
+      → IfSome q (λ byte. turn_behind z.turn byte ≡ None) → PassesBetween a c x z q
+  between_ends a x o (front, p, turns) (looks, is) same stops = record {
+    front = front;
+    advances = advances_ahead a b c x y z front p looks;
+    turns = turns ∙ ap Some (sym looks.turn);
+    is = subst (IsAhead c z) same is;
+    stops = stops;
+  }
 
 -- and reading failed after it
-pub between_fails : (a b c : Option (List ℕ)) (x y z : Cursor) (t u : Turn) → HasBetween a b x y t u → LooksOn b c y z → GoesOnTo a c x z
-between_fails a b c x y z t u (front, p, turns) looks = goes_on_to a b c x y z front p looks
+pub between_fails : (a b c : Option (List ℕ)) (x y z : Cursor) → HasBetween a b x y → LooksOn b c y z → GoesOnTo a c x z
+between_fails a b c x y z (front, p, turns) looks = goes_on_to a b c x y z front p looks
 
 -- this was passed over
 abbrev pub HasGap : (a b : Option (List ℕ)) (x y : Cursor) → Type 0
-HasGap a b x y = (gap : List ℕ) × Advances a b x y gap × HasNoLine x.place gap
+HasGap a b x y = (gap : List ℕ) × Advances a b x y gap × HasNoLine x.place gap × (y.turn ≡ x.turn)
 
 pub gap_none : (r : Option (List ℕ)) (x : Cursor) → IsWindow x.window → HasGap r r x x
-gap_none r x is = ([], advances_none r x is, tt)
+gap_none r x is = ([], advances_none r x is, tt, refl)
 
 module _ {b c : Option (List ℕ)} {y z : Cursor} {o : Option ℕ} {byte : ℕ} where
   pub gap_more : (a : Option (List ℕ)) (x w : Cursor) → HasGap a b x y → LooksOn b c y z × IsAhead c z o → o ≡ Some byte
       → begins_line z.place byte ≡ false → PassesAhead z w 1 → HasGap a c x w
-  gap_more a x w (gap, p, none) (looks, is) some now passed =
+  gap_more a x w (gap, p, none, same) (looks, is) some now passed =
       let (rest, ahead) = subst (IsAhead c z) some is in
       let first = advances_ahead a b c x y z gap p looks in
       let here : begins_line (position_over x.place gap) byte ≡ false = subst (λ (q : Position). begins_line q byte ≡ false) first.place now in
-      (gap ++ byte ∷ [], advances_byte a c x z w gap byte rest first ahead passed, no_line_more x.place gap byte none here)
+      (gap ++ byte ∷ [], advances_byte a c x z w gap byte rest z.turn first ahead passed, no_line_more x.place gap byte none here, passed.4 ∙ looks.turn ∙ same)
 
 -- up to the end of the input
 module _ {b c : Option (List ℕ)} {y z : Cursor} {o : Option ℕ} where
-  pub gap_ends : (a : Option (List ℕ)) (x : Cursor) (t u : Turn) → HasGap a b x y → LooksOn b c y z × IsAhead c z o → o ≡ None → u ≡ turn.Last
-      → PassesGap a c x z t u
-  gap_ends a x t u (gap, p, none) (looks, is) end last =
-      record { gap = gap; advances = advances_ahead a b c x y z gap p looks; none = none; ends = inr (last, subst (IsAhead c z) end is) }
+  pub gap_ends : (a : Option (List ℕ)) (x : Cursor) → HasGap a b x y → LooksOn b c y z × IsAhead c z o → o ≡ None → PassesGap a c x (record z { turn = turn.Last })
+  gap_ends a x (gap, p, none, same) (looks, is) end =
+      let first = advances_ahead a b c x y z gap p looks in
+      record {
+        gap = gap;
+        advances = record { window = first.window; place = first.place; offset = first.offset; is_read = first.is_read };
+        none = none;
+        ends = inr (refl, subst (IsAhead c z) end is);
+      }
 
 -- or to a line that begins with a brace
 module _ {b c : Option (List ℕ)} {y z : Cursor} {o : Option ℕ} {byte : ℕ} where
-  pub gap_goes_on : (a : Option (List ℕ)) (x : Cursor) (t u : Turn) → HasGap a b x y → LooksOn b c y z × IsAhead c z o → o ≡ Some byte → u ≡ t
-      → begins_line z.place byte ≡ true → PassesGap a c x z t u
-  gap_goes_on a x t u (gap, p, none) (looks, is) some same begins =
-      record { gap = gap; advances = advances_ahead a b c x y z gap p looks; none = none; ends = inl (same, (byte, subst (IsAhead c z) some is, begins)) }
+  pub gap_goes_on : (a : Option (List ℕ)) (x : Cursor) → HasGap a b x y → LooksOn b c y z × IsAhead c z o → o ≡ Some byte → begins_line z.place byte ≡ true → PassesGap a c x z
+  gap_goes_on a x (gap, p, none, same) (looks, is) some begins = record {
+    gap = gap;
+    advances = advances_ahead a b c x y z gap p looks;
+    none = none;
+    ends = inl (looks.turn ∙ same, (byte, subst (IsAhead c z) some is, begins));
+  }
 
 -- and reading failed after it
 pub gap_fails : (a b c : Option (List ℕ)) (x y z : Cursor) → HasGap a b x y → LooksOn b c y z → GoesOnTo a c x z
-gap_fails a b c x y z (gap, p, none) looks = goes_on_to a b c x y z gap p looks
+gap_fails a b c x y z (gap, p, none, same) looks = goes_on_to a b c x y z gap p looks
 
 -- a document's text is next, which begins with a brace
-module _ {a b c : Option (List ℕ)} {x y z : Cursor} {t u : Turn} {o : Option ℕ} where
-  pub finds_text : (found : Scanned) → PassesBetween a b x y t u o → o ≡ Some 123
-      → LooksOn b c y z × IsScanned c (ahead_of z.window) found → may_begin u ≡ true → FindsText a c x z t u (next.Text found)
+module _ {a b c : Option (List ℕ)} {x y z : Cursor} {o : Option ℕ} where
+  pub finds_text : (found : Scanned) → PassesBetween a b x y o → o ≡ Some 123
+      → LooksOn b c y z × IsScanned c (ahead_of z.window) found → may_begin y.turn ≡ true → FindsText a c x z (next.Text found)
   finds_text found p some (looks, scans) may =
       let (rest, brace) = subst (IsAhead b y) some p.is in
       let (more, kept) = front_kept (ahead_of y.window) (ahead_of z.window) looks.looks.kept in
@@ -147,10 +164,10 @@ module _ {a b c : Option (List ℕ)} {x y z : Cursor} {t u : Turn} {o : Option �
       record {
         front = p.front;
         advances = advances_ahead a b c x y z p.front p.advances looks;
-        turns = p.turns;
-        is = (may, (rest ++ more, here), scans);
+        turns = p.turns ∙ ap Some (sym looks.turn);
+        is = (ap may_begin looks.turn ∙ may, (rest ++ more, here), scans);
       }
 
 -- and reading it failed
-pub finds_fails : (a b c : Option (List ℕ)) (x y z : Cursor) (t u : Turn) (o : Option ℕ) → PassesBetween a b x y t u o → LooksOn b c y z → GoesOnTo a c x z
-finds_fails a b c x y z t u o p looks = goes_on_to a b c x y z p.front p.advances looks
+pub finds_fails : (a b c : Option (List ℕ)) (x y z : Cursor) (o : Option ℕ) → PassesBetween a b x y o → LooksOn b c y z → GoesOnTo a c x z
+finds_fails a b c x y z o p looks = goes_on_to a b c x y z p.front p.advances looks

@@ -1,33 +1,36 @@
 -- What is passed of an input of texts.
-use Rattle.std.proofs.Common.{◌≡◌, ◌≤◌, ◌+◌, ℕ, suc, zero, List, [], ◌∷◌, ◌++◌, true, Option, append-nil, ap, drop, inl, inr, length, length-take-le, refl, subst, sym, take, ◌∙◌}
+use Rattle.std.proofs.Common.{◌≡◌, ◌≤◌, ◌+◌, ℕ, suc, zero, List, [], ◌∷◌, ◌++◌, true, Option, ap, drop, inl, inr, length, length-take-le, refl, subst, sym, take, ◌∙◌}
 use Rattle.std.proofs.lemmas.List.{take-append-drop, take-take}
 use Rattle.std.specs.Io.KnownBytes.{Appends}
-use Rattle.std.proofs.KnownBytes.{Appends-nil}
 use Rattle.dump_io.specs.lines.Fronts.{AppendsFront, HasFront}
 use Rattle.dump_io.specs.input.Reading.{ahead_of}
+use Rattle.dump_io.specs.input.Texts.{HasBrace, IsOpen, IsOneText, may_begin, position_over, scanned, turn_behind_document, turn_behind_gap}
+use Rattle.dump_io.specs.declared.input.scan.Scan.TheVariants as scan
+use Rattle.dump_io.specs.declared.input.turn.Turn.{Turn}
+use Rattle.dump_io.specs.declared.lines.style.Style.{Style}
+use Rattle.dump_commands.specs.Counting.{count_fault, count_said}
+use Rattle.dump_commands.specs.declared.counts.Counts.{Counts}
+use Rattle.dump_commands.specs.declared.state.kept.Kept.{Kept}
+use Rattle.dump_runs.specs.Plays.{Held, Played, given, reported}
 use Rattle.dump_runs.specs.texts.Faults.{fault_line}
 use Rattle.dump_runs.specs.texts.Reading.{PassesAhead}
-use Rattle.dump_runs.specs.texts.Run.{Gives, HaltsText, IsBegun, IsDocument, IsFaultOf, IsRefused, PassesText, TellsTextFault, TellsNoText, count_made}
-use Rattle.dump_io.specs.input.Texts.{HasBrace, IsOpen, IsOneText, may_begin, position_over, scanned, turn_behind_document, turn_behind_gap}
+use Rattle.dump_runs.specs.texts.Run.{Gives, IsFaultOf, TellsTextFault, TextPoint, events_of, refused, said}
+use Rattle.dump_runs.specs.texts.Steps.{HaltsSaid, HaltsText, PassesText, TellsNoText, point_of}
 use Rattle.dump_runs.specs.declared.texts.cursor.Cursor.{Cursor}
 use Rattle.dump_runs.specs.declared.texts.cursor.NextText.{NextText}
-use Rattle.dump_io.specs.declared.input.position.Position.{Position}
-use Rattle.dump_io.specs.declared.input.scan.Scan.TheVariants as scan
-use Rattle.dump_io.specs.declared.lines.style.Style.{Style}
-use Rattle.dump_runs.specs.declared.texts.counts.TextCounts.{TextCounts}
 use Rattle.dump_runs.specs.declared.texts.fault.TextReason.{TextReason}
+use Rattle.dump_runs.specs.declared.texts.piece.Fault.{Fault}
 use Rattle.dump_runs.specs.declared.texts.piece.Went.TheVariants as went
-use Rattle.dump_io.specs.declared.input.turn.Turn.{Turn}
-use Rattle.dump_io.proofs.Face.{front_none}
+use Rattle.dump_runs.proofs.Plays.{holds, played_count, played_given, played_none, played_text}
 
--- the line of a fault so many bytes after a place, in the front of what is ahead
-abbrev tells_fault : (style : Style) (name ahead : List ℕ) (place : Position) (len at : ℕ) (reason : TextReason) → len ≤ length ahead → at ≤ len
-    → TellsTextFault style name place (take len ahead) (fault_line style name (position_over place (take at ahead)) reason)
-tells_fault style name ahead place len at reason fits within = record {
+-- the line of a fault in the front of what is ahead
+abbrev tells_fault : (style : Style) (here : TextPoint) (ahead : List ℕ) (len at : ℕ) (reason : TextReason) → len ≤ length ahead → at ≤ len
+    → TellsTextFault style here (take len ahead) (fault_line style here.name (position_over here.place (take at ahead)) reason)
+tells_fault style here ahead len at reason fits within = record {
   at = at;
   within = subst (λ (n : ℕ). at ≤ n) (sym (length-take-le len ahead fits)) within;
   reason = reason;
-  told = ap (λ l. fault_line style name (position_over place l) reason) (sym (take-take at len ahead within));
+  told = ap (λ l. fault_line style here.name (position_over here.place l) reason) (sym (take-take at len ahead within));
 }
 
 -- a text that isn't empty begins with the brace that is ahead
@@ -38,7 +41,7 @@ brace_first : (len : ℕ) (ahead : List ℕ) → HasBrace ahead → IsOneText (t
 brace_first zero ahead brace whole = absurd (no_byte ahead whole)
 brace_first (suc n) ahead (rest, same) whole = (take n rest, ap (take (suc n)) same)
 
--- so many bytes were passed
+-- this number of bytes were passed
 pub record PassesFirst (y z : Cursor) (len : ℕ) : Type 0 where
   pub fits : len ≤ length (ahead_of y.window)
   pub is : PassesAhead y z len
@@ -46,158 +49,146 @@ pub record PassesFirst (y z : Cursor) (len : ℕ) : Type 0 where
 split : (y z : Cursor) (len : ℕ) → PassesFirst y z len → ahead_of y.window ≡ take len (ahead_of y.window) ++ ahead_of z.window
 split y z len p = sym (take-append-drop len (ahead_of y.window)) ∙ ap (λ l. take len (ahead_of y.window) ++ l) (sym p.is.1)
 
-offset_of : (y z : Cursor) (len : ℕ) → PassesFirst y z len → z.window.offset ≡ y.window.offset + length (take len (ahead_of y.window))
-offset_of y z len p = p.is.3 ∙ ap (λ n. y.window.offset + n) (sym (length-take-le len (ahead_of y.window) p.fits))
+offset_after : (y z : Cursor) (len : ℕ) → PassesFirst y z len → z.window.offset ≡ y.window.offset + length (take len (ahead_of y.window))
+offset_after y z len p = p.is.3 ∙ ap (λ n. y.window.offset + n) (sym (length-take-le len (ahead_of y.window) p.fits))
 
 -- the text is in front of what is ahead
 first_of : (len : ℕ) (ahead : List ℕ) → HasFront ahead (take len ahead)
 first_of len ahead = (drop len ahead, sym (take-append-drop len ahead))
 
-module _ (ahead : List ℕ) (t v : Turn) (len : ℕ) (fits : len ≤ length ahead) where
-  is_document : (document : List ℕ) → may_begin t ≡ true → HasBrace ahead → IsOneText (take len ahead) → Gives (take len ahead) document → v ≡ turn_behind_document t
-      → IsDocument t (take len ahead) (document ∷ []) [] v
-  is_document document may brace whole is next = record {
-    may_be = may;
-    brace = brace_first len ahead brace whole;
-    whole = whole;
-    document = document;
-    is_written = is;
-    makes = refl;
-    quiet = refl;
-    next = next;
+-- the line of a fault there
+abbrev pub line_of : Style → List ℕ → Cursor → Fault → List ℕ
+line_of style name y f = fault_line style name (position_over y.place (take f.at (ahead_of y.window))) f.reason
+
+-- a whole text of this length is there
+pub record HasWhole (y : Cursor) (len : ℕ) : Type 0 where
+  pub may : may_begin y.turn ≡ true
+  pub brace : HasBrace (ahead_of y.window)
+  pub whole : IsOneText (take len (ahead_of y.window))
+
+module _ (style : Style) (name : List ℕ) (told : NextText) (y : Cursor) {old new : Held} where
+  -- a document is passed
+  pub passes_document : {z : Cursor} {v : Turn} (len : ℕ) (bytes : List ℕ) → PassesFirst y z len → HasWhole y len → Gives (take len (ahead_of y.window)) bytes
+      → Played (events_of (said bytes)) old new → v ≡ turn_behind_document z.turn → PassesText style name told y (record z { turn = v }) old new went.Document
+  passes_document {z = z} len bytes p h gives played next = record {
+    window = p.is.0;
+    text = take len (ahead_of y.window);
+    says = said bytes;
+    ahead = split y z len p;
+    place = p.is.2;
+    offset = offset_after y z len p;
+    is = record { may_be = h.may; brace = brace_first len (ahead_of y.window) h.brace h.whole; whole = h.whole; is_written = gives; next = next ∙ ap turn_behind_document p.is.4 };
+    played = played;
   }
 
-module _ {style : Style} {name : List ℕ} (ahead : List ℕ) {place : Position} {t v : Turn} (len : ℕ) (fits : len ≤ length ahead) where
-  module _ (at : ℕ) (reason : TextReason) (within : at ≤ len) where
-    is_begun : (told : NextText) → IsOpen (scanned (take len ahead)) → TellsNoText ahead told len at reason → v ≡ turn_behind_gap t
-        → IsBegun style name place t ahead told (take len ahead) [] (fault_line style name (position_over place (take at ahead)) reason) v
-    is_begun told open' why next = record {
-      unended = open';
-      none = refl;
-      fault = tells_fault style name ahead place len at reason fits within;
-      why = subst (λ n. TellsNoText ahead told n at reason) (sym (length-take-le len ahead fits)) why;
-      next = next;
-    }
+  -- a front of it is given
+  pub halts_document : (len : ℕ) (bytes : List ℕ) → HasWhole y len → Gives (take len (ahead_of y.window)) bytes → HaltsSaid (said bytes) old new → HaltsText style name told y old new
+  halts_document len bytes h gives halts = inr (
+    went.Document,
+    take len (ahead_of y.window),
+    said bytes,
+    turn_behind_document y.turn,
+    first_of len (ahead_of y.window),
+    record { may_be = h.may; brace = brace_first len (ahead_of y.window) h.brace h.whole; whole = h.whole; is_written = gives; next = refl },
+    halts,
+  )
 
-    is_refused : may_begin t ≡ true → HasBrace ahead → IsOneText (take len ahead) → IsFaultOf (take len ahead) at reason → v ≡ turn_behind_document t
-        → IsRefused style name place t (take len ahead) [] (fault_line style name (position_over place (take at ahead)) reason) v
-    is_refused may brace whole why next = record {
-      may_be = may;
-      brace = brace_first len ahead brace whole;
-      whole = whole;
-      none = refl;
-      fault = tells_fault style name ahead place len at reason fits within;
-      why = why;
-      next = next;
-    }
-
-module _ {style : Style} {name : List ℕ} {told : NextText} {y z : Cursor} {t v : Turn} (len : ℕ) where
-  module _ (at : ℕ) (reason : TextReason) {out w w' : Option (List ℕ)} {n n' : TextCounts} (p : PassesFirst y z len) (within : at ≤ len)
-      (line : Appends w w' (fault_line style name (position_over y.place (take at (ahead_of y.window))) reason)) (counted : n' ≡ count_made n []) where
-    pub passes_astray : IsOpen (scanned (take len (ahead_of y.window))) → TellsNoText (ahead_of y.window) told len at reason → v ≡ turn_behind_gap t
-        → PassesText style name told y z t v out out w w' n n' went.Astray
-    passes_astray open' why next = record {
+  module _ (f : Fault) (within : f.at ≤ f.len) where
+    -- a text with a fault is passed
+    pub passes_refused : {z : Cursor} {v : Turn} → PassesFirst y z f.len → HasWhole y f.len → IsFaultOf (take f.len (ahead_of y.window)) f.at f.reason
+        → Played (events_of (refused (line_of style name y f))) old new → v ≡ turn_behind_document z.turn → PassesText style name told y (record z { turn = v }) old new went.Refused
+    passes_refused {z = z} p h why played next = record {
       window = p.is.0;
-      text = take len (ahead_of y.window);
-      made = [];
-      lines = fault_line style name (position_over y.place (take at (ahead_of y.window))) reason;
-      ahead = split y z len p;
+      text = take f.len (ahead_of y.window);
+      says = refused (line_of style name y f);
+      ahead = split y z f.len p;
       place = p.is.2;
-      offset = offset_of y z len p;
-      is = is_begun (ahead_of y.window) len p.fits at reason within told open' why next;
-      is_written = Appends-nil out;
-      is_reported = line;
-      is_counted = counted;
+      offset = offset_after y z f.len p;
+      is = record {
+        may_be = h.may;
+        brace = brace_first f.len (ahead_of y.window) h.brace h.whole;
+        whole = h.whole;
+        fault = tells_fault style (point_of name y old.counts) (ahead_of y.window) f.len f.at f.reason p.fits within;
+        why = why;
+        next = next ∙ ap turn_behind_document p.is.4;
+      };
+      played = played;
     }
 
-    pub passes_refused : may_begin t ≡ true → HasBrace (ahead_of y.window) → IsOneText (take len (ahead_of y.window)) → IsFaultOf (take len (ahead_of y.window)) at reason
-        → v ≡ turn_behind_document t → PassesText style name told y z t v out out w w' n n' went.Refused
-    passes_refused may brace whole why next = record {
+    -- a front of its line is told
+    pub halts_refused : f.len ≤ length (ahead_of y.window) → HasWhole y f.len → IsFaultOf (take f.len (ahead_of y.window)) f.at f.reason
+        → HaltsSaid (refused (line_of style name y f)) old new → HaltsText style name told y old new
+    halts_refused fits h why halts = inr (
+      went.Refused,
+      take f.len (ahead_of y.window),
+      refused (line_of style name y f),
+      turn_behind_document y.turn,
+      first_of f.len (ahead_of y.window),
+      record {
+        may_be = h.may;
+        brace = brace_first f.len (ahead_of y.window) h.brace h.whole;
+        whole = h.whole;
+        fault = tells_fault style (point_of name y old.counts) (ahead_of y.window) f.len f.at f.reason fits within;
+        why = why;
+        next = refl;
+      },
+      halts,
+    )
+
+    -- what is no whole text is passed
+    pub passes_astray : {z : Cursor} {v : Turn} → PassesFirst y z f.len → IsOpen (scanned (take f.len (ahead_of y.window))) → TellsNoText (ahead_of y.window) told f.len f.at f.reason
+        → Played (events_of (refused (line_of style name y f))) old new → v ≡ turn_behind_gap z.turn → PassesText style name told y (record z { turn = v }) old new went.Astray
+    passes_astray {z = z} p open' why played next = record {
       window = p.is.0;
-      text = take len (ahead_of y.window);
-      made = [];
-      lines = fault_line style name (position_over y.place (take at (ahead_of y.window))) reason;
-      ahead = split y z len p;
+      text = take f.len (ahead_of y.window);
+      says = refused (line_of style name y f);
+      ahead = split y z f.len p;
       place = p.is.2;
-      offset = offset_of y z len p;
-      is = is_refused (ahead_of y.window) len p.fits at reason within may brace whole why next;
-      is_written = Appends-nil out;
-      is_reported = line;
-      is_counted = counted;
+      offset = offset_after y z f.len p;
+      is = record {
+        unended = open';
+        fault = tells_fault style (point_of name y old.counts) (ahead_of y.window) f.len f.at f.reason p.fits within;
+        why = subst (λ n. TellsNoText (ahead_of y.window) told n f.at f.reason) (sym (length-take-le f.len (ahead_of y.window) p.fits)) why;
+        next = next ∙ ap turn_behind_gap p.is.4;
+      };
+      played = played;
     }
 
-  module _ {d d' : Option (List ℕ)} {n n' : TextCounts} where
-    pub passes_document : (document : List ℕ) (w : Option (List ℕ)) → PassesFirst y z len → may_begin t ≡ true
-        → HasBrace (ahead_of y.window) × IsOneText (take len (ahead_of y.window)) × Gives (take len (ahead_of y.window)) document → Appends d d' document
-        → n' ≡ count_made n (document ∷ []) → v ≡ turn_behind_document t → PassesText style name told y z t v d d' w w n n' went.Document
-    passes_document document w p may (brace, whole, is) written counted next = record {
-      window = p.is.0;
-      text = take len (ahead_of y.window);
-      made = document ∷ [];
-      lines = [];
-      ahead = split y z len p;
-      place = p.is.2;
-      offset = offset_of y z len p;
-      is = is_document (ahead_of y.window) t v len p.fits document may brace whole is next;
-      is_written = subst (Appends d d') (sym (append-nil document)) written;
-      is_reported = Appends-nil w;
-      is_counted = counted;
-    }
+    -- a front of its line is told
+    pub halts_astray : f.len ≤ length (ahead_of y.window) → IsOpen (scanned (take f.len (ahead_of y.window))) → TellsNoText (ahead_of y.window) told f.len f.at f.reason
+        → HaltsSaid (refused (line_of style name y f)) old new → HaltsText style name told y old new
+    halts_astray fits open' why halts = inr (
+      went.Astray,
+      take f.len (ahead_of y.window),
+      refused (line_of style name y f),
+      turn_behind_gap y.turn,
+      first_of f.len (ahead_of y.window),
+      record {
+        unended = open';
+        fault = tells_fault style (point_of name y old.counts) (ahead_of y.window) f.len f.at f.reason fits within;
+        why = subst (λ n. TellsNoText (ahead_of y.window) told n f.at f.reason) (sym (length-take-le f.len (ahead_of y.window) fits)) why;
+        next = refl;
+      },
+      halts,
+    )
 
--- a fault in a text of so many bytes
-pub record FaultIn (len : ℕ) : Type 0 where
-  pub at : ℕ
-  pub reason : TextReason
-  pub within : at ≤ len
+-- nothing is played
+pub halts_none : (style : Style) (name : List ℕ) (told : NextText) (y : Cursor) (old : Held) → HaltsText style name told y old old
+halts_none style name told y old = inl (played_none refl)
 
-module _ (ahead : List ℕ) (place : Position) (t : Turn) where
-  -- nothing is written
-  pub halts_none : (d : Option (List ℕ)) → (style : Style) (name : List ℕ) (told : NextText) (w : Option (List ℕ)) → HaltsText style name told place t ahead d d w w
-  halts_none d style name told w = inl (refl, refl)
+module _ {d w : Option (List ℕ)} {n : Counts} {k : Kept} where
+  -- a document is written, and counted
+  pub said_played : (bytes : List ℕ) {d' : Option (List ℕ)} {m : Counts} → Appends d d' bytes → m ≡ count_said n (length bytes) → Played (events_of (said bytes)) (holds d w n k) (holds d' w m k)
+  said_played bytes {d' = d'} put counts = played_count (λ m. count_said m (length bytes)) counts (given bytes ∷ []) (played_given d d' w w n k k bytes put)
 
-  module _ (len : ℕ) (fits : len ≤ length ahead) where
-    -- a front of a document
-    module _ {d d' : Option (List ℕ)} where
-      pub halts_document : (document : List ℕ) → (may_begin t ≡ true) × HasBrace ahead × IsOneText (take len ahead) × Gives (take len ahead) document
-          → AppendsFront d d' document → (style : Style) (name : List ℕ) (told : NextText) (w : Option (List ℕ)) → HaltsText style name told place t ahead d d' w w
-      halts_document document (may, brace, whole, is) front style name told w = inr (
-        went.Document,
-        take len ahead,
-        document ∷ [],
-        [],
-        turn_behind_document t,
-        first_of len ahead,
-        is_document ahead t (turn_behind_document t) len fits document may brace whole is refl,
-        subst (AppendsFront d d') (sym (append-nil document)) front,
-        front_none w [],
-      )
+  -- or a front of it
+  pub said_front : (bytes : List ℕ) {d' : Option (List ℕ)} → AppendsFront d d' bytes → HaltsSaid (said bytes) (holds d w n k) (holds d' w n k)
+  said_front bytes {d' = d'} front = (given front.front ∷ [], played_given d d' w w n k k front.front front.put, inr (front.front, (front.behind, front.whole), refl))
 
-    module _ (style : Style) (name : List ℕ) (f : FaultIn len) {w w' : Option (List ℕ)} (front : AppendsFront w w' (fault_line style name (position_over place (take f.at ahead)) f.reason)) where
-      -- or of the line of a fault
-      pub halts_astray : (told : NextText) (out : Option (List ℕ)) → IsOpen (scanned (take len ahead)) × TellsNoText ahead told len f.at f.reason
-          → HaltsText style name told place t ahead out out w w'
-      halts_astray told out (open', why) = inr (
-        went.Astray,
-        take len ahead,
-        [],
-        fault_line style name (position_over place (take f.at ahead)) f.reason,
-        turn_behind_gap t,
-        first_of len ahead,
-        is_begun ahead len fits f.at f.reason f.within told open' why refl,
-        front_none out [],
-        front,
-      )
+  -- the line of a fault is told, and it is counted
+  pub refused_played : (line : List ℕ) {w' : Option (List ℕ)} {m : Counts} → Appends w w' line → m ≡ count_fault n → Played (events_of (refused line)) (holds d w n k) (holds d w' m k)
+  refused_played line {w' = w'} put counts = played_count count_fault counts (reported line ∷ []) (played_text d d w w' n k k line put)
 
-      pub halts_refused : (may_begin t ≡ true) × HasBrace ahead × IsOneText (take len ahead) × IsFaultOf (take len ahead) f.at f.reason → (told : NextText) (out : Option (List ℕ))
-          → HaltsText style name told place t ahead out out w w'
-      halts_refused (may, brace, whole, why) told out = inr (
-        went.Refused,
-        take len ahead,
-        [],
-        fault_line style name (position_over place (take f.at ahead)) f.reason,
-        turn_behind_document t,
-        first_of len ahead,
-        is_refused ahead len fits f.at f.reason f.within may brace whole why refl,
-        front_none out [],
-        front,
-      )
+  -- or a front of it
+  pub refused_front : (line : List ℕ) {w' : Option (List ℕ)} → AppendsFront w w' line → HaltsSaid (refused line) (holds d w n k) (holds d w' n k)
+  refused_front line {w' = w'} front = (reported front.front ∷ [], played_text d d w w' n k k front.front front.put, inr (front.front, (front.behind, front.whole), refl))

@@ -15,7 +15,7 @@ use Rattle.dump_commands.specs.Reporting.{Reports, ReportsFront, lines_of_repeat
 use Rattle.dump_commands.specs.Unique.{repeats_of, written_of}
 use Rattle.dump_commands.specs.state.Forms.{Made, placed_at}
 use Rattle.dump_commands.specs.declared.job.Job.{Job}
-use Rattle.dump_runs.specs.dumps.Plays.{Event, Held, Played, given, reported}
+use Rattle.dump_runs.specs.Plays.{Event, Held, Played, given, reported}
 use Rattle.dump_runs.specs.dumps.Portion.{IsChosen}
 use Rattle.dump_runs.specs.dumps.Run.{AreParts, Gap, IsGap, Part, Point, after_all, bytes_of_parts, events_of_parts, from, start_of, style_here}
 

@@ -1,5 +1,5 @@
 -- The parts of an input, what each gives, and what is counted and kept after it.
-use Rattle.std.specs.Prelude.{◌≡◌, ℕ, ◌+◌, ◌-◌, List, [], ◌∷◌, ◌++◌, Bool, true, Option, None, Some, IfSome, drop, flat_map, fold, length}
+use Rattle.std.specs.Prelude.{◌≡◌, ℕ, ◌+◌, List, [], ◌∷◌, ◌++◌, Bool, true, Option, IfSome, drop, flat_map, fold, length}
 use Rattle.std.specs.Io.KnownBytes.{Consumes}
 use Rattle.std.specs.Option.{option_map}
 use Rattle.raw_resync.specs.Seeking.{no_work}
@@ -9,7 +9,6 @@ use Rattle.dump_io.specs.input.Endings.{ending_line}
 use Rattle.dump_io.specs.input.Resync.{BreaksWith, IsBelieved, IsNextPlace, Spends}
 use Rattle.dump_io.specs.lines.Find.{Account}
 use Rattle.dump_io.specs.lines.Origins.{Origin, Repeat, origin_at}
-use Rattle.dump_io.specs.lines.Told.{with_left}
 use Rattle.dump_io.specs.declared.input.ending.Ending.{Ending}
 use Rattle.dump_io.specs.declared.input.rest.Rest.TheVariants as comes
 use Rattle.dump_io.specs.declared.input.resync.Skip.{Skip}
@@ -29,7 +28,8 @@ use Rattle.dump_commands.specs.declared.command.Command.TheVariants as command
 use Rattle.dump_commands.specs.declared.counts.Counts.{Counts}
 use Rattle.dump_commands.specs.declared.job.Job.{Job}
 use Rattle.dump_commands.specs.declared.state.kept.Kept.{Kept}
-use Rattle.dump_runs.specs.dumps.Plays.{Event, Held, Played, count_event, counted, given, reported}
+use Rattle.dump_runs.specs.Limits.{style_at}
+use Rattle.dump_runs.specs.Plays.{Event, Held, Played, count_event, counted, given, reported}
 
 -- a document of an input, at its length: its bytes, what is found in it and what is told of that, what is made of it, what is reported of it, its
 -- elements, if they are counted, and what searches cost then
@@ -85,11 +85,6 @@ pub record Point : Type 0 where
 -- the first part of an input begins here
 abbrev pub start_of : List ℕ → Held → Point
 start_of name held = record { at = origin_at name 0; work = no_work; counts = held.counts; memory = memory_of held.kept }
-
--- how findings are printed after these counts: not at all after as many as are asked for
-abbrev pub style_at : Style → Option ℕ → Counts → Style
-style_at shown None n = shown
-style_at shown (Some most) n = with_left shown (most - n.findings)
 
 abbrev pub style_here : Job → Point → Style
 style_here job here = style_at job.style job.limit here.counts

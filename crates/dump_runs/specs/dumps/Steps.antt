@@ -1,5 +1,5 @@
 -- What the code tells of an input that is read, and of the part that is next in it. No public contract cites this file.
-use Rattle.std.specs.Prelude.{◌≡◌, ◌⊎◌, ◌+◌, ℕ, List, [], ◌∷◌, ◌++◌, Bool, true, false, Option, IfSome, IsNone, drop, length}
+use Rattle.std.specs.Prelude.{◌≡◌, ◌⊎◌, ◌+◌, ℕ, List, [], ◌∷◌, ◌++◌, Bool, true, false, Option, IsNone, drop, length}
 use Rattle.std.specs.Io.KnownBytes.{Consumes, IsAtEnd}
 use Rattle.raw_resync.specs.Seeking.{IsWork, no_work}
 use Rattle.raw_resync.specs.declared.work.Work.{Work}
@@ -19,15 +19,17 @@ use Rattle.dump_io.specs.declared.input.window.Drained.{Drained}
 use Rattle.dump_io.specs.declared.input.window.Next.{Next}
 use Rattle.dump_io.specs.declared.input.window.Next.TheVariants as next
 use Rattle.dump_io.specs.declared.input.window.Window.{Window}
-use Rattle.dump_io.specs.declared.lines.failure.ReadFailure.{ReadFailure}
 use Rattle.dump_commands.specs.Reporting.{IsJudged}
 use Rattle.dump_commands.specs.declared.counts.Counts.{Counts}
 use Rattle.dump_commands.specs.declared.job.Job.{Job}
 use Rattle.dump_runs.specs.dumps.Ends.{events_of_rest}
 use Rattle.dump_runs.specs.dumps.Halting.{IsNextFront, IsPieceFront}
-use Rattle.dump_runs.specs.dumps.Plays.{Event, Held, Played, reported}
+use Rattle.dump_runs.specs.Plays.{Event, Held, Played, reported}
 use Rattle.dump_runs.specs.dumps.Portion.{IsChosen, IsEnough, IsRunOver}
-use Rattle.dump_runs.specs.dumps.Run.{Entry, IsEntry, IsPart, Part, Passed, Point, after, bytes_of_part, bytes_of_parts, events_of, events_of_gap, findings_in, memory_of, repeats_in, style_at, texts_of, with_entry}
+use Rattle.dump_runs.specs.Limits.{style_at}
+use Rattle.dump_runs.specs.dumps.Run.{Entry, IsEntry, IsPart, Part, Passed, Point, after, bytes_of_part, bytes_of_parts, events_of, events_of_gap, findings_in, memory_of, repeats_in, texts_of, with_entry}
+use Rattle.dump_runs.specs.declared.ends.Ended.{Ended}
+use Rattle.dump_runs.specs.declared.ends.Ended.TheVariants as how
 use Rattle.dump_runs.specs.declared.dumps.piece.Piece.{Piece}
 use Rattle.dump_runs.specs.declared.dumps.piece.Step.{Step}
 use Rattle.dump_runs.specs.declared.dumps.piece.Step.TheVariants as step
@@ -174,13 +176,19 @@ pub record IsLeft (most : ℕ) (end : Ending) (read_old read_new : Option (List 
   pub len : length (ahead ++ more) ≡ rest.count
   pub to_end : IsNone rest.failure → IsAtEnd read_new
 
+-- a rest was read that ends here: all of it, or reading failed after it
+abbrev pub EndsAt : ℕ → Ended → Type 0
+EndsAt end how.Whole = ⊥
+EndsAt end how.Cut = Unit {0}
+EndsAt end (how.Failed failure) = failure.at ≡ end
+
 -- The rest of an input, with which no document begins, is counted, and its line is written. Reading fails after it, or it is all.
-pub record Leaves (job : Job) (end : Ending) (x y : Place) (old new : Held) (failed : Option ReadFailure) : Type 0 where
+pub record Leaves (job : Job) (end : Ending) (x y : Place) (old new : Held) (ended : Ended) : Type 0 where
   pub rest : List ℕ
   pub is_read : (before : Option (List ℕ)) → Consumes before x.left (ahead_of x.window) → Consumes before y.left rest
   pub ends : EndsWith job.limits.bytes end rest
-  pub to_end : IsNone failed → IsAtEnd y.left
-  pub fails : IfSome failed (λ failure. failure.at ≡ offset_of x.window + length rest)
+  pub to_end : ended ≡ how.Cut → IsAtEnd y.left
+  pub ends_at : EndsAt (offset_of x.window + length rest) ended
   pub played : Played (events_of_rest (style_at job.style job.limit old.counts) (place_of x) end (length rest)) old new
   pub kept : new.kept ≡ old.kept
 

@@ -24,6 +24,7 @@ reason_between _ = json.ExpectedDocument
 pub record LooksOn (old new : Option (List ℕ)) (cursor_old cursor_new : Cursor) : Type 0 where
   pub window : IsWindow cursor_new.window
   pub place : cursor_new.place ≡ cursor_old.place
+  pub turn : cursor_new.turn ≡ cursor_old.turn
   pub offset : offset_of cursor_new.window ≡ offset_of cursor_old.window
   pub looks : ReadsAhead old new (ahead_of cursor_old.window) (ahead_of cursor_new.window)
 
@@ -54,23 +55,24 @@ abbrev pub PassesAhead : (cursor_old cursor_new : Cursor) → ℕ → Type 0
 PassesAhead cursor_old cursor_new count =
     IsWindow cursor_new.window × (ahead_of cursor_new.window ≡ drop count (ahead_of cursor_old.window))
     × (cursor_new.place ≡ position_over cursor_old.place (take count (ahead_of cursor_old.window))) × (offset_of cursor_new.window ≡ offset_of cursor_old.window + count)
+    × (cursor_new.turn ≡ cursor_old.turn)
 
 -- what may be between documents was passed, up to a byte that can't be there
-pub record PassesBetween (old new : Option (List ℕ)) (cursor_old cursor_new : Cursor) (turn_old turn_new : Turn) (behind : Option ℕ) : Type 0 where
+pub record PassesBetween (old new : Option (List ℕ)) (cursor_old cursor_new : Cursor) (behind : Option ℕ) : Type 0 where
   pub front : List ℕ
   pub advances : Advances old new cursor_old cursor_new front
-  pub turns : turn_over turn_old front ≡ Some turn_new
+  pub turns : turn_over cursor_old.turn front ≡ Some cursor_new.turn
   pub is : IsAhead new cursor_new behind
-  pub stops : IfSome behind (λ b. turn_behind turn_new b ≡ None)
+  pub stops : IfSome behind (λ b. turn_behind cursor_new.turn b ≡ None)
 
 -- bytes were passed in which no line begins with a brace, up to such a line, or to the end of the input
-pub record PassesGap (old new : Option (List ℕ)) (cursor_old cursor_new : Cursor) (turn_old turn_new : Turn) : Type 0 where
+pub record PassesGap (old new : Option (List ℕ)) (cursor_old cursor_new : Cursor) : Type 0 where
   pub gap : List ℕ
   pub advances : Advances old new cursor_old cursor_new gap
   pub none : HasNoLine cursor_old.place gap
   pub ends :
-      ((turn_new ≡ turn_old) × ((b : ℕ) × IsAhead new cursor_new (Some b) × (begins_line cursor_new.place b ≡ true)))
-      ⊎ ((turn_new ≡ turn.Last) × IsAhead new cursor_new None)
+      ((cursor_new.turn ≡ cursor_old.turn) × ((b : ℕ) × IsAhead new cursor_new (Some b) × (begins_line cursor_new.place b ≡ true)))
+      ⊎ ((cursor_new.turn ≡ turn.Last) × IsAhead new cursor_new None)
 
 -- and where it could go on, the input is at its end, or the text has 128 MiB
 abbrev pub IsScanned : Option (List ℕ) → List ℕ → Scanned → Type 0
@@ -89,8 +91,8 @@ IsNextText new ahead t (next.Wrong why) = IsWrong new ahead t why
 IsNextText new ahead t next.End = (may_end t ≡ true) × (ahead ≡ []) × IsAtEnd new
 
 -- what may be between documents was passed, and it is known what is next
-pub record FindsText (old new : Option (List ℕ)) (cursor_old cursor_new : Cursor) (turn_old turn_new : Turn) (told : NextText) : Type 0 where
+pub record FindsText (old new : Option (List ℕ)) (cursor_old cursor_new : Cursor) (told : NextText) : Type 0 where
   pub front : List ℕ
   pub advances : Advances old new cursor_old cursor_new front
-  pub turns : turn_over turn_old front ≡ Some turn_new
-  pub is : IsNextText new (ahead_of cursor_new.window) turn_new told
+  pub turns : turn_over cursor_old.turn front ≡ Some cursor_new.turn
+  pub is : IsNextText new (ahead_of cursor_new.window) cursor_new.turn told

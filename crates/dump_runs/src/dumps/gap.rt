@@ -1,20 +1,22 @@
 //! Passes bytes of an input that no document begins with, or reads them to the end, and says so in a line.
 #![tactic(auto)]
 
-ghost use Rattle.std.specs.Prelude.{◌≡◌, ◌<◌, IfOk, IfErr, IfSome, IsNone, OnErr, OnOk, length};
+ghost use Rattle.std.specs.Prelude.{◌≡◌, ◌<◌, IfOk, IfErr, IsNone, OnErr, OnOk, length};
 ghost use Rattle.std.specs.Io.KnownBytes.{Appends};
 ghost use Rattle.dump_io.specs.input.Cut.{EndsWith};
 ghost use Rattle.dump_io.specs.input.Endings.{ending_line};
 ghost use Rattle.dump_io.specs.input.Reading.{GoesAhead, IsReadBehind, IsWindow, ahead_of};
 ghost use Rattle.dump_io.specs.lines.Failing.{IsReading};
 ghost use Rattle.dump_io.specs.lines.Fronts.{AppendsFront};
-ghost use Rattle.dump_runs.specs.dumps.Plays.{held};
-ghost use Rattle.dump_runs.specs.dumps.Steps.{HaltsGap, HaltsLeaving, Leaves, PassesGap};
+ghost use Rattle.dump_runs.specs.Plays.{held};
+ghost use Rattle.dump_runs.specs.declared.ends.Ended.TheVariants.{Cut};
+ghost use Rattle.dump_runs.specs.dumps.Steps.{EndsAt, HaltsGap, HaltsLeaving, Leaves, PassesGap};
 ghost use Rattle.raw_resync.specs.Seeking.{IsWork};
 
 use crate::dumps::source::Source;
-use crate::dumps::style::style_at;
-use crate::dumps::writers::{Tally, Writers};
+use crate::ends::Ended;
+use crate::style::style_at;
+use crate::writers::{Tally, Writers};
 use dump_commands::job::Job;
 use dump_io::input::ending::Ending;
 use dump_io::input::rest::{Rest, ending_object, ending_words};
@@ -27,7 +29,7 @@ use std::alloc::{AllocError, Global};
 use std::io;
 use std::io::{Read, Write};
 
-/// Counts the rest of an input, with which no document begins, and tells why. Returns where reading fails, if it does.
+/// Counts the rest of an input, with which no document begins, and tells why. Returns whether reading it failed, or the input ends so.
 pub fn leave<'a, R: Read + Drop, D: Write + Drop, W: Write + Drop>(
     alloc: Global,
     job: Job<'a>,
@@ -35,14 +37,14 @@ pub fn leave<'a, R: Read + Drop, D: Write + Drop, W: Write + Drop>(
     source: &mut Source<'a, R>,
     writers: &mut Writers<D, W>,
     tally: &mut Tally<'a>,
-) -> Result<Option<ReadFailure>, Failure>
+) -> Result<Ended, Failure>
     requires { IsWindow source.old.window × EndsWith job.limits.bytes ending (ahead_of source.old.window) × IsReadBehind ending source.old.left }
     ensures left { IfOk result (Leaves job.entry ending source.old source.new (held writers.old tally.old) (held writers.new tally.new)) }
     ensures halts { OnErr result (HaltsLeaving job.entry ending source.old (held writers.old tally.old) (held writers.new tally.new)) }
     ensures failed { IfErr result (λ failure. ¬ IsReading failure) }
 {
     let at = source.at();
-    let style = style_at(job, tally.counts);
+    let style = style_at(job.style, job.limit, tally.counts);
     let rest = source.drain(ending)?;
     let count = rest.count;
     put_ending(
@@ -55,17 +57,17 @@ pub fn leave<'a, R: Read + Drop, D: Write + Drop, W: Write + Drop>(
     )?;
     let end = in_range(at.offset.checked_add(count))?;
     tally.counts = in_range(tally.counts.with_rest(count))?;
-    Ok(failure_at(end, rest.failure))
+    Ok(ended_at(end, rest.failure))
 }
 
-/// That reading failed after `at` bytes, where it did.
-fn failure_at(at: u64, error: Option<io::Error>) -> Option<ReadFailure>
-    ensures none { IsNone result → IsNone error }
-    ensures at { IfSome result (λ failure. failure.at ≡ at) }
+/// How a run ends whose rest is read: before the end of the input; or reading failed after `at` bytes.
+fn ended_at(at: u64, error: Option<io::Error>) -> Ended
+    ensures cut { result ≡ Cut → IsNone error }
+    ensures ended { EndsAt at result }
 {
     match error {
-        Some(error) => Some(ReadFailure { at, error }),
-        None => None,
+        Some(error) => Ended::Failed(ReadFailure { at, error }),
+        None => Ended::Cut,
     }
 }
 
@@ -85,7 +87,7 @@ pub fn pass_gap<'a, R: Read + Drop, D: Write + Drop, W: Write + Drop>(
         × (source.new.name ≡ source.old.name) × (held writers.new tally.new ≡ held writers.old tally.old)) }
 {
     let at = source.at();
-    let style = style_at(job, tally.counts);
+    let style = style_at(job.style, job.limit, tally.counts);
     let skip = source.pass_over(alloc, job.limits)?;
     put_ending(
         alloc,

@@ -8,14 +8,15 @@ ghost use Rattle.dump_io.specs.input.Resync.{TellsPart};
 ghost use Rattle.dump_io.specs.lines.Failing.{IsReading};
 ghost use Rattle.dump_io.specs.lines.Find.{Account};
 ghost use Rattle.dump_commands.specs.Findings.{FindsFor};
-ghost use Rattle.dump_runs.specs.dumps.Plays.{held};
+ghost use Rattle.dump_runs.specs.Plays.{held};
 ghost use Rattle.dump_runs.specs.dumps.Steps.{GivesPiece, HaltsNext, HaltsPiece, IsPieceOf, PassesNext, next_of};
 ghost use Rattle.raw_resync.specs.Seeking.{IsWork};
 
+use crate::dumps::found::findings_of;
 use crate::dumps::gap::pass_gap;
 use crate::dumps::source::Source;
-use crate::dumps::style::{findings_of, style_at};
-use crate::dumps::writers::{Tally, Writers};
+use crate::style::style_at;
+use crate::writers::{Tally, Writers};
 use dump_commands::finding::{Judged, judge};
 use dump_commands::job::Job;
 use dump_commands::making::{count_fields, emit};
@@ -97,7 +98,7 @@ fn pass_document<'a, R: Read + Drop, D: Write + Drop, W: Write + Drop>(
         × (source.new.name ≡ source.old.name) × (held writers.new tally.new ≡ held writers.old tally.old)) }
 {
     let at = source.at();
-    let style = style_at(job, tally.counts);
+    let style = style_at(job.style, job.limit, tally.counts);
     let judged = judge(alloc, job.command, job.limits, style, at, source.front(len))?;
     let finding = judged.finding;
     if !is_taken(alloc, job, finding, len, source)? {
@@ -155,7 +156,7 @@ fn pass<'a, D: Write + Drop, W: Write + Drop>(
     ensures failed { IfErr result (λ failure. ¬ IsReading failure) }
 {
     let finding = piece.judged.finding;
-    let style = style_at(job, tally.counts);
+    let style = style_at(job.style, job.limit, tally.counts);
     put(&mut writers.report, &piece.judged.line)?;
     put_listing(alloc, job.command, piece.bytes, &mut writers.report)?;
     let first = emit(

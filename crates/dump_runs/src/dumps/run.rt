@@ -5,13 +5,14 @@ ghost use Rattle.std.specs.Prelude.{◌≡◌, ℕ, List, Option, IfOk, IfErr, O
 ghost use Rattle.dump_io.specs.lines.Failing.{IsReading};
 ghost use Rattle.dump_runs.specs.dumps.Ends.{EndsRun};
 ghost use Rattle.dump_runs.specs.dumps.Halting.{Halts};
-ghost use Rattle.dump_runs.specs.dumps.Plays.{held};
+ghost use Rattle.dump_runs.specs.Plays.{held};
 ghost use Rattle.dump_runs.specs.dumps.Steps.{Begins, FailsAt, PassesAll};
 
 use crate::dumps::gap::leave;
 use crate::dumps::piece::{Step, pass_next};
 use crate::dumps::source::Source;
-use crate::dumps::writers::{Tally, Writers};
+use crate::ends::Ended;
+use crate::writers::{Tally, Writers};
 use dump_commands::job::Job;
 use dump_io::input::ending::Ending;
 use dump_io::lines::failure::{Failure, ReadFailure, in_range};
@@ -34,7 +35,7 @@ pub enum Stop {
 
 /// Reads an input, a document at a time, writes what the command gives of each, and reports in a line what is wrong with
 /// it. Where no document is in front of what is left, or a damaged one whose length isn't believed, bytes are passed over until
-/// documents go on, if that is asked for; else what is left is counted, and the run ends. Returns where reading fails, if it does.
+/// documents go on, if that is asked for; else what is left is counted, and the run ends.
 pub fn run<'a, R: Read + Drop, D: Write + Drop, W: Write + Drop>(
     alloc: Global,
     job: Job<'a>,
@@ -42,19 +43,19 @@ pub fn run<'a, R: Read + Drop, D: Write + Drop, W: Write + Drop>(
     reader: R,
     writers: &mut Writers<D, W>,
     tally: &mut Tally<'a>,
-) -> Result<Option<ReadFailure>, Failure>
+) -> Result<Ended, Failure>
     ensures ends { IfOk result (EndsRun job.entry name.entry.now (R.remaining reader) (held writers.old tally.old) (held writers.new tally.new)) }
     ensures halts { OnErr result (Halts job.entry name.entry.now (R.remaining reader) (held writers.old tally.old) (held writers.new tally.new)) }
     ensures failed { IfErr result (λ failure. ¬ IsReading failure) }
 {
     let mut source = Source::new(alloc, name, reader);
     match pass_all(alloc, job, &mut source, writers, tally)? {
-        Stop::End | Stop::Enough => Ok(None),
+        Stop::End | Stop::Enough => Ok(Ended::Whole),
         Stop::Left(ending) => leave(alloc, job, ending, &mut source, writers, tally),
         Stop::Failed(from, error) => {
             let at = source.end()?;
             tally.counts = in_range(tally.counts.with_left(at.saturating_sub(from)))?;
-            Ok(Some(ReadFailure { at, error }))
+            Ok(Ended::Failed(ReadFailure { at, error }))
         }
     }
 }

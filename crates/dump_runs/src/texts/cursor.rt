@@ -6,6 +6,7 @@ ghost use Rattle.dump_io.specs.input.Reading.{IsWindow, ahead_of, offset_of};
 ghost use Rattle.dump_io.specs.lines.Failing.{IsReading};
 ghost use Rattle.dump_runs.specs.texts.Reading.{FindsText, GoesOnTo, IsAhead, IsScanned, LooksFar, LooksOn, PassesAhead, PassesBetween, PassesGap, reason_between};
 ghost use Rattle.dump_io.specs.input.Texts.{IsFar, first_position};
+ghost use Rattle.dump_io.specs.declared.input.turn.Turn.TheVariants.{First};
 ghost use Rattle.dump_runs.specs.declared.texts.fault.TextReason.TheVariants.{Json};
 
 use crate::texts::fault::TextReason;
@@ -26,6 +27,8 @@ pub struct Cursor {
     pub window: Window,
     /// its line and column
     pub place: Position,
+    /// what may come there
+    pub turn: Turn,
 }
 
 /// What is next in an input.
@@ -46,10 +49,12 @@ impl Cursor {
         ensures nothing { ahead_of result.window ≡ [] }
         ensures place { result.place ≡ first_position }
         ensures start { offset_of result.window ≡ 0 }
+        ensures turn { result.turn ≡ First }
     {
         Cursor {
             window: Window::new(alloc),
             place: Position::new(),
+            turn: Turn::First,
         }
     }
 
@@ -86,37 +91,33 @@ impl Cursor {
     }
 
     /// Passes what may be between documents, and returns the byte after it.
-    fn pass_between<R: Read>(
-        &mut self,
-        reader: &mut R,
-        turn: &mut Turn,
-    ) -> Result<Option<u8>, Failure>
+    fn pass_between<R: Read>(&mut self, reader: &mut R) -> Result<Option<u8>, Failure>
         requires { IsWindow self.old.window }
-        ensures passed { IfOk result (PassesBetween (R.remaining reader.old) (R.remaining reader.new) self.old self.new turn.old turn.new) }
+        ensures passed { IfOk result (PassesBetween (R.remaining reader.old) (R.remaining reader.new) self.old self.new) }
         ensures fails { IfErr result (λ failure. IsReading failure → GoesOnTo (R.remaining reader.old) (R.remaining reader.new) self.old self.new) }
     {
         for _ in 0..u64::MAX {
             let Some(byte) = self.next(reader)? else {
                 return Ok(None);
             };
-            let Some(behind) = turn.behind(byte) else {
+            let Some(behind) = self.turn.behind(byte) else {
                 return Ok(Some(byte));
             };
-            *turn = behind;
+            self.turn = behind;
             self.pass(1)?;
         }
         Err(too_long())
     }
 
     /// Passes bytes up to the next line that begins with a brace, or to the end of the input.
-    pub fn pass_gap<R: Read>(&mut self, reader: &mut R, turn: &mut Turn) -> Result<(), Failure>
+    pub fn pass_gap<R: Read>(&mut self, reader: &mut R) -> Result<(), Failure>
         requires { IsWindow self.old.window }
-        ensures passed { OnOk result (PassesGap (R.remaining reader.old) (R.remaining reader.new) self.old self.new turn.old turn.new) }
+        ensures passed { OnOk result (PassesGap (R.remaining reader.old) (R.remaining reader.new) self.old self.new) }
         ensures fails { IfErr result (λ failure. IsReading failure → GoesOnTo (R.remaining reader.old) (R.remaining reader.new) self.old self.new) }
     {
         for _ in 0..u64::MAX {
             let Some(byte) = self.next(reader)? else {
-                *turn = Turn::Last;
+                self.turn = Turn::Last;
                 return Ok(());
             };
             if begins_line(self.place, byte) {
@@ -150,19 +151,15 @@ impl Cursor {
     }
 
     /// Passes what may be between documents, and looks what is next.
-    pub fn find_text<R: Read>(
-        &mut self,
-        reader: &mut R,
-        turn: &mut Turn,
-    ) -> Result<NextText, Failure>
+    pub fn find_text<R: Read>(&mut self, reader: &mut R) -> Result<NextText, Failure>
         requires { IsWindow self.old.window }
-        ensures found { IfOk result (FindsText (R.remaining reader.old) (R.remaining reader.new) self.old self.new turn.old turn.new) }
+        ensures found { IfOk result (FindsText (R.remaining reader.old) (R.remaining reader.new) self.old self.new) }
         ensures fails { IfErr result (λ failure. IsReading failure → GoesOnTo (R.remaining reader.old) (R.remaining reader.new) self.old self.new) }
     {
-        match self.pass_between(reader, turn)? {
-            Some(b'{') if turn.may_begin() => Ok(NextText::Text(self.scan(reader)?)),
-            Some(_) => Ok(NextText::Wrong(wrong(*turn))),
-            None if turn.may_end() => Ok(NextText::End),
+        match self.pass_between(reader)? {
+            Some(b'{') if self.turn.may_begin() => Ok(NextText::Text(self.scan(reader)?)),
+            Some(_) => Ok(NextText::Wrong(wrong(self.turn))),
+            None if self.turn.may_end() => Ok(NextText::End),
             None => Ok(NextText::Wrong(TextReason::Json(JsonReason::EndOfText))),
         }
     }

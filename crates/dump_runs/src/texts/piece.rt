@@ -1,29 +1,27 @@
 //! Passes one text of an input: makes its document and writes it, or says what is wrong with it.
 #![tactic(auto)]
 
-ghost use Rattle.std.specs.Prelude.{◌≡◌, ◌^◌, ◌≤◌, ℕ, List, Option, [], length, take, IfErr, IfOk, OnErr, OnOk, true};
-ghost use Rattle.std.specs.Io.KnownBytes.{Appends};
-ghost use Rattle.dump_io.specs.lines.Fronts.{AppendsFront};
+ghost use Rattle.std.specs.Prelude.{◌≡◌, ◌^◌, ◌≤◌, ℕ, List, length, take, IfErr, IfOk, OnErr, OnOk, true};
 ghost use Rattle.dump_io.specs.input.Reading.{IsWindow, ahead_of};
+ghost use Rattle.dump_io.specs.input.Texts.{ScansAhead, HasBrace, IsOpen, IsOneText, may_begin, position_over, scanned};
 ghost use Rattle.dump_io.specs.lines.Failing.{IsReading};
+ghost use Rattle.dump_runs.specs.Plays.{Played, held};
 ghost use Rattle.dump_runs.specs.texts.Faults.{fault_line};
 ghost use Rattle.dump_runs.specs.texts.Reading.{PassesAhead};
-ghost use Rattle.dump_io.specs.input.Texts.{ScansAhead, HasBrace, IsOpen, IsOneText, may_begin, position_over, scanned};
-ghost use Rattle.dump_runs.specs.texts.Run.{Gives, HasNext, IsFaultOf, IsMadeOf, IsUnendedFault, PassesPart, TellsNoText, count_made};
+ghost use Rattle.dump_runs.specs.texts.Run as says;
+ghost use Rattle.dump_runs.specs.texts.Run.{Gives, IsFaultOf, IsUnendedFault, events_of};
+ghost use Rattle.dump_runs.specs.texts.Steps.{HaltsSaid, HasNext, IsMadeOf, PassesPart, TellsNoText};
+ghost use Rattle.dump_io.specs.declared.lines.style.Style.{Style};
 ghost use Rattle.dump_runs.specs.declared.texts.cursor.NextText.{NextText as Told};
 ghost use Rattle.dump_runs.specs.declared.texts.cursor.NextText.TheVariants.{Text};
-ghost use Rattle.dump_runs.specs.declared.texts.piece.Went.TheVariants.{Document};
 
-use crate::texts::asked::AskedTexts;
-use crate::texts::counts::TextCounts;
 use crate::texts::cursor::{Cursor, NextText};
-use crate::texts::fault::{TextReason, line_of_fault};
+use crate::texts::fault::{Telling, TextReason, line_of_fault};
+use crate::writers::{Tally, Writers};
 use bson_from_json::{JsonReason, from_json};
 use dump_io::input::scan::{MOST_TEXT, Scanned};
-use dump_io::input::turn::Turn;
 use dump_io::lines::failure::{Failure, in_range};
 use dump_io::lines::find::most_allowed;
-use dump_io::lines::style::Style;
 use dump_io::lines::write::put;
 use raw_bson::RawDocumentBuf;
 use std::alloc::Global;
@@ -50,60 +48,65 @@ enum Made {
     Fault(usize, TextReason),
 }
 
+/// A fault that ends what is read as a text.
+#[derive(Clone, Copy)]
+struct Fault {
+    /// how many bytes are passed
+    len: usize,
+    /// how many of them are before the fault
+    at: usize,
+    /// what is wrong there
+    reason: TextReason,
+}
+
 /// Passes what is next.
-pub fn pass_next<D: Write, W: Write>(
+pub fn pass_next<D: Write + Drop, W: Write + Drop>(
     alloc: Global,
-    asked: AskedTexts<'_>,
+    telling: Telling<'_>,
     next: NextText,
     cursor: &mut Cursor,
-    turn: &mut Turn,
-    out: &mut D,
-    report: &mut W,
-    counts: &mut TextCounts,
+    writers: &mut Writers<D, W>,
+    tally: &mut Tally<'_>,
 ) -> Result<Went, Failure>
-    requires { IsWindow cursor.old.window × HasNext (ahead_of cursor.old.window) turn.old next }
-    ensures { PassesPart asked.entry.style asked.entry.name.now next cursor.old cursor.new turn.old turn.new
-        (D.contents out.old) (D.contents out.new) (W.contents report.old) (W.contents report.new) counts.old counts.new result }
+    requires { IsWindow cursor.old.window × HasNext (ahead_of cursor.old.window) cursor.old.turn next }
+    ensures { PassesPart telling.entry.style telling.entry.name.now next cursor.old cursor.new (held writers.old tally.old) (held writers.new tally.new) result }
 {
     match next {
-        NextText::Text(found) => {
-            pass_found(alloc, asked, found, cursor, turn, out, report, counts)
-        }
+        NextText::Text(found) => pass_found(alloc, telling, found, cursor, writers, tally),
         NextText::Wrong(reason) => {
-            pass_astray(alloc, asked, 0, 0, reason, cursor, turn, report, counts)
+            let fault = Fault {
+                len: 0,
+                at: 0,
+                reason,
+            };
+            pass_astray(alloc, telling, fault, cursor, writers, tally)
         }
         NextText::End => unreachable!(),
     }
 }
 
 /// Passes the text of a document, as far as it comes.
-fn pass_found<D: Write, W: Write>(
+fn pass_found<D: Write + Drop, W: Write + Drop>(
     alloc: Global,
-    asked: AskedTexts<'_>,
+    telling: Telling<'_>,
     found: Scanned,
     cursor: &mut Cursor,
-    turn: &mut Turn,
-    out: &mut D,
-    report: &mut W,
-    counts: &mut TextCounts,
+    writers: &mut Writers<D, W>,
+    tally: &mut Tally<'_>,
 ) -> Result<Went, Failure>
-    requires { IsWindow cursor.old.window × (may_begin turn.old ≡ true) × HasBrace (ahead_of cursor.old.window) × ScansAhead (ahead_of cursor.old.window) found }
-    ensures { PassesPart asked.entry.style asked.entry.name.now (Text found) cursor.old cursor.new turn.old turn.new
-        (D.contents out.old) (D.contents out.new) (W.contents report.old) (W.contents report.new) counts.old counts.new result }
+    requires { IsWindow cursor.old.window × (may_begin cursor.old.turn ≡ true) × HasBrace (ahead_of cursor.old.window) × ScansAhead (ahead_of cursor.old.window) found }
+    ensures { PassesPart telling.entry.style telling.entry.name.now (Text found) cursor.old cursor.new (held writers.old tally.old) (held writers.new tally.new) result }
 {
-    match made_of(alloc, &cursor.window.ahead()[..found.len])? {
-        Made::Document(document) => {
-            pass_document(found.len, &document, cursor, turn, out, counts)
+    let len = found.len;
+    match made_of(alloc, &cursor.window.ahead()[..len])? {
+        Made::Document(document) => pass_document(len, &document, cursor, writers, tally),
+        Made::Fault(at, reason) if found.is_whole() => {
+            let fault = Fault { len, at, reason };
+            pass_refused(alloc, telling, fault, cursor, writers, tally)
         }
-        Made::Fault(at, reason) if found.is_whole() => pass_refused(
-            alloc, asked, found.len, at, reason, cursor, turn, report, counts,
-        ),
         Made::Fault(at, reason) => {
-            let begun = found.begun();
-            let (at, reason) = fault_of(found.len, begun, at, reason);
-            pass_astray(
-                alloc, asked, begun, at, reason, cursor, turn, report, counts,
-            )
+            let fault = fault_of(len, found.begun(), at, reason);
+            pass_astray(alloc, telling, fault, cursor, writers, tally)
         }
     }
 }
@@ -128,130 +131,125 @@ fn made_of(alloc: Global, text: &[u8]) -> Result<Made, Failure>
     }
 }
 
-/// Where and why a text has a fault that doesn't come to its end, of which `len` bytes were read, `begun` are begun, and this fault
-/// was found.
-fn fault_of(len: usize, begun: usize, at: usize, reason: TextReason) -> (usize, TextReason)
+/// The fault of a text that doesn't come to its end, of which `len` bytes were read and `begun` are begun, where this fault was found.
+fn fault_of(len: usize, begun: usize, at: usize, reason: TextReason) -> Fault
     requires { len ≤ 2 ^ 27 }
-    ensures within { result.0 ≤ begun }
-    ensures fault { (text : List ℕ) → length text ≡ len → IsFaultOf text at reason → IsUnendedFault text begun result.0 result.1 }
+    ensures begun { result.len ≡ begun }
+    ensures within { result.at ≤ begun }
+    ensures fault { (text : List ℕ) → length text ≡ len → IsFaultOf text at reason → IsUnendedFault text begun result.at result.reason }
 {
     if len == MOST_TEXT {
-        (0, TextReason::Json(JsonReason::TooManyBytes))
+        Fault {
+            len: begun,
+            at: 0,
+            reason: TextReason::Json(JsonReason::TooManyBytes),
+        }
     } else {
-        (at.min(begun), reason)
+        Fault {
+            len: begun,
+            at: at.min(begun),
+            reason,
+        }
     }
 }
 
-/// Writes the document of a whole text, and passes the text.
-fn pass_document<D: Write>(
+/// Writes the document of a whole text, of `len` bytes, and passes the text.
+fn pass_document<D: Write + Drop, W: Write + Drop>(
     len: usize,
     document: &RawDocumentBuf,
     cursor: &mut Cursor,
-    turn: &mut Turn,
-    out: &mut D,
-    counts: &mut TextCounts,
+    writers: &mut Writers<D, W>,
+    tally: &mut Tally<'_>,
 ) -> Result<Went, Failure>
-    requires { IsWindow cursor.old.window × (may_begin turn.old ≡ true) × HasBrace (ahead_of cursor.old.window)
+    requires { IsWindow cursor.old.window × (may_begin cursor.old.turn ≡ true) × HasBrace (ahead_of cursor.old.window)
         × (len ≤ length (ahead_of cursor.old.window)) × IsOneText (take len (ahead_of cursor.old.window)) × Gives (take len (ahead_of cursor.old.window)) document.now }
-    ensures { (style : Style) (name : List ℕ) (told : Told) (report : Option (List ℕ)) → PassesPart style name told cursor.old cursor.new turn.old turn.new
-        (D.contents out.old) (D.contents out.new) report report counts.old counts.new result }
+    ensures { (style : Style) (name : List ℕ) (told : Told) → PassesPart style name told cursor.old cursor.new (held writers.old tally.old) (held writers.new tally.new) result }
 {
     let bytes = document.as_bytes();
-    let counted = in_range(counts.with_document(bytes))?;
+    let counted = in_range(tally.counts.with_said(bytes.len()))?;
     cursor.pass(len)?;
-    put(out, bytes)?;
-    *counts = counted;
-    *turn = turn.behind_document();
+    put(&mut writers.out, bytes)?;
+    tally.counts = counted;
+    cursor.turn = cursor.turn.behind_document();
     Ok(Went::Document)
 }
 
-/// Tells the fault of a whole text, `at` bytes after its beginning, and passes the text.
-fn pass_refused<W: Write>(
+/// Tells the fault of a whole text, and passes the text.
+fn pass_refused<D: Write + Drop, W: Write + Drop>(
     alloc: Global,
-    asked: AskedTexts<'_>,
-    len: usize,
-    at: usize,
-    reason: TextReason,
+    telling: Telling<'_>,
+    fault: Fault,
     cursor: &mut Cursor,
-    turn: &mut Turn,
-    report: &mut W,
-    counts: &mut TextCounts,
+    writers: &mut Writers<D, W>,
+    tally: &mut Tally<'_>,
 ) -> Result<Went, Failure>
-    requires { IsWindow cursor.old.window × (may_begin turn.old ≡ true) × HasBrace (ahead_of cursor.old.window)
-        × (len ≤ length (ahead_of cursor.old.window)) × IsOneText (take len (ahead_of cursor.old.window)) × (at ≤ len) × IsFaultOf (take len (ahead_of cursor.old.window)) at reason }
-    ensures { (told : Told) (out : Option (List ℕ)) → PassesPart asked.entry.style asked.entry.name.now told cursor.old cursor.new turn.old turn.new
-        out out (W.contents report.old) (W.contents report.new) counts.old counts.new result }
+    requires { IsWindow cursor.old.window × (may_begin cursor.old.turn ≡ true) × HasBrace (ahead_of cursor.old.window)
+        × (fault.len ≤ length (ahead_of cursor.old.window)) × IsOneText (take fault.len (ahead_of cursor.old.window)) × (fault.at ≤ fault.len)
+        × IsFaultOf (take fault.len (ahead_of cursor.old.window)) fault.at fault.reason }
+    ensures { (told : Told) → PassesPart telling.entry.style telling.entry.name.now told cursor.old cursor.new (held writers.old tally.old) (held writers.new tally.new) result }
 {
-    tell_fault(alloc, asked, len, at, reason, cursor, report, counts)?;
-    *turn = turn.behind_document();
+    tell_fault(alloc, telling, fault, cursor, writers, tally)?;
+    cursor.turn = cursor.turn.behind_document();
     Ok(Went::Refused)
 }
 
-/// Tells why no whole text is there, `at` bytes after the place, and passes what there is of one.
-fn pass_astray<W: Write>(
+/// Tells why no whole text is there, and passes what there is of one.
+fn pass_astray<D: Write + Drop, W: Write + Drop>(
     alloc: Global,
-    asked: AskedTexts<'_>,
-    begun: usize,
-    at: usize,
-    reason: TextReason,
+    telling: Telling<'_>,
+    fault: Fault,
     cursor: &mut Cursor,
-    turn: &mut Turn,
-    report: &mut W,
-    counts: &mut TextCounts,
+    writers: &mut Writers<D, W>,
+    tally: &mut Tally<'_>,
 ) -> Result<Went, Failure>
-    requires { IsWindow cursor.old.window × (begun ≤ length (ahead_of cursor.old.window))
-        × IsOpen (scanned (take begun (ahead_of cursor.old.window))) × (at ≤ begun) }
-    ensures { (told : Told) (out : Option (List ℕ)) → TellsNoText (ahead_of cursor.old.window) told begun at reason
-        → PassesPart asked.entry.style asked.entry.name.now told cursor.old cursor.new turn.old turn.new
-        out out (W.contents report.old) (W.contents report.new) counts.old counts.new result }
+    requires { IsWindow cursor.old.window × (fault.len ≤ length (ahead_of cursor.old.window))
+        × IsOpen (scanned (take fault.len (ahead_of cursor.old.window))) × (fault.at ≤ fault.len) }
+    ensures { (told : Told) → TellsNoText (ahead_of cursor.old.window) told fault.len fault.at fault.reason
+        → PassesPart telling.entry.style telling.entry.name.now told cursor.old cursor.new (held writers.old tally.old) (held writers.new tally.new) result }
 {
-    tell_fault(alloc, asked, begun, at, reason, cursor, report, counts)?;
-    *turn = turn.behind_gap();
+    tell_fault(alloc, telling, fault, cursor, writers, tally)?;
+    cursor.turn = cursor.turn.behind_gap();
     Ok(Went::Astray)
 }
 
-/// Tells a fault that is `at` bytes after the place, counts it, and passes `len` bytes.
-fn tell_fault<W: Write>(
+/// Tells a fault, counts it, and passes the bytes that it ends.
+fn tell_fault<D: Write + Drop, W: Write + Drop>(
     alloc: Global,
-    asked: AskedTexts<'_>,
-    len: usize,
-    at: usize,
-    reason: TextReason,
+    telling: Telling<'_>,
+    fault: Fault,
     cursor: &mut Cursor,
-    report: &mut W,
-    counts: &mut TextCounts,
+    writers: &mut Writers<D, W>,
+    tally: &mut Tally<'_>,
 ) -> Result<(), Failure>
-    requires { IsWindow cursor.old.window × (len ≤ length (ahead_of cursor.old.window)) × (at ≤ len) }
-    ensures told { OnOk result (Appends (W.contents report.old) (W.contents report.new)
-        (fault_line asked.entry.style asked.entry.name.now (position_over cursor.old.place (take at (ahead_of cursor.old.window))) reason)) }
-    ensures passed { OnOk result (PassesAhead cursor.old cursor.new len) }
-    ensures counted { OnOk result (counts.new ≡ count_made counts.old []) }
-    ensures front { OnErr result (AppendsFront (W.contents report.old) (W.contents report.new)
-        (fault_line asked.entry.style asked.entry.name.now (position_over cursor.old.place (take at (ahead_of cursor.old.window))) reason)) }
-    ensures uncounted { OnErr result (counts.new ≡ counts.old) }
+    requires { IsWindow cursor.old.window × (fault.len ≤ length (ahead_of cursor.old.window)) × (fault.at ≤ fault.len) }
+    ensures told { OnOk result (Played (events_of (says.refused (fault_line telling.entry.style telling.entry.name.now
+        (position_over cursor.old.place (take fault.at (ahead_of cursor.old.window))) fault.reason))) (held writers.old tally.old) (held writers.new tally.new)) }
+    ensures passed { OnOk result (PassesAhead cursor.old cursor.new fault.len) }
+    ensures front { OnErr result (HaltsSaid (says.refused (fault_line telling.entry.style telling.entry.name.now
+        (position_over cursor.old.place (take fault.at (ahead_of cursor.old.window))) fault.reason)) (held writers.old tally.old) (held writers.new tally.new)) }
     ensures failed { IfErr result (λ failure. ¬ IsReading failure) }
 {
-    let line = line_at(alloc, asked, at, reason, cursor)?;
-    let counted = in_range(counts.with_refused())?;
-    cursor.pass(len)?;
-    put(report, &line)?;
-    *counts = counted;
+    let line = line_at(alloc, telling, fault.at, fault.reason, cursor)?;
+    let counted = in_range(tally.counts.with_fault())?;
+    cursor.pass(fault.len)?;
+    put(&mut writers.report, &line)?;
+    tally.counts = counted;
     Ok(())
 }
 
 /// The line of a fault that is `at` bytes after the place.
 fn line_at(
     alloc: Global,
-    asked: AskedTexts<'_>,
+    telling: Telling<'_>,
     at: usize,
     reason: TextReason,
     cursor: &Cursor,
 ) -> Result<Vec<u8>, Failure>
     requires { IsWindow cursor.now.window × (at ≤ length (ahead_of cursor.now.window)) }
-    ensures line { IfOk result (λ line. line.items ≡ fault_line asked.entry.style asked.entry.name.now
+    ensures line { IfOk result (λ line. line.items ≡ fault_line telling.entry.style telling.entry.name.now
         (position_over cursor.now.place (take at (ahead_of cursor.now.window))) reason) }
     ensures failed { IfErr result (λ failure. ¬ IsReading failure) }
 {
     let place = cursor.place.over(&cursor.window.ahead()[..at])?;
-    Ok(line_of_fault(alloc, asked.style, asked.name, place, reason)?)
+    Ok(line_of_fault(alloc, telling.style, telling.name, place, reason)?)
 }

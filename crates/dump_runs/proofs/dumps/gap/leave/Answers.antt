@@ -1,6 +1,6 @@
 use Rattle.std.proofs.Common.{refl, subst}
 use Rattle.dump_io.proofs.Face.{front_whole, on_any}
-use Rattle.dump_runs.specs.dumps.Plays.{Written, held}
+use Rattle.dump_runs.specs.Plays.{Written, held}
 use Rattle.dump_runs.specs.dumps.Steps.{HaltsLeaving}
 use Rattle.dump_runs.proofs.dumps.Lines.{line_front, line_none, rest_line}
 use Rattle.dump_runs.proofs.dumps.gap.leave.Goals as goal

@@ -1,7 +1,8 @@
 use Rattle.std.proofs.Common.{refl, subst}
 use Rattle.dump_io.proofs.Face.{front_whole, on_any}
-use Rattle.dump_runs.specs.dumps.Plays.{Played, Written, held}
-use Rattle.dump_runs.specs.dumps.Run.{events_of_gap, style_at}
+use Rattle.dump_runs.specs.Plays.{Played, Written, held}
+use Rattle.dump_runs.specs.Limits.{style_at}
+use Rattle.dump_runs.specs.dumps.Run.{events_of_gap}
 use Rattle.dump_runs.specs.dumps.Steps.{HaltsGap, place_of}
 use Rattle.dump_runs.proofs.dumps.Lines.{gap_line, gap_played, line_front, line_none}
 use Rattle.dump_runs.proofs.dumps.gap.pass_gap.Goals as goal

@@ -3,7 +3,7 @@ use Rattle.std.proofs.KnownBytes.{Appends-trans}
 use Rattle.std.specs.Io.KnownBytes.{Appends}
 use Rattle.dump_io.specs.lines.Fronts.{AppendsFront}
 use Rattle.dump_io.proofs.Face.{front_whole, on_any}
-use Rattle.dump_runs.specs.dumps.Plays.{Written, held}
+use Rattle.dump_runs.specs.Plays.{Written, held}
 use Rattle.dump_runs.specs.dumps.Run.{findings_in}
 use Rattle.dump_runs.specs.dumps.Steps.{GivesPiece, HaltsPiece}
 use Rattle.dump_runs.proofs.dumps.Giving.{IsFound, IsReported, front_line, front_listing, front_made, front_repeat, gives}

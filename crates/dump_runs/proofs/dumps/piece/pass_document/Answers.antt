@@ -4,7 +4,7 @@ use Rattle.dump_io.specs.declared.input.ending.Ending.TheVariants as ending
 use Rattle.dump_io.proofs.Face.{if_err_reading, on_any}
 use Rattle.dump_commands.specs.Findings.{FindsFor}
 use Rattle.dump_commands.specs.Reporting.{IsJudged}
-use Rattle.dump_runs.specs.dumps.Plays.{held}
+use Rattle.dump_runs.specs.Plays.{held}
 use Rattle.dump_runs.specs.dumps.Run.{piece}
 use Rattle.dump_runs.specs.declared.dumps.piece.Piece.{Piece}
 use Rattle.dump_runs.proofs.dumps.Nexting.{IsOver, IsTakenAt, IsToCount, fails_on, goes_since, goes_stays, halts_given, halts_none, halts_over, halts_piece, judged_on, passes_gap, passes_piece, same_front}

@@ -1,7 +1,7 @@
 use Rattle.std.proofs.Common.{refl, subst, sym, ◌∙◌}
 use Rattle.raw_resync.specs.Seeking.{IsWork}
 use Rattle.dump_io.proofs.Face.{if_err_reading, if_ok, on_any, on_err}
-use Rattle.dump_runs.specs.dumps.Plays.{held}
+use Rattle.dump_runs.specs.Plays.{held}
 use Rattle.dump_runs.specs.declared.dumps.piece.Step.TheVariants as step
 use Rattle.dump_runs.proofs.dumps.Nexting.{IsOver, fails_on, fails_since, goes_since, goes_stays, halts_none, halts_over, halts_since, looked, next_since, over_here, passes_gap}
 use Rattle.dump_runs.proofs.dumps.piece.pass_next.Goals as goal

@@ -1,6 +1,6 @@
 use Rattle.dump_io.specs.input.Reading.{IsWindow}
 use Rattle.raw_resync.specs.Seeking.{IsWork}
-use Rattle.dump_runs.specs.dumps.Plays.{held}
+use Rattle.dump_runs.specs.Plays.{held}
 use Rattle.dump_runs.proofs.dumps.Choosing.{HasPassedPortion}
 use Rattle.dump_runs.proofs.dumps.run.pass_all.Given as goal
 

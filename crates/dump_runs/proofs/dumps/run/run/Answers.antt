@@ -2,7 +2,7 @@ use Rattle.std.proofs.Common.{ap, inl, inr, ◌∙◌}
 use Rattle.dump_commands.specs.Counting.{count_left}
 use Rattle.dump_io.proofs.Face.{if_ok, on_any, on_err}
 use Rattle.dump_runs.specs.dumps.Halting.{Halts}
-use Rattle.dump_runs.specs.dumps.Plays.{held}
+use Rattle.dump_runs.specs.Plays.{held}
 use Rattle.dump_runs.proofs.dumps.Ending.{ends_early, ends_failed, ends_left, ends_run, halts_here, halts_left}
 use Rattle.dump_runs.proofs.dumps.run.run.Goals as goal
 

@@ -1,40 +1,46 @@
-use Rattle.std.proofs.Common.{rules, ◌≡◌, ℕ, List, [], ◌∷◌, refl, subst, sym, take}
+use Rattle.std.proofs.Common.{rules, ◌≡◌, ℕ, List, length, subst, sym, take}
 use Rattle.std.proofs.lemmas.Result.{err_from_is_err_and}
+use Rattle.dump_commands.specs.Counting.{count_said}
 use Rattle.dump_io.specs.input.Reading.{ahead_of}
-use Rattle.dump_runs.specs.texts.Run.{Gives, count_made}
-use Rattle.dump_runs.proofs.texts.Parts.{halts_document, halts_none, passes_document}
+use Rattle.dump_runs.specs.Plays.{Written, held}
+use Rattle.dump_runs.specs.texts.Run.{Gives}
+use Rattle.dump_runs.specs.texts.Steps.{HaltsText, PassesText}
+use Rattle.dump_runs.specs.declared.texts.piece.Went.TheVariants as went
+use Rattle.dump_runs.proofs.texts.Parts.{halts_document, halts_none, passes_document, said_front, said_played}
 use Rattle.dump_runs.proofs.texts.piece.pass_document.Goals as goal
 
 pub returns : goal.returns
-returns g c style name told report =
+returns g c style name told =
     let bytes = c.as_bytes-bytes.result.now in
-    let text = take c.args.len (ahead_of c.args.cursor.now.window) in
-    let counted : c.in_ok-counted.counted ≡ count_made c.args.counts.now (bytes ∷ []) = search rules in
-    let is = subst (λ (b : List ℕ). Gives text b) (sym c.as_bytes-bytes.ensures.bytes) c.requires.5 in
-    passes_document c.args.len bytes report
-    (record { fits = c.requires.3; is = c.in_ok-pass.ensures.passed }) c.requires.1 (c.requires.2, c.requires.4, is) c.in_ok-put.ensures.written counted c.behind_document.ensures
+    let y = c.args.cursor.now in
+    let t = c.args.tally.now in
+    let is = subst (λ (b : List ℕ). Gives (take c.args.len (ahead_of y.window)) b) (sym c.as_bytes-bytes.ensures.bytes) c.requires.5 in
+    let counted : c.in_ok-counted.counted ≡ count_said t.counts (length bytes) = search rules in
+    let new = held (record { out = g.D.Write.contents c.put.new.writer; report = g.W.Write.contents c.writers.inside.report }) (record t { counts = c.in_ok-counted.counted }) in
+    subst (λ (v : Written). PassesText style name told y (record c.pass.new.self { turn = c.behind_document-cursor.result }) (held v t) new went.Document) c.writers.view_is
+    (passes_document style name told y c.args.len bytes (record { fits = c.requires.3; is = c.in_ok-pass.ensures.passed }) (record { may = c.requires.1; brace = c.requires.2; whole = c.requires.4 })
+    is (said_played bytes c.in_ok-put.ensures.written counted) c.behind_document-cursor.ensures)
 
 pub returns-in_err-counted : goal.returns-in_err-counted
-returns-in_err-counted g c style name told report =
-    let old = c.args.cursor.now in
+returns-in_err-counted g c style name told =
     let e = err_from_is_err_and c.from_residual.result c.from_residual.ensures.1 in
-    rw (e.1, e.2) (halts_none (ahead_of old.window) old.place c.args.turn.now (g.D.Write.contents c.args.out.now) style name told report, refl, c.in_err-counted.ensures.failed)
+    rw (e.1, e.2) (halts_none style name told c.args.cursor.now (held c.args.writers.now c.args.tally.now), c.in_err-counted.ensures.failed)
 
 pub returns-in_err-pass : goal.returns-in_err-pass
-returns-in_err-pass g c style name told report =
-    let old = c.args.cursor.now in
+returns-in_err-pass g c style name told =
     let e = err_from_is_err_and c.from_residual-in_err-pass.result c.from_residual-in_err-pass.ensures.1 in
-    rw (e.1, e.2) (halts_none (ahead_of old.window) old.place c.args.turn.now (g.D.Write.contents c.args.out.now) style name told report, refl, c.in_err-pass.ensures.failed)
+    rw (e.1, e.2) (halts_none style name told c.args.cursor.now (held c.args.writers.now c.args.tally.now), c.in_err-pass.ensures.failed)
 
 pub returns-in_err-put : goal.returns-in_err-put
-returns-in_err-put g c style name told report =
-    let old = c.args.cursor.now in
+returns-in_err-put g c style name told =
     let bytes = c.as_bytes-bytes.result.now in
-    let is = subst (λ (b : List ℕ). Gives (take c.args.len (ahead_of old.window)) b) (sym c.as_bytes-bytes.ensures.bytes) c.requires.5 in
+    let y = c.args.cursor.now in
+    let t = c.args.tally.now in
+    let is = subst (λ (b : List ℕ). Gives (take c.args.len (ahead_of y.window)) b) (sym c.as_bytes-bytes.ensures.bytes) c.requires.5 in
+    let new = held (record { out = g.D.Write.contents c.put.new.writer; report = g.W.Write.contents c.writers.inside.report }) t in
     let e = err_from_is_err_and c.from_residual-in_err-put.result c.from_residual-in_err-put.ensures.1 in
     rw (e.1, e.2) (
-      halts_document (ahead_of old.window) old.place c.args.turn.now c.args.len c.requires.3 bytes
-          (c.requires.1, c.requires.2, c.requires.4, is) c.in_err-put.ensures.front style name told report,
-      refl,
+      subst (λ (v : Written). HaltsText style name told y (held v t) new) c.writers.view_is
+          (halts_document style name told y c.args.len bytes (record { may = c.requires.1; brace = c.requires.2; whole = c.requires.4 }) is (said_front bytes c.in_err-put.ensures.front)),
       c.in_err-put.ensures.failed,
     )

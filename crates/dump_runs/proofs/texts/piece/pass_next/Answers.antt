@@ -1,6 +1,6 @@
 use Rattle.std.proofs.Common.{refl, subst, sym}
 use Rattle.dump_io.specs.input.Reading.{ahead_of}
-use Rattle.dump_runs.specs.texts.Run.{TellsNoText}
+use Rattle.dump_runs.specs.texts.Steps.{TellsNoText}
 use Rattle.dump_runs.specs.declared.texts.cursor.NextText.{NextText}
 use Rattle.dump_runs.proofs.texts.piece.pass_next.Goals as goal
 
@@ -8,4 +8,4 @@ pub returns-in-Wrong : goal.returns-in-Wrong
 returns-in-Wrong g c =
     let told : TellsNoText (ahead_of c.args.cursor.now.window) c.args.next 0 0 c.in-Wrong.reason =
     subst (λ (n : NextText). TellsNoText (ahead_of c.args.cursor.now.window) n 0 0 c.in-Wrong.reason) (sym c.in-Wrong.is) (refl, refl, refl) in
-    c.pass_astray.ensures c.args.next (g.D.Write.contents c.args.out.now) told
+    c.pass_astray.ensures c.args.next told

@@ -13,5 +13,5 @@ returns-in_err-scan-in-Some-eq123-clause-fails g c =
     let r = g.R.Read.remaining in
     let e = err_from_is_err_and c.from_residual-in_err-scan-in-Some-eq123.result c.from_residual-in_err-scan-in-Some-eq123.ensures.1 in
     rw (e.1, e.2) (λ reading.
-    finds_fails (r c.args.reader.now) (r c.pass_between.new.reader) (r c.scan.new.reader) c.args.self.now c.pass_between.new.self c.scan.new.self c.args.turn.now
-    c.pass_between.new.turn _ c.in_ok-pass_between.ensures.passed (c.in_err-scan-in-Some-eq123.ensures.fails reading))
+    finds_fails (r c.args.reader.now) (r c.pass_between.new.reader) (r c.scan.new.reader) c.args.self.now c.pass_between.new.self c.scan.new.self _
+    c.in_ok-pass_between.ensures.passed (c.in_err-scan-in-Some-eq123.ensures.fails reading))

@@ -1,8 +1,0 @@
-use Rattle.std.proofs.Common.{map, take}
-use Rattle.dump_runs.specs.dumps.Batch.{RunsOver, state_of}
-use Rattle.dump_runs.proofs.dumps.batch.run_each.Given as goal
-
--- the first of the inputs were run over
-abbrev pub invariant-loop-name : goal.invariant-loop-name
-invariant-loop-name g l =
-    RunsOver l.job (g.I.Inputs.bytes_of l.inputs) (map (λ name. name.now) (take l.name-index l.names)) (state_of l.initial.writers l.initial.totals) (state_of l.writers l.totals)

@@ -1,0 +1,140 @@
+//! Writes what was counted: after one input, and after all.
+#![tactic(auto)]
+
+ghost use Rattle.std.specs.Prelude.{◌≡◌, None, IfErr, OnErr, OnOk};
+ghost use Rattle.std.specs.Io.KnownBytes.{Appends};
+ghost use Rattle.dump_io.specs.lines.Failing.{IsReading};
+ghost use Rattle.dump_io.specs.lines.Fronts.{AppendsFront};
+ghost use Rattle.dump_runs.specs.Sums.{all_line, input_line, line_of_all, line_of_input};
+ghost use Rattle.dump_commands.specs.declared.command.Command.TheVariants.{Fields};
+
+use crate::batch::Totals;
+use crate::reading::Reading;
+use dump_commands::command::Command;
+use dump_commands::counts::Counts;
+use dump_commands::job::Job;
+use dump_commands::reporting::{put_summary, put_text_summary};
+use dump_io::lines::failure::Failure;
+use dump_io::lines::write::put;
+use std::alloc::Global;
+use std::io::Write;
+
+/// Writes what was counted of one input, if that is asked for.
+pub fn put_counts<W: Write>(
+    alloc: Global,
+    reading: Reading<'_>,
+    name: &str,
+    counts: &Counts,
+    report: &mut W,
+) -> Result<(), Failure>
+    ensures written { OnOk result (Appends (W.contents report.old) (W.contents report.new) (line_of_input reading.entry name.now counts.now)) }
+    ensures front { OnErr result (AppendsFront (W.contents report.old) (W.contents report.new) (line_of_input reading.entry name.now counts.now)) }
+    ensures failed { IfErr result (λ failure. ¬ IsReading failure) }
+{
+    match reading {
+        Reading::Dumps(job) => put_input(alloc, job, name, counts, report),
+        Reading::Texts(_) => Ok(()),
+    }
+}
+
+/// Writes what was counted of all inputs, if that is asked for.
+pub fn put_all_counts<W: Write>(
+    alloc: Global,
+    reading: Reading<'_>,
+    totals: &Totals<'_>,
+    report: &mut W,
+) -> Result<(), Failure>
+    ensures written { OnOk result
+        (Appends (W.contents report.old) (W.contents report.new) (line_of_all reading.entry totals.now.counts totals.now.tally.kept)) }
+    ensures front { OnErr result
+        (AppendsFront (W.contents report.old) (W.contents report.new) (line_of_all reading.entry totals.now.counts totals.now.tally.kept)) }
+    ensures failed { IfErr result (λ failure. ¬ IsReading failure) }
+{
+    match reading {
+        Reading::Dumps(job) => put_all(alloc, job, totals, report),
+        Reading::Texts(job) => put_text_summary(
+            alloc,
+            job.style,
+            job.limit,
+            &totals.counts,
+            report,
+        ),
+    }
+}
+
+/// Of `check` and `count`, writes what was counted of one dump.
+fn put_input<W: Write>(
+    alloc: Global,
+    job: Job<'_>,
+    name: &str,
+    counts: &Counts,
+    report: &mut W,
+) -> Result<(), Failure>
+    ensures written { OnOk result
+        (Appends (W.contents report.old) (W.contents report.new) (input_line job.entry job.entry.command name.now counts.now)) }
+    ensures front { OnErr result
+        (AppendsFront (W.contents report.old) (W.contents report.new) (input_line job.entry job.entry.command name.now counts.now)) }
+    ensures failed { IfErr result (λ failure. ¬ IsReading failure) }
+{
+    match job.command {
+        Command::Check | Command::Count => {
+            let job = Job { limit: None, ..job };
+            put_summary(alloc, job, Some(name), counts, 0, report)
+        }
+        Command::List
+        | Command::Sizes
+        | Command::Canon
+        | Command::Sound
+        | Command::Unique(_)
+        | Command::Fields
+        | Command::Json(_)
+        | Command::Pick(_) => Ok(()),
+    }
+}
+
+/// Writes what was counted of all dumps, but of a list and of sizes. Of fields, the lines of the paths come before it.
+fn put_all<W: Write>(
+    alloc: Global,
+    job: Job<'_>,
+    totals: &Totals<'_>,
+    report: &mut W,
+) -> Result<(), Failure>
+    ensures written { OnOk result
+        (Appends (W.contents report.old) (W.contents report.new) (all_line job.entry job.entry.command totals.now.counts totals.now.tally.kept)) }
+    ensures front { OnErr result
+        (AppendsFront (W.contents report.old) (W.contents report.new) (all_line job.entry job.entry.command totals.now.counts totals.now.tally.kept)) }
+    ensures failed { IfErr result (λ failure. ¬ IsReading failure) }
+{
+    let kept = &totals.tally.kept;
+    match job.command {
+        Command::List | Command::Sizes => Ok(()),
+        Command::Fields => put_fields(alloc, job, totals, report),
+        Command::Check
+        | Command::Count
+        | Command::Canon
+        | Command::Sound
+        | Command::Unique(_)
+        | Command::Json(_)
+        | Command::Pick(_) => put_summary(alloc, job, None, &totals.counts, kept.count(), report),
+    }
+}
+
+/// Writes the lines of the paths that were counted, and what was counted of all dumps.
+fn put_fields<W: Write>(
+    alloc: Global,
+    job: Job<'_>,
+    totals: &Totals<'_>,
+    report: &mut W,
+) -> Result<(), Failure>
+    requires { job.command ≡ Fields }
+    ensures written { OnOk result
+        (Appends (W.contents report.old) (W.contents report.new) (all_line job.entry Fields totals.now.counts totals.now.tally.kept)) }
+    ensures front { OnErr result
+        (AppendsFront (W.contents report.old) (W.contents report.new) (all_line job.entry Fields totals.now.counts totals.now.tally.kept)) }
+    ensures failed { IfErr result (λ failure. ¬ IsReading failure) }
+{
+    let kept = &totals.tally.kept;
+    let lines = kept.paths().lines(alloc)?;
+    put(report, &lines)?;
+    put_summary(alloc, job, None, &totals.counts, kept.count(), report)
+}
