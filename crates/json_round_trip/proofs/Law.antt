@@ -1,8 +1,8 @@
 -- The law of every document.
 use Rattle.std.proofs.Common.{◌≡◌, List, ℕ, inl, inr, ◌⊎◌}
 use Rattle.raw_view.specs.Frame.Envelope.{IsEnvelope}
-use Rattle.bson_json.specs.Json.{IsJson}
-use Rattle.values_to_json.specs.declared.style.Layout.{Layout}
+use Rattle.bson_to_json.specs.Json.{IsJson}
+use Rattle.bson_to_json.specs.declared.style.Layout.{Layout}
 use Rattle.bson_from_json.specs.Texts.{LeavesOpen, SaysNone}
 use Rattle.bson_from_json.specs.JsonReason.{JsonReason}
 use Rattle.json_round_trip.specs.Closing.{ClosesCircle, IsReadAgain, IsReturning, canonical_in}

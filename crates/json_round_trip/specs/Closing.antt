@@ -4,11 +4,11 @@ use Rattle.bson_model.specs.Tree.{Tree}
 use Rattle.raw_tree.specs.Canonical.{IsCanonical}
 use Rattle.raw_tree.specs.Reading.{Reads}
 use Rattle.raw_tree.specs.declared.reader.limits.Limits.{Limits}
-use Rattle.bson_json.specs.Errors.{TellsJsonError}
-use Rattle.bson_json.specs.Json.{IsJson}
-use Rattle.values_to_json.specs.declared.style.Format.TheVariants.{Canonical}
-use Rattle.values_to_json.specs.declared.style.Layout.{Layout}
-use Rattle.values_to_json.specs.declared.style.Style.{Style}
+use Rattle.bson_to_json.specs.Errors.{TellsJsonError}
+use Rattle.bson_to_json.specs.Json.{IsJson}
+use Rattle.bson_to_json.specs.declared.style.Format.TheVariants.{Canonical}
+use Rattle.bson_to_json.specs.declared.style.Layout.{Layout}
+use Rattle.bson_to_json.specs.declared.style.Style.{Style}
 use Rattle.bson_from_json.specs.Texts.{IsWritten, LeavesOpen, SaysNone}
 use Rattle.json_round_trip.specs.Returning.{DocumentComesBack}
 use Rattle.json_round_trip.specs.declared.trip.RoundTripError.{RoundTripError}

@@ -6,7 +6,7 @@ ghost use Rattle.raw_view.specs.Document.{bytes_of};
 ghost use Rattle.json_round_trip.specs.Closing.{IsReadAgain, IsReturning, IsUndecided, TellsRoundTripError};
 
 use bson_from_json::{JsonError, from_json};
-use bson_json::{Format, Layout, Style, ToJsonError, to_json};
+use bson_to_json::{Format, Layout, Style, ToJsonError, to_json};
 use raw_bson::{Limits, RawDocument, RawDocumentBuf};
 use std::alloc::Global;
 
