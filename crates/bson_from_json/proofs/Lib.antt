@@ -2,6 +2,10 @@ mod Left
 mod Steps
 mod Moments
 mod Ends
+mod Sizes
+mod OneDepth
+mod Refusals
+mod Causes
 mod Keeps
 mod Placing
 mod Sound

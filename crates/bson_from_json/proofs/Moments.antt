@@ -318,6 +318,7 @@ leaf_taken {old} {mid} {new} {k} {l} w (j, tokens, is) same source free proper p
   subtype = proper;
   tokens = tokens ∙ ap (λ (x : List Token). json_tokens j ++ x) (sym (ap (λ (x : Source). x.tokens) source));
   puts = record {
+    limits = puts.limits ∙ ap (λ (d : Unfinished). d.limits) same;
     levels = puts.levels ∙ ap (λ (d : Unfinished). d.levels.items) same;
     bytes = puts.bytes ∙ ap (λ (d : Unfinished). d.bytes.items ++ element_bytes k (single l)) same;
     in_range = puts.in_range;

@@ -1,5 +1,5 @@
 -- Where the lengths of open levels are among the bytes.
-use Rattle.std.proofs.Common.{◌≡◌, ◌≤◌, ◌+◌, ◌++◌, ◌∷◌, [], All, List, ℕ, length, length-append, arith, ap}
+use Rattle.std.proofs.Common.{◌≡◌, ◌≤◌, ◌++◌, ◌∷◌, [], List, ℕ, length, length-append, arith, ap}
 use Rattle.std.proofs.lemmas.List.Elements.{All-from_recursion, All-push, recursion_from_All}
 use Rattle.std.specs.List.{AllByRecursion}
 use Rattle.bson_from_json.specs.Placed.{ArePlaced, IsPlaced}

@@ -1,6 +1,7 @@
 -- What is written of a readable tree is read again. Keys may repeat, so it need not be read as the same tree.
-use Rattle.std.proofs.Common.{◌≡◌, ◌≤◌, ◌<◌, ◌^◌, ◌+◌, ◌++◌, ◌∙◌, ◌∷◌, [], ℕ, zero, suc, false, List, length, decimal, arith, ap, refl, sym, subst, inl, inr, append_assoc, length-append}
+use Rattle.std.proofs.Common.{◌≡◌, ◌≤◌, ◌<◌, ◌+◌, ◌++◌, ◌∙◌, ◌∷◌, [], ℕ, zero, suc, false, List, length, decimal, arith, ap, refl, sym, subst, inl, inr, append_assoc, length-append}
 use Rattle.std.proofs.Math.Nat.{le-max_left, le-max_right}
+use Rattle.std.proofs.lemmas.Bool.{cases_lt}
 use Rattle.std.proofs.lemmas.Bool.Decides.{nat_tests}
 use Rattle.std.proofs.lemmas.Fmt.{IsAscii-decimal}
 use Rattle.std.proofs.lemmas.Str.{IsUtf8-from_ascii}
@@ -21,11 +22,12 @@ use Rattle.raw_view.specs.Meaning as raw
 use Rattle.raw_view.proofs.Face.{AreBytes-element, AreBytes-framed, AreBytes-leaf, AreBytes-scoped, declared_shape, framed_is_envelope, leaf_means, leaf_shape, length-framed, scoped_means}
 use Rattle.raw_tree.specs.Encoding.{encoded_len, encoding, entries_bytes, entries_len, items_bytes, items_len, kind_of_tree, tree_payload}
 use Rattle.raw_tree.specs.Members.{numbered}
-use Rattle.raw_tree.specs.Reading.{Reads, ReadsUpTo, Sort, StandForEach, StandsFor, as_array, as_document, leaf_in_order, tree_of_pairs}
+use Rattle.raw_tree.specs.Reading.{ReadsUpTo, Sort, barriers, StandForEach, StandsFor, as_array, as_document, leaf_in_order, tree_of_pairs}
 use Rattle.raw_tree.specs.WithinLimits.{Barrier, fault_of, too_deep, too_many_bytes}
 use Rattle.raw_tree.specs.Places.{FirstBarrierAt, Step}
+use Rattle.raw_tree.specs.walk.First.{IsFirst}
 use Rattle.raw_tree.specs.declared.reader.limits.Limits.{Limits}
-use Rattle.raw_tree.proofs.Face.{bytes_one_way, length-tree_payload}
+use Rattle.raw_tree.proofs.Face.{answered_one_way, bytes_one_way, length-tree_payload, read_within}
 use Rattle.bson_from_json.specs.Depths.{entries_depth, items_depth, tree_depth}
 use Rattle.bson_from_json.specs.Levels.{IsLeafReadable, IsReadAgain, IsReadable, IsReadableDocument, readable_parts}
 
@@ -160,13 +162,19 @@ mutual
       one_read n key t es p.0.0 p.0.1 (tree_read n t p.1 (omega (arith, b)) (omega (arith, d, le-max_left (tree_depth t) (entries_depth es))))
       (entries_read n es p.2 (omega (arith, b)) (omega (arith, d, le-max_right (tree_depth t) (entries_depth es))))
 
--- a readable document that isn't too long
-pub document_read : (b : List ℕ) → length b ≤ max_length → IsReadableDocument b → IsReadAgain b
-document_read b l (es, readable, e) =
+-- a readable document that isn't too long, and has at most d levels
+read_to_depth : (d : ℕ) (b : List ℕ) (es : Entries) → length b ≤ max_length → InEntries readable_parts es → b ≡ encoding (document es) → suc (entries_depth es) ≤ d
+    → IsEnvelope b × ((t : Tree) × ReadsUpTo d as_document b t)
+read_to_depth zero b es l readable e deep = absurd (omega (arith, deep))
+read_to_depth (suc d) b es l readable e deep =
     let len : length b ≡ 5 + entries_len es = omega (arith, ap length e, length-tree_payload (document es)) in
     let size : 5 + length (entries_bytes es) ≤ max_length = omega (arith, len, length-framed (entries_bytes es), length-tree_payload (document es), l) in
-    let h = framed_read (entries_depth es) as_document es (entries_read (entries_depth es) es readable (omega (arith, len, l)) (omega arith)) size in
-    subst IsReadAgain (sym e) (h.0, (tree_of_pairs as_document h.1.0, (suc (entries_depth es), h.1.1)))
+    let h = framed_read d as_document es (entries_read d es readable (omega (arith, len, l)) (omega (arith, deep))) size in
+    subst (λ (x : List ℕ). IsEnvelope x × ((t : Tree) × ReadsUpTo (suc d) as_document x t)) (sym e) (h.0, (tree_of_pairs as_document h.1.0, h.1.1))
+
+pub document_read : (b : List ℕ) → length b ≤ max_length → IsReadableDocument b → IsReadAgain b
+document_read b l (es, readable, e) =
+    let read = read_to_depth (suc (entries_depth es)) b es l readable e (omega arith) in (read.0, (read.1.0, (suc (entries_depth es), read.1.1)))
 
 -- no first fault
 
@@ -177,3 +185,33 @@ other_barrier fault e = cc
 pub no_fault : (limits : Limits) (b : List ℕ) (x : Barrier) (fault : KeyedFault) {path : List Step} {offset : ℕ} → IsReadAgain b → FirstBarrierAt limits b x path offset → x ≡ fault_of fault → ⊥
 no_fault limits b x fault (env, (t, read)) (inl (many, is, whole, none)) e = other_barrier fault (sym e ∙ is)
 no_fault limits b x fault {path} {offset} (env, (t, read)) (inr (few, first)) e = (bytes_one_way as_document b env).not_both t fault read (limits.depth, path, offset, rw e at first)
+
+-- limits
+
+many_is_not_deep : too_many_bytes ≡ too_deep → ⊥
+many_is_not_deep e = cc
+
+never_many : (n : ℕ) (sort : Sort) (b : List ℕ) (path : List Step) (offset : ℕ) → IsFirst barriers n sort b too_many_bytes path offset → ⊥
+never_many zero sort b path offset h = many_is_not_deep h.0
+never_many (suc n) sort b path offset (passed, s, leads, passes, inl (key, is, named, begins)) = is
+never_many (suc n) sort b path offset (passed, s, leads, passes, inr (none, (f, q, v, inner, d, steps, inside, frame, means, holds, nested, named, begins))) = never_many n inner d steps inside nested
+
+deep_is_not_many : too_deep ≡ too_many_bytes → ⊥
+deep_is_not_many e = cc
+
+-- a readable document with too many bytes, or too many levels
+module _ (limits : Limits) (b : List ℕ) (es : Entries) (is : b ≡ encoding (document es)) (x : Barrier) where
+  pub too_long : {path : List Step} {offset : ℕ} → FirstBarrierAt limits b x path offset → x ≡ too_many_bytes → limits.bytes < encoded_len (document es)
+  too_long {path} {offset} (inl (many, e, whole, start)) same = omega (arith, many, ap length is, length-tree_payload (document es))
+  too_long {path} {offset} (inr (few, first)) same =
+      absurd (never_many limits.depth as_document b path offset (subst (λ (y : Barrier). IsFirst barriers limits.depth as_document b y path offset) same first))
+
+  pub too_deep_told : {path : List Step} {offset : ℕ} → length b ≤ max_length → InEntries readable_parts es → FirstBarrierAt limits b x path offset → x ≡ too_deep
+      → limits.depth < tree_depth (document es)
+  too_deep_told {path} {offset} l readable (inl (many, e, whole, start)) same = absurd (deep_is_not_many (sym same ∙ e))
+  too_deep_told {path} {offset} l readable (inr (few, first)) same =
+      elim (cases_lt limits.depth (tree_depth (document es))) [
+        | inl deep ↦ deep
+        | inr shallow ↦ let (env, (t, read)) = read_to_depth limits.depth b es l readable is shallow in
+            absurd ((answered_one_way limits b env).not_both t x (read_within limits b t few read) (path, offset, inr (few, first)))
+      ]

@@ -180,8 +180,9 @@ pub record ClosesBracket (old new : Reader) (l : Level) : Type 0 where
 pub record TakesValue (old new : Reader) (k : List ℕ) (taken : List Token) : Type 0 where
   pub made : (out : List ℕ) → RestOf out new → ValueIn (Rest out (levels_of old)) k (bytes_of old) (taken ++ old.source.tokens)
 
--- the element with this key and this value follows the bytes, and the levels are unchanged
+-- the element with this key and this value follows the bytes, and the levels and limits are unchanged
 pub record Puts (old new : Reader) (k : List ℕ) (v : RawValue) : Type 0 where
+  pub limits : new.document.limits ≡ old.document.limits
   pub levels : new.document.levels.items ≡ old.document.levels.items
   pub bytes : bytes_of new ≡ bytes_of old ++ element_bytes k v
   pub in_range : IsRawInRange v

@@ -7,13 +7,14 @@ ghost use Rattle.raw_view.specs.Frame.Format.{c_string as text_then, framed, str
 ghost use Rattle.raw_view.specs.Document.{bytes_of};
 ghost use Rattle.raw_view.specs.Frame.Kind.{tag_of};
 ghost use Rattle.raw_view.specs.Frame.Number.{max_length};
-ghost use Rattle.raw_tree.specs.Payload.{IsRawInRange, element_bytes, unset};
+ghost use Rattle.raw_tree.specs.Payload.{IsRawInRange, element_bytes, payload_of, unset};
 ghost use Rattle.bson_model.specs.Tree.{Tree};
 ghost use Rattle.raw_view.specs.Meaning.Value.{value_of};
 ghost use Rattle.raw_tree.specs.WithinLimits.{ReadsWithin};
 ghost use Rattle.bson_from_json.specs.Levels.{IsReadAgain, IsReadableDocument, headed, level_at, with_len, with_string};
 ghost use Rattle.bson_from_json.specs.Placed.{IsPlaced, code_start};
-ghost use Rattle.bson_from_json.specs.Texts.{LeavesOpen};
+ghost use Rattle.bson_from_json.specs.Ends.{Refuses, StopsDocument};
+ghost use Rattle.bson_from_json.specs.Texts.{capped};
 
 use crate::unfinished::Unfinished;
 use raw_bson::RawDocumentBuf;
@@ -56,6 +57,7 @@ impl<'a> Unfinished<'a> {
     pub(crate) fn new(alloc: Global, limits: Limits) -> Unfinished<'a>
         ensures bytes { result.bytes.items ≡ [] }
         ensures levels { result.levels.items ≡ [] }
+        ensures limits { result.limits ≡ capped limits }
     {
         let limits = Limits {
             bytes: limits.bytes.min(MAX_LEN),
@@ -74,6 +76,7 @@ impl<'a> Unfinished<'a> {
             (λ level. self.old.levels.items ≡ self.new.levels.items ++ level ∷ []) }
         ensures placed { IfSome result (IsPlaced (length self.new.bytes.items)) }
         ensures bytes { self.new.bytes.items ≡ self.old.bytes.items }
+        ensures limits { self.new.limits ≡ self.old.limits }
     {
         self.levels.pop()
     }
@@ -83,7 +86,8 @@ impl<'a> Unfinished<'a> {
         requires { IsPlaced (length self.old.bytes.items) level }
         ensures level { OnOk result (self.new.levels.items ≡ self.old.levels.items ++ level.entry ∷ []) }
         ensures bytes { self.new.bytes.items ≡ self.old.bytes.items }
-        ensures reason { IfErr result LeavesOpen }
+        ensures limits { self.new.limits ≡ self.old.limits }
+        ensures refused { IfErr result (Refuses self.old 0 0) }
     {
         match self.levels.push(level) {
             Ok(()) => Ok(()),
@@ -95,7 +99,8 @@ impl<'a> Unfinished<'a> {
     fn put(&mut self, bytes: &[u8]) -> Result<(), JsonReason>
         ensures bytes { OnOk result (self.new.bytes.items ≡ self.old.bytes.items ++ bytes.now) }
         ensures levels { self.new.levels.items ≡ self.old.levels.items }
-        ensures reason { IfErr result LeavesOpen }
+        ensures limits { self.new.limits ≡ self.old.limits }
+        ensures refused { IfErr result (Refuses self.old (length bytes.now) 0) }
     {
         if bytes.len() > self.limits.bytes - self.bytes.len() {
             return Err(JsonReason::TooManyBytes);
@@ -112,7 +117,8 @@ impl<'a> Unfinished<'a> {
         ensures room { OnOk result (vec_len self.new.bytes + added ≤ vec_capacity self.new.bytes) }
         ensures fits { OnOk result (vec_len self.new.bytes + added ≤ self.new.limits.bytes) }
         ensures levels { self.new.levels.items ≡ self.old.levels.items }
-        ensures reason { IfErr result LeavesOpen }
+        ensures limits { self.new.limits ≡ self.old.limits }
+        ensures refused { IfErr result (Refuses self.old added 0) }
     {
         if added > self.limits.bytes - self.bytes.len() {
             return Err(JsonReason::TooManyBytes);
@@ -127,9 +133,10 @@ impl<'a> Unfinished<'a> {
     fn put_head(&mut self, kind: ElementType, key: &str) -> Result<(), JsonReason>
         ensures bytes { OnOk result (self.new.bytes.items ≡ self.old.bytes.items ++ tag_of kind ∷ text_then key.now []) }
         ensures levels { self.new.levels.items ≡ self.old.levels.items }
-        ensures reason { IfErr result LeavesOpen }
+        ensures limits { self.new.limits ≡ self.old.limits }
+        ensures refused { IfErr result (Refuses self.old (2 + length key.now) 0) }
     {
-        self.make_room(key.len().saturating_add(2))?;
+        self.make_room(key.len() + 2)?;
         put_head(&mut self.bytes, kind.to_tag(), key);
         Ok(())
     }
@@ -139,9 +146,10 @@ impl<'a> Unfinished<'a> {
         ensures text { IsUtf8 text.now }
         ensures bytes { OnOk result (self.new.bytes.items ≡ self.old.bytes.items ++ string_payload text.now) }
         ensures levels { self.new.levels.items ≡ self.old.levels.items }
-        ensures reason { IfErr result LeavesOpen }
+        ensures limits { self.new.limits ≡ self.old.limits }
+        ensures refused { IfErr result (Refuses self.old (5 + length text.now) 0) }
     {
-        self.make_room(text.len().saturating_add(5))?;
+        self.make_room(text.len() + 5)?;
         put_string(&mut self.bytes, text);
         Ok(())
     }
@@ -152,7 +160,8 @@ impl<'a> Unfinished<'a> {
         ensures bytes { OnOk result (self.new.bytes.items ≡ self.old.bytes.items ++ element_bytes key.now (value_of value.entry)) }
         ensures in_range { OnOk result (IsRawInRange (value_of value.entry)) }
         ensures levels { self.new.levels.items ≡ self.old.levels.items }
-        ensures reason { IfErr result LeavesOpen }
+        ensures limits { self.new.limits ≡ self.old.limits }
+        ensures refused { IfErr result (Refuses self.old (2 + length key.now + length (payload_of (value_of value.entry))) 0) }
     {
         self.make_room(payload_len(value).saturating_add(key.len() + 2))?;
         put_element(&mut self.bytes, key, value);
@@ -161,7 +170,7 @@ impl<'a> Unfinished<'a> {
 
     /// Whether one more level may be opened.
     fn check_depth(&self) -> Result<(), JsonReason>
-        ensures { IfErr result LeavesOpen }
+        ensures { IfErr result (Refuses self.now 0 1) }
     {
         if self.levels.len() >= self.limits.depth {
             Err(JsonReason::TooDeep)
@@ -174,7 +183,8 @@ impl<'a> Unfinished<'a> {
     pub(crate) fn put_empty(&mut self, key: &str) -> Result<(), JsonReason>
         ensures bytes { OnOk result (self.new.bytes.items ≡ headed self.old.bytes.items 3 key.now ++ framed []) }
         ensures levels { self.new.levels.items ≡ self.old.levels.items }
-        ensures reason { IfErr result LeavesOpen }
+        ensures limits { self.new.limits ≡ self.old.limits }
+        ensures refused { IfErr result (Refuses self.old (2 + length key.now + 5) 1) }
     {
         self.put_head(ElementType::EmbeddedDocument, key)?;
         self.check_depth()?;
@@ -192,7 +202,8 @@ impl<'a> Unfinished<'a> {
         ensures bytes { OnOk result (self.new.bytes.items ≡ headed self.old.bytes.items (tag_of kind) key.now ++ unset) }
         ensures level { OnOk result (self.new.levels.items
             ≡ self.old.levels.items ++ level_at holder.entry (length (headed self.old.bytes.items (tag_of kind) key.now)) ∷ []) }
-        ensures reason { IfErr result LeavesOpen }
+        ensures limits { self.new.limits ≡ self.old.limits }
+        ensures refused { IfErr result (Refuses self.old (2 + length key.now + 4) 1) }
     {
         self.put_head(kind, key)?;
         self.open(holder)
@@ -204,7 +215,8 @@ impl<'a> Unfinished<'a> {
         ensures bytes { OnOk result (self.new.bytes.items ≡ self.old.bytes.items ++ unset) }
         ensures level { OnOk result (self.new.levels.items
             ≡ self.old.levels.items ++ level_at holder.entry (length self.old.bytes.items) ∷ []) }
-        ensures reason { IfErr result LeavesOpen }
+        ensures limits { self.new.limits ≡ self.old.limits }
+        ensures refused { IfErr result (Refuses self.old 4 1) }
     {
         self.check_depth()?;
         let level = Level {
@@ -221,7 +233,8 @@ impl<'a> Unfinished<'a> {
         ensures start { IfOk result (λ start. start ≡ length (headed self.old.bytes.items 15 key.now)) }
         ensures bytes { OnOk result (self.new.bytes.items ≡ headed self.old.bytes.items 15 key.now ++ unset) }
         ensures levels { self.new.levels.items ≡ self.old.levels.items }
-        ensures reason { IfErr result LeavesOpen }
+        ensures limits { self.new.limits ≡ self.old.limits }
+        ensures refused { IfErr result (Refuses self.old (2 + length key.now + 4) 0) }
     {
         self.put_head(ElementType::JavaScriptCodeWithScope, key)?;
         let start = self.bytes.len();
@@ -239,11 +252,12 @@ impl<'a> Unfinished<'a> {
         requires { at ≤ length self.old.bytes.items }
         ensures text { IsUtf8 text.now }
         ensures bytes { OnOk result (self.new.bytes.items ≡ with_string at text.now self.old.bytes.items) }
-        ensures longer { OnOk result (length self.old.bytes.items ≤ length self.new.bytes.items) }
+        ensures len { OnOk result (length self.new.bytes.items ≡ length self.old.bytes.items + (5 + length text.now)) }
         ensures levels { self.new.levels.items ≡ self.old.levels.items }
-        ensures reason { IfErr result LeavesOpen }
+        ensures limits { self.new.limits ≡ self.old.limits }
+        ensures refused { IfErr result (Refuses self.old (5 + length text.now) 0) }
     {
-        self.make_room(text.len().saturating_add(5))?;
+        self.make_room(text.len() + 5)?;
         let Ok(behind) = Vec::from_slice(alloc, &self.bytes[at..]) else {
             return Err(JsonReason::OutOfMemory);
         };
@@ -259,9 +273,10 @@ impl<'a> Unfinished<'a> {
     pub(crate) fn close(&mut self, level: Level<'a>) -> Result<(), JsonReason>
         requires { IsPlaced (length self.old.bytes.items) level }
         ensures bytes { OnOk result (self.new.bytes.items ≡ with_len level.entry.start (self.old.bytes.items ++ 0 ∷ [])) }
-        ensures longer { OnOk result (length self.old.bytes.items ≤ length self.new.bytes.items) }
+        ensures len { OnOk result (length self.new.bytes.items ≡ length self.old.bytes.items + 1) }
         ensures levels { self.new.levels.items ≡ self.old.levels.items }
-        ensures reason { IfErr result LeavesOpen }
+        ensures limits { self.new.limits ≡ self.old.limits }
+        ensures refused { IfErr result (Refuses self.old 1 0) }
     {
         self.put(&[0])?;
         self.set_len(level.start);
@@ -274,21 +289,22 @@ impl<'a> Unfinished<'a> {
         ensures bytes { self.new.bytes.items ≡ with_len start self.old.bytes.items }
         ensures len { length self.new.bytes.items ≡ length self.old.bytes.items }
         ensures levels { self.new.levels.items ≡ self.old.levels.items }
+        ensures limits { self.new.limits ≡ self.old.limits }
     {
         set_len(&mut self.bytes, start);
     }
 
-    /// The document, whose levels have all ended, if it is within these limits.
-    pub(crate) fn finish(self, alloc: Global, limits: Limits) -> Result<RawDocumentBuf, JsonReason>
+    /// The document, whose levels have all ended, if it is within the limits.
+    pub(crate) fn finish(self, alloc: Global) -> Result<RawDocumentBuf, JsonReason>
         requires { IsReadableDocument self.bytes.items }
         ensures bytes { IfOk result (λ document. document ≡ self.entry.bytes.items) }
-        ensures sound { IfOk result (λ document. (t : Tree) × ReadsWithin limits document t) }
-        ensures reason { IfErr result LeavesOpen }
+        ensures sound { IfOk result (λ document. (t : Tree) × ReadsWithin self.entry.limits document t) }
+        ensures stops { IfErr result (StopsDocument self.entry.limits self.entry.bytes.items) }
     {
         let Ok(document) = RawDocumentBuf::from_bytes(self.bytes) else {
             unreachable!()
         };
-        check(alloc, document.as_ref(), limits)?;
+        check(alloc, document.as_ref(), self.limits)?;
         Ok(document)
     }
 }
@@ -297,7 +313,7 @@ impl<'a> Unfinished<'a> {
 fn check(alloc: Global, document: RawDocument<'_>, limits: Limits) -> Result<(), JsonReason>
     requires { IsReadAgain (bytes_of document) }
     ensures sound { OnOk result ((t : Tree) × ReadsWithin limits (bytes_of document.entry) t) }
-    ensures reason { IfErr result LeavesOpen }
+    ensures stops { IfErr result (StopsDocument limits (bytes_of document.entry)) }
 {
     match first_fault_within(alloc, document, limits) {
         Err(_) => Err(JsonReason::OutOfMemory),

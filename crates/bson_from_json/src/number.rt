@@ -1,11 +1,11 @@
 //! JSON numbers.
-#![tactic(auto, using(crate::proofs::Keeps::only_open))]
+#![tactic(auto)]
 
-ghost use Rattle.std.specs.Prelude.{◌≡◌, ◌⊎◌, IfErr, OnOk};
+ghost use Rattle.std.specs.Prelude.{◌≡◌, IfErr, OnOk};
 ghost use Rattle.bson_model.specs.Leaf.{Leaf};
 ghost use Rattle.bson_from_json.specs.Levels.{Puts};
 ghost use Rattle.values_from_json.specs.Numbers.{IsPlain, is_fractional};
-ghost use Rattle.bson_from_json.specs.Texts.{LeavesOpen};
+ghost use Rattle.bson_from_json.specs.Ends.{StopsPlain};
 ghost use Rattle.raw_view.specs.Meaning.{single};
 
 use crate::reading::Reader;
@@ -27,7 +27,7 @@ impl Reader<'_> {
     pub(crate) fn number(&mut self, key: &str, text: &str) -> Result<(), JsonReason>
         ensures source { self.new.source ≡ self.old.source }
         ensures puts { OnOk result ((l : Leaf) × IsPlain text.now l × Puts self.old self.new key.now (single l)) }
-        ensures none { IfErr result (λ reason. LeavesOpen reason ⊎ ((l : Leaf) → ¬ IsPlain text.now l)) }
+        ensures stops { IfErr result (StopsPlain self.old text.now key.now) }
     {
         if is_fractional(text.as_bytes()) {
             return match double_of(text) {

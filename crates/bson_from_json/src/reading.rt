@@ -1,7 +1,7 @@
 //! Documents from text: one loop over the members of the innermost level.
-#![tactic(auto, using(crate::proofs::Left::one_taken, crate::proofs::Left::some_taken, crate::proofs::Keeps::only_open))]
+#![tactic(auto, using(crate::proofs::Left::one_taken, crate::proofs::Left::some_taken))]
 
-ghost use Rattle.std.specs.Prelude.{◌≡◌, ◌<◌, ◌≤◌, ◌∷◌, ◌⊎◌, [], length, IfErr, IfOk, OnErr, OnOk};
+ghost use Rattle.std.specs.Prelude.{◌≡◌, ◌+◌, ◌<◌, ◌≤◌, ◌∷◌, [], length, IfErr, IfOk, OnErr, OnOk};
 ghost use Rattle.std.specs.Str.{IsUtf8};
 ghost use Rattle.json.specs.Reads.{token_of};
 ghost use Rattle.json.specs.Token.{begin_object};
@@ -13,9 +13,8 @@ ghost use Rattle.bson_from_json.specs.Left.{left_of};
 ghost use Rattle.bson_from_json.specs.Levels.{ClosesBracket, HasMembers, MayBeIn, Puts, SaysBytes, TakesLevel, TakesValue, array_level};
 ghost use Rattle.bson_from_json.specs.Placed.{IsPlaced};
 ghost use Rattle.values_from_json.specs.Place.{IsPlaceIn};
-ghost use Rattle.bson_from_json.specs.declared.levels.Holder.TheVariants.{Array};
-ghost use Rattle.bson_from_json.specs.Ends.{KeepsClosed, KeepsLevel, KeepsValue, LacksLevel, LacksValue, LacksWhole, LacksWrapper};
-ghost use Rattle.bson_from_json.specs.Texts.{IsWritten, LeavesOpen, SaysNone};
+ghost use Rattle.bson_from_json.specs.Ends.{HaveLength, KeepsClosed, KeepsLevel, KeepsValue, RefusesValue, StopsClosed, StopsLevel, StopsValue, StopsWhole};
+ghost use Rattle.bson_from_json.specs.Texts.{IsCause, IsWritten};
 
 use crate::levels::{Holder, Level};
 use crate::unfinished::Unfinished;
@@ -42,8 +41,9 @@ pub(crate) struct Reader<'a> {
 /// the key of a wrapper and other keys is an error. The whole text and a scope are documents whatever their keys
 /// are. A decimal must equal a Decimal128. Members are in the order of the text, even with repeated keys; options
 /// are sorted. The document has a tree within the limits, so it has no fault at any level. The error is about the
-/// first token that is wrong, with its place; or it is out of memory. Unless its reason is `OutOfMemory`,
-/// `TooManyBytes` or `TooDeep`, the text writes no document. BSON 1.1, `document`.
+/// first token that is wrong, with its place; or it is out of memory. The reason is `TooDeep` or `TooManyBytes` only
+/// where every document that the text writes is over that limit, or has more bytes than BSON allows. With any other
+/// reason but `OutOfMemory` the text writes no document. BSON 1.1, `document`.
 ///
 /// Not in the contract: no depth of the text takes stack, the time is linear, and memory is taken for as many
 /// bytes as the text has, besides the document. A code after its scope is written before it: the bytes of the scope
@@ -57,7 +57,7 @@ pub fn from_json(alloc: Global, text: &str, limits: Limits) -> Result<RawDocumen
     ensures written { IfOk result (IsWritten text.now) }
     ensures sound { IfOk result (λ document. (t : Tree) × ReadsWithin limits document t) }
     ensures place { IfErr result (IsPlaceIn text.now) }
-    ensures none { IfErr result (λ error. LeavesOpen error.reason ⊎ SaysNone text.now) }
+    ensures cause { IfErr result (λ error. IsCause limits text.now error.reason) }
 {
     let mut scratch = Scratch::new(alloc);
     let tokens = match Tokens::new(text, &mut scratch) {
@@ -73,7 +73,7 @@ pub fn from_json(alloc: Global, text: &str, limits: Limits) -> Result<RawDocumen
     let place = reader.source.place;
     let reason = match outcome {
         Err(reason) => reason,
-        Ok(()) => match reader.document.finish(alloc, limits) {
+        Ok(()) => match reader.document.finish(alloc) {
             Ok(document) => return Ok(document),
             Err(reason) => reason,
         },
@@ -87,7 +87,9 @@ impl<'a> Reader<'a> {
         requires bytes { self.old.document.bytes.items ≡ [] }
         requires levels { self.old.document.levels.items ≡ [] }
         ensures some { OnOk result (SaysBytes self.old.source.tokens self.new.document.bytes.items) }
-        ensures none { IfErr result (λ reason. LeavesOpen reason ⊎ LacksWhole self.old.source.tokens) }
+        ensures limits { OnOk result (self.new.document.limits ≡ self.old.document.limits) }
+        ensures length { OnOk result (HaveLength self.old.source.tokens (length self.new.document.bytes.items)) }
+        ensures stops { IfErr result (StopsWhole self.old.document.limits self.old.source.tokens) }
     {
         let Token::BeginObject = self.source.token(Wanted::Document)? else {
             return Err(self.source.fault(Wanted::Document));
@@ -105,7 +107,7 @@ impl<'a> Reader<'a> {
         ensures less { OnOk result (left_of self.new < left_of self.old) }
         ensures rest { OnOk result (TakesLevel self.old self.new level.entry) }
         ensures keeps { OnOk result (KeepsLevel self.old self.new level.entry) }
-        ensures none { IfErr result (λ reason. LeavesOpen reason ⊎ LacksLevel level.entry.holder self.old.source.tokens) }
+        ensures stops { IfErr result (StopsLevel self.old level.entry) }
     {
         match level.holder {
             Holder::Array(items) => self.item(level.start, items),
@@ -126,7 +128,7 @@ impl<'a> Reader<'a> {
         ensures less { OnOk result (left_of self.new < left_of self.old) }
         ensures rest { OnOk result (TakesLevel self.old self.new (array_level items start)) }
         ensures keeps { OnOk result (KeepsLevel self.old self.new (array_level items start)) }
-        ensures none { IfErr result (λ reason. LeavesOpen reason ⊎ LacksLevel (Array items) self.old.source.tokens) }
+        ensures stops { IfErr result (StopsLevel self.old (array_level items start)) }
     {
         let token = self.source.token(Wanted::Item)?;
         if let Token::EndArray = token {
@@ -135,7 +137,7 @@ impl<'a> Reader<'a> {
                 start,
             });
         }
-        let more = items.checked_add(1).ok_or(JsonReason::TooManyBytes)?;
+        let more = items.checked_add(1).ok_or(JsonReason::OutOfMemory)?;
         self.document.push(Level {
             holder: Holder::Array(more),
             start,
@@ -152,7 +154,7 @@ impl<'a> Reader<'a> {
         ensures less { OnOk result (left_of self.new < left_of self.old) }
         ensures rest { OnOk result (TakesLevel self.old self.new level.entry) }
         ensures keeps { OnOk result (KeepsLevel self.old self.new level.entry) }
-        ensures none { IfErr result (λ reason. LeavesOpen reason ⊎ LacksLevel level.entry.holder self.old.source.tokens) }
+        ensures stops { IfErr result (StopsLevel self.old level.entry) }
     {
         match self.source.token(Wanted::Member)? {
             Token::EndObject => self.close(level),
@@ -169,8 +171,8 @@ impl<'a> Reader<'a> {
     fn value_of(&mut self, key: &str) -> Result<(), JsonReason>
         ensures less { OnOk result (left_of self.new < left_of self.old) }
         ensures rest { OnOk result (TakesValue self.old self.new key.now []) }
-        ensures keeps { OnOk result (KeepsValue self.old self.new []) }
-        ensures none { IfErr result (λ reason. LeavesOpen reason ⊎ LacksValue self.old.source.tokens) }
+        ensures keeps { OnOk result (KeepsValue self.old self.new key.now []) }
+        ensures stops { IfErr result (StopsValue self.old key.now []) }
     {
         let token = self.source.token(Wanted::Value)?;
         self.value(token, key, Wanted::Value)
@@ -182,7 +184,7 @@ impl<'a> Reader<'a> {
         ensures less { OnOk result (left_of self.new ≤ left_of self.old) }
         ensures rest { OnOk result (ClosesBracket self.old self.new level.entry) }
         ensures keeps { OnOk result (KeepsClosed self.old self.new level.entry) }
-        ensures none { IfErr result (λ reason. LeavesOpen reason ⊎ LacksWrapper level.entry.holder self.old.source.tokens) }
+        ensures stops { IfErr result (StopsClosed self.old level.entry) }
     {
         self.document.close(level)?;
         match level.holder {
@@ -204,8 +206,8 @@ impl<'a> Reader<'a> {
     fn value(&mut self, token: Token<'a>, key: &str, wanted: Wanted) -> Result<(), JsonReason>
         ensures less { OnOk result (left_of self.new ≤ left_of self.old) }
         ensures rest { OnOk result (TakesValue self.old self.new key.now (token_of token.entry ∷ [])) }
-        ensures keeps { OnOk result (KeepsValue self.old self.new (token_of token.entry ∷ [])) }
-        ensures none { IfErr result (λ reason. LeavesOpen reason ⊎ LacksValue (token_of token.entry ∷ self.old.source.tokens)) }
+        ensures keeps { OnOk result (KeepsValue self.old self.new key.now (token_of token.entry ∷ [])) }
+        ensures stops { IfErr result (StopsValue self.old key.now (token_of token.entry ∷ [])) }
     {
         match token {
             Token::String(text) => self.put(key, RawBsonRef::String(text)),
@@ -225,8 +227,8 @@ impl<'a> Reader<'a> {
     fn object(&mut self, key: &str) -> Result<(), JsonReason>
         ensures less { OnOk result (left_of self.new ≤ left_of self.old) }
         ensures rest { OnOk result (TakesValue self.old self.new key.now (begin_object ∷ [])) }
-        ensures keeps { OnOk result (KeepsValue self.old self.new (begin_object ∷ [])) }
-        ensures none { IfErr result (λ reason. LeavesOpen reason ⊎ LacksValue (begin_object ∷ self.old.source.tokens)) }
+        ensures keeps { OnOk result (KeepsValue self.old self.new key.now (begin_object ∷ [])) }
+        ensures stops { IfErr result (StopsValue self.old key.now (begin_object ∷ [])) }
     {
         let brace = self.source.place;
         match self.source.token(Wanted::Member)? {
@@ -252,7 +254,7 @@ impl<'a> Reader<'a> {
     pub(crate) fn put(&mut self, key: &str, value: RawBsonRef<'_>) -> Result<(), JsonReason>
         ensures source { self.new.source ≡ self.old.source }
         ensures puts { OnOk result (Puts self.old self.new key.now (value_of value.entry)) }
-        ensures reason { IfErr result LeavesOpen }
+        ensures refused { IfErr result (RefusesValue self.old.document key.now (value_of value.entry)) }
     {
         self.document.put_element(key, value)
     }

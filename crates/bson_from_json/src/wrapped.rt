@@ -1,15 +1,13 @@
 //! The values of wrappers, each after its first key, as bytes of the document.
-#![tactic(auto, using(crate::proofs::Left::one_taken, crate::proofs::Left::some_taken, crate::proofs::Left::leaf_less, crate::proofs::Keeps::only_open))]
+#![tactic(auto, using(crate::proofs::Left::one_taken, crate::proofs::Left::some_taken, crate::proofs::Left::leaf_less))]
 
-ghost use Rattle.std.specs.Prelude.{◌≢◌, ◌≤◌, ◌⊎◌, ◌∷◌, [], IfErr, OnOk, codes};
+ghost use Rattle.std.specs.Prelude.{◌≢◌, ◌≤◌, ◌∷◌, [], IfErr, OnOk, codes};
 ghost use Rattle.json.specs.Token.{begin_object, key as key_token, string};
-ghost use Rattle.bson_from_json.specs.Ends.{KeepsValue, LacksValue};
+ghost use Rattle.bson_from_json.specs.Ends.{KeepsValue, StopsLeaf, StopsValue};
 ghost use Rattle.bson_from_json.specs.Left.{left_of};
-ghost use Rattle.bson_from_json.specs.Texts.{LeavesOpen};
 ghost use Rattle.bson_from_json.specs.Levels.{TakesLeaf, TakesValue};
 ghost use Rattle.values_from_json.specs.Keys.{wrapper_key};
 ghost use Rattle.values_from_json.specs.declared.wrapper.Wrapper.TheVariants.{Code, Scope};
-ghost use Rattle.values_from_json.specs.Taken.{LacksLeaf};
 
 use crate::levels::Holder;
 use crate::reading::Reader;
@@ -23,8 +21,8 @@ impl Reader<'_> {
     pub(crate) fn wrapped(&mut self, wrapper: Wrapper, key: &str) -> Result<(), JsonReason>
         ensures less { OnOk result (left_of self.new ≤ left_of self.old) }
         ensures rest { OnOk result (TakesValue self.old self.new key.now (begin_object ∷ key_token (wrapper_key wrapper) ∷ [])) }
-        ensures keeps { OnOk result (KeepsValue self.old self.new (begin_object ∷ key_token (wrapper_key wrapper) ∷ [])) }
-        ensures none { IfErr result (λ reason. LeavesOpen reason ⊎ LacksValue (begin_object ∷ key_token (wrapper_key wrapper) ∷ self.old.source.tokens)) }
+        ensures keeps { OnOk result (KeepsValue self.old self.new key.now (begin_object ∷ key_token (wrapper_key wrapper) ∷ [])) }
+        ensures stops { IfErr result (StopsValue self.old key.now (begin_object ∷ key_token (wrapper_key wrapper) ∷ [])) }
     {
         match wrapper {
             Wrapper::Code => return self.code(key),
@@ -39,7 +37,7 @@ impl Reader<'_> {
         requires no_code { wrapper ≢ Code }
         requires no_scope { wrapper ≢ Scope }
         ensures some { OnOk result (TakesLeaf self.old self.new (wrapper_key wrapper) key.now) }
-        ensures none { IfErr result (λ reason. LeavesOpen reason ⊎ LacksLeaf (wrapper_key wrapper) self.old.source.tokens) }
+        ensures stops { IfErr result (StopsLeaf self.old (wrapper_key wrapper) key.now) }
     {
         match wrapper {
             Wrapper::Oid => self.oid(key),
@@ -63,7 +61,7 @@ impl Reader<'_> {
 
     fn oid(&mut self, key: &str) -> Result<(), JsonReason>
         ensures some { OnOk result (TakesLeaf self.old self.new (codes "$oid") key.now) }
-        ensures none { IfErr result (λ reason. LeavesOpen reason ⊎ LacksLeaf (codes "$oid") self.old.source.tokens) }
+        ensures stops { IfErr result (StopsLeaf self.old (codes "$oid") key.now) }
     {
         let id = self.source.id()?;
         self.put(key, RawBsonRef::ObjectId(ObjectId::from_bytes(id)))
@@ -71,7 +69,7 @@ impl Reader<'_> {
 
     fn int32(&mut self, key: &str) -> Result<(), JsonReason>
         ensures some { OnOk result (TakesLeaf self.old self.new (codes "$numberInt") key.now) }
-        ensures none { IfErr result (λ reason. LeavesOpen reason ⊎ LacksLeaf (codes "$numberInt") self.old.source.tokens) }
+        ensures stops { IfErr result (StopsLeaf self.old (codes "$numberInt") key.now) }
     {
         let value = self.source.int32()?;
         self.put(key, RawBsonRef::Int32(value))
@@ -79,7 +77,7 @@ impl Reader<'_> {
 
     fn int64(&mut self, key: &str) -> Result<(), JsonReason>
         ensures some { OnOk result (TakesLeaf self.old self.new (codes "$numberLong") key.now) }
-        ensures none { IfErr result (λ reason. LeavesOpen reason ⊎ LacksLeaf (codes "$numberLong") self.old.source.tokens) }
+        ensures stops { IfErr result (StopsLeaf self.old (codes "$numberLong") key.now) }
     {
         let value = self.source.int64()?;
         self.put(key, RawBsonRef::Int64(value))
@@ -87,7 +85,7 @@ impl Reader<'_> {
 
     fn double(&mut self, key: &str) -> Result<(), JsonReason>
         ensures some { OnOk result (TakesLeaf self.old self.new (codes "$numberDouble") key.now) }
-        ensures none { IfErr result (λ reason. LeavesOpen reason ⊎ LacksLeaf (codes "$numberDouble") self.old.source.tokens) }
+        ensures stops { IfErr result (StopsLeaf self.old (codes "$numberDouble") key.now) }
     {
         let bits = self.source.double()?;
         self.put(key, RawBsonRef::Double(DoubleBits(bits)))
@@ -95,7 +93,7 @@ impl Reader<'_> {
 
     fn decimal(&mut self, key: &str) -> Result<(), JsonReason>
         ensures some { OnOk result (TakesLeaf self.old self.new (codes "$numberDecimal") key.now) }
-        ensures none { IfErr result (λ reason. LeavesOpen reason ⊎ LacksLeaf (codes "$numberDecimal") self.old.source.tokens) }
+        ensures stops { IfErr result (StopsLeaf self.old (codes "$numberDecimal") key.now) }
     {
         let bytes = self.source.decimal()?;
         self.put(key, RawBsonRef::Decimal128(Decimal128::from_bytes(bytes)))
@@ -103,7 +101,7 @@ impl Reader<'_> {
 
     fn uuid(&mut self, key: &str) -> Result<(), JsonReason>
         ensures some { OnOk result (TakesLeaf self.old self.new (codes "$uuid") key.now) }
-        ensures none { IfErr result (λ reason. LeavesOpen reason ⊎ LacksLeaf (codes "$uuid") self.old.source.tokens) }
+        ensures stops { IfErr result (StopsLeaf self.old (codes "$uuid") key.now) }
     {
         let bytes = self.source.uuid()?;
         let binary = RawBinaryRef {
@@ -115,7 +113,7 @@ impl Reader<'_> {
 
     fn date(&mut self, key: &str) -> Result<(), JsonReason>
         ensures some { OnOk result (TakesLeaf self.old self.new (codes "$date") key.now) }
-        ensures none { IfErr result (λ reason. LeavesOpen reason ⊎ LacksLeaf (codes "$date") self.old.source.tokens) }
+        ensures stops { IfErr result (StopsLeaf self.old (codes "$date") key.now) }
     {
         let millis = self.source.date()?;
         self.put(key, RawBsonRef::DateTime(DateTime::from_millis(millis)))
@@ -123,7 +121,7 @@ impl Reader<'_> {
 
     fn undefined(&mut self, key: &str) -> Result<(), JsonReason>
         ensures some { OnOk result (TakesLeaf self.old self.new (codes "$undefined") key.now) }
-        ensures none { IfErr result (λ reason. LeavesOpen reason ⊎ LacksLeaf (codes "$undefined") self.old.source.tokens) }
+        ensures stops { IfErr result (StopsLeaf self.old (codes "$undefined") key.now) }
     {
         self.source.undefined()?;
         self.put(key, RawBsonRef::Undefined)
@@ -131,7 +129,7 @@ impl Reader<'_> {
 
     fn min_key(&mut self, key: &str) -> Result<(), JsonReason>
         ensures some { OnOk result (TakesLeaf self.old self.new (codes "$minKey") key.now) }
-        ensures none { IfErr result (λ reason. LeavesOpen reason ⊎ LacksLeaf (codes "$minKey") self.old.source.tokens) }
+        ensures stops { IfErr result (StopsLeaf self.old (codes "$minKey") key.now) }
     {
         self.source.one(Wrapper::MinKey)?;
         self.put(key, RawBsonRef::MinKey)
@@ -139,7 +137,7 @@ impl Reader<'_> {
 
     fn max_key(&mut self, key: &str) -> Result<(), JsonReason>
         ensures some { OnOk result (TakesLeaf self.old self.new (codes "$maxKey") key.now) }
-        ensures none { IfErr result (λ reason. LeavesOpen reason ⊎ LacksLeaf (codes "$maxKey") self.old.source.tokens) }
+        ensures stops { IfErr result (StopsLeaf self.old (codes "$maxKey") key.now) }
     {
         self.source.one(Wrapper::MaxKey)?;
         self.put(key, RawBsonRef::MaxKey)
@@ -147,7 +145,7 @@ impl Reader<'_> {
 
     fn symbol(&mut self, key: &str) -> Result<(), JsonReason>
         ensures some { OnOk result (TakesLeaf self.old self.new (codes "$symbol") key.now) }
-        ensures none { IfErr result (λ reason. LeavesOpen reason ⊎ LacksLeaf (codes "$symbol") self.old.source.tokens) }
+        ensures stops { IfErr result (StopsLeaf self.old (codes "$symbol") key.now) }
     {
         let text = self.source.text(Wrapper::Symbol)?;
         self.put(key, RawBsonRef::Symbol(text))
@@ -155,7 +153,7 @@ impl Reader<'_> {
 
     fn timestamp(&mut self, key: &str) -> Result<(), JsonReason>
         ensures some { OnOk result (TakesLeaf self.old self.new (codes "$timestamp") key.now) }
-        ensures none { IfErr result (λ reason. LeavesOpen reason ⊎ LacksLeaf (codes "$timestamp") self.old.source.tokens) }
+        ensures stops { IfErr result (StopsLeaf self.old (codes "$timestamp") key.now) }
     {
         let (time, increment) = self.source.timestamp()?;
         self.put(key, RawBsonRef::Timestamp(Timestamp { time, increment }))
@@ -163,7 +161,7 @@ impl Reader<'_> {
 
     fn binary(&mut self, key: &str) -> Result<(), JsonReason>
         ensures some { OnOk result (TakesLeaf self.old self.new (codes "$binary") key.now) }
-        ensures none { IfErr result (λ reason. LeavesOpen reason ⊎ LacksLeaf (codes "$binary") self.old.source.tokens) }
+        ensures stops { IfErr result (StopsLeaf self.old (codes "$binary") key.now) }
     {
         let (bytes, subtype) = self.source.binary(self.alloc)?;
         let binary = RawBinaryRef {
@@ -176,7 +174,7 @@ impl Reader<'_> {
     /// Takes a pattern and options, and puts the options in order.
     fn regular_expression(&mut self, key: &str) -> Result<(), JsonReason>
         ensures some { OnOk result (TakesLeaf self.old self.new (codes "$regularExpression") key.now) }
-        ensures none { IfErr result (λ reason. LeavesOpen reason ⊎ LacksLeaf (codes "$regularExpression") self.old.source.tokens) }
+        ensures stops { IfErr result (StopsLeaf self.old (codes "$regularExpression") key.now) }
     {
         let (pattern, options) = self.source.regular_expression()?;
         let Ok(regex) = Regex::new(self.alloc, pattern, options) else {
@@ -191,7 +189,7 @@ impl Reader<'_> {
 
     fn db_pointer(&mut self, key: &str) -> Result<(), JsonReason>
         ensures some { OnOk result (TakesLeaf self.old self.new (codes "$dbPointer") key.now) }
-        ensures none { IfErr result (λ reason. LeavesOpen reason ⊎ LacksLeaf (codes "$dbPointer") self.old.source.tokens) }
+        ensures stops { IfErr result (StopsLeaf self.old (codes "$dbPointer") key.now) }
     {
         let (namespace, id) = self.source.db_pointer()?;
         let pointer = RawDbPointerRef::new(namespace, ObjectId::from_bytes(id));
@@ -202,8 +200,8 @@ impl Reader<'_> {
     fn code(&mut self, key: &str) -> Result<(), JsonReason>
         ensures less { OnOk result (left_of self.new ≤ left_of self.old) }
         ensures rest { OnOk result (TakesValue self.old self.new key.now (begin_object ∷ key_token (codes "$code") ∷ [])) }
-        ensures keeps { OnOk result (KeepsValue self.old self.new (begin_object ∷ key_token (codes "$code") ∷ [])) }
-        ensures none { IfErr result (λ reason. LeavesOpen reason ⊎ LacksValue (begin_object ∷ key_token (codes "$code") ∷ self.old.source.tokens)) }
+        ensures keeps { OnOk result (KeepsValue self.old self.new key.now (begin_object ∷ key_token (codes "$code") ∷ [])) }
+        ensures stops { IfErr result (StopsValue self.old key.now (begin_object ∷ key_token (codes "$code") ∷ [])) }
     {
         let wrapper = Wrapper::Code;
         let code = self.source.text(wrapper)?;
@@ -219,8 +217,8 @@ impl Reader<'_> {
     fn scope_behind_code(&mut self, key: &str, code: &str) -> Result<(), JsonReason>
         ensures less { OnOk result (left_of self.new ≤ left_of self.old) }
         ensures rest { OnOk result (TakesValue self.old self.new key.now (begin_object ∷ key_token (codes "$code") ∷ string code.now ∷ key_token (codes "$scope") ∷ [])) }
-        ensures keeps { OnOk result (KeepsValue self.old self.new (begin_object ∷ key_token (codes "$code") ∷ string code.now ∷ key_token (codes "$scope") ∷ [])) }
-        ensures none { IfErr result (λ reason. LeavesOpen reason ⊎ LacksValue (begin_object ∷ key_token (codes "$code") ∷ string code.now ∷ key_token (codes "$scope") ∷ self.old.source.tokens)) }
+        ensures keeps { OnOk result (KeepsValue self.old self.new key.now (begin_object ∷ key_token (codes "$code") ∷ string code.now ∷ key_token (codes "$scope") ∷ [])) }
+        ensures stops { IfErr result (StopsValue self.old key.now (begin_object ∷ key_token (codes "$code") ∷ string code.now ∷ key_token (codes "$scope") ∷ [])) }
     {
         self.source.begin(Wrapper::Code)?;
         let start = self.document.put_code_head(key)?;
@@ -232,8 +230,8 @@ impl Reader<'_> {
     fn scope_before_code(&mut self, key: &str) -> Result<(), JsonReason>
         ensures less { OnOk result (left_of self.new ≤ left_of self.old) }
         ensures rest { OnOk result (TakesValue self.old self.new key.now (begin_object ∷ key_token (codes "$scope") ∷ [])) }
-        ensures keeps { OnOk result (KeepsValue self.old self.new (begin_object ∷ key_token (codes "$scope") ∷ [])) }
-        ensures none { IfErr result (λ reason. LeavesOpen reason ⊎ LacksValue (begin_object ∷ key_token (codes "$scope") ∷ self.old.source.tokens)) }
+        ensures keeps { OnOk result (KeepsValue self.old self.new key.now (begin_object ∷ key_token (codes "$scope") ∷ [])) }
+        ensures stops { IfErr result (StopsValue self.old key.now (begin_object ∷ key_token (codes "$scope") ∷ [])) }
     {
         self.source.begin(Wrapper::Scope)?;
         let start = self.document.put_code_head(key)?;

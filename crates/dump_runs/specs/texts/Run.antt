@@ -4,7 +4,7 @@ use Rattle.std.specs.Io.KnownBytes.{Appends, Consumes, IsAtEnd}
 use Rattle.std.specs.Str.{IsUtf8, IsValidUpTo}
 use Rattle.bson_model.specs.Tree.{Tree}
 use Rattle.raw_tree.specs.WithinLimits.{ReadsWithin}
-use Rattle.bson_from_json.specs.Texts.{IsWritten, LeavesOpen, SaysNone}
+use Rattle.bson_from_json.specs.Texts.{IsCause, IsWritten, SaysNone}
 use Rattle.bson_from_json.specs.JsonReason.TheVariants as json
 use Rattle.dump_io.specs.lines.Find.{usual}
 use Rattle.dump_io.specs.lines.Fronts.{AppendsFront, HasFront, joined}
@@ -67,11 +67,11 @@ pub record TellsTextFault (style : Style) (name : List ℕ) (place : Position) (
   pub reason : TextReason
   pub told : lines ≡ fault_line style name (position_over place (take at text)) reason
 
--- Why a text isn't read that has a fault after its first bytes, which are this many: from there on it isn't UTF-8; or it is UTF-8 and says no document, unless its
--- reason leaves that open. Which of these reasons it is, and where, is what from_json says of it.
+-- Why a text isn't read that has a fault after its first bytes, which are this many: from there on it isn't UTF-8; or it is UTF-8, and says no document, or none
+-- within the limit that the reason names. Which of these reasons it is, and where, is what from_json says of it.
 abbrev pub IsFaultOf : List ℕ → ℕ → TextReason → Type 0
 IsFaultOf text at reason.NotUtf8 = IsValidUpTo text at
-IsFaultOf text at (reason.Json why) = IsUtf8 text × (why ≢ json.OutOfMemory) × (LeavesOpen why ⊎ SaysNone text)
+IsFaultOf text at (reason.Json why) = IsUtf8 text × (why ≢ json.OutOfMemory) × IsCause usual text why
 
 -- the whole text has a fault, and nothing is written of it
 pub record IsRefused (style : Style) (name : List ℕ) (place : Position) (before : Turn) (text : List ℕ) (made : List (List ℕ)) (lines : List ℕ) (behind : Turn) : Type 0 where
