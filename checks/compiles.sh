@@ -18,7 +18,7 @@ mkdir -p "$crate" "$work/programs" || exit 1
 git ls-files -z crates crates.txt HANDLES | xargs -0 cp --parents -t "$work/copy" || exit 1
 cp crates.txt "$work/crates.txt" || exit 1
 pages='README.md CONTRIBUTING.md docs/*.md examples/*.md'
-documented=$(git ls-files crates/bson_model/src crates/raw_view/src crates/raw_tree/src crates/raw_form/src crates/raw_bson/src crates/raw_shelf/src crates/values_to_json/src crates/bson_json/src crates/values_from_json/src crates/bytes_from_json/src crates/bson_from_json/src crates/json_round_trip/src crates/bson_uses/src)
+documented=$(git ls-files crates/bson_model/src crates/raw_view/src crates/raw_tree/src crates/raw_form/src crates/raw_bson/src crates/raw_shelf/src crates/bson_to_json/src crates/values_from_json/src crates/bson_from_json/src crates/json_round_trip/src crates/bson_uses/src)
 sed '/^#/d; /^$/d' "$list" >"$work/cases"
 count=$(wc -l <"$work/cases")
 failed=0
@@ -58,7 +58,7 @@ compile() {
     (cd "$crate" && rt try --test) >"$work/said" 2>&1 </dev/null
 }
 
-if ! compile "raw_bson raw_form raw_shelf bson_json bson_from_json json_round_trip bson_uses" blocks examples "snippets twin"; then
+if ! compile "raw_bson raw_form raw_shelf bson_to_json bson_from_json json_round_trip bson_uses" blocks examples "snippets twin"; then
     cat "$work/said" >&2
     echo "a block of a page or a twin doesn't compile, or an example of a doc comment goes wrong" >&2
     failed=1

@@ -17,8 +17,8 @@ import sys
 from pathlib import Path
 from typing import Dict, Iterator, List, NamedTuple, Optional, Set
 
-USED = ["raw_bson", "raw_form", "raw_shelf", "bson_json", "bson_from_json", "json_round_trip"]
-CRATES = ["bson_model", "raw_view", "raw_tree", "values_to_json", "values_from_json", "bytes_from_json", *USED]
+USED = ["raw_bson", "raw_form", "raw_shelf", "bson_to_json", "bson_from_json", "json_round_trip"]
+CRATES = ["bson_model", "raw_view", "raw_tree", "values_from_json", *USED]
 # the calls of the programs that PROMISES.md names
 PROGRAMS = {
     "bsonraw/src/answer.rt": ["answer"],
@@ -366,7 +366,7 @@ def definitions(crates: Crates) -> Iterator[str]:
 def page(crates: Crates) -> Iterator[str]:
     """The lines of the page."""
     yield "# Contracts\n"
-    yield "Every public item of `raw_bson`, `raw_form`, `raw_shelf`, `bson_json`, `bson_from_json` and `json_round_trip`, by the first sentence of its comment."
+    yield "Every public item of `raw_bson`, `raw_form`, `raw_shelf`, `bson_to_json`, `bson_from_json` and `json_round_trip`, by the first sentence of its comment."
     yield "The contract is in the source to which the link leads: the whole comment, the signature and its clauses."
     yield "[DEFINITIONS.md](DEFINITIONS.md) says how a clause reads and what its words mean. `checks/contracts.py --write .` writes this"
     yield "page; don't edit it."

@@ -232,7 +232,7 @@ def write_tests(folder: Path, names: List[str]) -> int:
             for number, text in doc_examples(Path(name).read_text(encoding="utf-8"))
         ]
         if tests:
-            uses = "".join(f"use {used};\n" for used in ("raw_bson::*", "raw_form::*", "raw_shelf::*", "bson_json::*", "bson_from_json::*", "json_round_trip::*", "bson_uses::*", "std::test::Fail"))
+            uses = "".join(f"use {used};\n" for used in ("raw_bson::*", "raw_form::*", "raw_shelf::*", "bson_to_json::*", "bson_from_json::*", "json_round_trip::*", "bson_uses::*", "std::test::Fail"))
             (folder / f"{crate}_{file}").write_text(uses + "\n" + "\n".join(tests), encoding="utf-8")
             count += len(tests)
     return count

@@ -175,10 +175,8 @@ GIVES = {
     "raw_resync": "where documents go on in a damaged dump",
     "raw_bson": "buffers, owned values, canonical forms",
     "raw_shelf": "canonical documents, each once",
-    "values_to_json": "single values as Extended JSON",
-    "bson_json": "documents as Extended JSON",
+    "bson_to_json": "documents as Extended JSON",
     "values_from_json": "single values from Extended JSON",
-    "bytes_from_json": "the bytes of documents from Extended JSON",
     "bson_from_json": "documents from Extended JSON",
     "json_round_trip": "that what is printed is read back",
     "bsonraw": "the program for one document in hex",
@@ -195,7 +193,7 @@ GIVES = {
 # The layers, from the lowest up, and what is in each.
 LAYERS = {
     "Core": "bson_model raw_view key_set raw_tree raw_form raw_bson raw_shelf",
-    "Extended JSON": "values_to_json bson_json values_from_json bytes_from_json bson_from_json json_round_trip",
+    "Extended JSON": "bson_to_json values_from_json bson_from_json json_round_trip",
     "Dumps": "raw_resync dump_io dump_commands dump_runs bsonraw_dump",
     "C, and over it Python and Rust": "bsonraw_c python rust",
 }

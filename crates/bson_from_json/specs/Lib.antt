@@ -1,5 +1,10 @@
--- definitions of the crates below, for those who list only this crate
-pub use Rattle.bytes_from_json.specs.Texts
+pub mod Left
+pub mod Texts
+pub mod Depths
+pub mod Placed
+pub mod Levels
+pub mod Ends
+-- definitions of single values, for those who list only this crate
 pub use Rattle.values_from_json.specs.DecimalTexts
 pub use Rattle.values_from_json.specs.Digits
 pub use Rattle.values_from_json.specs.Keys

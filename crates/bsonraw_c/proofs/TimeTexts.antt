@@ -1,7 +1,7 @@
 -- The text of a time: how long it is at most, and that it is put.
 use Rattle.std.proofs.Common.{◌≡◌, ℕ, ◌/◌, ◌%◌, ◌<◌, ◌≤◌, Bool, true, false, cond, nat_eq, ℤ, List, [], ◌∷◌, ◌++◌, length, codes, refl, ap, subst, arith, ◌⊎◌, inl, inr}
 use Rattle.std.proofs.lemmas.List.{length-append}
-use Rattle.values_to_json.specs.Dates.{HasInstantText, IsInstantText, fraction_text, second_text, three_digits}
+use Rattle.bson_to_json.specs.Dates.{HasInstantText, IsInstantText, fraction_text, second_text, three_digits}
 use Rattle.bsonraw_c.specs.Iters.{Returns}
 use Rattle.bsonraw_c.specs.Texts.{HasText, PutsTime}
 use Rattle.bsonraw_c.specs.declared.codes.Status.{Status}

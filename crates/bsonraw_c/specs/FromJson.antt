@@ -3,7 +3,7 @@
 use Rattle.std.specs.Prelude.{◌≡◌, ◌⊎◌, ◌+◌, ℕ, ℤ, List, length, take}
 use Rattle.std.specs.Str.{IsUtf8, IsValidUpTo}
 use Rattle.bson_from_json.specs.Place.{IsLastLine, IsPlaceIn, characters, line_feeds}
-use Rattle.bson_from_json.specs.Texts.{IsWritten, LeavesOpen, SaysNone}
+use Rattle.bson_from_json.specs.Texts.{IsCause, IsWritten}
 use Rattle.bson_from_json.specs.JsonError.{JsonError}
 use Rattle.bson_from_json.specs.JsonReason.{JsonReason}
 use Rattle.bson_from_json.specs.JsonReason.TheVariants as reason
@@ -112,19 +112,19 @@ pub record PutsWritten (limits : Limits) (text before after : List ℕ) (report 
   pub reads : ReadsWithin limits document tree
   pub puts : PutsDocument document before after report s
 
--- There is an error at a place of the text, which is reported. The text says no document, unless the reason leaves that open. The room is
--- as it was.
-pub record ReportsError (text before after : List ℕ) (report : JsonReport) (s : Status) : Type 0 where
+-- There is an error at a place of the text, which is reported, with its cause: the text says no document, or none within the limits, or
+-- memory ran out. The room is as it was.
+pub record ReportsError (limits : Limits) (text before after : List ℕ) (report : JsonReport) (s : Status) : Type 0 where
   pub error : JsonError
   pub place : IsPlaceIn text error
-  pub none : LeavesOpen error.reason ⊎ SaysNone text
+  pub cause : IsCause limits text error.reason
   pub report_is : report ≡ report_of error
   pub status_is : s ≡ status_of_reason error.reason
   pub room_is : after ≡ before
 
 -- what is returned of a text
 abbrev pub ReadsIn : Limits → List ℕ → List ℕ → List ℕ → JsonReport → Status → Type 0
-ReadsIn limits text before after report s = PutsWritten limits text before after report s ⊎ ReportsError text before after report s
+ReadsIn limits text before after report s = PutsWritten limits text before after report s ⊎ ReportsError limits text before after report s
 
 -- The bytes aren't UTF-8, which is reported of the first that is part of no character. The room is as it was.
 pub record ReportsNoText (bytes before after : List ℕ) (report : JsonReport) (code : ℤ) : Type 0 where

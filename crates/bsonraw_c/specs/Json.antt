@@ -1,12 +1,12 @@
 -- The text of a document as Extended JSON in the caller's room. The bytes b are the caller's, and so are the rooms for the text
 -- and for a path, before and after.
 use Rattle.std.specs.Prelude.{◌≡◌, ◌⊎◌, ℕ, ℤ, suc, zero, List, [], ◌∷◌, ◌++◌, length}
-use Rattle.bson_json.specs.Json.{IsJson}
-use Rattle.values_to_json.specs.declared.style.Format.{Format}
-use Rattle.values_to_json.specs.declared.style.Format.TheVariants.{Canonical, Relaxed}
-use Rattle.values_to_json.specs.declared.style.Layout.{Layout}
-use Rattle.values_to_json.specs.declared.style.Layout.TheVariants.{Indented, OneLine}
-use Rattle.values_to_json.specs.declared.style.Style.{Style}
+use Rattle.bson_to_json.specs.Json.{IsJson}
+use Rattle.bson_to_json.specs.declared.style.Format.{Format}
+use Rattle.bson_to_json.specs.declared.style.Format.TheVariants.{Canonical, Relaxed}
+use Rattle.bson_to_json.specs.declared.style.Layout.{Layout}
+use Rattle.bson_to_json.specs.declared.style.Layout.TheVariants.{Indented, OneLine}
+use Rattle.bson_to_json.specs.declared.style.Style.{Style}
 use Rattle.raw_bson.specs.Envelope.{IsEnvelope}
 use Rattle.raw_bson.specs.Limits.{Limits}
 use Rattle.raw_bson.specs.Tree.{Tree}

@@ -4,8 +4,8 @@ use Rattle.std.specs.Int.{w32, from_be_bytes}
 use Rattle.hex.specs.Hex.{decode_sized}
 use Rattle.bson_from_json.specs.DecimalTexts.{WritesDecimal}
 use Rattle.bson_from_json.specs.Times.{WritesTime}
-use Rattle.values_to_json.specs.Dates.{HasInstantText, IsInstantText}
-use Rattle.values_to_json.specs.Decimals.{decimal128_text}
+use Rattle.bson_to_json.specs.Dates.{HasInstantText, IsInstantText}
+use Rattle.bson_to_json.specs.Decimals.{decimal128_text}
 use Rattle.bsonraw_c.specs.Iters.{Returns}
 use Rattle.bsonraw_c.specs.declared.codes.Status.TheVariants as status
 

@@ -9,7 +9,7 @@ use crate::first_fault::fault_in;
 use crate::report::Report;
 use crate::room::put;
 use crate::view::document_of;
-use bson_json::{Format, Layout, Measured, Style, measured_json};
+use bson_to_json::{Format, Layout, Measured, Style, measured_json};
 use raw_bson::{Limits, RawDocument};
 use std::alloc::Global;
 

@@ -7,8 +7,8 @@ ghost use Rattle.bsonraw_c.specs.declared.codes.Status.TheVariants as status;
 use crate::codes::Status;
 use crate::room::put;
 use bson_from_json::{decimal128_of, millis_of};
-use bson_json::{write_decimal128, write_time};
 use bson_model::Decimal128;
+use bson_to_json::{write_decimal128, write_time};
 use std::alloc::Global;
 
 /// The sixteen bytes of a Decimal128, the least first.

@@ -5,7 +5,7 @@ use Rattle.raw_view.specs.Frame.Envelope.{IsEnvelope}
 use Rattle.raw_view.specs.Frame.Format.{framed, inside_of}
 use Rattle.raw_view.specs.Frame.Number.{le32}
 use Rattle.raw_view.proofs.Face.{document_framed}
-use Rattle.values_to_json.specs.declared.style.Style as json
+use Rattle.bson_to_json.specs.declared.style.Style as json
 use Rattle.dump_commands.specs.Binary.{MakesBson, MakesNoBson}
 use Rattle.dump_commands.specs.elements.Pick.{IsPicked}
 use Rattle.dump_commands.specs.Making.{IsPrinted}

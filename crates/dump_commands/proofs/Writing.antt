@@ -2,12 +2,12 @@
 use Rattle.std.proofs.Common.{◌≡◌, ◌⊎◌, ℕ, List, [], ◌∷◌, ◌++◌, Bool, Option, None, arith, codes, flat_map, inl, inr, length, sym, ap, ◌∙◌, subst, refl, append-nil}
 use Rattle.std.specs.Io.KnownBytes.{Appends}
 use Rattle.std.proofs.KnownBytes.{Appends-nil}
-use Rattle.bson_json.specs.Errors.{TellsWriteError}
-use Rattle.bson_json.specs.Json.{IsJson}
-use Rattle.bson_json.specs.Written.{WroteFront}
-use Rattle.bson_json.specs.declared.error.WriteJsonError.{WriteJsonError}
-use Rattle.bson_json.specs.declared.error.WriteJsonError.TheVariants as error
-use Rattle.values_to_json.specs.declared.style.Style as json
+use Rattle.bson_to_json.specs.Errors.{TellsWriteError}
+use Rattle.bson_to_json.specs.Json.{IsJson}
+use Rattle.bson_to_json.specs.Written.{WroteFront}
+use Rattle.bson_to_json.specs.declared.error.WriteJsonError.{WriteJsonError}
+use Rattle.bson_to_json.specs.declared.error.WriteJsonError.TheVariants as error
+use Rattle.bson_to_json.specs.declared.style.Style as json
 use Rattle.raw_tree.specs.CanonicalForm.{IsCanonicalForm}
 use Rattle.raw_tree.specs.declared.reader.limits.Limits.{Limits}
 use Rattle.dump_commands.proofs.state.Known.{known_same}

@@ -3,8 +3,8 @@ use Rattle.std.specs.Prelude.{◌≡◌, ℕ, ◌+◌, List, [], ◌∷◌, ◌+
 use Rattle.std.specs.Io.KnownBytes.{Appends}
 use Rattle.std.specs.Option.{option_map}
 use Rattle.raw_tree.specs.CanonicalForm.{IsCanonicalForm}
-use Rattle.bson_json.specs.Json.{IsJson}
-use Rattle.values_to_json.specs.declared.style.Style as json
+use Rattle.bson_to_json.specs.Json.{IsJson}
+use Rattle.bson_to_json.specs.declared.style.Style as json
 use Rattle.dump_commands.specs.elements.Pick.{IsPicked}
 use Rattle.dump_commands.specs.declared.command.Picking.{Picking}
 use Rattle.dump_commands.specs.state.Forms.{firsts_of, knows, Made, made_as, placed_at, plain, repeat_at, written_count}

@@ -4,7 +4,7 @@
 ghost use Rattle.std.specs.Prelude.{MatchBool};
 ghost use Rattle.dump_commands.specs.Binary.{MakesBson, MakesNoBson};
 
-use bson_json::Style;
+use bson_to_json::Style;
 
 /// What `unique` writes of a document.
 #[derive(Clone, Copy)]

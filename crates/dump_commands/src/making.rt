@@ -16,7 +16,7 @@ ghost use Rattle.dump_io.specs.lines.Failing.{IsReading};
 ghost use Rattle.dump_commands.specs.Making as says;
 ghost use Rattle.raw_tree.specs.CanonicalForm.{IsCanonicalForm};
 ghost use Rattle.raw_view.specs.Frame.Envelope.{IsEnvelope};
-ghost use Rattle.bson_json.specs.Json.{IsJson};
+ghost use Rattle.bson_to_json.specs.Json.{IsJson};
 ghost use Rattle.dump_commands.specs.declared.command.Command.TheVariants.{Unique};
 ghost use Rattle.dump_commands.specs.declared.command.Spelling as spells;
 
@@ -24,7 +24,7 @@ use crate::command::{Command, Picking, Spelling};
 use crate::elements::pick::picked;
 use crate::state::kept::{Added, Kept};
 use crate::state::tokens_of;
-use bson_json::{Style as JsonStyle, WriteJsonError, write_json};
+use bson_to_json::{Style as JsonStyle, WriteJsonError, write_json};
 use dump_io::lines::failure::Failure;
 use dump_io::lines::find::Finding;
 use dump_io::lines::origin::Origin;

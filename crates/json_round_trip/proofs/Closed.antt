@@ -10,14 +10,15 @@ use Rattle.bson_model.specs.Tree.{Tree, Entries, leaf, array, document, code_wit
 use Rattle.raw_view.specs.Frame.Envelope.{IsEnvelope}
 use Rattle.raw_tree.specs.Encoding.{encoding}
 use Rattle.raw_tree.specs.Canonical.{IsCanonicalUpTo}
-use Rattle.raw_tree.specs.Reading.{as_document, ReadsUpTo}
+use Rattle.raw_tree.specs.Reading.{as_document, Reads, ReadsUpTo}
 use Rattle.raw_tree.proofs.Face.{bytes_one_way, canonical_is_own_form}
 use Rattle.bson_from_json.specs.Meaning.{IsWhole}
-use Rattle.bson_from_json.specs.Texts.{IsJsonText, IsWritten}
+use Rattle.bson_from_json.specs.Texts.{IsJsonText, IsWritten, Says}
 use Rattle.json_round_trip.specs.Closing.{ClosesCircle, SaysAlone}
 use Rattle.json_round_trip.specs.Printed.{LeafIsPrinted}
 use Rattle.json_round_trip.proofs.Says.{IsObjectPrinted}
 use Rattle.json_round_trip.proofs.Spaced.{tokens_of}
+use Rattle.json_round_trip.proofs.Within.{read_within_limits}
 use Rattle.json_round_trip.proofs.Walks.{IsLevel, IsWholePrinted, Shown, whole_printed}
 
 -- values of the same tokens are the same
@@ -50,6 +51,13 @@ module _ (es : Entries) (text : List ℕ) (ms : Members) (h : IsObjectPrinted es
   says_alone : (b : List ℕ) → encoding (document es) ≡ b → SaysAlone text b
   says_alone b e = record { written = subst (IsWritten text) e written; only = λ bytes w. written_alone bytes w ∙ e }
 
+-- .. and the entries of its tree are said
+whole_written : (t : Tree) (text : List ℕ) → IsWholePrinted t text → (es : Entries) × Says text es × (t ≡ document es)
+whole_written (leaf l) text w = absurd w
+whole_written (array ts) text w = absurd w
+whole_written (document es) text w = (es, (json.object w.0, is_text es text w.0 w.1, w.1.say), refl)
+whole_written (code_with_scope code es) text w = absurd w
+
 whole_says : (t : Tree) (text b : List ℕ) → IsWholePrinted t text → encoding t ≡ b → SaysAlone text b
 whole_says (leaf l) text b w e = absurd w
 whole_says (array ts) text b w e = absurd w
@@ -62,4 +70,7 @@ circle_closed leaves b env ((k, canonical), (t, (m, read), back)) layout text (n
     let same : form.tree ≡ t = (bytes_one_way as_document b env).one_tree t form.tree (m, read) form.read in
     let spelled : encoding t ≡ b = ap encoding (sym same) ∙ form.spelled.1 in
     let level : IsLevel (Shown layout n 0) (ReadsUpTo m) (IsCanonicalUpTo k) as_document b text t = record { envelope = env; shown = shown; read = read; canonical = canonical } in
-    whole_says t text b (whole_printed leaves layout n m k 0 b text t level back) spelled
+    let whole = whole_printed leaves layout n m k 0 b text t level back in
+    let (es, says, is) = whole_written t text whole in
+    let reads : Reads b (document es) = subst (Reads b) is (m, read) in
+    (whole_says t text b whole spelled, read_within_limits b text env es says (ap encoding (sym is) ∙ spelled) reads)

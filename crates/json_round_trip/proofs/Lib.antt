@@ -5,6 +5,8 @@ mod Wrappers
 mod Says
 mod Framed
 mod Walks
+mod Deep
+mod Within
 mod Closed
 mod Law
 mod leaves

@@ -11,8 +11,8 @@ use Rattle.bson_model.specs.Leaf.{Leaf}
 use Rattle.bson_model.specs.Proper.{keys_in}
 use Rattle.bson_model.specs.Tree.{Tree, Trees, Entries, leaf, array, document, code_with_scope, no_tree, tree_then, no_entry, entry_then}
 use Rattle.raw_tree.specs.Reading.{as_document, as_array}
-use Rattle.bson_json.specs.Json.{before_scope, end_text, head_text}
-use Rattle.values_to_json.specs.declared.style.Layout.{Layout}
+use Rattle.bson_to_json.specs.Json.{before_scope, end_text, head_text}
+use Rattle.bson_to_json.specs.declared.style.Layout.{Layout}
 use Rattle.bson_from_json.specs.Meaning.{AreItems, AreMembers, Means, has_wrapper_key, is_wrapper_key}
 use Rattle.json_round_trip.specs.Printed.{IsPrintedAs}
 use Rattle.json_round_trip.specs.Returning.{HasNoWrapperKey}

@@ -7,9 +7,9 @@ use Rattle.json.specs.Spaced.{IsGap}
 use Rattle.json.specs.Token.{Token}
 use Rattle.json.specs.Tree.{json_tokens, items_tokens, members_tokens}
 use Rattle.raw_tree.specs.Reading.{as_document, as_array}
-use Rattle.bson_json.specs.Json.{before_scope, colon, comma, end_text, head_text, line}
-use Rattle.values_to_json.specs.declared.style.Layout.{Layout}
-use Rattle.values_to_json.specs.declared.style.Layout.TheVariants.{OneLine, Indented}
+use Rattle.bson_to_json.specs.Json.{before_scope, colon, comma, end_text, head_text, line}
+use Rattle.bson_to_json.specs.declared.style.Layout.{Layout}
+use Rattle.bson_to_json.specs.declared.style.Layout.TheVariants.{OneLine, Indented}
 use Rattle.json_round_trip.proofs.Spaced.{IsSpaced, begun, both, comma_if, do_begin, nothing, then_value, token_then}
 
 -- gaps

@@ -18,8 +18,8 @@ use Rattle.raw_view.specs.Meaning as raw
 use Rattle.raw_tree.proofs.Face.{one_value_of}
 use Rattle.raw_tree.specs.Canonical.{AreFramesCanonical, AreKeysCanonical, IsCanonicalUpTo, IsValueCanonical}
 use Rattle.raw_tree.specs.Reading.{Sort, as_document, as_array, ReadsUpTo, StandForEach, StandsFor, tree_of_pairs}
-use Rattle.bson_json.specs.Json.{AreMembersJson, IsJsonUpTo, IsValueJson, before_scope}
-use Rattle.values_to_json.specs.declared.style.Layout.{Layout}
+use Rattle.bson_to_json.specs.Json.{AreMembersJson, IsJsonUpTo, IsValueJson, before_scope}
+use Rattle.bson_to_json.specs.declared.style.Layout.{Layout}
 use Rattle.json_round_trip.specs.Closing.{canonical_in}
 use Rattle.json_round_trip.specs.Printed.{IsReturningLeaf, LeafIsPrinted}
 use Rattle.json_round_trip.specs.Returning.{ComesBack, DocumentComesBack, HasNoWrapperKey, ItemsComeBack, MembersComeBack}

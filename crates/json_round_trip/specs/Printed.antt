@@ -6,8 +6,8 @@ use Rattle.json.specs.Tree.{json_tokens, HasNumbers}
 use Rattle.bson_model.specs.Leaf.{Leaf}
 use Rattle.bson_model.specs.Proper.{IsLeafInRange, IsLeafNulFree, DoLeafOptionsAscend, IsLeafSubtypeProper}
 use Rattle.bson_model.specs.Tree.{Tree, leaf}
-use Rattle.values_to_json.specs.Leaves.{IsLeafJson}
-use Rattle.values_to_json.specs.declared.style.Format.TheVariants.{Canonical}
+use Rattle.bson_to_json.specs.Leaves.{IsLeafJson}
+use Rattle.bson_to_json.specs.declared.style.Format.TheVariants.{Canonical}
 use Rattle.bson_from_json.specs.Meaning.{Means}
 use Rattle.json_round_trip.specs.Returning.{LeafComesBack}
 

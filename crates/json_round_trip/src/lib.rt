@@ -4,7 +4,7 @@
 //! Begin at `round_trip` in `trip.rt`, which prints and reads, and at `ClosesCircle` in `specs/Closing.antt`, the
 //! law. `proofs/leaves` has the proof for each kind of value that holds no others.
 //!
-//! The crate is over `bson_json` and `bson_from_json`, and nothing rests on it. A change of what is printed or of
+//! The crate is over `bson_to_json` and `bson_from_json`, and nothing rests on it. A change of what is printed or of
 //! what is read has to keep it proved.
 #![tactic(auto)]
 

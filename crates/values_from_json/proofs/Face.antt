@@ -5,4 +5,7 @@ pub use Rattle.values_from_json.proofs.Wrappers.{Writes, is_of_wrapper, named, n
 -- values from the tokens that were taken, and tokens that begin with none
 pub use Rattle.values_from_json.proofs.Takes.{takes_oid, takes_regex, takes_symbol}
 pub use Rattle.values_from_json.proofs.NoLeaf.{no_max_key, no_min_key, no_oid, no_regex, no_symbol, no_undefined}
-pub use Rattle.values_from_json.proofs.Plain.{no_double}
+pub use Rattle.values_from_json.proofs.Plain.{integer_only, no_double}
+-- the integers of texts
+pub use Rattle.values_from_json.proofs.Integers.{no_minus_0, written_once}
+pub use Rattle.values_from_json.proofs.Lacks.{wider}

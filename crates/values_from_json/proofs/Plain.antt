@@ -21,7 +21,7 @@ signed_only : (z : ℤ) → FitsSigned w64 z → is_fractional (signed_decimal z
 signed_only (pos n) fits = digits_only (decimal n) (decimal_is_IsNumeral n (omega (arith, fits.sfits))).0.1
 signed_only (negsuc n) fits = digits_only (decimal (suc n)) (decimal_is_IsNumeral (suc n) (omega (arith, fits.sfits))).0.1
 
-integer_only : (s : List ℕ) (z : ℤ) → FitsSigned w64 z → WritesInteger s z → is_fractional s ≡ false
+pub integer_only : (s : List ℕ) (z : ℤ) → FitsSigned w64 z → WritesInteger s z → is_fractional s ≡ false
 integer_only s z fits (inl is) = ap is_fractional is ∙ signed_only z fits
 integer_only s z fits (inr is) = ap is_fractional is.0
 

@@ -1,5 +1,5 @@
 //! Single values from MongoDB Extended JSON v2: its numbers, its wrappers that hold no other values, and why a
-//! text can't be read. `bytes_from_json` puts the values into documents.
+//! text can't be read. `bson_from_json` puts the values into documents.
 //!
 //! Begin at `Source` in `source.rt`, which takes the value of each wrapper from the tokens of a text.
 //! `decimal.rt`, `date.rt` and `leaves.rt` read the text of a string; `fault.rt` finds what is wrong at a place.
@@ -7,8 +7,8 @@
 //! In `specs/`, `Meaning.antt` says which tree a JSON value means, `Wrapped.antt` has a line for each wrapper, and
 //! `Numbers.antt`, `Times.antt` and `DecimalTexts.antt` say which texts write a number or a time.
 //!
-//! `bytes_from_json` rests on this crate, and through it `bson_from_json`, the programs and `bsonraw_c`;
-//! `json_round_trip` proves that it reads what `values_to_json` writes. `proofs/Face.antt` has the lemmas that
+//! `bson_from_json` rests on this crate, and through it `bson_from_json`, the programs and `bsonraw_c`;
+//! `json_round_trip` proves that it reads what `bson_to_json` writes. `proofs/Face.antt` has the lemmas that
 //! crates above may cite.
 #![tactic(auto)]
 

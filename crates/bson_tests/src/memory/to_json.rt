@@ -1,6 +1,6 @@
 //! Documents that are printed where memory runs out.
 
-use bson_json::{
+use bson_to_json::{
     Format, Layout, Measured, Style, ToJsonError, WriteJsonError, measured_json, to_json,
     write_json,
 };

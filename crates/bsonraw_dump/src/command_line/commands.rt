@@ -1,9 +1,9 @@
 //! The table of the commands that read dumps: how each is named, what it prints, and where.
 #![tactic(auto)]
 
+use bson_to_json::{Format, Layout, Style as JsonStyle};
 use clap::ArgMatches;
 use dump_commands::command::{Command, Picking, Spelling};
-use values_to_json::{Format, Layout, Style as JsonStyle};
 
 /// What a command prints, and where.
 #[derive(Clone, Copy)]

@@ -1,6 +1,6 @@
 -- Fronts of bytes that a writer holds, and documents one after the other.
 use Rattle.std.specs.Prelude.{◌≡◌, ◌⊎◌, ◌++◌, ℕ, List, Option, flat_map}
-pub use Rattle.values_to_json.specs.Written.{AppendsFront}
+pub use Rattle.bson_to_json.specs.Written.{AppendsFront}
 
 -- s begins with these bytes
 abbrev pub HasFront : List ℕ → List ℕ → Type 0

@@ -7,8 +7,8 @@ ghost use Rattle.dump_io.specs.lines.Fronts.{AppendsFront};
 ghost use Rattle.dump_io.specs.lines.Failing.{IsReading};
 
 use crate::lines::failure::Failure;
+use bson_to_json::put_all;
 use std::io::Write;
-use values_to_json::put::put_all;
 
 /// Writes these bytes, as `write_all` does: what it leaves after an error is a front of them. Most commands write none of most
 /// documents.

@@ -4,7 +4,7 @@ use Rattle.std.specs.Io.KnownBytes.{Consumes, IsAtEnd}
 use Rattle.std.specs.Str.{IsUtf8, IsValidUpTo}
 use Rattle.bson_model.specs.Tree.{Tree}
 use Rattle.raw_tree.specs.WithinLimits.{ReadsWithin}
-use Rattle.bson_from_json.specs.Texts.{IsWritten, LeavesOpen, SaysNone}
+use Rattle.bson_from_json.specs.Texts.{IsCause, IsWritten, SaysNone}
 use Rattle.bson_from_json.specs.JsonReason.TheVariants as json
 use Rattle.dump_io.specs.input.Texts.{CantBe, EndsGap, HasBegun, HasBrace, HasNoLine, IsOpen, IsTextOf, IsOneText, first_position, may_begin, may_end, position_over, scanned, turn_behind_document, turn_behind_gap, turn_over}
 use Rattle.dump_io.specs.lines.Find.{usual}
@@ -110,11 +110,11 @@ pub record TellsTextFault (style : Style) (here : TextPoint) (text line : List �
   pub reason : TextReason
   pub told : line ≡ fault_line style here.name (position_over here.place (take at text)) reason
 
--- Why a text isn't read that has a fault after this number of bytes: from there on it isn't UTF-8; or it is UTF-8 and says no document, unless
--- its reason leaves that open. Which of these reasons it is, and where, is what from_json says of it.
+-- Why a text isn't read that has a fault after its first bytes, which are this many: from there on it isn't UTF-8; or it is UTF-8, and says no document, or none
+-- within the limit that the reason names. Which of these reasons it is, and where, is what from_json says of it.
 abbrev pub IsFaultOf : List ℕ → ℕ → TextReason → Type 0
 IsFaultOf text at reason.NotUtf8 = IsValidUpTo text at
-IsFaultOf text at (reason.Json why) = IsUtf8 text × (why ≢ json.OutOfMemory) × (LeavesOpen why ⊎ SaysNone text)
+IsFaultOf text at (reason.Json why) = IsUtf8 text × (why ≢ json.OutOfMemory) × IsCause usual text why
 
 -- the whole text has a fault
 pub record IsRefused (style : Style) (here : TextPoint) (text line : List ℕ) (behind : Turn) : Type 0 where

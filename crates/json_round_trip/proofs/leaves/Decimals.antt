@@ -10,7 +10,7 @@ use Rattle.std.specs.Fmt.{sign_text}
 use Rattle.std.specs.Int.{w128, to_le_bytes, IsInRange}
 use Rattle.std.specs.Str.Parse.{starts_with_minus}
 use Rattle.fast_float.specs.Text.{has_digits, scan}
-use Rattle.values_to_json.specs.Decimals.{decimal128_text, finite_text}
+use Rattle.bson_to_json.specs.Decimals.{decimal128_text, finite_text}
 use Rattle.bson_from_json.specs.DecimalTexts.{IsExactly, IsPreferred, IsWord, WritesBits, WritesDecimal, WritesFinite, distance, sign_bit}
 use Rattle.json_round_trip.specs.Returning.{DecimalComesBack, DecimalBitsComeBack}
 use Rattle.json_round_trip.proofs.leaves.Halves.{finite_bits, finite_text_is, infinity_text_is, nan_text_is}

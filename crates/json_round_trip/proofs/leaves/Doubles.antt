@@ -12,7 +12,7 @@ use Rattle.json.specs.Word.{after_number}
 use Rattle.json.proofs.Printed.Floats.{IsNumber-plain}
 use Rattle.ryu.specs.Plain.{IsPlainNumber}
 use Rattle.fast_float.specs.Text.{exponent_text, text_of}
-use Rattle.values_to_json.specs.Doubles.{IsDoubleText}
+use Rattle.bson_to_json.specs.Doubles.{IsDoubleText}
 use Rattle.bson_from_json.specs.Numbers.{WritesDouble, WritesFinite, infinity_bits, minus_infinity_bits}
 use Rattle.json_round_trip.specs.Returning.{DoubleComesBack}
 use Rattle.json_round_trip.proofs.leaves.Plain.{are_plain, plain_both, plain_digits, sign_plain}

@@ -5,7 +5,7 @@ use Rattle.std.specs.Int.{w64, w128, from_le_bytes, to_le_bytes}
 use Rattle.std.proofs.lemmas.Nat.{from_le_bytes-to_le_bytes_8}
 use Rattle.std.proofs.lemmas.Bool.{le-leb, lt-leb, lt-ltb, ne_eqb}
 use Rattle.std.proofs.Math.Nat.{div-div-eq-div-mul}
-use Rattle.values_to_json.specs.Decimals.{decimal_of, decimal_text, decimal128_text, finite_text}
+use Rattle.bson_to_json.specs.Decimals.{decimal_of, decimal_text, decimal128_text, finite_text}
 use Rattle.bson_from_json.specs.DecimalTexts.{sign_bit}
 
 eight : {a b c d e f g h p q r s t u v w : ℕ} → a ≡ p → b ≡ q → c ≡ r → d ≡ s → (e ∷ f ∷ g ∷ h ∷ []) ≡ (t ∷ u ∷ v ∷ w ∷ [])

@@ -1,14 +1,14 @@
 -- The text of an integer writes no other, and is in a JSON string as it is.
-use Rattle.std.proofs.Common.{◌≡◌, ◌<◌, ◌^◌, ℕ, ℤ, pos, negsuc, suc, true, List, get_or, codes, decimal, FitsSigned, inl, inr, refl, sym, ap, subst, ◌∙◌, arith}
+use Rattle.std.proofs.Common.{◌≡◌, ◌<◌, ◌^◌, ℕ, ℤ, pos, negsuc, suc, true, List, codes, decimal, FitsSigned, inl, inr, refl, sym, ap, subst, ◌∙◌, arith}
 use Rattle.std.specs.Fmt.{signed_decimal}
 use Rattle.std.specs.Int.{w32, w64}
 use lib.Signed.{mag}
-use Rattle.std.proofs.lemmas.Fmt.{decimal_is_IsNumeral, first_decimal, signed_decimal_injective}
-use Rattle.std.proofs.lemmas.Str.Parse.{digit_at}
+use Rattle.std.proofs.lemmas.Fmt.{decimal_is_IsNumeral, signed_decimal_injective}
 use Rattle.json.specs.Json.{Json, object, string, number, member}
 use Rattle.bson_model.specs.Leaf.{Leaf, date_time, int32, int64, timestamp}
 use Rattle.bson_from_json.specs.Numbers.{IsQuotedInt32, IsQuotedInt64, WritesInteger}
 use Rattle.bson_from_json.specs.Wrapped.{IsDate, IsTimestamp, WritesUnsigned, one_member}
+use Rattle.values_from_json.proofs.Face.{no_minus_0}
 use Rattle.json_round_trip.proofs.leaves.Plain.{are_plain, plain_digits}
 use Rattle.json_round_trip.proofs.leaves.Shapes.{same_number, two_only}
 
@@ -21,16 +21,6 @@ small_64 z fits = fits.sfits
 pub integer_plain : (z : ℤ) → mag z < 2 ^ 63 → are_plain (signed_decimal z) ≡ true
 integer_plain (pos n) h = plain_digits (decimal n) (decimal_is_IsNumeral n (omega arith)).0.1
 integer_plain (negsuc n) h = plain_digits (decimal (suc n)) (decimal_is_IsNumeral (suc n) (omega arith)).0.1
-
--- no integer has the text of a negative 0
-no_minus_0 : (z : ℤ) → mag z < 2 ^ 63 → signed_decimal z ≡ codes "-0" → ⊥
-no_minus_0 (pos n) h e =
-    let is = decimal_is_IsNumeral n (omega arith) in
-    let first : get_or (decimal n) 0 0 ≡ 45 = ap (λ (l : List ℕ). get_or l 0 0) e in
-    omega (arith, digit_at (decimal n) 0 is.0.1 is.0.0)
-no_minus_0 (negsuc n) h e =
-    let second : get_or (decimal (suc n)) 0 0 ≡ 48 = ap (λ (l : List ℕ). get_or l 1 0) e in
-    omega (arith, first_decimal (suc n) (omega arith) (omega arith))
 
 pub one_integer : (z y : ℤ) → mag z < 2 ^ 63 → mag y < 2 ^ 63 → WritesInteger (signed_decimal z) y → y ≡ z
 one_integer z y h k (inl is) = sym (signed_decimal_injective z y h k is)

@@ -9,7 +9,7 @@ use Rattle.std.specs.Float.Numeral.{scan_numeral}
 use Rattle.std.specs.Str.Parse.{AllDigits, digits_value}
 use Rattle.fast_float.specs.Text.{Parts, digits_of, has_digits, scan, tens_down, tens_up, text_of}
 use Rattle.fast_float.proofs.Writing.{scan-text_of}
-use Rattle.values_to_json.specs.Decimals.{behind_point, exponent_text, finite_text, scientific_text}
+use Rattle.bson_to_json.specs.Decimals.{behind_point, exponent_text, finite_text, scientific_text}
 use Rattle.bson_from_json.specs.DecimalTexts.{WritesNumber}
 use Rattle.json_round_trip.proofs.leaves.Plain.{are_plain, plain_both, plain_digits}
 use Rattle.json_round_trip.proofs.leaves.Scientific.{parts_of, scan_scientific, scientific}

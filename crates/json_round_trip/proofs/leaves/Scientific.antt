@@ -8,7 +8,7 @@ use Rattle.std.specs.Char.{digit_value, is_ascii_digit}
 use Rattle.std.specs.Str.Parse.{AllDigits}
 use Rattle.std.specs.Float.Numeral.{digits_len, scan_numeral}
 use Rattle.fast_float.specs.Text.{Parts, scan, digits_end, exponent_start, has_exponent}
-use Rattle.values_to_json.specs.Decimals.{behind_point}
+use Rattle.bson_to_json.specs.Decimals.{behind_point}
 
 is_digit : (d : ℕ) → digit_value d < 10 → is_ascii_digit d ≡ true
 is_digit d h = let r = digit_from_value d h in and_from _ _ (le-leb 48 d r.0) (le-leb d 57 r.1)

@@ -13,7 +13,7 @@ use Rattle.json.proofs.Printed.Decimals.{IsNumber-decimal}
 use Rattle.bson_model.specs.Leaf.{Leaf, double, string, binary, undefined, object_id, boolean, date_time, null, regular_expression, db_pointer, javascript_code, symbol, int32, timestamp, int64, decimal128, max_key, min_key}
 use Rattle.bson_model.specs.Subtype.{subtype_byte}
 use Rattle.bson_model.specs.declared.binaries.BinarySubtype.{BinarySubtype}
-use Rattle.values_to_json.specs.Decimals.{decimal128_text}
+use Rattle.bson_to_json.specs.Decimals.{decimal128_text}
 use Rattle.bson_from_json.specs.Wrapped.{one_member}
 use Rattle.bson_from_json.specs.Wrapper.TheVariants as wrapper
 use Rattle.json_round_trip.specs.Printed.{LeafIsPrinted}

@@ -1,5 +1,5 @@
 use Rattle.std.proofs.Common.{rules, ◌≡◌, ◌++◌, ◌∙◌, List, ℕ, ℤ, Ok, true, ap, subst, w32, w64, to_z, of_z}
-use Rattle.values_to_json.specs.Dates.{HasInstantText, IsInstantText}
+use Rattle.bson_to_json.specs.Dates.{HasInstantText, IsInstantText}
 use Rattle.bsonraw_c.specs.Iters.{Returns}
 use Rattle.bsonraw_c.proofs.TimeTexts.{puts_time}
 use Rattle.bsonraw_c.proofs.texts.bsonraw_date_time_to_text.Goals as goal

@@ -1,8 +1,8 @@
 use Rattle.std.proofs.Common.{◌≡◌, ℕ, List, codes, subst, refl}
 use Rattle.std.specs.Io.KnownBytes.{Appends}
 use Rattle.raw_view.specs.Document.{bytes_of}
-use Rattle.bson_json.specs.Errors.{TellsWriteError}
-use Rattle.bson_json.specs.Json.{IsJson}
+use Rattle.bson_to_json.specs.Errors.{TellsWriteError}
+use Rattle.bson_to_json.specs.Json.{IsJson}
 use Rattle.dump_io.specs.lines.Fronts.{AppendsFront, WritesFront}
 use Rattle.dump_io.proofs.Face.{on_err}
 use Rattle.dump_commands.proofs.Writing.{IsJsonLine, json_failed, json_unended}

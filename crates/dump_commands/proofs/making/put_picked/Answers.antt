@@ -1,7 +1,7 @@
 use Rattle.std.proofs.Common.{◌++◌, ℕ, List, None, Some, codes, inr, refl, subst, sym}
 use Rattle.raw_view.specs.Document.{bytes_of}
 use Rattle.std.specs.Io.KnownBytes.{Appends}
-use Rattle.bson_json.specs.Json.{IsJson}
+use Rattle.bson_to_json.specs.Json.{IsJson}
 use Rattle.dump_io.specs.lines.Fronts.{AppendsFront, WritesFront}
 use Rattle.dump_commands.specs.elements.Pick.{IsPicked}
 use Rattle.dump_commands.specs.Making.{IsPickedAs, IsPrinted}

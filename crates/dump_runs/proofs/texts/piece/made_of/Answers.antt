@@ -1,5 +1,6 @@
-use Rattle.std.proofs.Common.{◌≤◌, ◌⊎◌, ℕ, List, length, subst}
-use Rattle.bson_from_json.specs.Texts.{LeavesOpen, SaysNone}
+use Rattle.std.proofs.Common.{◌≤◌, ℕ, List, length, subst}
+use Rattle.bson_from_json.specs.Texts.{IsCause}
+use Rattle.dump_io.specs.lines.Find.{usual}
 use Rattle.dump_runs.proofs.texts.piece.made_of.Goals as goal
 
 pub returns-in_default : goal.returns-in_default
@@ -7,5 +8,4 @@ returns-in_default c =
     let error = c.in-Err-from_json.error in
     let same = c.in-Ok.ensures.cases.0 in
     let within = subst (λ (l : List ℕ). error.offset ≤ length l) same c.in-Err-from_json.ensures.place.0 in
-    let none = subst (λ (l : List ℕ). LeavesOpen error.reason ⊎ SaysNone l) same c.in-Err-from_json.ensures.none in
-    record { made = (within, (c.in-Ok.ensures.cases.1, c.in_default.not-OutOfMemory, none)); failed = tt }
+    record { made = (within, (c.in-Ok.ensures.cases.1, c.in_default.not-OutOfMemory, subst (λ (l : List ℕ). IsCause usual l error.reason) same c.in-Err-from_json.ensures.cause)); failed = tt }

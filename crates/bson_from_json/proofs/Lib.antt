@@ -1,0 +1,11 @@
+mod Left
+mod Steps
+mod Moments
+mod Ends
+mod Sizes
+mod OneDepth
+mod Refusals
+mod Causes
+mod Keeps
+mod Placing
+mod Sound

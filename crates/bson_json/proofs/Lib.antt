@@ -1,7 +1,0 @@
-pub mod Common
-pub mod Chunks
-pub mod Printing
-pub mod Blocks
-pub mod Walking
-pub mod Utf8
-pub mod Sinks

@@ -1,5 +1,0 @@
-pub mod Json
-pub mod Written
-pub mod Errors
-pub mod Levels
-pub mod Passing

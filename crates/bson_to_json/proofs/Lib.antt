@@ -1,0 +1,16 @@
+pub mod Common
+pub mod Puts
+pub mod Escapes
+pub mod Numbers
+pub mod Days
+pub mod Utf8
+pub mod Exact
+pub mod Calendar
+pub mod Texts
+pub mod Lengths
+pub mod Chunks
+pub mod Printing
+pub mod Blocks
+pub mod Walking
+pub mod DocumentUtf8
+pub mod Sinks

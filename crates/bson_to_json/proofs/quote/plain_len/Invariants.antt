@@ -1,0 +1,10 @@
+use Rattle.std.proofs.Common.{◌≡◌, ◌≤◌, ◌-◌, length, take}
+use Rattle.json.specs.Print.{escape}
+use Rattle.bson_to_json.proofs.quote.plain_len.Given as goal
+
+-- the bytes up to the length are as they are
+abbrev pub invariant-loop-len : goal.invariant-loop-len
+invariant-loop-len l = (l.len ≤ length l.bytes) × (escape (take l.len l.bytes) ≡ take l.len l.bytes)
+
+abbrev pub decreases-loop-len : goal.decreases-loop-len
+decreases-loop-len l = length l.bytes - l.len

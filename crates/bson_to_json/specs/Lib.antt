@@ -1,0 +1,10 @@
+pub mod Doubles
+pub mod Dates
+pub mod Decimals
+pub mod Leaves
+pub mod Measured
+pub mod Json
+pub mod Written
+pub mod Errors
+pub mod Levels
+pub mod Passing

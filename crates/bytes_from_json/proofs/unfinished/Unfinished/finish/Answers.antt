@@ -1,9 +1,0 @@
-use Rattle.std.proofs.Common.{arith, subst, sym}
-use Rattle.bytes_from_json.specs.Levels.{IsReadAgain}
-use Rattle.bytes_from_json.proofs.Sound.{document_read}
-use Rattle.bytes_from_json.proofs.unfinished.Unfinished.finish.Goals as goal
-
-pub check-requires : goal.check-requires
-check-requires c =
-    let self = c.args.self in
-    subst IsReadAgain (sym c.deref.ensures.value) (document_read self.bytes.items (omega (arith, self.few, self.fits)) c.requires)

@@ -1,6 +1,0 @@
-use Rattle.json.specs.Written.{PlainBetween}
-use Rattle.values_to_json.proofs.plain.are_few_plain.Given as goal
-
--- the bytes so far are plain
-abbrev pub invariant-loop-byte : goal.invariant-loop-byte
-invariant-loop-byte l = PlainBetween l.bytes 0 l.byte-index
