@@ -1147,12 +1147,13 @@ struct bsonraw_resync {
 
 /* Goes on behind damage, which is the document that the reader is at, or the place of its last fault where it is at none:
  * BSONRAW_OK, and next is where documents go on. They do at the end, and where a document counts: one without damage, of over 8 bytes, and
- * of at most max_bytes bytes and max_depth levels, unless the bytes before it, after the damage's first byte, end with the tag of a
- * document or an array and a key with its 0, since it may be nested there. Such a key is UTF-8 of 1 to 64 bytes, none under 32.
+ * of at most max_bytes bytes and max_depth levels, unless the bytes before it, from the damage on, end with the tag of a document, an array
+ * or an int32 and a key with its 0, since it may be nested there, or its length a number. Such a key is UTF-8 of 1 to 64 bytes, none
+ * under 32.
  * Where the damaged document says a length that it may have, and that many bytes are there, next is after these if its elements follow one
- * another up to a final 0 there, whatever their values mean, or if documents go on at no place inside. Otherwise next is the first place
- * after the damage's first byte where documents go on. Where left_out is 1, that is so of the places that were looked at. Nothing else in
- * reader is changed.
+ * another up to a final 0 there, whatever their values mean, or if documents go on at no place inside, and right after them, whatever is
+ * before. Otherwise next is the first place after the damage's first byte where documents go on. Where left_out is 1, that is so of the
+ * places that were looked at. Nothing else in reader is changed.
  * It takes memory as bsonraw_first_fault does of a document that it looks into.
  * Nothing at all is changed with BSONRAW_BAD_OFFSET, where the damage would be at len or after it, or the searches can't have cost that
  * much in these bytes; BSONRAW_TOO_MANY_BYTES, where len is over 2 to the power of 60; and BSONRAW_NO_MEMORY.

@@ -1,7 +1,7 @@
 #!/usr/bin/env python3
 """recovery.py PROGRAM [COUNT] [SEED]: damages made dumps of COUNT documents in many ways, and says of each how many documents lie whole in
 it, by how it was made, how many of these PROGRAM sound --resync keeps, and how many others it writes: changed ones, which have the first
-element of a document of the dump, and made up ones. Fails where it keeps too few or makes up too many, or a place is left out."""
+element of a document of the dump or all that follows it, and made up ones. Fails where it keeps too few or makes up too many, or a place is left out."""
 import random, subprocess, sys, tempfile
 from collections import Counter
 from recovery_dumps import documents, pieces
@@ -10,29 +10,30 @@ from recovery_kinds import kinds
 # Of 1000 that lie whole these are kept at least. Of the others 995: after bytes that end as a key does, and in a binary that goes on into other
 # documents, some are lost.
 LEAST = {
-    "cuts": 980,
+    "cuts": 985,
     "two dumps in turn, by 4 KiB": 960,
     "two dumps in turn, by 16 KiB": 985,
     "pages of 64 KiB in any order": 990,
-    "CR is gone": 930,
+    "CR is gone": 940,
 }
 
 # Of 1000 that are kept this many may be made up; of the others 1. Of documents in texts any number may.
 MOST = {
-    "every second length random, 0 or near": 6,
-    "a flip in every 10000 bytes": 4,
-    "every second tag wrong, some lengths": 6,
+    "every second length random, 0 or near": 2,
     "5 % of the sectors of another file": 6,
-    "two dumps in turn, by 4 KiB": 20,
-    "two dumps in turn, by 16 KiB": 6,
-    "LF became CR LF": 20,
+    "two dumps in turn, by 4 KiB": 16,
+    "two dumps in turn, by 16 KiB": 5,
+    "LF became CR LF": 12,
     "documents in texts, every tenth length negative": None,
+    "every fourth length that of another": 3,
+    "zeros over the fronts of every fifth": 30,
+    "1 to 15 bytes wrong in every 2000": 6,
 }
 
 
-def first_element(document):
-    """The first bytes of a document that has an identifier."""
-    return document[4:21]
+def marks(documents):
+    """By what a document is known that was changed: its first element, which is an identifier, or all that follows that."""
+    return {d[4:21] for d in documents} | {d[21:] for d in documents if len(d) > 60}
 
 
 def tried(program, name, dump, known):
@@ -44,8 +45,8 @@ def tried(program, name, dump, known):
     others = Counter(pieces(run.stdout))
     others.subtract(Counter(whole))
     lost = sum(-n for n in others.values() if n < 0)
-    known = known | {first_element(d) for d in whole}
-    changed = sum(n for d, n in others.items() if n > 0 and first_element(d) in known)
+    known = known | marks(whole) | marks(getattr(dump, "documents", []))
+    changed = sum(n for d, n in others.items() if n > 0 and (d[4:21] in known or d[21:] in known))
     made = sum(n for d, n in others.items() if n > 0) - changed
     is_whole = b"not each place" not in run.stderr and run.returncode in (0, 1, 3)
     return len(whole), len(whole) - lost, changed, made, is_whole
@@ -54,7 +55,7 @@ def tried(program, name, dump, known):
 def main(program, count="2000", seed="1"):
     r = random.Random(int(seed))
     docs = documents(r, int(count))
-    known = {first_element(d) for d in docs}
+    known = marks(docs)
     failed = 0
     with tempfile.TemporaryDirectory() as folder:
         for kind, dump in kinds(docs, r):

@@ -92,6 +92,35 @@ def deep(r, number):
     return framed(head(r, number) + element(3, "l", inner) + element(11, "re", b"^a.*\0im\0") + element(10, "nil", b"") + element(255, "min", b""))
 
 
+def post(r, number):
+    """A document whose nested ones have identifiers, too."""
+    comment = lambda key: nested(key, identifier(r), string("text", text_of(r, r.randrange(2, 12))), int32("likes", r.randrange(60)))
+    return framed(head(r, number) + string("title", text_of(r, 3)) + array("comments", [comment] * r.randrange(6)) + int32("__v", r.randrange(20)))
+
+
+def invoice(r, number):
+    row = lambda key: nested(key, int32("quantity", r.randrange(1, 30)), element(19, "price", r.randbytes(16)))
+    return framed(head(r, number) + array("rows", [row] * r.randrange(1, 9)) + element(8, "paid", b"\1") + double("total", r.random() * 10000))
+
+
+def sensor(r, number):
+    return framed(head(r, number) + date("t", r) + double("a", r.gauss(0, 50)) + double("b", r.gauss(0, 50)) + int32("seq", r.randrange(200)))
+
+
+def session(r, number):
+    flags = nested("flags", element(8, "x", b"\1"), int32("k", r.randrange(40)))
+    return framed(head(r, number) + binary("key", r.randbytes(32)) + flags + element(7, "user", r.randbytes(12)))
+
+
+def message(r, number):
+    return framed(head(r, number) + string("from", text_of(r, 1)) + string("to", text_of(r, 1)) + string("body", text_of(r, r.randrange(1, 60))))
+
+
+def matrix(r, number):
+    row = lambda key: array(key, [lambda column: int32(column, r.randrange(100))] * r.randrange(1, 8))
+    return framed(head(r, number) + array("m", [row] * r.randrange(1, 8)) + int32("w", r.randrange(40)))
+
+
 def oplog(r, number):
     """An entry of an oplog: its first element is no identifier, and the document that was written is nested in it."""
     entry = element(17, "ts", r.randbytes(8)) + element(18, "t", struct.pack("<q", 7)) + int32("v", 2) + string("op", "i") + string("ns", "shop.orders")
@@ -100,6 +129,11 @@ def oplog(r, number):
 
 def documents(r, count):
     return [r.choice((order, log, user, feature, series, chunk, deep))(r, i) for i in range(count)]
+
+
+def others(r, count):
+    """Documents of other forms, many of which end in a number."""
+    return [r.choice((post, invoice, sensor, session, message, matrix))(r, i) for i in range(count)]
 
 
 def pieces(data):

@@ -1,6 +1,6 @@
 """The kinds of damage of recovery.py."""
 import random, struct
-from recovery_dumps import (Dump, Made, array, between, binary, cut, element, framed, identifier, int32, nested, oplog, string, woven)
+from recovery_dumps import (Dump, Made, array, between, binary, cut, element, framed, identifier, int32, nested, oplog, others, string, woven)
 
 
 def lengths(documents, numbers, wrong):
@@ -118,6 +118,30 @@ def of_documents_inside(docs, r):
     yield "documents in texts, every tenth length negative", lengths(texts, range(0, len(texts), 10), lambda i: -1)
 
 
+def of_other_documents(docs, r):
+    posts = others(r, len(docs))
+    every = range(len(posts))
+    yield "every third length in the other byte order", lengths(posts, every[::3], lambda i: struct.unpack(">i", posts[i][:4])[0])
+    yield "every fourth length that of another", lengths(posts, every[::4], lambda i: len(r.choice(posts)))
+    dump = Dump(posts)
+    for i in every[1::2]:
+        dump.put(dump.starts[i] + len(posts[i]) - 1, b"\1")
+    yield "every second final 0 wrong", dump
+    dump = Dump(posts)
+    for i in every[1::3]:
+        dump.put(dump.starts[i] + posts[i].index(b"\x10n\0"), b"\x42")
+    yield "every third tag of a second element wrong", dump
+    dump = Dump(posts)
+    for i in every[::5]:
+        dump.put(dump.starts[i], bytes(min(len(posts[i]), r.randrange(4, 40))))
+    yield "zeros over the fronts of every fifth", dump
+    dump = Dump(posts)
+    for _ in range(len(dump.data) // 2000):
+        dump.put(r.randrange(len(dump.data) - 16), r.randbytes(r.randrange(1, 16)))
+    yield "1 to 15 bytes wrong in every 2000", dump
+    yield "a checksum after each", between(posts, lambda i, at: r.randbytes(4))
+
+
 def of_sizes(docs, r):
     small = [framed(b"")] * 20 + [framed(element(10, "", b""))] * 20 + docs[:len(docs) // 2]
     yield "documents of 5 and 7 bytes", Dump(small).length(20 + 20 + 5, -1)
@@ -127,5 +151,5 @@ def of_sizes(docs, r):
 
 def kinds(docs, r):
     """Each kind by its name, and a dump that is damaged so."""
-    for some in (of_lengths, of_values, of_places, of_bytes_between, of_documents_inside, of_sizes):
+    for some in (of_lengths, of_values, of_places, of_bytes_between, of_documents_inside, of_other_documents, of_sizes):
         yield from some(docs, random.Random(r.randrange(2**32)))

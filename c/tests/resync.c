@@ -132,12 +132,13 @@ static int is_text(const uint8_t *text, size_t n) {
     return 1;
 }
 
-/* Whether a tag 3 or 4, a key of 1 to 64 bytes, none under 32, and its 0 are right before a place, after the damage. */
+/* Whether a tag 3, 4 or 16, a key of 1 to 64 bytes, none under 32, and its 0 are right before a place, after the damage. */
 static int is_behind_key(size_t damage, size_t at) {
     size_t key = at - 1;
     if (data[at - 1] != 0) return 0;
     while (key > damage && at - 1 - key <= 64 && data[key - 1] >= 32) key--;
-    return key > damage && key < at - 1 && at - 1 - key <= 64 && (data[key - 1] == 3 || data[key - 1] == 4) && is_text(data + key, at - 1 - key);
+    if (key == damage || key == at - 1 || at - 1 - key > 64) return 0;
+    return (data[key - 1] == 3 || data[key - 1] == 4 || data[key - 1] == 16) && is_text(data + key, at - 1 - key);
 }
 
 static int goes_on(size_t damage, size_t at) {
@@ -156,7 +157,7 @@ static int is_believed(size_t at, size_t n) {
     if (is_framed(at, n)) return 1;
     for (size_t inner = at + 1; inner < at + n; inner++)
         if (goes_on(at, inner)) return 0;
-    return 1;
+    return at + n == len || (piece(at + n) > 8 && sound(at + n) != 0);
 }
 
 static size_t onward(size_t damage) {

@@ -84,11 +84,11 @@ def lying_whole(whole: List[bytes], data: bytes) -> List[Tuple[int, bytes]]:
     return found
 
 
-KEY = re.compile(rb"[\3\4]([^\0-\x1f]{1,64})\0\Z")
+KEY = re.compile(rb"[\3\4\x10]([^\0-\x1f]{1,64})\0\Z")
 
 
 def is_behind_key(data: bytes, place: int) -> bool:
-    """Whether the bytes before a place end as before a nested document: with its tag, a key in UTF-8 and a 0."""
+    """Whether the bytes before a place end as before a nested document or an int32: with its tag, a key in UTF-8 and a 0."""
     found = KEY.search(data[max(0, place - 66) : place])
     try:
         return found is not None and len(found.group(1).decode()) > 0

@@ -1,164 +1,147 @@
 -- Where documents go on behind a damaged one, by searches in what is left of an input.
-use Rattle.std.proofs.Common.{◌≡◌, ℕ, ◌+◌, ◌-◌, ◌<◌, ◌≤◌, List, [], Bool, true, false, arith, length, take, drop, sym, ◌∙◌, subst, refl, inr, append-nil, length-drop}
+use Rattle.std.proofs.Common.{◌≡◌, ℕ, suc, ◌+◌, ◌-◌, ◌<◌, ◌≤◌, List, [], Bool, true, false, ◌&&◌, arith, length, take, drop, sym, ◌∙◌, subst, refl, inl, inr, append-nil, length-drop}
 use Rattle.raw_bson.specs.Limits.{Limits}
 use Rattle.raw_resync.specs.Resync.{IsDisbelieved, IsFramed}
-use Rattle.raw_resync.specs.Charge.{Charges, IsBounded, IsLeftOut}
-use Rattle.raw_resync.specs.Seeking.{Explains, PassesOver, Seeks, TellsLength, TellsSought, Works}
-use Rattle.raw_resync.specs.declared.length.Length.{Length}
+use Rattle.raw_resync.specs.Charge.{IsBounded}
+use Rattle.raw_resync.specs.Searches.{BelievesLength, DoubtsLength, GoesOnBehind, GoesOnElsewhere, IsFoundAt, IsOpen, PassesOver, Walks}
+use Rattle.raw_resync.specs.Seeking.{KeepsBound, LacksPiece, Seeks, TellsSought}
 use Rattle.raw_resync.specs.declared.length.Length.TheVariants as lengths
 use Rattle.raw_resync.specs.declared.search.Places.{Places}
 use Rattle.raw_resync.specs.declared.search.Sought.{Sought}
 use Rattle.raw_resync.specs.declared.search.Sought.TheVariants as sought
 use Rattle.raw_resync.specs.declared.work.Work.{Work}
-use Rattle.raw_resync.proofs.Face.{charges_on, disbelieved}
-use Rattle.bsonraw_c.specs.Resync.{BeginsPiece, Costs, FindsFirst, GoesOnIn, GoesOnward, HasNoLength, IsBelieved, IsFirstPlace, IsOnward, LeavesWork, work_of}
+use Rattle.raw_resync.proofs.Face.{and_false, and_true, believes_explained, doubts_disbelieved, found_goes_on, keeps_before, keeps_on, one_found, one_left, one_looked, passes_stop_all}
+use Rattle.bsonraw_c.specs.Resync.{BeginsPiece, FindsFirst, GoesOnIn, GoesOnward, IsBelieved, IsFirstPlace, IsOnward, LeavesWork, LooksAtEnd, LooksBehind, work_of}
 use Rattle.bsonraw_c.specs.declared.reader.Reader.{Reader}
+use Rattle.bsonraw_c.specs.declared.resync.Behind.{Behind}
 use Rattle.bsonraw_c.specs.declared.resync.Onward.{Onward}
 use Rattle.bsonraw_c.specs.declared.resync.Resync.{Resync}
 
 -- what is told of the last bytes of an input, behind which nothing is
-sought_told : (limits : Limits) (b : List ℕ) (last : Bool) (at : ℕ) (p : Places) (old new : Work) (told : Sought) → Seeks limits b last at p old new told
-    → TellsSought limits b last (at + length b) b p new told
-sought_told limits b last at p old new told q = subst (λ s. TellsSought limits b last (at + length s) s p new told) (append-nil b) (q.tells [] (λ is. refl))
-
-length_told : (limits : Limits) (b : List ℕ) (last : Bool) (at len : ℕ) (old new : Work) (told : Length) → Explains limits b last at len old new told
-    → TellsLength limits (at + length b) b len new told
-length_told limits b last at len old new told q =
-    subst (λ s. TellsLength limits (at + length s) s len new told) (append-nil b) (q.tells [] (λ is. refl))
-
-costs_of : (limits : Limits) (b : List ℕ) (last : Bool) (at : ℕ) (old new : Work) → Works limits b last at old new → Costs limits (at + length b) b old new
-costs_of limits b last at old new w = record {
-  charges = subst (λ s. Charges limits s old new) (append-nil b) (w.charges [] (λ is. refl));
-  bounded = subst (λ (s : List ℕ). IsBounded (at + length s) old → IsBounded (at + length s) new) (append-nil b) (w.bounded [] (λ is. refl));
-}
+sought_told : {limits : Limits} {b : List ℕ} {last : Bool} {at : ℕ} {p : Places} {old new : Work} {told : Sought} → Seeks limits b last at p old new told
+    → TellsSought limits b at p old new told
+sought_told {limits} {b} {last} {at} {p} {old} {new} {told} q = subst (λ s. TellsSought limits s at p old new told) (append-nil b) (q.tells [] (λ is. refl))
 
 -- nothing more is wanted
 pub no_wants : (limits : Limits) (b : List ℕ) (last : Bool) (at : ℕ) (p : Places) (old new : Work) (place n : ℕ) (all : Bool) → last ≡ true
     → Seeks limits b last at p old new (sought.Wants place n all) → ⊥
 no_wants limits b last at p old new place n all is q =
-    let (low, high, within, wants, over) = sought_told limits b last at p old new (sought.Wants place n all) q in
-    let no : true ≡ false = sym is ∙ wants.0 in
+    let no : true ≡ false = sym is ∙ q.here.1.0 in
     let impossible : ⊥ = cc in impossible
 
 -- places are passed up to one that there is
 pub passed_within : (limits : Limits) (b : List ℕ) (last : Bool) (at : ℕ) (p : Places) (old new : Work) (all : Bool) → Seeks limits b last at p old new (sought.Nowhere all) → p.until ≤ length b
-passed_within limits b last at p old new all q = let told = sought_told limits b last at p old new (sought.Nowhere all) q in told.0
+passed_within limits b last at p old new all q = q.here
 
--- one cost and another
-costs_on : (limits : Limits) (total : ℕ) (s : List ℕ) (old mid new : Work) → Costs limits total s old mid → Costs limits total s mid new → Costs limits total s old new
-costs_on limits total s old mid new p q = record { charges = charges_on limits s old mid new p.charges q.charges; bounded = λ bound. q.bounded (p.bounded bound) }
-
--- documents go on at no place inside
-not_inside : (limits : Limits) (total len : ℕ) (s : List ℕ) (w : Work) → PassesOver limits total s 1 len w true → ¬ IsDisbelieved limits s len
-not_inside limits total len s w over (unframed, (j, low, high, on)) = over.whole refl j low high on
-
-believed_inside : (limits : Limits) (total len : ℕ) (s : List ℕ) (w : Work) (all : Bool) → BeginsPiece limits.bytes s len → PassesOver limits total s 1 len w all
-    → IsBelieved limits total s len w all
-believed_inside limits total len s w true piece over = record {
-  piece = piece;
-  believed = λ is. not_inside limits total len s w over;
-  left_out = λ is. let impossible : ⊥ = cc in absurd impossible;
-}
-believed_inside limits total len s w false piece over = record {
-  piece = piece;
-  believed = λ is. let impossible : ⊥ = cc in absurd impossible;
-  left_out = λ is. let (j, low, high, left) = over.some refl in (j, omega (arith, high), left);
+-- the first place at which documents are found to go on, from the second byte on
+first_place : {limits : Limits} {s : List ℕ} {at place : ℕ} {old before new : Work} {all : Bool} → 1 ≤ place → place ≤ length s → PassesOver limits s at 1 place old before all
+    → IsFoundAt limits s at place before new → IsFirstPlace limits s at place old new all
+first_place {limits} {s} {at} {place} {old} {before} {new} {all} some within passed found = record {
+  some = omega (arith, some);
+  within = within;
+  goes_on = found_goes_on limits s at place before new found;
+  none = λ is j low high. passes_stop_all (subst (λ b. PassesOver limits s at 1 place old before b) is passed) j low high;
+  before = before;
+  passed = passed;
+  found = found;
 }
 
 module _ (limits : Limits) (at : ℕ) (s : List ℕ) (last : Bool) where
-  -- the first place, which a search from the second byte on found
-  first_place : (until place : ℕ) (w : Work) (all : Bool) → TellsSought limits s last (at + length s) s (record { from = 1; until = until }) w (sought.Found place all)
-      → IsFirstPlace limits (at + length s) s place w all
-  first_place until place w all (low, high, within, on, over) = record {
-    some = omega (arith, low);
-    within = within;
-    goes_on = on;
-    passed = over;
-  }
-
+  -- a search from the second byte on found it
   pub found_first : (until place : ℕ) (old new : Work) (all : Bool) → Seeks limits s last at (record { from = 1; until = until }) old new (sought.Found place all)
       → FindsFirst limits at s old new (record { count = place; is_believed = false; all = all })
-  found_first until place old new all q = (
-    refl,
-    first_place until place new all (sought_told limits s last at (record { from = 1; until = until }) old new (sought.Found place all) q),
-    costs_of limits s last at old new q.works,
-  )
+  found_first until place old new all q =
+      let (low, high, before, passed, found) = sought_told q in
+      (refl, first_place low q.here passed found, q.bounded)
 
-  -- where no length is believed, they go on at the first place
-  pub first_onward : (old new : Work) (onward : Onward) → HasNoLength limits s → FindsFirst limits at s old new onward → GoesOnward limits at s old new onward
-  first_onward old new onward none (is, first, costs) = (subst (λ b. IsOnward limits (at + length s) s new onward.count b onward.all) (sym is) (none, first), costs)
-
-  -- behind a look at the length
-  pub onward_behind : (len : ℕ) (old mid new : Work) (told : Length) (onward : Onward) → Explains limits s last at len old mid told → GoesOnward limits at s mid new onward
-      → GoesOnward limits at s old new onward
-  onward_behind len old mid new told onward q (is, costs) = (is, costs_on limits (at + length s) s old mid new (costs_of limits s last at old mid q.works) costs)
+  -- where no length is there, they go on at the first place
+  pub first_onward : (old new : Work) (onward : Onward) → LacksPiece limits.bytes true s → FindsFirst limits at s old new onward → GoesOnward limits at s old new onward
+  first_onward old new onward none (is, first, bound) =
+      (subst (λ b. IsOnward limits s at old new onward.count b onward.all) (sym is) (old, inl (none, refl), first), bound)
 
   module _ (len : ℕ) (piece : BeginsPiece limits.bytes s len) where
+    believed : (old new : Work) (all : Bool) → BelievesLength limits s at len old new all → IsBelieved limits s at len old new all
+    believed old new all believes = record {
+      piece = piece;
+      right = λ is. believes_explained limits s at len old new (subst (BelievesLength limits s at len old new) is believes);
+      believed = believes;
+    }
+
+    pub bound_of : (old new : Work) → KeepsBound (at + len) old new → KeepsBound (at + length s) old new
+    bound_of old new bound = let within : len ≤ length s = piece.0 in keeps_before (at + len) (at + length s) old new (omega (arith, within)) bound
+
     -- the elements explain the length
-    pub behind_explained : (old new : Work) → Explains limits s last at len old new lengths.Explained → GoesOnward limits at s old new (record { count = len; is_believed = true; all = true })
-    behind_explained old new q =
-        let framed = length_told limits s last at len old new lengths.Explained q in (
-          record {
-            piece = piece;
-            believed = λ is not. not.0 framed;
-            left_out = λ is. let impossible : ⊥ = cc in absurd impossible;
-          },
-          costs_of limits s last at old new q.works,
-        )
+    pub behind_explained : (old new : Work) → Walks at s len old new lengths.Explained → KeepsBound (at + len) old new
+        → GoesOnward limits at s old new (record { count = len; is_believed = true; all = true })
+    behind_explained old new walks bound = (believed old new true (inl (walks, refl)), bound_of old new bound)
 
     -- it could cost too much to know
-    pub behind_left : (old new : Work) → Explains limits s last at len old new lengths.LeftOut → GoesOnward limits at s old new (record { count = len; is_believed = true; all = false })
-    behind_left old new q =
-        let left = length_told limits s last at len old new lengths.LeftOut q in (
-          record {
-            piece = piece;
-            believed = λ is. let impossible : ⊥ = cc in absurd impossible;
-            left_out = λ is. (0, omega arith, left);
-          },
-          costs_of limits s last at old new q.works,
-        )
+    pub behind_left : (old new : Work) → Walks at s len old new lengths.LeftOut → KeepsBound (at + len) old new
+        → GoesOnward limits at s old new (record { count = len; is_believed = true; all = false })
+    behind_left old new walks bound = (believed old new false (inr (inl (walks, refl))), bound_of old new bound)
 
-    -- they don't
-    pub not_framed : (old new : Work) → Explains limits s last at len old new lengths.Unexplained → ¬ IsFramed (take len s)
-    not_framed old new q = (length_told limits s last at len old new lengths.Unexplained q).1
+    -- they don't, and documents go on behind it
+    pub behind_piece : (start old new : Work) (all : Bool) → Walks at s len start old lengths.Unexplained → KeepsBound (at + len) start old → GoesOnBehind limits s at len old new all
+        → KeepsBound (at + length s) old new → GoesOnward limits at s start new (record { count = len; is_believed = true; all = all })
+    behind_piece start old new all walks bound goes more =
+        (believed start new all (inr (inr (old, walks, goes))), keeps_on (at + length s) start old new (bound_of start old bound) more)
 
-    -- documents go on inside
-    pub found_inside : (place : ℕ) (old new : Work) (all : Bool) → ¬ IsFramed (take len s)
-        → Seeks limits s last at (record { from = 1; until = len }) old new (sought.Found place all)
-        → GoesOnward limits at s old new (record { count = place; is_believed = false; all = all })
-    found_inside place old new all unframed q =
-        let (low, high, within, on, over) = sought_told limits s last at (record { from = 1; until = len }) old new (sought.Found place all) q in
-        let not = disbelieved limits s len place unframed low high on in
-        first_onward old new (record { count = place; is_believed = false; all = all }) (inr (len, piece, not)) (found_first len place old new all q)
+    -- or elsewhere
+    pub elsewhere_first : (start old mid new : Work) (onward : Onward) → Walks at s len start old lengths.Unexplained → KeepsBound (at + len) start old → GoesOnElsewhere limits s at len old mid
+        → KeepsBound (at + length s) old mid → FindsFirst limits at s mid new onward → GoesOnward limits at s start new onward
+    elsewhere_first start old mid new onward walks bound goes more (is, first, cost) =
+        let doubts : DoubtsLength limits s at len start mid = (old, walks, goes) in
+        (subst (λ b. IsOnward limits s at start new onward.count b onward.all) (sym is) (mid, inr (len, piece, doubts_disbelieved limits s at len start mid doubts, doubts), first),
+        keeps_on (at + length s) start mid new (keeps_on (at + length s) start old mid (bound_of start old bound) more) cost)
 
-    -- or they don't
-    pub nowhere_inside : (old new : Work) (all : Bool) → Seeks limits s last at (record { from = 1; until = len }) old new (sought.Nowhere all)
-        → GoesOnward limits at s old new (record { count = len; is_believed = true; all = all })
-    nowhere_inside old new all q =
-        let told = sought_told limits s last at (record { from = 1; until = len }) old new (sought.Nowhere all) q in
-        (believed_inside limits (at + length s) len s new all piece told.1, costs_of limits s last at old new q.works)
+    -- documents go on inside it
+    pub inside_elsewhere : (old new : Work) (place : ℕ) (all : Bool) → Seeks limits s last at (record { from = 1; until = len }) old new (sought.Found place all)
+        → LooksBehind limits at s len old new (record { elsewhere = true; all = all })
+    inside_elsewhere old new place all q =
+        let (low, high, before, passed, found) = sought_told q in
+        (inl (place, all, (before, omega (arith, low), high, passed, found)), q.bounded)
+
+    -- or not
+    pub inside_passed : (old mid new : Work) (all : Bool) (behind : Behind) → Seeks limits s last at (record { from = 1; until = len }) old mid (sought.Nowhere all)
+        → LooksAtEnd limits at s len mid new all behind → LooksBehind limits at s len old new behind
+    inside_passed old mid new all behind q is = let (told, bound) = is old (sought_told q) in (told, keeps_on (at + length s) old mid new q.bounded bound)
+
+    -- what is found behind it
+    rest_bound : (old new : Work) → KeepsBound (at + len + length (drop len s)) old new → KeepsBound (at + length s) old new
+    rest_bound old new bound =
+        let within : len ≤ length s = piece.0 in
+        let size : length (drop len s) ≡ length s - len = length-drop len s in
+        keeps_before (at + len + length (drop len s)) (at + length s) old new (omega (arith, within, size)) bound
+
+    pub found_at_end : (old new : Work) (all : Bool) (place : ℕ) (more : Bool) → Seeks limits (drop len s) last (at + len) (record { from = 0; until = 1 }) old new (sought.Found place more)
+        → LooksAtEnd limits at s len old new all (record { elsewhere = false; all = all })
+    found_at_end old new all place more q inside over =
+        let (low, high, before, passed, found) = sought_told q in
+        let open' : IsOpen limits (drop len s) (at + len) old new true =
+        one_found limits (drop len s) (at + len) 0 place old before new more (omega (arith, high)) passed found in
+        ((old, all, true, over, open', and_true all), rest_bound old new q.bounded)
+
+    pub passed_at_end : (old new : Work) (all looked : Bool) → Seeks limits (drop len s) last (at + len) (record { from = 0; until = 1 }) old new (sought.Nowhere looked)
+        → LooksAtEnd limits at s len old new all (record { elsewhere = looked; all = false })
+    passed_at_end old new all true q inside over = (inr (old, all, over, one_looked (sought_told q)), rest_bound old new q.bounded)
+    passed_at_end old new all false q inside over = ((old, all, false, over, one_left (sought_told q), and_false all), rest_bound old new q.bounded)
 
 -- a reader goes on there
 module _ (limits : Limits) (b : List ℕ) (damage : ℕ) (before : Resync) (work : Work) (onward : Onward) (within : damage < length b) (bound : IsBounded (length b) (work_of before))
     (goes : GoesOnward limits damage (drop damage b) (work_of before) work onward) where
-  whole : IsOnward limits (length b) (drop damage b) work onward.count onward.is_believed onward.all × Costs limits (length b) (drop damage b) (work_of before) work
-  whole =
-      let left : length (drop damage b) ≡ length b - damage = length-drop damage b in
-      let total : damage + length (drop damage b) ≡ length b = omega (arith, left, within) in
-      subst (λ n. IsOnward limits n (drop damage b) work onward.count onward.is_believed onward.all × Costs limits n (drop damage b) (work_of before) work) total goes
-
   pub bounded_on : IsBounded (length b) work
-  bounded_on = whole.1.bounded bound
+  bounded_on =
+      let left : length (drop damage b) ≡ length b - damage = length-drop damage b in
+      goes.1 (length b) (omega (arith, left, within)) bound
 
   pub goes_on_in : {old new : Reader} {after : Resync} → new ≡ record old { next = damage + onward.count } → LeavesWork onward work after → GoesOnIn limits b damage old new before after
   goes_on_in is (same, believed, left) = record {
     count = onward.count;
     is_believed = onward.is_believed;
     all = onward.all;
-    onward = subst (λ w. IsOnward limits (length b) (drop damage b) w onward.count onward.is_believed onward.all) (sym same) whole.0;
+    onward = subst (λ w. IsOnward limits (drop damage b) damage (work_of before) w onward.count onward.is_believed onward.all) (sym same) goes.0;
     reader = is;
     flag_is = believed;
     left_out = left;
-    charges = subst (λ w. Charges limits (drop damage b) (work_of before) w) (sym same) whole.1.charges;
     bounded = subst (IsBounded (length b)) (sym same) bounded_on;
   }

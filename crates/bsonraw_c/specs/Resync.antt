@@ -3,13 +3,16 @@ use Rattle.std.specs.Prelude.{◌≡◌, ◌⊎◌, ◌<◌, ◌≤◌, ◌+◌,
 use Rattle.raw_bson.specs.Limits.{Limits}
 use Rattle.raw_resync.specs.Pieces.{IsPiece}
 use Rattle.raw_resync.specs.Resync.{GoesOn, IsDisbelieved}
-use Rattle.raw_resync.specs.Charge.{Charges, IsBounded, IsLeftOut}
-use Rattle.raw_resync.specs.Seeking.{LacksPiece, PassesOver}
+use Rattle.raw_resync.specs.Charge.{IsBounded}
+use Rattle.raw_resync.specs.Searches.{BelievesLength, DoubtsLength, GoesOnBehind, GoesOnElsewhere, IsFoundAt, PassesOver, Walks}
+use Rattle.raw_resync.specs.Seeking.{KeepsBound, LacksPiece}
+use Rattle.raw_resync.specs.declared.length.Length.TheVariants as lengths
 use Rattle.raw_resync.specs.declared.check.Part.{Part}
 use Rattle.raw_resync.specs.declared.work.Work.{Work}
 use Rattle.bsonraw_c.specs.Iters.{Returns}
 use Rattle.bsonraw_c.specs.declared.codes.Status.TheVariants as status
 use Rattle.bsonraw_c.specs.declared.reader.Reader.{Reader}
+use Rattle.bsonraw_c.specs.declared.resync.Behind.{Behind}
 use Rattle.bsonraw_c.specs.declared.resync.Onward.{Onward}
 use Rattle.bsonraw_c.specs.declared.resync.Resync.{Resync}
 
@@ -17,33 +20,33 @@ use Rattle.bsonraw_c.specs.declared.resync.Resync.{Resync}
 abbrev pub BeginsPiece : (most : ℕ) → List ℕ → ℕ → Type 0
 BeginsPiece most s len = (len ≤ length s) × IsPiece most (take len s)
 
--- No length in front of s is believed: no document has it, or so many bytes aren't there; or documents go on inside.
-abbrev pub HasNoLength : Limits → List ℕ → Type 0
-HasNoLength limits s = LacksPiece limits.bytes true s ⊎ ((len : ℕ) × BeginsPiece limits.bytes s len × IsDisbelieved limits s len)
+-- No length in front of s is believed: no document has it, or so many bytes aren't there; or its elements don't explain it, and documents go
+-- on inside, or not behind it.
+abbrev pub HasNoLength : Limits → List ℕ → (at : ℕ) → (old new : Work) → Type 0
+HasNoLength limits s at old new =
+    (LacksPiece limits.bytes true s × (new ≡ old))
+    ⊎ ((len : ℕ) × BeginsPiece limits.bytes s len × IsDisbelieved limits s len × DoubtsLength limits s at len old new)
 
--- The length in front of s is believed, and documents go on behind so many bytes; where not all was looked at, a place up to
--- there was left out.
-pub record IsBelieved (limits : Limits) (total : ℕ) (s : List ℕ) (len : ℕ) (work : Work) (all : Bool) : Type 0 where
+-- The length in front of s is believed, and documents go on behind so many bytes; where not all was looked at, a place was left out.
+pub record IsBelieved (limits : Limits) (s : List ℕ) (at len : ℕ) (old new : Work) (all : Bool) : Type 0 where
   pub piece : BeginsPiece limits.bytes s len
-  pub believed : all ≡ true → ¬ IsDisbelieved limits s len
-  pub left_out : all ≡ false → (j : ℕ) × (j ≤ len) × IsLeftOut limits total s work j
+  pub right : all ≡ true → ¬ IsDisbelieved limits s len
+  pub believed : BelievesLength limits s at len old new all
 
--- Documents go on so many bytes behind the first of s, and at no place before; or those were left out, where not all was looked at.
-pub record IsFirstPlace (limits : Limits) (total : ℕ) (s : List ℕ) (count : ℕ) (work : Work) (all : Bool) : Type 0 where
+-- Documents go on so many bytes behind the first of s, and are found at no place before.
+pub record IsFirstPlace (limits : Limits) (s : List ℕ) (at count : ℕ) (old new : Work) (all : Bool) : Type 0 where
   pub some : 0 < count
   pub within : count ≤ length s
   pub goes_on : GoesOn limits s count
-  pub passed : PassesOver limits total s 1 count work all
+  pub none : all ≡ true → (j : ℕ) → 0 < j → j < count → ¬ GoesOn limits s j
+  pub before : Work
+  pub passed : PassesOver limits s at 1 count old before all
+  pub found : IsFoundAt limits s at count before new
 
--- where documents go on behind the damaged one in front of s, the end of an input of so many bytes
-abbrev pub IsOnward : Limits → (total : ℕ) → List ℕ → Work → (count : ℕ) → (is_believed all : Bool) → Type 0
-IsOnward limits total s work count true all = IsBelieved limits total s count work all
-IsOnward limits total s work count false all = HasNoLength limits s × IsFirstPlace limits total s count work all
-
--- what it costs to find that out
-pub record Costs (limits : Limits) (total : ℕ) (s : List ℕ) (old new : Work) : Type 0 where
-  pub charges : Charges limits s old new
-  pub bounded : IsBounded total old → IsBounded total new
+-- where documents go on behind the damaged one in front of s, the end of an input from this offset on, and what it costs to find that out
+abbrev pub IsOnward : Limits → List ℕ → (at : ℕ) → (old new : Work) → (count : ℕ) → (is_believed all : Bool) → Type 0
+IsOnward limits s at old new count true all = IsBelieved limits s at count old new all
+IsOnward limits s at old new count false all = (start : Work) × HasNoLength limits s at old start × IsFirstPlace limits s at count start new all
 
 -- a flag is set
 abbrev pub flag : Bool → ℕ
@@ -67,11 +70,10 @@ pub record GoesOnIn (limits : Limits) (b : List ℕ) (damage : ℕ) (old new : R
   pub count : ℕ
   pub is_believed : Bool
   pub all : Bool
-  pub onward : IsOnward limits (length b) (drop damage b) (work_of after) count is_believed all
+  pub onward : IsOnward limits (drop damage b) damage (work_of before) (work_of after) count is_believed all
   pub reader : new ≡ record old { next = damage + count }
   pub flag_is : after.is_believed ≡ flag is_believed
   pub left_out : after.left_out ≡ flag (not all)
-  pub charges : Charges limits (drop damage b) (work_of before) (work_of after)
   pub bounded : IsBounded (length b) (work_of after)
 
 -- the search isn't made, and nothing is changed
@@ -93,17 +95,34 @@ Resyncs limits b old new before after code =
 
 -- What the code tells. No public contract cites what follows.
 
--- bytes to be searched: the last of an input, and some
+-- bytes to be searched: the last of an input, and some, and of so many that they can be counted
 abbrev pub IsInput : Part → Type 0
-IsInput part = (part.is_last ≡ true) × (0 < length part.bytes.now)
+IsInput part = (part.is_last ≡ true) × (0 < length part.bytes.now) × (part.at + length part.bytes.now ≤ 2 ^ 60)
 
 abbrev pub GoesOnward : Limits → ℕ → List ℕ → Work → Work → Onward → Type 0
-GoesOnward limits at s old new onward =
-    IsOnward limits (at + length s) s new onward.count onward.is_believed onward.all × Costs limits (at + length s) s old new
+GoesOnward limits at s old new onward = IsOnward limits s at old new onward.count onward.is_believed onward.all × KeepsBound (at + length s) old new
 
 abbrev pub FindsFirst : Limits → ℕ → List ℕ → Work → Work → Onward → Type 0
 FindsFirst limits at s old new onward =
-    (onward.is_believed ≡ false) × IsFirstPlace limits (at + length s) s onward.count new onward.all × Costs limits (at + length s) s old new
+    (onward.is_believed ≡ false) × IsFirstPlace limits s at onward.count old new onward.all × KeepsBound (at + length s) old new
+
+-- where the elements of the piece of so many bytes don't explain its length, and the walk over them cost what searches cost before
+abbrev pub GoesInside : Limits → ℕ → List ℕ → (len : ℕ) → Work → Work → Onward → Type 0
+GoesInside limits at s len old new onward =
+    (start : Work) → Walks at s len start old lengths.Unexplained → KeepsBound (at + len) start old → GoesOnward limits at s start new onward
+
+-- whether documents go on inside the piece of so many bytes, or not behind it
+abbrev pub TellsBehind : Limits → ℕ → List ℕ → (len : ℕ) → Work → Work → (elsewhere all : Bool) → Type 0
+TellsBehind limits at s len old new true all = GoesOnElsewhere limits s at len old new
+TellsBehind limits at s len old new false all = GoesOnBehind limits s at len old new all
+
+abbrev pub LooksBehind : Limits → ℕ → List ℕ → (len : ℕ) → Work → Work → Behind → Type 0
+LooksBehind limits at s len old new behind = TellsBehind limits at s len old new behind.elsewhere behind.all × KeepsBound (at + length s) old new
+
+-- the same where the places inside were passed
+abbrev pub LooksAtEnd : Limits → ℕ → List ℕ → (len : ℕ) → Work → Work → (all : Bool) → Behind → Type 0
+LooksAtEnd limits at s len old new all behind =
+    (inside : Work) → PassesOver limits s at 1 len inside old all → TellsBehind limits at s len inside new behind.elsewhere behind.all × KeepsBound (at + length s) old new
 
 -- what is left of a search for the next
 abbrev pub LeavesWork : Onward → Work → Resync → Type 0

@@ -1,8 +1,7 @@
-ghost use Rattle.std.specs.Prelude.{◌≡◌, ◌<◌, ◌^◌, IfNone, IfOk, IfSome, IsTrue, ◌↔◌, length, take, true};
+ghost use Rattle.std.specs.Prelude.{◌≡◌, ◌<◌, ◌^◌, IfNone, IfOk, IfSome, IsTrue, ◌↔◌, length, true};
 ghost use Rattle.raw_resync.specs.Charge.{IsBounded};
-ghost use Rattle.raw_resync.specs.Resync.{IsFramed};
 ghost use Rattle.raw_resync.specs.Seeking.{IsWork, LacksPiece};
-ghost use Rattle.bsonraw_c.specs.Resync.{BeginsPiece, FindsFirst, GoesOnward, IsInput, LeavesWork, Resyncs, damage_of, work_of};
+ghost use Rattle.bsonraw_c.specs.Resync.{BeginsPiece, FindsFirst, GoesInside, GoesOnward, LooksAtEnd, LooksBehind, IsInput, LeavesWork, Resyncs, damage_of, work_of};
 
 use crate::codes::Status;
 use crate::reader::Reader;
@@ -167,7 +166,7 @@ fn behind_piece(
     ensures work { IsWork work.new }
     ensures onward { IfOk result (GoesOnward part.entry.limits part.entry.at part.entry.bytes.now work.old work.new) }
 {
-    match explain_length(alloc, part, len, work)? {
+    match explain_length(part, len, work) {
         Length::Explained => Ok(Onward {
             count: len,
             is_believed: true,
@@ -182,33 +181,90 @@ fn behind_piece(
     }
 }
 
-/// Where documents go on, where the damaged one of so many bytes doesn't explain its length: at the first place inside it, else
-/// behind.
+/// Where documents go on, where the damaged one of so many bytes doesn't explain its length: behind it if they go on there and not inside;
+/// else at the first place.
 fn inside_or_behind(
     alloc: Global,
     part: Part<'_>,
     len: usize,
     work: &mut Work,
 ) -> Result<Onward, AllocError>
-    requires input { IsInput part × IsWork work.old × BeginsPiece part.limits.bytes part.bytes.now len }
-    requires unframed { ¬ IsFramed (take len part.bytes.now) }
+    requires { IsInput part × IsWork work.old × BeginsPiece part.limits.bytes part.bytes.now len }
     ensures work { IsWork work.new }
-    ensures onward { IfOk result (GoesOnward part.entry.limits part.entry.at part.entry.bytes.now work.old work.new) }
+    ensures onward { IfOk result (GoesInside part.entry.limits part.entry.at part.entry.bytes.now len work.old work.new) }
+{
+    let behind = look_behind(alloc, part, len, work)?;
+    if behind.elsewhere {
+        return first_place(alloc, part, work);
+    }
+    Ok(Onward {
+        count: len,
+        is_believed: true,
+        all: behind.all,
+    })
+}
+
+/// Where documents go on around a piece.
+#[derive(Clone, Copy)]
+pub struct Behind {
+    /// whether they go on inside it, or not behind it
+    pub elsewhere: bool,
+    /// whether each place inside was looked at, and the one behind
+    pub all: bool,
+}
+
+/// Whether documents go on inside the piece of so many bytes, or not behind it.
+fn look_behind(
+    alloc: Global,
+    part: Part<'_>,
+    len: usize,
+    work: &mut Work,
+) -> Result<Behind, AllocError>
+    requires { IsInput part × IsWork work.old × BeginsPiece part.limits.bytes part.bytes.now len }
+    ensures work { IsWork work.new }
+    ensures behind { IfOk result (LooksBehind part.entry.limits part.entry.at part.entry.bytes.now len work.old work.new) }
 {
     let places = Places {
         from: 1,
         until: len,
     };
     match seek(alloc, part, places, work)? {
-        Sought::Found { place, all } => Ok(Onward {
-            count: place,
-            is_believed: false,
+        Sought::Found { place: _, all } => Ok(Behind {
+            elsewhere: true,
             all,
         }),
-        Sought::Nowhere { all } => Ok(Onward {
-            count: len,
-            is_believed: true,
+        Sought::Nowhere { all } => look_at_end(alloc, part, len, all, work),
+        Sought::Wants { .. } => unreachable!(),
+    }
+}
+
+/// The same where they go on at no place inside; `all` says whether each was looked at.
+fn look_at_end(
+    alloc: Global,
+    part: Part<'_>,
+    len: usize,
+    all: bool,
+    work: &mut Work,
+) -> Result<Behind, AllocError>
+    requires { IsInput part × IsWork work.old × BeginsPiece part.limits.bytes part.bytes.now len }
+    ensures work { IsWork work.new }
+    ensures behind { IfOk result (LooksAtEnd part.entry.limits part.entry.at part.entry.bytes.now len work.old work.new all) }
+{
+    let rest = Part {
+        bytes: part.bytes.split_at(len).1,
+        is_last: true,
+        at: part.at + len as u64,
+        limits: part.limits,
+    };
+    let places = Places { from: 0, until: 1 };
+    match seek(alloc, rest, places, work)? {
+        Sought::Found { .. } => Ok(Behind {
+            elsewhere: false,
             all,
+        }),
+        Sought::Nowhere { all: looked } => Ok(Behind {
+            elsewhere: looked,
+            all: false,
         }),
         Sought::Wants { .. } => unreachable!(),
     }

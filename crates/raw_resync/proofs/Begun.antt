@@ -1,5 +1,5 @@
--- What follows the length of an undamaged document.
-use Rattle.std.proofs.Common.{◌≡◌, ◌≢◌, ◌⊎◌, ℕ, zero, suc, List, [], ◌∷◌, Option, None, Some, is_some, MatchOption, false, drop, length, slice_get, subst, sym, ◌-◌, ◌∙◌, inl, inr}
+-- What follows the length of a document.
+use Rattle.std.proofs.Common.{◌≡◌, ◌≢◌, ℕ, zero, suc, List, [], ◌∷◌, Bool, MatchBool, Option, None, Some, is_some, MatchOption, true, false, drop, length, slice_get, subst, sym, ap, arith, ◌-◌, ◌<◌, ◌∙◌, length-drop}
 use Rattle.std.specs.Bool.{◌==◌}
 use Rattle.bson_model.specs.Tree.{Tree}
 use Rattle.raw_view.specs.Frame.{Frame, IsWalk, Done}
@@ -9,28 +9,33 @@ use Rattle.raw_view.specs.declared.element_type.ElementType.{ElementType}
 use Rattle.raw_tree.specs.Reading.{Reads}
 use Rattle.raw_tree.specs.declared.reader.limits.Limits.{Limits}
 use Rattle.raw_resync.specs.Resync.{IsSound}
+use Rattle.raw_resync.specs.Searches.{IsBegun}
 
--- nothing follows the first byte, or it is a tag
-abbrev pub IsBegun : ℕ → List ℕ → Type 0
-IsBegun x r = (r ≡ []) ⊎ ((kind : ElementType) × (x ≡ tag_of kind))
+walk_begun : (b : List ℕ) (fs : List Frame) → 8 < length b → IsWalk (drop 4 b) fs Done → IsBegun b
+walk_begun b [] long end =
+    let one : length (drop 4 b) ≡ 1 = ap length end in
+    let size : length (drop 4 b) ≡ length b - 4 = length-drop 4 b in
+    absurd (omega (arith, long, one, size))
+walk_begun b (f ∷ fs) long (t, frame, more) = (f.kind, _, frame.spelled)
 
-walk_begun : (s : List ℕ) (fs : List Frame) (x : ℕ) (r : List ℕ) → s ≡ x ∷ r → IsWalk s fs Done → IsBegun x r
-walk_begun s [] x r is end = let same : x ∷ r ≡ 0 ∷ [] = sym is ∙ end in let none : r ≡ [] = cc in inl none
-walk_begun s (f ∷ fs) x r is (t, frame, more) = let same = sym is ∙ frame.spelled in let first : x ≡ tag_of f.kind = cc in inr (f.kind, first)
+read_begun : (b : List ℕ) (t : Tree) → 8 < length b → Reads b t → IsBegun b
+read_begun b t long (zero, none) = absurd none
+read_begun b t long (suc n, (pairs, (frames, walk, each), same)) = walk_begun b frames long walk
 
-read_begun : (b : List ℕ) (t : Tree) (x : ℕ) (r : List ℕ) → drop 4 b ≡ x ∷ r → Reads b t → IsBegun x r
-read_begun b t x r is (zero, none) = absurd none
-read_begun b t x r is (suc n, (pairs, (frames, walk, each), same)) = walk_begun (drop 4 b) frames x r is walk
+-- a tag follows that of an undamaged document of over 8 bytes
+pub sound_begun : (limits : Limits) (b : List ℕ) → 8 < length b → IsSound limits b → IsBegun b
+sound_begun limits b long sound = read_begun b sound.tree long sound.reads.read
 
-pub sound_begun : (limits : Limits) (b : List ℕ) (x : ℕ) (r : List ℕ) → drop 4 b ≡ x ∷ r → IsSound limits b → IsBegun x r
-sound_begun limits b x r is sound = read_begun b sound.tree x r is sound.reads.read
-
--- a byte that is no tag, and others
-pub not_begun : (x : ℕ) (r : List ℕ) (tag : Option ElementType) → MatchOption tag ((kind : ElementType) → x ≢ tag_of kind) (λ kind. x ≡ tag_of kind) → is_some tag ≡ false → ¬ (r ≡ [])
-    → ¬ IsBegun x r
-not_begun x r None none isnt some (inl end) = some end
-not_begun x r None none isnt some (inr (kind, is)) = none kind is
-not_begun x r (Some kind) is isnt some begun = let impossible : ⊥ = cc in impossible
+-- whether a byte that follows a length is a tag
+pub begins_or_not : (b : List ℕ) (x : ℕ) (r : List ℕ) (tag : Option ElementType) (is : Bool) → drop 4 b ≡ x ∷ r
+    → MatchOption tag ((kind : ElementType) → x ≢ tag_of kind) (λ kind. x ≡ tag_of kind) → is ≡ is_some tag → MatchBool is (IsBegun b) (¬ IsBegun b)
+begins_or_not b x r None true split none same = let impossible : ⊥ = cc in absurd impossible
+begins_or_not b x r None false split none same = λ (kind, other, begins).
+    let heads : x ∷ r ≡ tag_of kind ∷ other = sym split ∙ begins in
+    let first : x ≡ tag_of kind = cc in
+    none kind first
+begins_or_not b x r (Some kind) true split at same = (kind, r, split ∙ ap (λ y. y ∷ r) at)
+begins_or_not b x r (Some kind) false split at same = let impossible : ⊥ = cc in absurd impossible
 
 -- a byte that is no tag
 pub no_kind : (x : ℕ) (tag : Option ElementType) → MatchOption tag ((kind : ElementType) → x ≢ tag_of kind) (λ kind. x ≡ tag_of kind) → is_some tag ≡ false → (kind : ElementType) → x ≢ tag_of kind

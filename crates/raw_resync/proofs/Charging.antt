@@ -13,7 +13,7 @@ use Rattle.raw_tree.specs.declared.walk.barrier.Barrier as told
 use Rattle.raw_tree.proofs.Face.{barrier_bound}
 use Rattle.raw_resync.specs.Pieces.{said_len}
 use Rattle.raw_resync.specs.Resync.{IsSound}
-use Rattle.raw_resync.specs.Charge.{Costs, IsBehindText, IsBehindZero, IsOfText, IsOfValue, LooksAt, LooksAtRegex}
+use Rattle.raw_resync.specs.Charge.{IsBehindText, IsBehindZero, IsOfText, IsOfValue, IsProbed, LooksAt, LooksAtRegex}
 
 neither : (tag : ℕ) (x : Barrier) → tag ≢ 15 → ¬ IsOfText x → ¬ IsBehindText tag x
 neither tag x not is (inl text) = is text
@@ -64,13 +64,14 @@ module _ (x : Barrier) (path : List Step) (s text behind : List ℕ) (tag : ℕ)
   unfolding has_key
   looks_regex m is regex = inr (inl (z.0, has_key, is, m, regex, ap (λ n. n + m) key_len))
 
-  pub looks_value : (said : ℕ) → tag ≢ 11 → IsOfValue tag x path → (said ≡ said_len behind) ⊎ (length behind < 4) → LooksAt x path s (min (length s) (length s - length behind + said + 16))
+  pub looks_value : (payload : ℕ) → tag ≢ 11 → IsOfValue tag x path → (payload ≡ said_len behind) ⊎ (length behind < 4)
+      → LooksAt x path s (min (length s) (length s - length behind + payload + 16))
   unfolding has_key
-  looks_value said not is same =
+  looks_value payload not is same =
       let whole : length s ≡ suc (length text) = ap length split in
       let len : length text ≡ length z.0 + length (0 ∷ behind) = ap length z.2 ∙ length-append z.0 (0 ∷ behind) in
       let all : length s ≡ length z.0 + 2 + length behind = omega (arith, whole, len) in
-      inr (inr (inl (z.0, has_key, not, is, ap (λ n. min (length s) (n + said + 16)) key_len ∙ same_min (length s) (length z.0 + 2) (length behind) (said_len behind) said all same)))
+      inr (inr (inl (z.0, has_key, not, is, ap (λ n. min (length s) (n + payload + 16)) key_len ∙ same_min (length s) (length z.0 + 2) (length behind) (said_len behind) payload all same)))
 
   pub looks_key : tag ≢ 11 → ¬ IsOfValue tag x path → LooksAt x path s (length s - length behind)
   unfolding has_key
@@ -79,10 +80,10 @@ module _ (x : Barrier) (path : List Step) (s text behind : List ℕ) (tag : ℕ)
 -- the charge for a document with a barrier is the number of bytes that are looked at
 pub costs_fault : (limits : Limits) (b : List ℕ) (barrier : told.Barrier) (m : ℕ) → IsEnvelope b → TellsBarrier limits b (Some barrier) → AllAreAnsweredOneWay limits
     → ((x : Barrier) → barriers.IsBarrier barrier.kind x → LooksAt x (steps_of barrier.place) (drop barrier.place.offset b) m)
-    → (¬ IsSound limits b) × Costs limits b (barrier.place.offset + m)
+    → IsProbed limits b false (barrier.place.offset + m)
 costs_fault limits b barrier m envelope (x, is, at) one looks =
     let damaged : ¬ IsSound limits b = λ sound. (one b envelope).not_both sound.tree x sound.reads (steps_of barrier.place, barrier.place.offset, at) in
-    (damaged, inr (inr (envelope, damaged, (x, steps_of barrier.place, barrier.place.offset, m, at, looks x is, refl))))
+    (damaged, (x, steps_of barrier.place, barrier.place.offset, m, at, looks x is, refl))
 
 pub offset_within : (limits : Limits) (b : List ℕ) (barrier : told.Barrier) → TellsBarrier limits b (Some barrier) → barrier.place.offset ≤ length b
 offset_within limits b barrier (x, is, at) = barrier_bound limits b x (steps_of barrier.place) barrier.place.offset at

@@ -1,9 +1,9 @@
 -- The lemmas of this crate that crates above may cite; they cite no other.
 
--- charges, one after the other
-pub use Rattle.raw_resync.proofs.Costing.{charges_none, charges_on, spent_more, unprobed_on, left_on}
+-- what is charged stays within its bound
+pub use Rattle.raw_resync.proofs.Costing.{keeps_same, keeps_on, keeps_before}
 -- passed places, one after the other
-pub use Rattle.raw_resync.proofs.Passing.{passes_none, passes_since}
-pub use Rattle.raw_resync.proofs.Joining.{charges_further, goes_further, left_further, passes_join}
--- whether a length is believed
-pub use Rattle.raw_resync.proofs.Believing.{passes_after, disbelieved, believed}
+pub use Rattle.raw_resync.proofs.Passing.{and_false, and_true, passes_none, passes_after}
+pub use Rattle.raw_resync.proofs.Joining.{found_further, passes_further}
+-- what searches show
+pub use Rattle.raw_resync.proofs.Believing.{believes_explained, doubts_disbelieved, found_goes_on, one_found, one_left, one_looked, passes_stop_all, sound_framed, walks_front}

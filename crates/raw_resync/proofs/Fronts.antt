@@ -5,10 +5,10 @@ use Rattle.std.proofs.Math.Seq.{take-append_seam, drop-append_seam}
 use Rattle.std.specs.Int.{w32, from_le_bytes}
 use Rattle.raw_tree.specs.declared.reader.limits.Limits.{Limits}
 use Rattle.raw_resync.specs.Pieces.{IsPiece, IsSoundLength, said_len}
-use Rattle.raw_resync.specs.Resync.{GoesOn, IsSound}
+use Rattle.raw_resync.specs.Searches.{IsBegun, IsLikely}
 use Rattle.raw_resync.specs.Seeking.{LacksPiece, LacksTag, MayFollow, TellsFront}
 use Rattle.raw_resync.specs.declared.check.Front.TheVariants as front
-use Rattle.raw_resync.proofs.Begun.{sound_begun}
+use Rattle.raw_view.specs.Frame.Kind.{tag_of}
 
 pub said_front : (x y : List ℕ) → 4 ≤ length x → said_len (x ++ y) ≡ said_len x
 said_front x y four = ap (from_le_bytes w32) (take-append-le 4 x y four)
@@ -70,21 +70,13 @@ same_behind_length t rest b more x r is enough split =
     head_same (drop 4 b) more x (r ++ rest) (omega (arith, left, enough))
     (sym (ap (λ l. l ++ rest) is) ∙ sym (drop-append-le 4 t rest (omega (arith, size, some))) ∙ ap (drop 4) split ∙ drop-append-le 4 b more (omega (arith, enough)))
 
--- no undamaged document is at the front of t if its length is more than there is, and no tag follows it
-no_tag : (limits : Limits) (t rest b more : List ℕ) → length t < said_len t → LacksTag t → IsSound limits b → ¬ (t ++ rest ≡ b ++ more)
-no_tag limits t rest b more longer (x, r, is, none) sound split =
-    let enough : 5 ≤ length b = sound.piece.sound.0 in
-    let size : length (drop 4 t) ≡ length t - 4 = length-drop 4 t in
-    let some : length (drop 4 t) ≡ suc (length r) = ap length is in
-    let said : said_len (t ++ rest) ≡ length b = front_said limits.bytes (t ++ rest) b more sound.piece split in
-    let same : said_len (t ++ rest) ≡ said_len t = said_front t rest (omega (arith, size, some)) in
-    let left : length (drop 4 b) ≡ length b - 4 = length-drop 4 b in
-    let (r', begins) = same_behind_length t rest b more x r is enough split in
-    let all : length (drop 4 b) ≡ suc (length r') = ap length begins in
-    elim (sound_begun limits b x r' begins sound) [
-      | inl end ↦ let nothing : length r' ≡ 0 = ap length end in absurd (omega (arith, size, some, said, same, left, all, nothing, longer))
-      | inr (kind, tag) ↦ none kind tag
-    ]
+-- no document that may count is at the front of t if no tag follows its length
+no_tag : (most : ℕ) (t rest b more : List ℕ) → LacksTag t → IsPiece most b → IsBegun b → ¬ (t ++ rest ≡ b ++ more)
+no_tag most t rest b more (x, r, is, none) piece (kind, other, begins) split =
+    let (r', same) = same_behind_length t rest b more x r is piece.sound.0 split in
+    let heads : x ∷ r' ≡ tag_of kind ∷ other = sym same ∙ begins in
+    let first : x ≡ tag_of kind = cc in
+    none kind first
 
 -- where no piece is at the front of t, t isn't empty
 pub lacking_some : (most : ℕ) (last : Bool) (t : List ℕ) → LacksPiece most last t → 0 < length t
@@ -95,18 +87,11 @@ lacking_some most last t (inr (four, which)) = omega arith
 pub left_behind : (place : ℕ) (bytes rest : List ℕ) → place ≤ length bytes → drop place (bytes ++ rest) ≡ drop place bytes ++ rest
 left_behind place bytes rest within = drop-append-le place bytes rest within
 
-not_nil : (t rest : List ℕ) → 0 < length t → ¬ (t ++ rest ≡ [])
-not_nil t rest some none =
-    let len : length t + length rest ≡ 0 = sym (length-append t rest) ∙ ap length none in
-    absurd (omega arith)
-
--- where there is no piece, documents don't continue
+-- where there is no piece, no document may count
 pub lacks_behind : (limits : Limits) (last : Bool) (place : ℕ) (bytes rest : List ℕ) → place ≤ length bytes → LacksPiece limits.bytes last (drop place bytes) → MayFollow last rest
-    → ¬ GoesOn limits (bytes ++ rest) place
-lacks_behind limits last place bytes rest within lacks may (inl none) =
-    not_nil (drop place bytes) rest (lacking_some limits.bytes last (drop place bytes) lacks) (sym (left_behind place bytes rest within) ∙ none)
-lacks_behind limits last place bytes rest within lacks may (inr e) =
-    no_piece limits.bytes last (drop place bytes) rest e.b e.rest lacks may e.sound.piece (sym (left_behind place bytes rest within) ∙ e.split)
+    → ¬ IsLikely limits (bytes ++ rest) place
+lacks_behind limits last place bytes rest within lacks may p =
+    no_piece limits.bytes last (drop place bytes) rest p.b p.rest lacks may p.piece (sym (left_behind place bytes rest within) ∙ p.split)
 
 -- there are bytes where no piece is found
 pub told_some : (most : ℕ) (bytes : List ℕ) (last : Bool) (place : ℕ) → place ≤ length bytes → TellsFront most bytes last place front.NoPiece → place < length bytes
@@ -122,14 +107,10 @@ told_some most bytes last place within (inr (longer, (x, r, is, none))) =
 
 -- nor where none is found
 pub none_behind : (limits : Limits) (last : Bool) (place : ℕ) (bytes rest : List ℕ) → place ≤ length bytes → TellsFront limits.bytes bytes last place front.NoPiece
-    → MayFollow last rest → ¬ GoesOn limits (bytes ++ rest) place
+    → MayFollow last rest → ¬ IsLikely limits (bytes ++ rest) place
 none_behind limits last place bytes rest within (inl lacks) may there = lacks_behind limits last place bytes rest within lacks may there
-none_behind limits last place bytes rest within (inr (longer, (x, r, is, none))) may (inl nil) =
-    let more : place < length bytes = told_some limits.bytes bytes last place within (inr (longer, (x, r, is, none))) in
-    let size : length (drop place bytes) ≡ length bytes - place = length-drop place bytes in
-    not_nil (drop place bytes) rest (omega (arith, size, more)) (sym (left_behind place bytes rest within) ∙ nil)
-none_behind limits last place bytes rest within (inr (longer, lacks)) may (inr e) =
-    no_tag limits (drop place bytes) rest e.b e.rest longer lacks e.sound (sym (left_behind place bytes rest within) ∙ e.split)
+none_behind limits last place bytes rest within (inr (longer, lacks)) may p =
+    no_tag limits.bytes (drop place bytes) rest p.b p.rest lacks p.piece p.begun (sym (left_behind place bytes rest within) ∙ p.split)
 
 -- the piece at the front of the rest, and what follows it
 pub split_front : (place len : ℕ) (bytes rest : List ℕ) → place + len ≤ length bytes

@@ -1,18 +1,12 @@
 -- Passed places in all of the rest, from those in parts of it.
-use Rattle.std.proofs.Common.{◌≡◌, ℕ, ◌+◌, ◌-◌, ◌<◌, ◌≤◌, ◌⊎◌, List, [], ◌∷◌, ◌++◌, Bool, true, false, ◌&&◌, arith, length, take, drop, sym, ap, ◌∙◌, subst, refl, inl, inr, append_assoc, length-append, length-drop, length-take-le}
-use Rattle.std.proofs.lemmas.List.{drop-append-le, drop-drop, take-append-drop}
-use Rattle.std.proofs.lemmas.Bool.{cases_lt}
+use Rattle.std.proofs.Common.{◌≡◌, ℕ, suc, ◌+◌, ◌-◌, ◌<◌, ◌≤◌, ◌⊎◌, List, [], ◌∷◌, ◌++◌, Bool, true, false, arith, length, take, drop, sym, ap, ◌∙◌, subst, refl, inl, inr, append_assoc, length-append, length-drop, length-take-le}
+use Rattle.std.proofs.lemmas.List.{drop-append-le, drop-drop}
 use Rattle.std.proofs.Math.Seq.{drop-append_seam, take-add}
 use Rattle.raw_tree.specs.declared.reader.limits.Limits.{Limits}
-use Rattle.raw_resync.specs.Resync.{EndsInKey, GoesOn}
-use Rattle.raw_resync.specs.Charge.{Charges, IsLeftOut, IsUnprobed}
-use Rattle.raw_resync.specs.Seeking.{PassesOver}
+use Rattle.raw_resync.specs.Charge.{HasRoom, IsProbed, charged}
+use Rattle.raw_resync.specs.Resync.{EndsInKey}
+use Rattle.raw_resync.specs.Searches.{IsFoundAt, IsLeftOut, IsLikely, IsPassedAt, LooksInto, PassesOver}
 use Rattle.raw_resync.specs.declared.work.Work.{Work}
-use Rattle.raw_resync.proofs.Costing.{charges_behind}
-
--- a place that is left out, counted from n bytes before
-pub left_further : (limits : Limits) (total n j : ℕ) (s : List ℕ) (w : Work) → IsLeftOut limits total (drop n s) w j → IsLeftOut limits total s w (n + j)
-left_further limits total n j s w left = subst (λ t. IsUnprobed limits total t w) (drop-drop j n s) left
 
 -- bytes that end in a key, after others
 key_further : (a t : List ℕ) → EndsInKey t → EndsInKey (a ++ t)
@@ -21,7 +15,7 @@ key_further a t e = record {
   tag = e.tag;
   key = e.key;
   spelled = ap (λ l. a ++ l) e.spelled ∙ sym (append_assoc a e.front (e.tag ∷ (e.key ++ 0 ∷ [])));
-  level = e.level;
+  before = e.before;
   some = e.some;
   few = e.few;
   text = e.text;
@@ -40,91 +34,116 @@ key_nearer a t enough e =
       tag = e.tag;
       key = e.key;
       spelled = sym (drop-append_seam a t) ∙ ap (drop (length a)) e.spelled ∙ drop-append-le (length a) e.front last inside;
-      level = e.level;
+      before = e.before;
       some = e.some;
       few = e.few;
       text = e.text;
       plain = e.plain;
     }
 
--- documents continue there after fewer bytes, too
-goes_shorter : (limits : Limits) (n j : ℕ) (s : List ℕ) → GoesOn limits s (n + j) → GoesOn limits (drop n s) j
-goes_shorter limits n j s (inl none) = inl (drop-drop j n s ∙ none)
-goes_shorter limits n j s (inr e) =
-    inr (
-    record {
-      b = e.b;
-      rest = e.rest;
-      split = drop-drop j n s ∙ e.split;
-      sound = e.sound;
-      long = e.long;
-      alone = λ key. e.alone (subst EndsInKey (sym (take-add n j s)) (key_further (take n s) (take j (drop n s)) key));
-    }
-    )
-
-not_further : (limits : Limits) (n j : ℕ) (s : List ℕ) → ¬ GoesOn limits (drop n s) j → ¬ GoesOn limits s (n + j)
-not_further limits n j s not goes = not (goes_shorter limits n j s goes)
+-- a document that may count does after fewer bytes, too
+likely_nearer : (limits : Limits) (n place : ℕ) (s : List ℕ) → IsLikely limits s (n + place) → IsLikely limits (drop n s) place
+likely_nearer limits n place s p = record {
+  b = p.b;
+  rest = p.rest;
+  split = drop-drop place n s ∙ p.split;
+  piece = p.piece;
+  long = p.long;
+  envelope = p.envelope;
+  begun = p.begun;
+  alone = λ key. p.alone (subst EndsInKey (sym (take-add n place s)) (key_further (take n s) (take place (drop n s)) key));
+}
 
 -- and after more, where the bytes before the place have room for a key
-pub goes_further : (limits : Limits) (n j : ℕ) (s : List ℕ) → (n ≡ 0) ⊎ (66 ≤ j) → GoesOn limits (drop n s) j → GoesOn limits s (n + j)
-goes_further limits n j s (inl none) goes =
-    let same : j ≡ 0 + j = omega arith in
-    subst (λ m. GoesOn limits (drop m s) j → GoesOn limits s (m + j)) (sym none) (λ on. subst (GoesOn limits s) same on) goes
-goes_further limits n j s (inr far) (inl none) = inl (sym (drop-drop j n s) ∙ none)
-goes_further limits n j s (inr far) (inr e) =
-    let some : 8 < length e.b = e.long in
-    let len : length (drop j (drop n s)) ≡ length e.b + length e.rest = ap length e.split ∙ length-append e.b e.rest in
-    let left : length (drop j (drop n s)) ≡ length (drop n s) - j = length-drop j (drop n s) in
-    let size : length (take j (drop n s)) ≡ j = length-take-le j (drop n s) (omega (arith, some, len, left)) in
-    inr (
-    record {
-      b = e.b;
-      rest = e.rest;
-      split = sym (drop-drop j n s) ∙ e.split;
-      sound = e.sound;
-      long = e.long;
-      alone = λ key. e.alone (key_nearer (take n s) (take j (drop n s)) (omega (arith, size, far)) (subst EndsInKey (take-add n j s) key));
-    }
-    )
+alone_further : (limits : Limits) (n place : ℕ) (s : List ℕ) → (n ≡ 0) ⊎ (66 ≤ place) → (p : IsLikely limits (drop n s) place) → ¬ EndsInKey (take (n + place) s)
+alone_further limits n place s (inl none) p key =
+    let same : n + place ≡ place = omega (arith, none) in
+    p.alone (subst (λ m. EndsInKey (take place (drop m s))) (sym none) (subst (λ m. EndsInKey (take m s)) same key))
+alone_further limits n place s (inr far) p key =
+    let len : length (drop place (drop n s)) ≡ length p.b + length p.rest = ap length p.split ∙ length-append p.b p.rest in
+    let left : length (drop place (drop n s)) ≡ length (drop n s) - place = length-drop place (drop n s) in
+    let size : length (take place (drop n s)) ≡ place = length-take-le place (drop n s) (omega (arith, p.long, len, left)) in
+    p.alone (key_nearer (take n s) (take place (drop n s)) (omega (arith, size, far)) (subst EndsInKey (take-add n place s) key))
 
--- the charge after n bytes
-pub charges_further : (limits : Limits) (n : ℕ) (s : List ℕ) (old new : Work) → Charges limits (drop n s) old new → Charges limits s old new
-charges_further limits n s old new p = subst (λ t. Charges limits t old new) (take-append-drop n s) (charges_behind limits (take n s) (drop n s) old new p)
+likely_further : (limits : Limits) (n place : ℕ) (s : List ℕ) → (n ≡ 0) ⊎ (66 ≤ place) → IsLikely limits (drop n s) place → IsLikely limits s (n + place)
+likely_further limits n place s back p = record {
+  b = p.b;
+  rest = p.rest;
+  split = sym (drop-drop place n s) ∙ p.split;
+  piece = p.piece;
+  long = p.long;
+  envelope = p.envelope;
+  begun = p.begun;
+  alone = alone_further limits n place s back p;
+}
 
-pub both_true : (a b : Bool) → (a && b) ≡ true → (a ≡ true) × (b ≡ true)
-both_true true b is = (refl, is)
-both_true false b is = let impossible : ⊥ = cc in absurd impossible
+end_further : (at n place len : ℕ) → (at + n) + (place + len) ≡ at + ((n + place) + len)
+end_further at n place len = omega arith
 
-pub one_false : (a b : Bool) → (a && b) ≡ false → (a ≡ false) ⊎ (b ≡ false)
-one_false true b is = inr is
-one_false false b is = inl refl
+-- what is known of a place, counted from n bytes before
+module _ (limits : Limits) (s : List ℕ) (at n place : ℕ) (back : (n ≡ 0) ⊎ (66 ≤ place)) where
+  left_further : (w : Work) → IsLeftOut limits (drop n s) (at + n) place w → IsLeftOut limits s at (n + place) w
+  unfolding likely_further
+  left_further w (p, none) = (likely_further limits n place s back p, subst (λ e. ¬ HasRoom w (length p.b) e) (end_further at n place (length p.b)) none)
 
-there : (n low j : ℕ) → n + low ≤ j → n + (j - n) ≡ j
-there n low j more = omega (arith, more)
+  left_nearer : (w : Work) → IsLeftOut limits s at (n + place) w → IsLeftOut limits (drop n s) (at + n) place w
+  unfolding likely_nearer
+  left_nearer w (p, none) = (likely_nearer limits n place s p, subst (λ e. ¬ HasRoom w (length p.b) e) (sym (end_further at n place (length p.b))) none)
 
--- passed places, and those after n bytes
-module _ {a b : Bool} (limits : Limits) (total from n low high : ℕ) (s : List ℕ) (w : Work) (start : from ≤ n + low) (more : low ≤ high) (p : PassesOver limits total s from (n + low) w a)
-    (q : PassesOver limits total (drop n s) low high w b) where
-  pub passes_join : PassesOver limits total s from (n + high) w (a && b)
-  passes_join = record {
-    each = λ j from' to'. elim (cases_lt j (n + low)) [
-      | inl before ↦ p.each j from' before
-      | inr behind ↦
-          elim (q.each (j - n) (omega (arith, behind)) (omega (arith, behind, to'))) [
-            | inl not ↦ inl (subst (λ k. ¬ GoesOn limits s k) (there n low j behind) (not_further limits n (j - n) s not))
-            | inr left ↦ inr (subst (IsLeftOut limits total s w) (there n low j behind) (left_further limits total n (j - n) s w left))
-          ]
-    ];
-    whole = λ is j from' to'.
-        let (first, second) = both_true a b is in
-        elim (cases_lt j (n + low)) [
-          | inl before ↦ p.whole first j from' before
-          | inr behind ↦
-              subst (λ k. ¬ GoesOn limits s k) (there n low j behind)
-              (not_further limits n (j - n) s (q.whole second (j - n) (omega (arith, behind)) (omega (arith, behind, to'))))
-        ];
-    some = λ not. elim (one_false a b not) [
-      | inl first ↦ let (j, from', to', left) = p.some first in (j, from', omega (arith, to', more), left)
-      | inr second ↦ let (j, from', to', left) = q.some second in (n + j, omega (arith, start, from'), omega (arith, to'), left_further limits total n j s w left)
-    ];
-  }
+  looks_further : (old new : Work) (is : Bool) → LooksInto limits (drop n s) (at + n) place old new is → LooksInto limits s at (n + place) old new is
+  unfolding likely_further
+  looks_further old new is (p, room, m, probed, same) = (
+    likely_further limits n place s back p,
+    subst (λ e. HasRoom old (length p.b) e) (end_further at n place (length p.b)) room,
+    m,
+    probed,
+    same ∙ ap (λ e. charged old m e) (end_further at n place (length p.b)),
+  )
+
+  pub found_further : (old new : Work) → IsFoundAt limits (drop n s) (at + n) place old new → IsFoundAt limits s at (n + place) old new
+  found_further old new (inl (none, same)) = inl (sym (drop-drop place n s) ∙ none, same)
+  found_further old new (inr looked) = inr (looks_further old new true looked)
+
+  passed_further : (old new : Work) → IsPassedAt limits (drop n s) (at + n) place old new → IsPassedAt limits s at (n + place) old new
+  passed_further old new (within, how) =
+      let size : length (drop n s) ≡ length s - n = length-drop n s in
+      let there : n + place < length s = omega (arith, size, within) in
+      elim how [
+        | inl (none, same) ↦ (there, inl (λ p. none (likely_nearer limits n place s p), same))
+        | inr (inl (left, same)) ↦ (there, inr (inl (left_further old left, same)))
+        | inr (inr looked) ↦ (there, inr (inr (looks_further old new false looked)))
+      ]
+
+back_on : (n from place : ℕ) → from ≤ place → (n ≡ 0) ⊎ (66 ≤ from) → (n ≡ 0) ⊎ (66 ≤ place)
+back_on n from place low (inl none) = inl none
+back_on n from place low (inr far) = inr (omega (arith, low, far))
+
+there : (n from place : ℕ) → n + from ≤ place → n + (place - n) ≡ place
+there n from place low = omega (arith, low)
+
+next : (n from place : ℕ) → n + from ≤ place → suc (place - n) ≡ suc place - n
+next n from place low = omega (arith, low)
+
+-- passed places, counted from n bytes before
+pub passes_further : {limits : Limits} {s : List ℕ} {at : ℕ} (n from to : ℕ) {old new : Work} {all : Bool} → (n ≡ 0) ⊎ (66 ≤ from)
+    → PassesOver limits (drop n s) (at + n) from to old new all → PassesOver limits s at (n + from) (n + to) old new all
+passes_further {limits} {s} {at} n from to {old} {new} back p = record {
+  work = λ place. p.work (place - n);
+  start = ap p.work (omega arith) ∙ p.start;
+  end = ap p.work (omega arith) ∙ p.end;
+  each = λ place low high.
+      let back' = back_on n from (place - n) (omega (arith, low)) back in
+      let here = passed_further limits s at n (place - n) back' (p.work (place - n)) (p.work (suc (place - n)))
+      (p.each (place - n) (omega (arith, low)) (omega (arith, low, high))) in
+      subst (λ m. IsPassedAt limits s at m (p.work (place - n)) (p.work (suc place - n))) (there n from place low)
+      (subst (λ i. IsPassedAt limits s at (n + (place - n)) (p.work (place - n)) (p.work i)) (next n from place low) here);
+  whole = λ is place low high left.
+      let back' = back_on n from (place - n) (omega (arith, low)) back in
+      p.whole is (place - n) (omega (arith, low)) (omega (arith, low, high))
+      (left_nearer limits s at n (place - n) back' (p.work (place - n)) (subst (λ m. IsLeftOut limits s at m (p.work (place - n))) (sym (there n from place low)) left));
+  some = λ not.
+      let (place, low, high, left) = p.some not in
+      let same : n + place - n ≡ place = omega arith in
+      let further = left_further limits s at n place (back_on n from place low back) (p.work place) left in
+      (n + place, omega (arith, low), omega (arith, high), subst (λ i. IsLeftOut limits s at (n + place) (p.work i)) (sym same) further);
+}

@@ -6,7 +6,7 @@ use Rattle.std.proofs.lemmas.List.Elements.{All-from_get_or, All-get_or}
 use Rattle.std.proofs.Math.Nat.{eq-or-lt_of_le}
 use Rattle.std.proofs.Math.Seq.{drop-append_seam, get_or-append_seam}
 use Rattle.std.specs.Str.{IsUtf8}
-use Rattle.raw_resync.specs.Resync.{EndsInKey}
+use Rattle.raw_resync.specs.Resync.{EndsInKey, IsBeforeLength}
 use Rattle.raw_resync.specs.Seeking.{IsKeyAfter}
 
 -- bytes that end in a key, without its 0
@@ -36,9 +36,10 @@ module _ (text : List ℕ) (e : EndsInKey (text ++ 0 ∷ [])) where
       omega (arith, len)
 
   tag_low : e.tag < 32
-  tag_low = elim e.level [
+  tag_low = elim e.before [
     | inl document ↦ omega (arith, document)
-    | inr array ↦ omega (arith, array)
+    | inr (inl array) ↦ omega (arith, array)
+    | inr (inr number) ↦ omega (arith, number)
   ]
 
   tag_here : get_or text (length e.front) 0 ≡ e.tag
@@ -84,7 +85,7 @@ module _ (text : List ℕ) (e : EndsInKey (text ++ 0 ∷ [])) where
       let tag : get_or text (start - 1) 0 ≡ e.tag = ap (λ n. get_or text n 0) (sym at) ∙ tag_here in
       let next : length e.front + 1 ≡ start = omega (arith, at, some) in
       let key : drop start text ≡ e.key = ap (λ n. drop n text) (sym next) ∙ key_here in (
-        subst (λ t. (t ≡ 3) ⊎ (t ≡ 4)) (sym tag) e.level,
+        subst IsBeforeLength (sym tag) e.before,
         subst (λ (l : List ℕ). 0 < length l) (sym key) e.some,
         subst IsUtf8 (sym key) e.text,
       )
@@ -98,7 +99,7 @@ module _ (text : List ℕ) (e : EndsInKey (text ++ 0 ∷ [])) where
 -- a tag and a key are there
 pub key_ends : (text : List ℕ) (start : ℕ) → 0 < start → start ≤ length text → length text - start ≤ 64 → IsPlainFrom text start → IsKeyAfter (get_or text (start - 1) 0) (drop start text)
     → EndsInKey (text ++ 0 ∷ [])
-key_ends text start some within few plain (level, any, utf8) =
+key_ends text start some within few plain (before, any, utf8) =
     let size : length (drop start text) ≡ length text - start = length-drop start text in
     let next : suc (start - 1) ≡ start = omega (arith, some) in
     let behind : drop (start - 1) text ≡ get_or text (start - 1) 0 ∷ drop start text =
@@ -110,7 +111,7 @@ key_ends text start some within few plain (level, any, utf8) =
       tag = get_or text (start - 1) 0;
       key = drop start text;
       spelled = ap (λ l. l ++ 0 ∷ []) whole ∙ append_assoc (take (start - 1) text) (get_or text (start - 1) 0 ∷ drop start text) (0 ∷ []);
-      level = level;
+      before = before;
       some = any;
       few = omega (arith, size, few);
       text = utf8;

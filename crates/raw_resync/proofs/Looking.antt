@@ -1,82 +1,67 @@
 -- What a look at a place finds.
-use Rattle.std.proofs.Common.{◌≡◌, ℕ, ◌+◌, ◌*◌, ◌-◌, ◌<◌, ◌≤◌, List, ◌++◌, Bool, true, false, Option, None, Some, Result, Ok, Err, IfOk, arith, length, take, drop, sym, ap, ◌∙◌, subst, inl, inr, length-append, length-drop}
+use Rattle.std.proofs.Common.{◌≡◌, ℕ, ◌+◌, ◌-◌, ◌<◌, ◌≤◌, List, [], ◌++◌, Bool, true, false, Option, None, Some, Result, Ok, Err, IfOk, arith, length, take, drop, sym, ap, ◌∙◌, subst, refl, inl, inr, length-append, length-drop}
 use Rattle.std.proofs.lemmas.List.{take-append-drop, take-append-le}
 use Rattle.raw_view.specs.Frame.Envelope.{IsEnvelope}
 use Rattle.raw_tree.specs.declared.reader.limits.Limits.{Limits}
 use Rattle.raw_resync.specs.Pieces.{IsPiece}
-use Rattle.raw_resync.specs.Resync.{EndsInKey, GoesOn, IsSound}
-use Rattle.raw_resync.specs.Charge.{IsUnprobed}
-use Rattle.raw_resync.specs.Seeking.{Checks, IsWork, ProbesPiece, ProbesOrLeaves, TellsFront, TellsPiece, check_of}
+use Rattle.raw_resync.specs.Resync.{EndsInKey}
+use Rattle.raw_resync.specs.Charge.{HasRoom, IsProbed, charged}
+use Rattle.raw_resync.specs.Searches.{IsBegun, IsLeftOut, IsLikely, LooksInto}
+use Rattle.raw_resync.specs.Seeking.{Checks, KeepsBound, ProbesOrLeaves, TellsFront, check_of}
 use Rattle.raw_resync.specs.declared.check.Check.TheVariants as check
 use Rattle.raw_resync.specs.declared.check.Front.TheVariants as front
 use Rattle.raw_resync.specs.declared.work.Work.{Work}
-use Rattle.raw_resync.proofs.Fronts.{front_len, left_behind, none_behind, same_front, some_bytes, split_front, told_some}
-use Rattle.raw_resync.proofs.Costing.{bounded_probed, charges_probed, works_none}
+use Rattle.raw_resync.proofs.Fronts.{front_len, left_behind, none_behind, same_front, split_front, told_some}
+use Rattle.raw_resync.proofs.Costing.{keeps_before, keeps_same}
 
 pub if_ok : {A E : Type 0} (P Q : A → Type 0) (r : Result A E) → ((x : A) → P x → Q x) → IfOk r P → IfOk r Q
 if_ok P Q (Ok x) on is = on x is
 if_ok P Q (Err e) on is = tt
 
--- how the rest is split by a piece at a place
-pub whole_split : (place len : ℕ) (bytes rest : List ℕ) → place + len ≤ length bytes
-    → bytes ++ rest ≡ take place (bytes ++ rest) ++ (take len (drop place bytes) ++ drop (place + len) (bytes ++ rest))
-whole_split place len bytes rest within = sym (take-append-drop place (bytes ++ rest)) ∙ ap (λ l. take place (bytes ++ rest) ++ l) (split_front place len bytes rest within)
+-- a place before the end of the bytes is before that of all that follows
+within_all : (bytes rest : List ℕ) (place : ℕ) → place < length bytes → place < length (bytes ++ rest)
+within_all bytes rest place within = let size : length (bytes ++ rest) ≡ length bytes + length rest = length-append bytes rest in omega (arith, within, size)
 
--- a piece without an envelope is probed
-pub probes_none : (limits : Limits) (bytes : List ℕ) (last : Bool) (at place len : ℕ) (w : Work) → ¬ IsEnvelope (take len (drop place bytes))
-    → ProbesPiece limits bytes last at place len w w (Some false)
-probes_none limits bytes last at place len w none = record { works = works_none limits bytes last at w; tells = λ sound. none sound.envelope }
-
-told_probed : (limits : Limits) (b : List ℕ) (end : ℕ) (old new : Work) (probed : Option Bool) → ProbesOrLeaves limits b end old new probed
-    → TellsPiece limits b end new probed
-told_probed limits b end old new None (same, few) = let spent : new.spent ≡ old.spent = ap (λ (w : Work). w.spent) same in omega (arith, few, spent)
-told_probed limits b end old new (Some true) (n, (sound, len), spent, reach) = sound
-told_probed limits b end old new (Some false) (n, (damaged, costs), spent, reach) = damaged
-
--- another is probed, or left out
-pub probes_piece : (limits : Limits) (bytes : List ℕ) {last : Bool} (at place len : ℕ) (old new : Work) (probed : Option Bool) → place + len ≤ length bytes
-    → IsPiece limits.bytes (take len (drop place bytes)) → IsWork new → ProbesOrLeaves limits (take len (drop place bytes)) (at + (place + len)) old new probed
-    → ProbesPiece limits bytes last at place len old new probed
-probes_piece limits bytes {last} at place len old new probed within is work probes = record {
-  works = record {
-    charges = λ rest may.
-        charges_probed limits (take place (bytes ++ rest)) (take len (drop place bytes)) (drop (place + len) (bytes ++ rest)) (bytes ++ rest) (at + (place + len))
-        old new probed (whole_split place len bytes rest within) is probes;
-    bounded = λ rest may bound.
-        let size : length (bytes ++ rest) ≡ length bytes + length rest = length-append bytes rest in
-        bounded_probed limits (at + length (bytes ++ rest)) (at + (place + len)) (take len (drop place bytes)) old new probed (omega (arith, within, size)) work probes bound;
-  };
-  tells = told_probed limits (take len (drop place bytes)) (at + (place + len)) old new probed probes;
+-- no document that may count begins at a place, and nothing is charged
+stops_at : (limits : Limits) (bytes : List ℕ) (last : Bool) (at place : ℕ) (w : Work) → place < length bytes
+    → ((rest : List ℕ) → (last ≡ true → rest ≡ []) → ¬ IsLikely limits (bytes ++ rest) place) → Checks limits bytes last at place w w check.Stops
+stops_at limits bytes last at place w within none = record {
+  bounded = keeps_same (at + length bytes) w;
+  here = within;
+  tells = λ rest may. ((within_all bytes rest place within, inl (none rest may, refl)), λ left. none rest may left.0);
 }
-
--- a piece of the whole rest that is left out
-pub unprobed : (limits : Limits) (bytes rest : List ℕ) (at place len : ℕ) (w : Work) → place + len ≤ length bytes → IsPiece limits.bytes (take len (drop place bytes))
-    → 8 * (at + (place + len)) ≤ w.spent + length (take len (drop place bytes)) → IsUnprobed limits (at + length (bytes ++ rest)) (drop place (bytes ++ rest)) w
-unprobed limits bytes rest at place len w within is few =
-    let all : length (bytes ++ rest) ≡ length bytes + length rest = length-append bytes rest in
-    let size : length (drop (place + len) (bytes ++ rest)) ≡ length (bytes ++ rest) - (place + len) = length-drop (place + len) (bytes ++ rest) in
-    (take len (drop place bytes), drop (place + len) (bytes ++ rest), at + (place + len), is, split_front place len bytes rest within, omega (arith, all, size, within), few)
 
 -- no piece is found at a place
 pub at_none : (limits : Limits) (bytes : List ℕ) (last : Bool) (at place : ℕ) (w : Work) → place ≤ length bytes → TellsFront limits.bytes bytes last place front.NoPiece
     → Checks limits bytes last at place w w check.Stops
-at_none limits bytes last at place w within lacks = record {
-  works = works_none limits bytes last at w;
-  tells = λ rest may. (told_some limits.bytes bytes last place within lacks, none_behind limits last place bytes rest within lacks may);
-}
+at_none limits bytes last at place w within lacks =
+    stops_at limits bytes last at place w (told_some limits.bytes bytes last place within lacks) (λ rest may. none_behind limits last place bytes rest within lacks may)
 
 -- the input ends at a place
 pub at_end : (limits : Limits) (bytes : List ℕ) (last : Bool) (at place : ℕ) (w : Work) → place ≤ length bytes → TellsFront limits.bytes bytes last place front.End
     → Checks limits bytes last at place w w check.GoesOn
 at_end limits bytes last at place w within (is, none) = record {
-  works = works_none limits bytes last at w;
-  tells = λ rest may. inl (left_behind place bytes rest within ∙ ap (λ l. l ++ rest) none ∙ may is);
+  bounded = keeps_same (at + length bytes) w;
+  here = tt;
+  tells = λ rest may. inl (left_behind place bytes rest within ∙ ap (λ l. l ++ rest) none ∙ may is, refl);
 }
+
+-- more bytes are needed
+pub at_more : (limits : Limits) (bytes : List ℕ) (last : Bool) (at place n : ℕ) (w : Work) → TellsFront limits.bytes bytes last place (front.Wants n)
+    → Checks limits bytes last at place w w (check.Wants n)
+at_more limits bytes last at place n w wants = record { bounded = keeps_same (at + length bytes) w; here = wants; tells = λ rest may. refl }
 
 -- a piece of `len` bytes is at `place` of these bytes
 pub record IsPieceIn (limits : Limits) (bytes : List ℕ) (place len : ℕ) : Type 0 where
   pub within : place + len ≤ length bytes
   pub is : IsPiece limits.bytes (take len (drop place bytes))
+
+-- and may be a document that counts
+pub record MayCount (bytes : List ℕ) (place len : ℕ) : Type 0 where
+  pub long : 8 < len
+  pub envelope : IsEnvelope (take len (drop place bytes))
+  pub begun : IsBegun (take len (drop place bytes))
+  pub alone : ¬ EndsInKey (take place bytes)
 
 module _ {limits : Limits} {bytes : List ℕ} {place len : ℕ} (p : IsPieceIn limits bytes place len) where
   size : length (take len (drop place bytes)) ≡ len
@@ -89,54 +74,74 @@ module _ {limits : Limits} {bytes : List ℕ} {place len : ℕ} (p : IsPieceIn l
   before : (rest : List ℕ) → take place (bytes ++ rest) ≡ take place bytes
   before rest = take-append-le place bytes rest (omega (arith, p.within))
 
-  -- documents continue only with a piece that counts
-  only : (rest : List ℕ) → GoesOn limits (bytes ++ rest) place → IsSound limits (take len (drop place bytes)) × (8 < len) × ¬ EndsInKey (take place bytes)
-  only rest (inl none) =
-      let split = split_front place len bytes rest p.within in
-      let any : 0 < length (drop place (bytes ++ rest)) =
-      some_bytes limits.bytes (drop place (bytes ++ rest)) (take len (drop place bytes)) (drop (place + len) (bytes ++ rest)) p.is split in
-      let nothing : length (drop place (bytes ++ rest)) ≡ 0 = ap length none in
-      absurd (omega (arith, any, nothing))
-  only rest (inr e) =
-      let same : take len (drop place bytes) ≡ e.b =
-      (same_front limits.bytes (drop place (bytes ++ rest)) (take len (drop place bytes)) (drop (place + len) (bytes ++ rest)) e.b e.rest p.is
-      (split_front place len bytes rest p.within) e.sound.piece e.split).0 in
-      let long : len ≡ length e.b = sym size ∙ ap length same in
-      (subst (IsSound limits) (sym same) e.sound, omega (arith, long, e.long), subst (λ l. ¬ EndsInKey l) (before rest) e.alone)
+  -- it is the only piece there
+  only : (rest : List ℕ) (q : IsLikely limits (bytes ++ rest) place) → q.b ≡ take len (drop place bytes)
+  only rest q =
+      sym
+      ((same_front limits.bytes (drop place (bytes ++ rest)) (take len (drop place bytes)) (drop (place + len) (bytes ++ rest)) q.b q.rest p.is
+      (split_front place len bytes rest p.within) q.piece q.split).0)
 
-  goes : (rest : List ℕ) → 8 < len → ¬ EndsInKey (take place bytes) → IsSound limits (take len (drop place bytes)) → GoesOn limits (bytes ++ rest) place
-  goes rest long alone sound =
-      inr (
+  only_counts : (rest : List ℕ) → IsLikely limits (bytes ++ rest) place → MayCount bytes place len
+  only_counts rest q =
+      let same = only rest q in
       record {
-        b = take len (drop place bytes);
-        rest = drop (place + len) (bytes ++ rest);
-        split = split_front place len bytes rest p.within;
-        sound = sound;
-        long = omega (arith, long, size);
-        alone = subst (λ l. ¬ EndsInKey l) (sym (before rest)) alone;
+        long = subst (λ n. 8 < n) (ap length same ∙ size) q.long;
+        envelope = subst IsEnvelope same q.envelope;
+        begun = subst IsBegun same q.begun;
+        alone = subst (λ l. ¬ EndsInKey l) (before rest) q.alone;
       }
-      )
+
+  likely : (rest : List ℕ) → MayCount bytes place len → IsLikely limits (bytes ++ rest) place
+  likely rest c = record {
+    b = take len (drop place bytes);
+    rest = drop (place + len) (bytes ++ rest);
+    split = split_front place len bytes rest p.within;
+    piece = p.is;
+    long = subst (λ n. 8 < n) (sym size) c.long;
+    envelope = c.envelope;
+    begun = c.begun;
+    alone = subst (λ l. ¬ EndsInKey l) (sym (before rest)) c.alone;
+  }
 
 module _ {limits : Limits} {bytes : List ℕ} {place len : ℕ} (p : IsPieceIn limits bytes place len) (last : Bool) (at : ℕ) where
-  -- it isn't sound
-  pub no_sound : (w : Work) → ¬ IsSound limits (take len (drop place bytes)) → Checks limits bytes last at place w w check.Stops
-  no_sound w damaged = record { works = works_none limits bytes last at w; tells = λ rest may. (some p, λ there. damaged ((only p rest there).0)) }
+  -- it can't count
+  pub cannot_count : (w : Work) → ¬ MayCount bytes place len → Checks limits bytes last at place w w check.Stops
+  cannot_count w none = stops_at limits bytes last at place w (some p) (λ rest may q. none (only_counts p rest q))
 
-  -- it has no envelope
-  pub no_envelope : (w : Work) → ¬ IsEnvelope (take len (drop place bytes)) → Checks limits bytes last at place w w check.Stops
-  no_envelope w none = no_sound w (λ sound. none sound.envelope)
+  module _ (c : MayCount bytes place len) (old new : Work) (bound : KeepsBound (at + (place + len)) old new) where
+    bounded : KeepsBound (at + length bytes) old new
+    bounded = keeps_before (at + (place + len)) (at + length bytes) old new (omega (arith, p.within)) bound
 
-  -- it is small
-  pub too_small : (w : Work) → len ≤ 8 → Checks limits bytes last at place w w check.Stops
-  too_small w few = record { works = works_none limits bytes last at w; tells = λ rest may. (some p, λ there. let (sound, long, alone) = only p rest there in omega (arith, few, long)) }
+    end_of : at + (place + len) ≡ at + (place + length (take len (drop place bytes)))
+    end_of = ap (λ n. at + (place + n)) (sym (size p))
 
-  -- a key is before it
-  pub behind_key : (w : Work) → EndsInKey (take place bytes) → Checks limits bytes last at place w w check.Stops
-  behind_key w key = record { works = works_none limits bytes last at w; tells = λ rest may. (some p, λ there. let (sound, long, alone) = only p rest there in alone key) }
+    looks : (is : Bool) (rest : List ℕ) → ProbesOrLeaves limits (take len (drop place bytes)) (at + (place + len)) old new (Some is) → LooksInto limits (bytes ++ rest) at place old new is
+    unfolding likely
+    looks is rest probes =
+        let (room, n, probed, same) = subst (λ e. ProbesOrLeaves limits (take len (drop place bytes)) e old new (Some is)) end_of probes in
+        (likely p rest c, room, n, probed, same)
 
-  -- it is probed
-  pub is_probed : (old new : Work) (probed : Option Bool) → 8 < len → ¬ EndsInKey (take place bytes) → ProbesPiece limits bytes last at place len old new probed
-      → Checks limits bytes last at place old new (check_of probed)
-  is_probed old new None long alone q = record { works = q.works; tells = λ rest may. (some p, unprobed limits bytes rest at place len new p.within p.is q.tells) }
-  is_probed old new (Some true) long alone q = record { works = q.works; tells = λ rest may. goes p rest long alone q.tells }
-  is_probed old new (Some false) long alone q = record { works = q.works; tells = λ rest may. (some p, λ there. q.tells ((only p rest there).0)) }
+    -- it isn't left out where there is enough for it
+    has_room : (rest : List ℕ) → HasRoom old (length (take len (drop place bytes))) (at + (place + length (take len (drop place bytes)))) → ¬ IsLeftOut limits (bytes ++ rest) at place old
+    has_room rest room (q, none) = none (subst (λ b. HasRoom old (length b) (at + (place + length b))) (sym (only p rest q)) room)
+
+    -- it is probed
+    pub is_probed : (probed : Option Bool) → ProbesOrLeaves limits (take len (drop place bytes)) (at + (place + len)) old new probed
+        → Checks limits bytes last at place old new (check_of probed)
+    unfolding likely
+    is_probed None probes = record {
+      bounded = bounded;
+      here = some p;
+      tells = λ rest may.
+          let (none, same) = subst (λ e. ProbesOrLeaves limits (take len (drop place bytes)) e old new None) end_of probes in
+          let left : IsLeftOut limits (bytes ++ rest) at place old = (likely p rest c, none) in
+          ((within_all bytes rest place (some p), inr (inl (left, same))), left);
+    }
+    is_probed (Some true) probes = record { bounded = bounded; here = tt; tells = λ rest may. inr (looks true rest probes) }
+    is_probed (Some false) probes = record {
+      bounded = bounded;
+      here = some p;
+      tells = λ rest may.
+          let (room, n, probed, same) = subst (λ e. ProbesOrLeaves limits (take len (drop place bytes)) e old new (Some false)) end_of probes in
+          ((within_all bytes rest place (some p), inr (inr (looks false rest probes))), has_room rest room);
+    }

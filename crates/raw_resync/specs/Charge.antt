@@ -1,7 +1,6 @@
--- The charge for finding out whether a piece of an input is an undamaged document, by the walk of its elements, and whether its elements
--- follow one another up to its end.
-use Rattle.std.specs.Prelude.{◌≡◌, ◌≢◌, ◌⊎◌, ◌≤◌, ◌+◌, ◌*◌, ℕ, List, ◌++◌, drop, fold, length, min, Some}
-use Rattle.std.specs.List.{All}
+-- What it costs to find out whether a piece of an input is an undamaged document, by the walk of its elements, and whether its elements
+-- follow one another up to its end; and how much there is for it.
+use Rattle.std.specs.Prelude.{◌≡◌, ◌≢◌, ◌⊎◌, ◌≤◌, ◌<◌, ◌+◌, ◌*◌, ℕ, List, Bool, true, false, drop, length, max, min, Some}
 use Rattle.bson_model.specs.Bytes.{NulFree}
 use Rattle.raw_view.specs.Frame.Envelope.{IsEnvelope}
 use Rattle.raw_view.specs.Frame.Format.{c_string}
@@ -11,7 +10,7 @@ use Rattle.raw_view.specs.declared.element_type.ElementType.TheVariants as kind
 use Rattle.raw_tree.specs.WithinLimits.{Barrier, IsFaultWith}
 use Rattle.raw_tree.specs.declared.reader.limits.Limits.{Limits}
 use Rattle.raw_tree.specs.Places.{FirstBarrierAt, Step, last_key}
-use Rattle.raw_resync.specs.Pieces.{IsPiece, said_len}
+use Rattle.raw_resync.specs.Pieces.{said_len}
 use Rattle.raw_resync.specs.Resync.{IsSound}
 use Rattle.raw_resync.specs.declared.work.Work.{Work}
 
@@ -57,35 +56,27 @@ abbrev pub ChargesFault : Limits → List ℕ → ℕ → Type 0
 ChargesFault limits b n =
     (x : Barrier) × (path : List Step) × (offset : ℕ) × (m : ℕ) × FirstBarrierAt limits b x path offset × LooksAt x path (drop offset b) m × (n ≡ offset + m)
 
--- the charge for a piece b: all its bytes if it is undamaged; nothing if it has no envelope; otherwise the bytes up to its first fault
-abbrev pub Costs : Limits → List ℕ → ℕ → Type 0
-Costs limits b n = (IsSound limits b × (n ≡ length b)) ⊎ ((¬ IsEnvelope b) × (n ≡ 0)) ⊎ (IsEnvelope b × (¬ IsSound limits b) × ChargesFault limits b n)
+-- whether b, which has an envelope, is an undamaged document, and the charge for finding out: all its bytes if it is; otherwise those up to
+-- its first fault
+abbrev pub IsProbed : Limits → List ℕ → Bool → ℕ → Type 0
+IsProbed limits b true n = IsSound limits b × (n ≡ length b)
+IsProbed limits b false n = (¬ IsSound limits b) × ChargesFault limits b n
 
--- the charge for looking how far the elements of b follow one another: the bytes up to the first place where none is
+-- the charge for looking how far the elements of b follow one another: nothing if b has no envelope; otherwise the bytes up to the first
+-- place where none is
 abbrev pub IsWalked : List ℕ → ℕ → Type 0
-IsWalked b n = (fs : List Frame) × LeadsTo (drop 4 b) fs (drop n b) × HasNoFrame (drop n b) × (n ≤ length b)
+IsWalked b n =
+    ((¬ IsEnvelope b) × (n ≡ 0)) ⊎ (IsEnvelope b × (fs : List Frame) × LeadsTo (drop 4 b) fs (drop n b) × HasNoFrame (drop n b) × (n ≤ length b))
 
--- a piece somewhere in s has this charge
-abbrev pub IsCostIn : Limits → List ℕ → ℕ → Type 0
-IsCostIn limits s n =
-    (front : List ℕ) × (b : List ℕ) × (rest : List ℕ) × (s ≡ front ++ (b ++ rest)) × IsPiece limits.bytes b × (Costs limits b n ⊎ IsWalked b n)
+-- there is enough for a look at `len` bytes that end at this offset of an input: with them fewer than eight times the bytes before the
+-- furthest end of a look are charged
+abbrev pub HasRoom : Work → (len end : ℕ) → Type 0
+HasRoom work len end = work.spent + len < 8 * max work.reach end
 
--- The charge for searches in s, the rest of an input: the sum of the charges for pieces of it.
-pub record Charges (limits : Limits) (s : List ℕ) (old new : Work) : Type 0 where
-  pub costs : List ℕ
-  pub each : All (IsCostIn limits s) costs
-  pub spent : new.spent ≡ fold (λ total cost. total + cost) old.spent costs
+-- after a look that ends at this offset of the input, and for which n bytes are charged
+abbrev pub charged : Work → (n end : ℕ) → Work
+charged work n end = record { spent = work.spent + n; reach = max work.reach end }
 
--- the charge is at most eight times the number of bytes before the furthest end of a piece, in an input of `total` bytes
+-- at most eight times the bytes before the furthest end of a look are charged, in an input of `total` bytes
 abbrev pub IsBounded : (total : ℕ) → Work → Type 0
 IsBounded total work = (work.spent ≤ 8 * work.reach) × (work.reach ≤ total)
-
--- The piece at the front of t was left out, where t is the end of an input of `total` bytes. With it, the charge could be more than eight
--- times the number of bytes before its end.
-abbrev pub IsUnprobed : Limits → (total : ℕ) → List ℕ → Work → Type 0
-IsUnprobed limits total t work =
-    (b : List ℕ) × (rest : List ℕ) × (end : ℕ) × IsPiece limits.bytes b × (t ≡ b ++ rest) × (end + length rest ≡ total) × (8 * end ≤ work.spent + length b)
-
--- the piece j bytes after the front of s was left out
-abbrev pub IsLeftOut : Limits → (total : ℕ) → List ℕ → Work → ℕ → Type 0
-IsLeftOut limits total s work j = IsUnprobed limits total (drop j s) work

@@ -1,4 +1,5 @@
 pub mod Pieces
 pub mod Resync
 pub mod Charge
+pub mod Searches
 pub mod Seeking

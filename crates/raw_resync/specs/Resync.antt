@@ -20,14 +20,18 @@ pub record IsSound (limits : Limits) (b : List ℕ) : Type 0 where
   pub tree : Tree
   pub reads : ReadsWithin limits b tree
 
--- s ends as bytes do before a nested document: with the tag of a document or an array, a key, and the 0 after it. The key is UTF-8 of 1 to
--- 64 bytes and has no control character.
+-- the payload of an element with this tag begins with a length, or with what may look like one
+abbrev pub IsBeforeLength : (tag : ℕ) → Type 0
+IsBeforeLength tag = (tag ≡ tag_of kind.EmbeddedDocument) ⊎ (tag ≡ tag_of kind.Array) ⊎ (tag ≡ tag_of kind.Int32)
+
+-- s ends as bytes do before the length of a nested document, or before a number that only looks like the length of what follows: with the
+-- tag of a document, an array or an int32, a key, and the 0 after it. The key is UTF-8 of 1 to 64 bytes and has no control character.
 pub record EndsInKey (s : List ℕ) : Type 0 where
   pub front : List ℕ
   pub tag : ℕ
   pub key : List ℕ
   pub spelled : s ≡ front ++ tagged tag key []
-  pub level : (tag ≡ tag_of kind.EmbeddedDocument) ⊎ (tag ≡ tag_of kind.Array)
+  pub before : IsBeforeLength tag
   pub some : 0 < length key
   pub few : length key ≤ 64
   pub text : IsUtf8 key
@@ -52,6 +56,6 @@ abbrev pub IsFramed : List ℕ → Type 0
 IsFramed b = IsEnvelope b × ((fs : List Frame) × IsWalk (drop 4 b) fs Done)
 
 -- The length of a damaged document at the front of s isn't believed: its elements don't follow one another up to the end of that length,
--- and documents continue at a place inside.
+-- and documents continue at a place inside, or don't continue at the front of what follows it.
 abbrev pub IsDisbelieved : Limits → List ℕ → (len : ℕ) → Type 0
-IsDisbelieved limits s len = (¬ IsFramed (take len s)) × ((j : ℕ) × (0 < j) × (j < len) × GoesOn limits s j)
+IsDisbelieved limits s len = (¬ IsFramed (take len s)) × (((j : ℕ) × (0 < j) × (j < len) × GoesOn limits s j) ⊎ ¬ GoesOn limits (drop len s) 0)

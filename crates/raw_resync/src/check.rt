@@ -1,12 +1,11 @@
 //! Whether documents continue at a place.
 #![tactic(auto)]
 
-ghost use Rattle.std.specs.Prelude.{◌≡◌, ◌≤◌, ◌<◌, ◌+◌, IfOk, drop, false, length, take, true};
-ghost use Rattle.raw_tree.specs.declared.reader.limits.Limits.{Limits};
+ghost use Rattle.std.specs.Prelude.{◌≡◌, ◌≤◌, ◌<◌, ◌+◌, IfOk, MatchBool, drop, false, length, take, true};
 ghost use Rattle.raw_view.specs.Frame.Envelope.{IsEnvelope};
 ghost use Rattle.raw_resync.specs.Pieces.{IsPiece};
-ghost use Rattle.raw_resync.specs.Resync.{IsSound};
-ghost use Rattle.raw_resync.specs.Seeking.{Checks, IsWork, ProbesPiece, LacksTag, TellsFront, check_of};
+ghost use Rattle.raw_resync.specs.Searches.{IsBegun};
+ghost use Rattle.raw_resync.specs.Seeking.{Checks, IsWork, LacksTag, TellsFront, check_of};
 
 use crate::key::ends_in_key;
 use crate::probe::probe;
@@ -134,7 +133,7 @@ fn check_piece(
     ensures checked { IfOk result (Checks part.entry.limits part.entry.bytes.now part.entry.is_last part.entry.at place work.old work.new) }
 {
     let piece = &part.bytes[place..place + len];
-    if !may_be_sound(piece) {
+    if !begins_with_tag(piece) {
         return Ok(Check::Stops);
     }
     if !ends_with_zero(piece) {
@@ -143,19 +142,23 @@ fn check_piece(
     if ends_in_key(part.bytes.split_at(place).0) {
         return Ok(Check::Stops);
     }
-    Ok(told(probe_piece(alloc, part, place, len, work)?))
+    let Ok(document) = RawDocument::from_bytes(piece) else {
+        return Ok(Check::Stops);
+    };
+    let end = part.at as u128 + (place + len) as u128;
+    Ok(told(probe(alloc, part.limits, document, end, work)?))
 }
 
-/// Whether the length is followed by a single byte, or by a tag. The first bytes of a piece are looked at before
-/// its last one, which may be far away.
+/// Whether a tag follows the length. The first bytes of a piece are looked at before its last one, which may be far
+/// away.
 #[inline(always)]
-fn may_be_sound(piece: &[u8]) -> bool
+fn begins_with_tag(piece: &[u8]) -> bool
     requires { 4 ≤ length piece.now }
-    ensures { (limits : Limits) → result ≡ false → ¬ IsSound limits piece.now }
+    ensures { MatchBool result (IsBegun piece.now) (¬ IsBegun piece.now) }
 {
     match piece.split_at(4).1.split_first() {
-        Some((byte, rest)) => rest.is_empty() || ElementType::from(*byte).is_some(),
-        None => true,
+        Some((byte, _)) => ElementType::from(*byte).is_some(),
+        None => false,
     }
 }
 
@@ -180,23 +183,4 @@ fn told(probed: Option<bool>) -> Check
         Some(false) => Check::Stops,
         None => Check::LeftOut,
     }
-}
-
-/// Whether the piece of `len` bytes at `place` is an undamaged document; `None` if it could cost too much to know.
-pub(crate) fn probe_piece(
-    alloc: Global,
-    part: Part<'_>,
-    place: usize,
-    len: usize,
-    work: &mut Work,
-) -> Result<Option<bool>, AllocError>
-    requires { IsWork work.old × (place + len ≤ length part.bytes.now) × IsPiece part.limits.bytes (take len (drop place part.bytes.now)) }
-    ensures work { IsWork work.new }
-    ensures probed { IfOk result (ProbesPiece part.entry.limits part.entry.bytes.now part.entry.is_last part.entry.at place len work.old work.new) }
-{
-    let Ok(document) = RawDocument::from_bytes(&part.bytes[place..place + len]) else {
-        return Ok(Some(false));
-    };
-    let end = part.at as u128 + (place + len) as u128;
-    probe(alloc, part.limits, document, end, work)
 }

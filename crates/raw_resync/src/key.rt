@@ -1,4 +1,4 @@
-//! Whether bytes end as they do before a nested document.
+//! Whether bytes end as they do before the length of a nested document, or before a number that looks like one.
 #![tactic(auto)]
 
 ghost use Rattle.std.specs.Prelude.{◌≡◌, ◌≤◌, ◌<◌, ◌+◌, MatchBool, get_or, length};
@@ -7,10 +7,12 @@ ghost use Rattle.raw_resync.specs.Seeking.{IsKeyAfter};
 
 use std::str::from_utf8;
 
-/// The tags of a document and of an array.
+/// The tags of a document, of an array and of an int32.
 const DOCUMENT: u8 = 3;
 
 const ARRAY: u8 = 4;
+
+const INT32: u8 = 16;
 
 /// Control characters are less.
 const SPACE: u8 = 32;
@@ -21,7 +23,7 @@ const LONGEST_KEY: usize = 64;
 /// How many bytes a key has at most with its tag and its 0.
 pub const BEFORE_PLACE: usize = LONGEST_KEY + 2;
 
-/// Whether the tag of a document or an array, a key and its 0 are the last bytes.
+/// Whether the tag of a document, an array or an int32, a key and its 0 are the last bytes.
 pub(crate) fn ends_in_key(bytes: &[u8]) -> bool
     ensures { MatchBool result (EndsInKey bytes.now) (¬ EndsInKey bytes.now) }
 {
@@ -41,11 +43,11 @@ pub(crate) fn ends_in_key(bytes: &[u8]) -> bool
     false
 }
 
-/// Whether this is the tag of a document or an array, and what follows it is a key, which isn't empty.
+/// Whether this is the tag of a document, an array or an int32, and what follows it is a key, which isn't empty.
 fn is_key_after(tag: u8, key: &[u8]) -> bool
     ensures { MatchBool result (IsKeyAfter tag key.now) (¬ IsKeyAfter tag key.now) }
 {
-    if tag != DOCUMENT && tag != ARRAY {
+    if tag != DOCUMENT && tag != ARRAY && tag != INT32 {
         return false;
     }
     if key.is_empty() {

@@ -2,12 +2,12 @@
 //!
 //! Begin at `seek` in `search.rt`, which tries one place after another. `check.rt` decides whether documents
 //! continue at a place, `key.rt` whether what is before it says that it is inside a document, `probe.rt` whether a
-//! piece of the input is an undamaged document, and `charge.rt` what that costs. `length.rt` decides whether the
-//! elements of a damaged document explain its length.
+//! piece of the input is an undamaged document, `charge.rt` what that costs, and `work.rt` whether there is enough
+//! for it. `length.rt` decides whether the elements of a damaged document explain its length.
 //!
 //! In `specs/`, `Pieces.antt` cuts bytes into documents, `Resync.antt` says which documents count and which lengths
-//! aren't believed, `Charge.antt` says what finding out costs, and `Seeking.antt` what a search returns for part of
-//! an input.
+//! aren't believed, `Charge.antt` says what a look costs, `Searches.antt` which places are looked at and what is
+//! charged for all of them, and `Seeking.antt` what a search returns for part of an input.
 //!
 //! `dump_io`, `dump_runs` and `bsonraw_c` rest on this crate. How a search goes on may change, as long as the
 //! contracts of `seek` and `explain_length` stay; `proofs/Face.antt` has the lemmas that crates above may cite.

@@ -3,17 +3,15 @@
 
 ghost use Rattle.std.specs.Prelude.{◌≡◌, ◌≤◌, ◌<◌, ◌^◌, IfOk, length};
 ghost use Rattle.raw_view.specs.Document.{bytes_of};
+ghost use Rattle.raw_resync.specs.Charge.{IsProbed};
 ghost use Rattle.raw_resync.specs.Pieces.{IsPiece};
-ghost use Rattle.raw_resync.specs.Seeking.{IsProbed, IsWork, ProbesOrLeaves};
+ghost use Rattle.raw_resync.specs.Seeking.{IsWork, KeepsBound, ProbesOrLeaves};
 
 use crate::charge::looked_at;
 use crate::work::Work;
 use raw_tree::{Limits, first_fault_within};
 use raw_view::RawDocument;
 use std::alloc::{AllocError, Global};
-
-/// The greatest number of bytes that are charged for each byte up to the furthest end of a piece.
-pub(crate) const MOST_FOR_EACH: u128 = 8;
 
 /// Whether a piece that ends at this offset of the input is an undamaged document; `None` if it could cost too
 /// much to know.
@@ -26,16 +24,14 @@ pub(crate) fn probe(
 ) -> Result<Option<bool>, AllocError>
     requires { IsPiece limits.bytes (bytes_of document) × IsWork work.old × (end < 2 ^ 66) }
     ensures work { IsWork work.new }
+    ensures bounded { KeepsBound end work.old work.new }
     ensures probed { IfOk result (ProbesOrLeaves limits (bytes_of document.entry) end work.old work.new) }
 {
-    let len = document.as_bytes().len() as u128;
-    let reach = work.reach.max(end);
-    if MOST_FOR_EACH * reach <= work.spent + len {
+    if !work.has_room(document.as_bytes().len(), end) {
         return Ok(None);
     }
     let probed = probed_on(alloc, limits, document)?;
-    work.reach = reach;
-    work.spent += probed.cost as u128;
+    work.charge(probed.cost, end);
     Ok(Some(probed.is_sound))
 }
 

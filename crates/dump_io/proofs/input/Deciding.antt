@@ -1,26 +1,27 @@
 -- Whether a damaged document is taken at its length, where more may be read.
-use Rattle.std.proofs.Common.{◌≡◌, ℕ, ◌+◌, ◌<◌, ◌≤◌, ◌⊎◌, List, [], ◌++◌, Option, Some, Bool, true, false, ◌&&◌, Result, Ok, Err, IfErr, arith, length, take, drop, sym, ap, ◌∙◌, subst, refl, inl, inr, length-append, length-take-le}
-use Rattle.std.proofs.lemmas.List.{take-append-drop, take-append-le}
+use Rattle.std.proofs.Common.{◌≡◌, ℕ, ◌+◌, ◌-◌, ◌<◌, ◌≤◌, ◌⊎◌, List, [], ◌++◌, Option, Some, Bool, true, false, ◌&&◌, not, Result, Ok, Err, IfErr, arith, length, take, drop, sym, ap, ◌∙◌, subst, refl, inl, inr, length-append, length-drop, length-take-le}
+use Rattle.std.proofs.lemmas.List.{drop-append-le, take-append-le}
 use Rattle.std.proofs.Math.Seq.{take-length}
 use Rattle.std.specs.Io.KnownBytes.{Consumes, IsAtEnd}
 use Rattle.raw_tree.specs.declared.reader.limits.Limits.{Limits}
 use Rattle.raw_resync.specs.Resync.{IsFramed, IsSound}
-use Rattle.raw_resync.specs.Charge.{Charges, IsBounded}
-use Rattle.raw_resync.specs.Seeking.{Explains, IsWork, MayFollow, PassesOver, Seeks, TellsLength, TellsSought, Works}
+use Rattle.raw_resync.specs.Searches.{BelievesLength, DoubtsLength, IsFoundAt, IsOpen, PassesOver, Walks}
+use Rattle.raw_resync.specs.Seeking.{IsWork, KeepsBound, MayFollow, IsSoughtIn, Seeks, TellsSought}
 use Rattle.raw_resync.specs.declared.length.Length.{Length}
 use Rattle.raw_resync.specs.declared.length.Length.TheVariants as lengths
 use Rattle.raw_resync.specs.declared.search.Places.{Places}
 use Rattle.raw_resync.specs.declared.search.Sought.{Sought}
 use Rattle.raw_resync.specs.declared.search.Sought.TheVariants as sought
 use Rattle.raw_resync.specs.declared.work.Work.{Work}
-use Rattle.raw_resync.proofs.Face.{believed, charges_none, charges_on, disbelieved, passes_after, passes_since, spent_more}
+use Rattle.raw_resync.proofs.Face.{and_false, and_true, believes_explained, doubts_disbelieved, keeps_before, keeps_on, keeps_same, one_found, one_left, one_looked, passes_after, sound_framed, walks_front}
 use Rattle.raw_resync.proofs.Face as face
 use Rattle.dump_io.specs.input.Cut.{EndsWith, IsPiece}
 use Rattle.dump_io.specs.input.Reading.{IsReadBehind, IsWindow, ReadsAhead, SeesAhead, Stays, TellsNext, ahead_of}
-use Rattle.dump_io.specs.input.Resync.{BreaksWith, Doubts, GoesOnInside, IsBelieved, IsDoubted, IsNextPlace, Searches, SeesInside, Spends, TellsPart}
+use Rattle.dump_io.specs.input.Resync.{BreaksWith, Doubts, GoesElsewhere, HasWrongLength, IsBelieved, IsDoubted, Searches, Sees, TellsElsewhere, TellsPart, TellsSeen}
 use Rattle.dump_io.specs.declared.input.ending.Ending.{Ending}
 use Rattle.dump_io.specs.declared.input.ending.Ending.TheVariants as ending
-use Rattle.dump_io.specs.declared.input.resync.Skip.{Skip}
+use Rattle.dump_io.specs.declared.input.resync.Search.{Search}
+use Rattle.dump_io.specs.declared.input.resync.Seen.{Seen}
 use Rattle.dump_io.specs.declared.input.window.Next.{Next}
 use Rattle.dump_io.specs.declared.input.window.Next.TheVariants as next
 use Rattle.dump_io.specs.declared.input.window.Window.{Window}
@@ -41,45 +42,22 @@ stays_on a b c x y z p q = record {
   looks = looks_on a b c (ahead_of x) (ahead_of y) (ahead_of z) p.looks q.looks;
 }
 
-spends_none : {limits : Limits} (s : List ℕ) (at : ℕ) (w : Work) → Spends limits s at w w
-spends_none {limits} s at w = record { charges = charges_none limits s w; bounded = λ bound. bound }
-
-pub spends_on : {limits : Limits} (s : List ℕ) (at : ℕ) (u v w : Work) → Spends limits s at u v → Spends limits s at v w → Spends limits s at u w
-spends_on {limits} s at u v w p q = record { charges = charges_on limits s u v w p.charges q.charges; bounded = λ bound. q.bounded (p.bounded bound) }
-
--- bytes are passed over, and before that something was charged
-pub place_since : {limits : Limits} (s : List ℕ) (at : ℕ) (u v w : Work) (skip : Skip) → Spends limits s at u v → IsNextPlace limits s at v w skip → IsNextPlace limits s at u w skip
-place_since s at u v w skip p q = record {
-  some = q.some;
-  within = q.within;
-  goes_on = q.goes_on;
-  passed = q.passed;
-  all = q.all;
-  left = q.left;
-  spends = spends_on s at u v w p q.spends;
-}
-
 -- bytes are read, and nothing is charged
 pub searches_read : {limits : Limits} (a b : Option (List ℕ)) (x y : Window) (w : Work) → Stays a b x y → IsWork w → Searches limits a b x y w w
-searches_read a b x y w stays work = record { stays = stays; work = work; spends = λ s read. spends_none s x.offset w }
+searches_read a b x y w stays work = record { stays = stays; work = work; bounded = λ s read. keeps_same (x.offset + length s) w }
 
 -- one after the other
 pub searches_on : {limits : Limits} (a b c : Option (List ℕ)) (x y z : Window) (u v w : Work) → Searches limits a b x y u v → Searches limits b c y z v w → Searches limits a c x z u w
 searches_on {limits} a b c x y z u v w p q = record {
   stays = stays_on a b c x y z p.stays q.stays;
   work = q.work;
-  spends = λ s read.
-      spends_on s x.offset u v w (p.spends s read) (subst (λ n. Spends limits s n v w) p.stays.offset (q.spends s (p.stays.looks.is_read (Some s) read)));
+  bounded = λ s read.
+      keeps_on (x.offset + length s) u v w (p.bounded s read)
+      (subst (λ n. KeepsBound (n + length s) v w) p.stays.offset (q.bounded s (p.stays.looks.is_read (Some s) read)));
 }
 
 stays_there : (a b : Option (List ℕ)) (x y : Window) (want : ℕ) (there : Bool) → SeesAhead a b x y want there → Stays a b x y
 stays_there a b x y want there sees = record { window = sees.window; offset = sees.offset; looks = sees.looks }
-
--- what a look at a part tells is so of the bytes ahead
-pub part_ahead : {limits : Limits} (P : Limits → List ℕ → Bool → ℕ → Type 0) (m : Limits) (b : List ℕ) (l : Bool) (a : ℕ) (y : Window) (last : Bool)
-    → m ≡ limits → b ≡ ahead_of y → l ≡ last → a ≡ y.offset → P m b l a → P limits (ahead_of y) last y.offset
-part_ahead {limits} P m b l a y last most bytes is at holds =
-    subst (λ n. P limits (ahead_of y) last n) at (subst (λ i. P limits (ahead_of y) i a) is (subst (λ t. P limits t l a) bytes (subst (λ n. P n b l a) most holds)))
 
 -- a look at the bytes ahead
 module _ {limits : Limits} {r r' : Option (List ℕ)} {x y : Window} {v w : Work} (last : Bool) (p : Searches limits r r' x y v w) (ends : last ≡ true → IsAtEnd r') where
@@ -88,109 +66,177 @@ module _ {limits : Limits} {r r' : Option (List ℕ)} {x y : Window} {v w : Work
   whole s read = follows s (ahead_of y) r' last (p.stays.looks.is_read (Some s) read) ends
 
   -- what it costs
-  pub searched : (w' : Work) → Works limits (ahead_of y) last y.offset w w' → IsWork w' → Searches limits r r' x y v w'
-  searched w' works work = record {
+  pub searched : (w' : Work) (end : ℕ) → end ≤ y.offset + length (ahead_of y) → KeepsBound end w w' → IsWork w' → Searches limits r r' x y v w'
+  searched w' end within bound work = record {
     stays = p.stays;
     work = work;
-    spends = λ s read.
+    bounded = λ s read.
         let (rest, split, may) = whole s read in
-        let here : Spends limits s y.offset w w' = record {
-          charges = subst (λ t. Charges limits t w w') (sym split) (works.charges rest may);
-          bounded = subst (λ t. IsBounded (y.offset + length t) w → IsBounded (y.offset + length t) w') (sym split) (works.bounded rest may);
-        } in
-        spends_on s x.offset v w w' (p.spends s read) (subst (λ n. Spends limits s n w w') p.stays.offset here);
+        let size : length s ≡ length (ahead_of y) + length rest = ap length split ∙ length-append (ahead_of y) rest in
+        let same : y.offset ≡ x.offset = p.stays.offset in
+        keeps_on (x.offset + length s) v w w' (p.bounded s read) (keeps_before end (x.offset + length s) w w' (omega (arith, size, same, within)) bound);
   }
 
-  -- what a look at the length in front tells of all that is left
-  pub length_told : (len : ℕ) (w' : Work) (told : Length) → Explains limits (ahead_of y) last y.offset len w w' told → (s : List ℕ) → Consumes (Some s) r (ahead_of x)
-      → TellsLength limits (x.offset + length s) s len w' told
-  length_told len w' told explains s read =
-      let (rest, split, may) = whole s read in
-      subst (λ n. TellsLength limits (n + length s) s len w' told) p.stays.offset
-      (subst (λ t. TellsLength limits (y.offset + length t) t len w' told) (sym split) (explains.tells rest may))
+pub if_err : {A E : Type 0} (r : Result A E) (P : Type 0) → P → IfErr r (λ x. P)
+if_err (Ok x) P is = tt
+if_err (Err e) P is = is
 
--- what the loop over places inside keeps
-pub record IsSought (limits : Limits) (r r' : Option (List ℕ)) (x y : Window) (v w : Work) (from len : ℕ) (last : Bool) : Type 0 where
+-- a search in the bytes after `base` of those ahead
+pub seeks_behind : {limits : Limits} {b : List ℕ} {last : Bool} {at : ℕ} {q : Places} {v w : Work} {told found : Sought} (y : Window) (base : ℕ) → b ≡ drop base (ahead_of y)
+    → at ≡ y.offset + base → told ≡ found → Seeks limits b last at q v w told → Seeks limits (drop base (ahead_of y)) last (y.offset + base) q v w found
+seeks_behind {limits} {b} {last} {at} {q} {v} {w} {told} {found} y base bytes is same seeks =
+    subst (λ t. Seeks limits (drop base (ahead_of y)) last (y.offset + base) q v w t) same
+    (subst (λ n. Seeks limits (drop base (ahead_of y)) last n q v w told) is (subst (λ l. Seeks limits l last at q v w told) bytes seeks))
+
+-- what the loop over places keeps
+pub record IsSought (limits : Limits) (r r' : Option (List ℕ)) (x y : Window) (v w : Work) (p : Search) (from : ℕ) (last all : Bool) : Type 0 where
   pub searches : Searches limits r r' x y v w
   pub ends : last ≡ true → IsAtEnd r'
-  pub low : 1 ≤ from
-  pub high : from ≤ len
-  pub within : from ≤ length (ahead_of y)
-  pub over : (s : List ℕ) → Consumes (Some s) r (ahead_of x) → (all : Bool) × PassesOver limits (x.offset + length s) s 1 from w all
+  pub low : p.from ≤ from
+  pub high : from ≤ p.until
+  pub within : p.base + from ≤ length (ahead_of y)
+  pub over : (s : List ℕ) → Consumes (Some s) r (ahead_of x) → PassesOver limits (drop p.base s) (x.offset + p.base) p.from from v w all
 
-pub sought_none : {limits : Limits} (r : Option (List ℕ)) (x : Window) (w : Work) (len : ℕ) → IsWindow x → IsWork w → 1 ≤ len → len ≤ length (ahead_of x)
-    → IsSought limits r r x x w w 1 len false
-sought_none {limits} r x w len is work some within = record {
+pub sought_none : {limits : Limits} (r : Option (List ℕ)) (x : Window) (w : Work) (p : Search) → IsWindow x → IsWork w → p.from ≤ p.until → p.base + p.from ≤ length (ahead_of x)
+    → IsSought limits r r x x w w p p.from false true
+sought_none {limits} r x w p is work some within = record {
   searches = searches_read r r x x w (stays_same r x is) work;
   ends = λ yes. let impossible : ⊥ = cc in absurd impossible;
   low = omega arith;
   high = some;
-  within = omega (arith, some, within);
-  over = λ s read. (true, face.passes_none limits (x.offset + length s) s 1 w);
+  within = within;
+  over = λ s read. face.passes_none p.from w;
 }
 
-abbrev pub places : (from until : ℕ) → Places
-places from until = record { from = from; until = until }
+-- the places that are left
+abbrev pub left_of : Search → ℕ → Places
+left_of p from = record { from = from; until = p.until }
 
--- a search of places inside
-module _ {limits : Limits} {r r' : Option (List ℕ)} {x y : Window} {v w w' : Work} {from len : ℕ} {last : Bool} (p : IsSought limits r r' x y v w from len last) {told : Sought}
-    (seeks : Seeks limits (ahead_of y) last y.offset (places from len) w w' told) (work : IsWork w') where
-  pub sought_here : Searches limits r r' x y v w'
-  sought_here = searched last p.searches p.ends w' seeks.works work
+-- a search of them
+module _ {limits : Limits} {r r' : Option (List ℕ)} {x y : Window} {v w w' : Work} {p : Search} {from : ℕ} {last all : Bool} (h : IsSought limits r r' x y v w p from last all) {told : Sought}
+    (seeks : Seeks limits (drop p.base (ahead_of y)) last (y.offset + p.base) (left_of p from) w w' told) (work : IsWork w') where
+  size : length (drop p.base (ahead_of y)) ≡ length (ahead_of y) - p.base
+  size = length-drop p.base (ahead_of y)
 
-  tells : (s : List ℕ) → Consumes (Some s) r (ahead_of x) → TellsSought limits (ahead_of y) last (x.offset + length s) s (places from len) w' told
+  sought_here : Searches limits r r' x y v w'
+  sought_here =
+      let within = h.within in
+      let len = size in
+      searched last h.searches h.ends w' (y.offset + p.base + length (drop p.base (ahead_of y))) (omega (arith, within, len)) seeks.bounded work
+
+  tells : (s : List ℕ) → Consumes (Some s) r (ahead_of x) → TellsSought limits (drop p.base s) (x.offset + p.base) (left_of p from) w w' told
   tells s read =
-      let (rest, split, may) = whole last p.searches p.ends s read in
-      subst (λ n. TellsSought limits (ahead_of y) last (n + length s) s (places from len) w' told) p.searches.stays.offset
-      (subst (λ t. TellsSought limits (ahead_of y) last (y.offset + length t) t (places from len) w' told) (sym split) (seeks.tells rest may))
+      let (rest, split, may) = whole last h.searches h.ends s read in
+      let within = h.within in
+      let behind : drop p.base s ≡ drop p.base (ahead_of y) ++ rest = ap (drop p.base) split ∙ drop-append-le p.base (ahead_of y) rest (omega (arith, within)) in
+      subst (λ n. TellsSought limits (drop p.base s) (n + p.base) (left_of p from) w w' told) h.searches.stays.offset
+      (subst (λ t. TellsSought limits t (y.offset + p.base) (left_of p from) w w' told) (sym behind) (seeks.tells rest may))
 
-  passed : (place : ℕ) (all : Bool) (s : List ℕ) → Consumes (Some s) r (ahead_of x) → from ≤ place → PassesOver limits (x.offset + length s) s from place w' all
-      → (all' : Bool) × PassesOver limits (x.offset + length s) s 1 place w' all'
-  passed place all s read high over =
-      let (rest, split, may) = whole last p.searches p.ends s read in
-      let more : w.spent ≤ w'.spent = spent_more limits (ahead_of y ++ rest) w w' (seeks.works.charges rest may) in
-      let (before, over') = p.over s read in
-      let since = passes_since limits (x.offset + length s) s 1 from w w' before more over' in
-      (before && all, passes_after limits (x.offset + length s) 1 from place s w' p.low high since over)
+  passed : {u : Work} (place : ℕ) (more : Bool) (s : List ℕ) → Consumes (Some s) r (ahead_of x) → from ≤ place
+      → PassesOver limits (drop p.base s) (x.offset + p.base) from place w u more → PassesOver limits (drop p.base s) (x.offset + p.base) p.from place v u (all && more)
+  passed place more s read high over = passes_after h.low high (h.over s read) over
 
   -- it wants more, and more is read
-  pub sought_on : {r'' : Option (List ℕ)} (z : Window) (place n : ℕ) (all there last' : Bool) → told ≡ sought.Wants place n all → SeesAhead r' r'' y z n there
-      → (last' ≡ true → there ≡ false) → IsSought limits r r'' x z v w' place len last'
-  sought_on {r'' = r''} z place n all there last' is sees ends =
-      let here = subst (TellsSought limits (ahead_of y) last (y.offset + length (ahead_of y ++ [])) (ahead_of y ++ []) (places from len) w') is
-      (seeks.tells [] (λ yes. refl)) in
+  pub sought_on : {r'' : Option (List ℕ)} (z : Window) (place n want : ℕ) (more there last' : Bool) → told ≡ sought.Wants place n more → SeesAhead r' r'' y z want there
+      → (last' ≡ true → there ≡ false) → IsSought limits r r'' x z v w' p place last' (all && more)
+  sought_on {r'' = r''} z place n want more there last' is sees ends =
+      let here = subst (TellsSought limits (drop p.base (ahead_of y) ++ []) (y.offset + p.base) (left_of p from) w w') is (seeks.tells [] (λ yes. refl)) in
+      let there' = subst (IsSoughtIn limits (drop p.base (ahead_of y)) last (left_of p from)) is seeks.here in
       let low : from ≤ place = here.0 in
-      let high : place < len = here.1 in
-      let inside : place ≤ length (ahead_of y) = here.2 in
+      let high : place < p.until = here.1 in
+      let inside : place ≤ length (drop p.base (ahead_of y)) = there'.0 in
       let grown : length (ahead_of y) ≤ length (ahead_of z) = sees.looks.len in
+      let before = h.within in
+      let len = size in
       record {
-        searches = searches_on r r' r'' x y z v w' w' sought_here (searches_read r' r'' y z w' (stays_there r' r'' y z n there sees) work);
+        searches = searches_on r r' r'' x y z v w' w' sought_here (searches_read r' r'' y z w' (stays_there r' r'' y z want there sees) work);
         ends = λ yes. (sees.ends (ends yes)).1;
-        low = omega (arith, p.low, low);
+        low = omega (arith, h.low, low);
         high = omega (arith, high);
-        within = omega (arith, inside, grown);
+        within = omega (arith, inside, grown, before, len);
         over = λ s read.
-            let told' = subst (TellsSought limits (ahead_of y) last (x.offset + length s) s (places from len) w') is (tells s read) in
-            passed place all s read low told'.4;
+            let told' = subst (TellsSought limits (drop p.base s) (x.offset + p.base) (left_of p from) w w') is (tells s read) in
+            passed place more s read low told'.2;
       }
 
-  -- documents go on at a place inside
-  pub inside_found : (place : ℕ) (all : Bool) → told ≡ sought.Found place all → SeesInside limits r r' x y v w' len true
-  inside_found place all is = record {
+  -- documents go on at a place
+  pub sees_found : (place : ℕ) (more : Bool) (seen : Seen) → told ≡ sought.Found place more → seen.goes_on ≡ true → seen.all ≡ (all && more) → Sees limits r r' x y v w' p seen
+  sees_found place more seen is goes both = record {
     searches = sought_here;
     is = λ s read.
-        let here = subst (TellsSought limits (ahead_of y) last (x.offset + length s) s (places from len) w') is (tells s read) in
-        (place, omega (arith, p.low, here.0), here.1, here.3);
+        let (low, high, before, over, found) = subst (TellsSought limits (drop p.base s) (x.offset + p.base) (left_of p from) w w') is (tells s read) in
+        let here : TellsSeen limits s x.offset p v w' true (all && more) = (place, before, omega (arith, h.low, low), high, passed place more s read low over, found) in
+        subst (λ b. TellsSeen limits s x.offset p v w' b seen.all) (sym goes) (subst (λ b. TellsSeen limits s x.offset p v w' true b) (sym both) here);
   }
 
   -- they go on at none
-  pub inside_none : (all : Bool) → told ≡ sought.Nowhere all → SeesInside limits r r' x y v w' len false
-  inside_none all is = record {
+  pub sees_none : (more : Bool) (seen : Seen) → told ≡ sought.Nowhere more → seen.goes_on ≡ false → seen.all ≡ (all && more) → Sees limits r r' x y v w' p seen
+  sees_none more seen is goes both = record {
     searches = sought_here;
     is = λ s read.
-        let here = subst (TellsSought limits (ahead_of y) last (x.offset + length s) s (places from len) w') is (tells s read) in
-        passed len all s read p.high here.1;
+        let over = subst (TellsSought limits (drop p.base s) (x.offset + p.base) (left_of p from) w w') is (tells s read) in
+        let here : TellsSeen limits s x.offset p v w' false (all && more) = passed p.until more s read h.high over in
+        subst (λ b. TellsSeen limits s x.offset p v w' b seen.all) (sym goes) (subst (λ b. TellsSeen limits s x.offset p v w' false b) (sym both) here);
   }
+
+-- the places inside a piece, and the one behind it
+abbrev pub inside_of : ℕ → Search
+inside_of len = record { base = 0; from = 1; until = len }
+
+abbrev pub behind_of : ℕ → Search
+behind_of len = record { base = len; from = 0; until = 1 }
+
+no_offset : (at : ℕ) → at + 0 ≡ at
+no_offset at = omega arith
+
+-- what is seen inside and behind a piece
+module _ {limits : Limits} {r r' : Option (List ℕ)} {x y : Window} {v w : Work} {len : ℕ} where
+  pub goes_inside : (seen : Seen) → seen.goes_on ≡ true → Sees limits r r' x y v w (inside_of len) seen → GoesElsewhere limits r r' x y v w len true
+  goes_inside seen goes sees = record {
+    searches = sees.searches;
+    is = λ s read.
+        let (place, before, low, high, over, found) = subst (λ b. TellsSeen limits s x.offset (inside_of len) v w b seen.all) goes (sees.is s read) in
+        inl (
+          place,
+          seen.all,
+          (
+            before,
+            omega (arith, low),
+            high,
+            subst (λ n. PassesOver limits s n 1 place v before seen.all) (no_offset x.offset) over,
+            subst (λ n. IsFoundAt limits s n place before w) (no_offset x.offset) found,
+          ),
+        );
+  }
+
+  module _ {r'' : Option (List ℕ)} {z : Window} {u : Work} (inside behind : Seen) (none : inside.goes_on ≡ false) (first : Sees limits r r' x y v w (inside_of len) inside)
+      (second : Sees limits r' r'' y z w u (behind_of len) behind) where
+    both : Searches limits r r'' x z v u
+    both = searches_on r r' r'' x y z v w u first.searches second.searches
+
+    before : (s : List ℕ) → Consumes (Some s) r (ahead_of x) → PassesOver limits s x.offset 1 len v w inside.all
+    before s read =
+        subst (λ n. PassesOver limits s n 1 len v w inside.all) (no_offset x.offset)
+        (subst (λ b. TellsSeen limits s x.offset (inside_of len) v w b inside.all) none (first.is s read))
+
+    there : (s : List ℕ) → Consumes (Some s) r (ahead_of x) → TellsSeen limits s x.offset (behind_of len) w u behind.goes_on behind.all
+    there s read =
+        subst (λ n. TellsSeen limits s n (behind_of len) w u behind.goes_on behind.all) first.searches.stays.offset
+        (second.is s (first.searches.stays.looks.is_read (Some s) read))
+
+    open_there : (s : List ℕ) (all : Bool) → TellsSeen limits s x.offset (behind_of len) w u true all → IsOpen limits (drop len s) (x.offset + len) w u true
+    open_there s all (place, at, low, high, passed, found) =
+        one_found limits (drop len s) (x.offset + len) 0 place w at u all (omega (arith, high)) passed found
+
+    elsewhere : (s : List ℕ) (goes all : Bool) → PassesOver limits s x.offset 1 len v w inside.all → TellsSeen limits s x.offset (behind_of len) w u goes all
+        → TellsElsewhere limits s x.offset len v u (all && not goes)
+    elsewhere s true true over seen = (inside.all, (w, inside.all, true, over, open_there s true seen, and_true inside.all))
+    elsewhere s true false over seen = (inside.all, (w, inside.all, true, over, open_there s false seen, and_true inside.all))
+    elsewhere s false true over passed = inr (w, inside.all, over, one_looked passed)
+    elsewhere s false false over passed = (false, (w, inside.all, false, over, one_left passed, and_false inside.all))
+
+    pub goes_behind : GoesElsewhere limits r r'' x z v u len (behind.all && not behind.goes_on)
+    goes_behind = record { searches = both; is = λ s read. elsewhere s behind.goes_on behind.all (before s read) (there s read) }
 
 -- how many bytes a piece in front has
 pub piece_len : {most : ℕ} (x : List ℕ) (len : ℕ) → len ≤ length x → IsPiece most (take len x) → (5 ≤ len) × (len ≤ most)
@@ -208,54 +254,87 @@ front_take s x r len read within =
 no_end : (r : Option (List ℕ)) → false ≡ true → IsAtEnd r
 no_end r never = let impossible : ⊥ = cc in absurd impossible
 
--- documents go on inside it, or they don't
-inside : {limits : Limits} (s : List ℕ) (at len : ℕ) (w : Work) (doubted : Bool) → (IsPiece limits.bytes (take len s) × (len ≤ length s) × ¬ IsSound limits (take len s)) → ¬ IsFramed (take len s)
-    → GoesOnInside limits s at len w doubted → IsDoubted limits s at len w doubted
-inside {limits} s at len w true (front, few, damaged) unframed (j, low, high, on) = record {
-  within = few;
-  piece = front;
-  damaged = damaged;
-  disbelieved = disbelieved limits s len j unframed low high on;
-}
-inside {limits} s at len w false (front, few, damaged) unframed (all, over) = inr (believed limits (at + length s) s len w all over)
+no_sound : (limits : Limits) (b : List ℕ) → ¬ IsFramed b → ¬ IsSound limits b
+no_sound limits b unframed sound = unframed (sound_framed limits b sound)
+
+-- documents go on inside it or not at its end, or only at its end
+inside : (limits : Limits) (s : List ℕ) (at len : ℕ) (old mid new : Work) (doubted : Bool) → IsPiece limits.bytes (take len s) → len ≤ length s
+    → Walks at s len old mid lengths.Unexplained → KeepsBound (at + length s) old new → TellsElsewhere limits s at len mid new doubted → IsDoubted limits s at len old new doubted
+inside limits s at len old mid new true front few walks bound how =
+    let doubts : DoubtsLength limits s at len old new = (mid, walks, how) in
+    record {
+      within = few;
+      piece = front;
+      damaged = no_sound limits (take len s) walks.1;
+      disbelieved = doubts_disbelieved limits s at len old new doubts;
+      doubted = doubts;
+      bounded = bound;
+    }
+inside limits s at len old mid new false front few walks bound (all, behind) =
+    let believes : BelievesLength limits s at len old new all = inr (inr (mid, walks, behind)) in
+    inr (record { all = all; believed = believes; right = λ is. believes_explained limits s at len old new (subst (BelievesLength limits s at len old new) is believes); bounded = bound })
+
+-- what is known of a length without a look inside
+told_length : (limits : Limits) (s : List ℕ) (at len : ℕ) (old new : Work) (all : Bool) → BelievesLength limits s at len old new all → KeepsBound (at + length s) old new
+    → IsDoubted limits s at len old new false
+told_length limits s at len old new all believes bound =
+    inr (record { all = all; believed = believes; right = λ is. believes_explained limits s at len old new (subst (BelievesLength limits s at len old new) is believes); bounded = bound })
+
+-- what a look at the length of a part shows of the bytes ahead
+pub walks_ahead : {at : ℕ} {bytes : List ℕ} (len : ℕ) {v w : Work} {told found : Length} (x : Window) → at ≡ x.offset → bytes ≡ ahead_of x → told ≡ found → KeepsBound (at + len) v w
+    → Walks at bytes len v w told → KeepsBound (x.offset + len) v w × Walks x.offset (ahead_of x) len v w found
+walks_ahead {bytes = bytes} len {v = v} {w = w} {told = told} x at same is bound walks = (
+  subst (λ n. KeepsBound (n + len) v w) at bound,
+  subst (λ f. Walks x.offset (ahead_of x) len v w f) is (subst (λ b. Walks x.offset b len v w told) same (subst (λ n. Walks n bytes len v w told) at walks)),
+)
+
+-- what its elements show of all that is left
+shown : (r : Option (List ℕ)) (x : Window) (v w : Work) (len : ℕ) → len ≤ length (ahead_of x) → (told : Length) → Walks x.offset (ahead_of x) len v w told → (s : List ℕ)
+    → Consumes (Some s) r (ahead_of x) → Walks x.offset s len v w told
+shown r x v w len within told walks s read = walks_front x.offset len (ahead_of x) s v w told ((front_take s (ahead_of x) r len read within).0) walks
 
 module _ {limits : Limits} {r : Option (List ℕ)} {x : Window} {v w : Work} {len : ℕ} (is : IsWindow x) (work : IsWork v) (within : len ≤ length (ahead_of x))
-    (piece : IsPiece limits.bytes (take len (ahead_of x))) (work' : IsWork w) where
+    (piece : IsPiece limits.bytes (take len (ahead_of x))) (work' : IsWork w) (bound : KeepsBound (x.offset + len) v w) where
   nothing_read : Searches limits r r x x v v
   nothing_read = searches_read r r x x v (stays_same r x is) work
 
-  pub doubts_explained : Explains limits (ahead_of x) false x.offset len v w lengths.Explained → Doubts limits r r x x v w len false
-  doubts_explained e = record {
-    searches = searched false nothing_read (no_end r) w e.works work';
-    is = λ s read. inr (λ disbelieved. absurd (disbelieved.0 (length_told false nothing_read (no_end r) len w lengths.Explained e s read)));
+  walked : Searches limits r r x x v w
+  walked = searched false nothing_read (no_end r) w (x.offset + len) (omega (arith, within)) bound work'
+
+  pub doubts_explained : Walks x.offset (ahead_of x) len v w lengths.Explained → Doubts limits r r x x v w len false
+  doubts_explained walks = record {
+    searches = walked;
+    is = λ s read. told_length limits s x.offset len v w true (inl (shown r x v w len within lengths.Explained walks s read, refl)) (walked.bounded s read);
   }
 
-  pub doubts_left : Explains limits (ahead_of x) false x.offset len v w lengths.LeftOut → Doubts limits r r x x v w len false
-  doubts_left e = record {
-    searches = searched false nothing_read (no_end r) w e.works work';
-    is = λ s read. inr (λ disbelieved. (0, omega arith, length_told false nothing_read (no_end r) len w lengths.LeftOut e s read));
+  pub doubts_left : Walks x.offset (ahead_of x) len v w lengths.LeftOut → Doubts limits r r x x v w len false
+  doubts_left walks = record {
+    searches = walked;
+    is = λ s read. told_length limits s x.offset len v w false (inr (inl (shown r x v w len within lengths.LeftOut walks s read, refl))) (walked.bounded s read);
   }
 
   -- what is inside decides
-  pub doubts_inside : {r' : Option (List ℕ)} {y : Window} {w' : Work} (doubted : Bool) → Explains limits (ahead_of x) false x.offset len v w lengths.Unexplained
-      → SeesInside limits r r' x y w w' len doubted → Doubts limits r r' x y v w' len doubted
-  doubts_inside {r'} {y} {w'} doubted e sees = record {
-    searches = searches_on r r r' x x y v w w' (searched false nothing_read (no_end r) w e.works work') sees.searches;
-    is = λ s read.
-        let (same, few) = front_take s (ahead_of x) r len read within in
-        let (damaged, unframed) = length_told false nothing_read (no_end r) len w lengths.Unexplained e s read in
-        inside s x.offset len w' doubted (subst (IsPiece limits.bytes) (sym same) piece, few, damaged) unframed (sees.is s read);
-  }
+  pub doubts_inside : {r' : Option (List ℕ)} {y : Window} {w' : Work} (doubted : Bool) → Walks x.offset (ahead_of x) len v w lengths.Unexplained
+      → GoesElsewhere limits r r' x y w w' len doubted → Doubts limits r r' x y v w' len doubted
+  doubts_inside {r'} {y} {w'} doubted walks sees =
+      let all : Searches limits r r' x y v w' = searches_on r r r' x x y v w w' walked sees.searches in
+      record {
+        searches = all;
+        is = λ s read.
+            let (same, few) = front_take s (ahead_of x) r len read within in
+            inside limits s x.offset len v w w' doubted (subst (IsPiece limits.bytes) (sym same) piece) few (shown r x v w len within lengths.Unexplained walks s read) (all.bounded s read) (sees.is s read);
+      }
 
 some_ahead : (most : ℕ) (e : Ending) (x : List ℕ) → EndsWith most e x → 0 < length x
 some_ahead most (ending.CutOff count) x (size, some, few) = omega (arith, size, some)
 some_ahead most (ending.Unsound len) x (four, unsound, same) = omega (arith, four)
 some_ahead most (ending.WrongLength len) x none = absurd none
 
-breaks_all : (limits : Limits) (e : Ending) (s x : List ℕ) (r : Option (List ℕ)) → EndsWith limits.bytes e x → IsReadBehind e r → Consumes (Some s) r x → BreaksWith limits e s
-breaks_all limits (ending.CutOff count) s x r ends behind' read = ends_all limits.bytes (ending.CutOff count) s x r ends behind' read
-breaks_all limits (ending.Unsound len) s x r ends behind' read = ends_all limits.bytes (ending.Unsound len) s x r ends behind' read
-breaks_all limits (ending.WrongLength len) s x r ends behind' read = absurd ends
+breaks_all : (limits : Limits) (e : Ending) (s x : List ℕ) (at : ℕ) (w : Work) (r : Option (List ℕ)) → EndsWith limits.bytes e x → IsReadBehind e r → Consumes (Some s) r x
+    → BreaksWith limits s at w w e
+breaks_all limits (ending.CutOff count) s x at w r ends behind' read = (ends_all limits.bytes (ending.CutOff count) s x r ends behind' read, refl)
+breaks_all limits (ending.Unsound len) s x at w r ends behind' read = (ends_all limits.bytes (ending.Unsound len) s x r ends behind' read, refl)
+breaks_all limits (ending.WrongLength len) s x at w r ends behind' read = absurd ends
 
 -- a document is in front of the bytes ahead, without damage where bytes may be passed over
 pub tells_document : {limits : Limits} (resync : Bool) (r r' : Option (List ℕ)) (x y : Window) (w : Work) (len : ℕ) → IsWork w → (resync ≡ true → IsSound limits (take len (ahead_of y)))
@@ -263,9 +342,12 @@ pub tells_document : {limits : Limits} (resync : Bool) (r r' : Option (List ℕ)
 tells_document {limits} resync r r' x y w len work sound t = record {
   searches = searches_read r r' x y w (record { window = t.window; offset = t.offset; looks = t.looks }) work;
   ahead = t.is;
-  is = λ s read asked.
-      let (same, few) = front_take s (ahead_of y) r' len (t.looks.is_read (Some s) read) t.is.0 in
-      inl (subst (IsSound limits) (sym same) (sound asked));
+  is = λ s read. (
+    λ asked.
+        let (same, few) = front_take s (ahead_of y) r' len (t.looks.is_read (Some s) read) t.is.0 in
+        inl (subst (IsSound limits) (sym same) (sound asked), refl),
+    λ not. refl,
+  );
 }
 
 -- what is next in the bytes ahead is no document
@@ -275,12 +357,12 @@ tells_other resync r r' x y w (next.Document len) work none t = absurd (none len
 tells_other resync r r' x y w next.Nothing work none t = record {
   searches = searches_read r r' x y w (record { window = t.window; offset = t.offset; looks = t.looks }) work;
   ahead = t.is;
-  is = λ s read. tt;
+  is = λ s read. refl;
 }
 tells_other {limits} resync r r' x y w (next.End e) work none t = record {
   searches = searches_read r r' x y w (record { window = t.window; offset = t.offset; looks = t.looks }) work;
   ahead = (some_ahead limits.bytes e (ahead_of y) t.is.0, λ no. t.is);
-  is = λ s read. breaks_all limits e s (ahead_of y) r' t.is.0 t.is.1 (t.looks.is_read (Some s) read);
+  is = λ s read. breaks_all limits e s (ahead_of y) x.offset w r' t.is.0 t.is.1 (t.looks.is_read (Some s) read);
 }
 
 -- a document is next, and is doubted, or not
@@ -296,7 +378,10 @@ module _ {limits : Limits} (r r' r'' : Option (List ℕ)) (x y z : Window) (w w'
       record {
         searches = searches_on r r' r'' x y z w w w' reads d.searches;
         ahead = (omega (arith, within, more), subst (IsPiece limits.bytes) (sym (ap (take len) split ∙ take-append-le len (ahead_of y) rest within)) piece);
-        is = λ s read asked. subst (λ n. IsBelieved limits s n len w') t.offset (d.is s (t.looks.is_read (Some s) read));
+        is = λ s read. (
+          λ asked. subst (λ n. IsBelieved limits s n len w w') t.offset (d.is s (t.looks.is_read (Some s) read)),
+          λ not. let impossible : ⊥ = cc in absurd impossible,
+        );
       }
 
   pub tells_doubted : Doubts limits r' r'' y z w w' len true → TellsPart limits true r r'' x z w w' (next.End (ending.WrongLength len))
@@ -307,5 +392,5 @@ module _ {limits : Limits} (r r' r'' : Option (List ℕ)) (x y z : Window) (w w'
       record {
         searches = searches_on r r' r'' x y z w w w' reads d.searches;
         ahead = (omega (arith, within, more, some), λ no. let impossible : ⊥ = cc in absurd impossible);
-        is = λ s read. d.is s (t.looks.is_read (Some s) read);
+        is = λ s read. subst (λ n. HasWrongLength limits s n len w w') t.offset (d.is s (t.looks.is_read (Some s) read));
       }

@@ -5,17 +5,16 @@ use Rattle.std.proofs.lemmas.List.{take-append-drop}
 use Rattle.std.proofs.Math.Seq.{drop-append_seam}
 use Rattle.std.specs.Io.KnownBytes.{Consumes, IsAtEnd}
 use Rattle.raw_tree.specs.declared.reader.limits.Limits.{Limits}
-use Rattle.raw_resync.specs.Resync.{GoesOn}
-use Rattle.raw_resync.specs.Charge.{Charges, IsBounded}
-use Rattle.raw_resync.specs.Seeking.{IsWork, MayFollow, PassesOver, Seeks, TellsSought}
+use Rattle.raw_resync.specs.Searches.{IsFoundAt, PassesOver}
+use Rattle.raw_resync.specs.Seeking.{IsWork, KeepsBound, MayFollow, Seeks, TellsSought}
 use Rattle.raw_resync.specs.declared.search.Places.{Places}
 use Rattle.raw_resync.specs.declared.search.Sought.{Sought}
 use Rattle.raw_resync.specs.declared.search.Sought.TheVariants as sought
 use Rattle.raw_resync.specs.declared.work.Work.{Work}
-use Rattle.raw_resync.proofs.Face.{charges_further, charges_none, charges_on, goes_further, passes_join, passes_since, spent_more}
+use Rattle.raw_resync.proofs.Face.{found_further, found_goes_on, keeps_before, keeps_on, keeps_same, passes_after, passes_further, passes_stop_all}
 use Rattle.raw_resync.proofs.Face as face
 use Rattle.dump_io.specs.input.Reading.{GoesAhead, IsWindow, ReadsAhead, Consumed, SeesAhead, Stays, ahead_of}
-use Rattle.dump_io.specs.input.Resync.{IsNextPlace, SkipsTo, Spends}
+use Rattle.dump_io.specs.input.Resync.{IsNextPlace, SkipsTo}
 use Rattle.dump_io.specs.declared.input.resync.Skip.{Skip}
 use Rattle.dump_io.specs.declared.input.window.Window.{Window}
 
@@ -77,8 +76,8 @@ follows s ahead (Some rest) last read ends = (rest, read, ends)
 
 -- what was searched of all that is left: the places from the second on and before one, at no cost that is over the bound
 pub record IsCovered (limits : Limits) (s : List ℕ) (at : ℕ) (old new : Work) (to : ℕ) (all : Bool) : Type 0 where
-  pub over : PassesOver limits (at + length s) s 1 to new all
-  pub spends : Spends limits s at old new
+  pub over : PassesOver limits s at 1 to old new all
+  pub bounded : KeepsBound (at + length s) old new
 
 -- What the loop keeps: this number of bytes is passed over, more are ahead, and the places before this one of those were searched. Before it
 -- are all bytes since the first, or as many as a key may have.
@@ -106,24 +105,27 @@ searched_none {limits} r x w is work some = record {
   ends = λ is. let impossible : ⊥ = cc in absurd impossible;
   passes = passes_none r (ahead_of x);
   searches = λ s read. record {
-    over = face.passes_none limits (x.offset + length s) s 1 w;
-    spends = record { charges = charges_none limits s w; bounded = λ bound. bound };
+    over = face.passes_none 1 w;
+    bounded = keeps_same (x.offset + length s) w;
   };
 }
 
 -- bytes are passed over up to here
-next_place : {limits : Limits} (s : List ℕ) {at : ℕ} {old new : Work} (n place : ℕ) {all : Bool} (skip : Skip) → 1 ≤ n + place → n + place ≤ length s
-    → GoesOn limits s (n + place) → IsCovered limits s at old new (n + place) all → skip.count ≡ n + place → skip.all ≡ all → IsNextPlace limits s at old new skip
-next_place {limits} s n place {all = all} skip some within goes done count both =
-    let over = done.over in
+next_place : {limits : Limits} (s : List ℕ) {at : ℕ} {old mid new : Work} (to : ℕ) {all : Bool} (skip : Skip) → 1 ≤ to → to ≤ length s
+    → PassesOver limits s at 1 to old mid all → IsFoundAt limits s at to mid new → KeepsBound (at + length s) old new → skip.count ≡ to → skip.all ≡ all
+    → IsNextPlace limits s at old new skip
+next_place {limits} s {at} {old} {mid} {new} to {all} skip some within over found bound count both =
+    let passed : PassesOver limits s at 1 skip.count old mid skip.all =
+    subst (λ n. PassesOver limits s at 1 n old mid skip.all) (sym count) (subst (λ b. PassesOver limits s at 1 to old mid b) (sym both) over) in
     record {
       some = omega (arith, count, some);
       within = subst (λ m. m ≤ length s) (sym count) within;
-      goes_on = subst (GoesOn limits s) (sym count) goes;
-      passed = λ j low high. over.each j low (omega (arith, high, count));
-      all = λ is j low high. over.whole (sym both ∙ is) j low (omega (arith, high, count));
-      left = λ is. let (j, low, high, left) = over.some (sym both ∙ is) in (j, low, omega (arith, high, count), left);
-      spends = done.spends;
+      goes_on = found_goes_on limits s at skip.count mid new (subst (λ n. IsFoundAt limits s at n mid new) (sym count) found);
+      none = λ is j low high. passes_stop_all (subst (λ b. PassesOver limits s at 1 skip.count old mid b) is passed) j low high;
+      before = mid;
+      passed = passed;
+      found = subst (λ n. IsFoundAt limits s at n mid new) (sym count) found;
+      bounded = bound;
     }
 
 -- how many bytes stay before a place
@@ -151,39 +153,42 @@ module _ {limits : Limits} {r r' : Option (List ℕ)} {x y : Window} {old mid : 
 
   module _ {new : Work} {told : Sought} (seeks : Seeks limits (ahead_of y) last y.offset q mid new told) where
     -- what it tells of all that is left
-    tells : (s : List ℕ) → Consumes (Some s) r (ahead_of x) → TellsSought limits (ahead_of y) last (x.offset + length s) (drop is.n s) q new told
+    tells : (s : List ℕ) → Consumes (Some s) r (ahead_of x) → TellsSought limits (drop is.n s) (x.offset + is.n) q mid new told
     tells s read =
         let (rest, split, may, total) = whole s read in
-        let here = seeks.tells rest may in
-        let here' = subst (λ t. TellsSought limits (ahead_of y) last (y.offset + length t) t q new told) (sym split) here in
-        subst (λ n. TellsSought limits (ahead_of y) last n (drop is.n s) q new told) total here'
+        let here = subst (λ t. TellsSought limits t y.offset q mid new told) (sym split) (seeks.tells rest may) in
+        subst (λ n. TellsSought limits (drop is.n s) n q mid new told) is.offset here
 
-    charged : (s : List ℕ) → Consumes (Some s) r (ahead_of x) → Charges limits s mid new
-    charged s read =
-        let (rest, split, may, total) = whole s read in
-        charges_further limits is.n s mid new (subst (λ t. Charges limits t mid new) (sym split) (seeks.works.charges rest may))
-
-    bounded : (s : List ℕ) → Consumes (Some s) r (ahead_of x) → IsBounded (x.offset + length s) mid → IsBounded (x.offset + length s) new
+    bounded : (s : List ℕ) → Consumes (Some s) r (ahead_of x) → KeepsBound (x.offset + length s) mid new
     bounded s read =
         let (rest, split, may, total) = whole s read in
-        let here = subst (λ t. IsBounded (y.offset + length t) mid → IsBounded (y.offset + length t) new) (sym split) (seeks.works.bounded rest may) in
-        subst (λ n. IsBounded n mid → IsBounded n new) total here
+        let size : length (drop is.n s) ≡ length (ahead_of y) + length rest = ap length split ∙ length-append (ahead_of y) rest in
+        keeps_before (y.offset + length (ahead_of y)) (x.offset + length s) mid new (omega (arith, size, total)) seeks.bounded
 
     -- the places before another were searched, too
-    searched : (place : ℕ) (more : Bool) (s : List ℕ) (read : Consumes (Some s) r (ahead_of x)) → from ≤ place
-        → PassesOver limits (x.offset + length s) (drop is.n s) q.from place new more → IsCovered limits s x.offset old new (is.n + place) (all && more)
-    searched place more s read high over =
+    searched : {w : Work} (place : ℕ) (more : Bool) (s : List ℕ) (read : Consumes (Some s) r (ahead_of x)) → from ≤ place → KeepsBound (x.offset + length s) mid w
+        → PassesOver limits (drop is.n s) (x.offset + is.n) q.from place mid w more → IsCovered limits s x.offset old w (is.n + place) (all && more)
+    searched {w} place more s read high bound over =
         let before = is.searches s read in
-        let here = charged s read in
-        let over' = subst (λ n. PassesOver limits (x.offset + length s) (drop is.n s) n place new more) begin over in
+        let over' = subst (λ n. PassesOver limits (drop is.n s) (x.offset + is.n) n place mid w more) begin over in
+        let further = passes_further {limits = limits} {s = s} {at = x.offset} is.n from place is.back over' in
         record {
-          over = passes_join limits (x.offset + length s) 1 is.n from place s new is.start high
-              (passes_since limits (x.offset + length s) s 1 (is.n + from) mid new all (spent_more limits s mid new here) before.over) over';
-          spends = record {
-            charges = charges_on limits s old mid new before.spends.charges here;
-            bounded = λ bound. bounded s read (before.spends.bounded bound);
-          };
+          over = passes_after is.start (omega (arith, high)) before.over further;
+          bounded = keeps_on (x.offset + length s) old mid w before.bounded bound;
         }
+
+    -- documents go on at a place, and what is passed before it
+    next_found : {before : Work} (s : List ℕ) (read : Consumes (Some s) r (ahead_of x)) (place : ℕ) {more : Bool} (skip : Skip) → from ≤ place
+        → PassesOver limits (drop is.n s) (x.offset + is.n) q.from place mid before more → IsFoundAt limits (drop is.n s) (x.offset + is.n) place before new
+        → is.n + place ≤ length s → skip.count ≡ is.n + place → skip.all ≡ (all && more) → IsNextPlace limits s x.offset old new skip
+    next_found {before} s read place {more} skip low passed found within count both =
+        let bound = bounded s read in
+        let earlier = is.searches s read in
+        let over' = subst (λ n. PassesOver limits (drop is.n s) (x.offset + is.n) n place mid before more) begin passed in
+        let further = passes_further {limits = limits} {s = s} {at = x.offset} is.n from place is.back over' in
+        let over : PassesOver limits s x.offset 1 (is.n + place) old before (all && more) = passes_after is.start (omega (arith, low)) earlier.over further in
+        let there = found_further limits s x.offset is.n place (place_back is.n from place is.back low) before new found in
+        next_place s (is.n + place) skip (omega (arith, is.start, low)) within over there (keeps_on (x.offset + length s) old mid new earlier.bounded bound) count both
 
   -- it wants more, and more is read
   module _ {r'' : Option (List ℕ)} {z w : Window} {new : Work} {place kept n want : ℕ} {more there : Bool} where
@@ -193,7 +198,7 @@ module _ {limits : Limits} {r r' : Option (List ℕ)} {x y : Window} {old mid : 
     searched_on seeks work before passed at sees last' ends =
         let told = seeks.tells [] (λ yes. refl) in
         let low : from ≤ place = subst (λ m. m ≤ place) begin told.0 in
-        let inside : place ≤ length (ahead_of y) = told.2 in
+        let inside : place ≤ length (ahead_of y) = seeks.here.0 in
         let fewer : kept ≤ place = omega (arith, before) in
         let size : length (ahead_of z) ≡ length (ahead_of y) - (place - kept) = ap length passed ∙ length-drop (place - kept) (ahead_of y) in
         let grown : length (ahead_of z) ≤ length (ahead_of w) = sees.looks.len in
@@ -212,7 +217,7 @@ module _ {limits : Limits} {r r' : Option (List ℕ)} {x y : Window} {old mid : 
           searches = λ s read.
               let here = tells seeks s read in
               subst (λ m. IsCovered limits s x.offset old new m (all && more)) (sym same)
-              (searched seeks place more s read low here.4);
+              (searched seeks place more s read low (bounded seeks s read) here.2);
         }
 
   -- documents go on there
@@ -222,18 +227,16 @@ module _ {limits : Limits} {r r' : Option (List ℕ)} {x y : Window} {old mid : 
     searched_to seeks work window passed at count both =
         let told = seeks.tells [] (λ yes. refl) in
         let low : from ≤ place = subst (λ m. m ≤ place) begin told.0 in
-        let over = passes_more r r' (ahead_of x) (ahead_of y) (ahead_of z) is.n place is.passes told.2 passed in
+        let over = passes_more r r' (ahead_of x) (ahead_of y) (ahead_of z) is.n place is.passes seeks.here passed in
         record {
           window = window;
           offset = at ∙ ap (λ m. m + place) is.offset ∙ add_assoc x.offset is.n place ∙ ap (λ m. x.offset + m) (sym count);
           work = work;
           passes = subst (Consumed r r' (ahead_of x) (ahead_of z)) (sym count) over;
           is = λ s read.
-              let here = tells seeks s read in
-              let done = searched seeks place more s read low here.4 in
-              let goes = goes_further limits is.n place s (place_back is.n from place is.back low) here.3 in
+              let (low', high, before, passed', found) = tells seeks s read in
               let within = (left_behind r r' (ahead_of x) (ahead_of z) s (is.n + place) over read).1 in
-              next_place s is.n place skip (omega (arith, is.start, low)) within goes done count both;
+              next_found seeks s read place skip low passed' found within count both;
         }
 
 -- a search in these bytes is one in those ahead

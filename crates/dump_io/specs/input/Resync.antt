@@ -2,53 +2,59 @@
 use Rattle.std.specs.Prelude.{◌≡◌, ◌⊎◌, ◌<◌, ◌≤◌, ◌+◌, ◌-◌, ℕ, List, [], Bool, true, false, Option, Some, drop, length, take}
 use Rattle.std.specs.Io.KnownBytes.{Consumes, IsAtEnd}
 use Rattle.raw_resync.specs.Resync.{GoesOn, IsDisbelieved, IsSound}
-use Rattle.raw_resync.specs.Charge.{Charges, IsBounded, IsLeftOut}
-use Rattle.raw_resync.specs.Seeking.{IsWork, PassesOver}
+use Rattle.raw_resync.specs.Searches.{BelievesLength, DoubtsLength, GoesOnBehind, GoesOnElsewhere, IsFoundAt, PassesOver}
+use Rattle.raw_resync.specs.Seeking.{IsWork, KeepsBound}
 use Rattle.raw_resync.specs.declared.work.Work.{Work}
 use Rattle.raw_tree.specs.declared.reader.limits.Limits.{Limits}
 use Rattle.dump_io.specs.input.Cut.{EndsWith, IsPiece}
 use Rattle.dump_io.specs.input.Reading.{IsReadBehind, IsWindow, Consumed, Stays, ahead_of}
 use Rattle.dump_io.specs.declared.input.ending.Ending.{Ending}
 use Rattle.dump_io.specs.declared.input.ending.Ending.TheVariants as ending
+use Rattle.dump_io.specs.declared.input.resync.Search.{Search}
+use Rattle.dump_io.specs.declared.input.resync.Seen.{Seen}
 use Rattle.dump_io.specs.declared.input.resync.Skip.{Skip}
 use Rattle.dump_io.specs.declared.input.window.Next.{Next}
 use Rattle.dump_io.specs.declared.input.window.Next.TheVariants as next
 use Rattle.dump_io.specs.declared.input.window.Window.{Window}
 
--- searches in s, the end of an input from this offset on, cost this much more, within the bound
-pub record Spends (limits : Limits) (s : List ℕ) (at : ℕ) (old new : Work) : Type 0 where
-  pub charges : Charges limits s old new
-  pub bounded : IsBounded (at + length s) old → IsBounded (at + length s) new
-
--- Documents go on in s, the end of an input from this offset on, after bytes that no document covers. At no place in
--- these do they go on, but where the place was left out: with what is there as many bytes would be charged as eight times those
--- in front of its end.
+-- Documents go on in s, the end of an input from this offset on, after bytes that no document covers; at no place in these, or only at
+-- places that are left out.
 pub record IsNextPlace (limits : Limits) (s : List ℕ) (at : ℕ) (old new : Work) (skip : Skip) : Type 0 where
   pub some : 0 < skip.count
   pub within : skip.count ≤ length s
   pub goes_on : GoesOn limits s skip.count
-  pub passed : (j : ℕ) → 0 < j → j < skip.count → (¬ GoesOn limits s j) ⊎ IsLeftOut limits (at + length s) s new j
-  pub all : skip.all ≡ true → (j : ℕ) → 0 < j → j < skip.count → ¬ GoesOn limits s j
-  pub left : skip.all ≡ false → (j : ℕ) × (0 < j) × (j < skip.count) × IsLeftOut limits (at + length s) s new j
-  pub spends : Spends limits s at old new
+  pub none : skip.all ≡ true → (j : ℕ) → 0 < j → j < skip.count → ¬ GoesOn limits s j
+  pub before : Work
+  pub passed : PassesOver limits s at 1 skip.count old before skip.all
+  pub found : IsFoundAt limits s at skip.count before new
+  pub bounded : KeepsBound (at + length s) old new
 
 -- the document of this length in front of s is damaged, or too deep, and its length isn't believed
-pub record HasWrongLength (limits : Limits) (s : List ℕ) (len : ℕ) : Type 0 where
+pub record HasWrongLength (limits : Limits) (s : List ℕ) (at len : ℕ) (old new : Work) : Type 0 where
   pub within : len ≤ length s
   pub piece : IsPiece limits.bytes (take len s)
   pub damaged : ¬ IsSound limits (take len s)
   pub disbelieved : IsDisbelieved limits s len
+  pub doubted : DoubtsLength limits s at len old new
+  pub bounded : KeepsBound (at + length s) old new
 
--- why bytes in front of s are passed over: no document is there, or one whose length isn't believed
-abbrev pub BreaksWith : Limits → Ending → List ℕ → Type 0
-BreaksWith limits (ending.CutOff count) s = EndsWith limits.bytes (ending.CutOff count) s
-BreaksWith limits (ending.Unsound len) s = EndsWith limits.bytes (ending.Unsound len) s
-BreaksWith limits (ending.WrongLength len) s = HasWrongLength limits s len
+-- why bytes in front of s are passed over, and what searches cost before that is known and then: no document is there, or one whose length
+-- isn't believed
+abbrev pub BreaksWith : Limits → List ℕ → (at : ℕ) → (old new : Work) → Ending → Type 0
+BreaksWith limits s at old new (ending.CutOff count) = EndsWith limits.bytes (ending.CutOff count) s × (new ≡ old)
+BreaksWith limits s at old new (ending.Unsound len) = EndsWith limits.bytes (ending.Unsound len) s × (new ≡ old)
+BreaksWith limits s at old new (ending.WrongLength len) = HasWrongLength limits s at len old new
 
--- The document of this length in front of s, the end of an input from this offset on, is taken at its length: it is without damage,
--- or the length is believed, but where a place was left out.
-abbrev pub IsBelieved : Limits → List ℕ → (at len : ℕ) → Work → Type 0
-IsBelieved limits s at len work = IsSound limits (take len s) ⊎ (IsDisbelieved limits s len → (j : ℕ) × (j ≤ len) × IsLeftOut limits (at + length s) s work j)
+-- the length of the damaged document in front of s is believed; where it is disbelieved by what is there, a place is left out
+pub record HasBelievedLength (limits : Limits) (s : List ℕ) (at len : ℕ) (old new : Work) : Type 0 where
+  pub all : Bool
+  pub believed : BelievesLength limits s at len old new all
+  pub right : all ≡ true → ¬ IsDisbelieved limits s len
+  pub bounded : KeepsBound (at + length s) old new
+
+-- the document of this length in front of s is taken at its length: it is without damage, or the length is believed
+abbrev pub IsBelieved : Limits → List ℕ → (at len : ℕ) → (old new : Work) → Type 0
+IsBelieved limits s at len old new = (IsSound limits (take len s) × (new ≡ old)) ⊎ HasBelievedLength limits s at len old new
 
 -- What the code tells of a search. No public contract cites what follows.
 
@@ -60,31 +66,43 @@ pub record SkipsTo (limits : Limits) (old new : Option (List ℕ)) (window_old w
   pub passes : Consumed old new (ahead_of window_old) (ahead_of window_new) to.count
   pub is : (s : List ℕ) → Consumes (Some s) old (ahead_of window_old) → IsNextPlace limits s window_old.offset work_old work_new to
 
--- bytes were read, and none passed, and what searches in all that was to be read cost
+-- bytes were read, and none passed, and what searches in all that was to be read cost stays within its bound
 pub record Searches (limits : Limits) (old new : Option (List ℕ)) (window_old window_new : Window) (work_old work_new : Work) : Type 0 where
   pub stays : Stays old new window_old window_new
   pub work : IsWork work_new
-  pub spends : (s : List ℕ) → Consumes (Some s) old (ahead_of window_old) → Spends limits s window_old.offset work_old work_new
+  pub bounded : (s : List ℕ) → Consumes (Some s) old (ahead_of window_old) → KeepsBound (window_old.offset + length s) work_old work_new
 
--- whether documents go on inside the document of this length in front of s, the end of an input from this offset on
-abbrev pub GoesOnInside : Limits → List ℕ → (at len : ℕ) → Work → Bool → Type 0
-GoesOnInside limits s at len work true = (j : ℕ) × (0 < j) × (j < len) × GoesOn limits s j
-GoesOnInside limits s at len work false = (all : Bool) × PassesOver limits (at + length s) s 1 len work all
+-- what is seen at these places of s, the end of an input from this offset on
+abbrev pub TellsSeen : Limits → List ℕ → (at : ℕ) → Search → (old new : Work) → (goes_on all : Bool) → Type 0
+TellsSeen limits s at p old new true all =
+    (place : ℕ) × (before : Work) × (p.from ≤ place) × (place < p.until) × PassesOver limits (drop p.base s) (at + p.base) p.from place old before all
+    × IsFoundAt limits (drop p.base s) (at + p.base) place before new
+TellsSeen limits s at p old new false all = PassesOver limits (drop p.base s) (at + p.base) p.from p.until old new all
 
 -- so it is of all that was to be read
-pub record SeesInside (limits : Limits) (old new : Option (List ℕ)) (window_old window_new : Window) (work_old work_new : Work) (len : ℕ) (goes_on : Bool) : Type 0 where
+pub record Sees (limits : Limits) (old new : Option (List ℕ)) (window_old window_new : Window) (work_old work_new : Work) (p : Search) (seen : Seen) : Type 0 where
   pub searches : Searches limits old new window_old window_new work_old work_new
-  pub is : (s : List ℕ) → Consumes (Some s) old (ahead_of window_old) → GoesOnInside limits s window_old.offset len work_new goes_on
+  pub is : (s : List ℕ) → Consumes (Some s) old (ahead_of window_old) → TellsSeen limits s window_old.offset p work_old work_new seen.goes_on seen.all
+
+-- whether documents go on inside the piece of this length in front of s, the end of an input from this offset on, or not behind it
+abbrev pub TellsElsewhere : Limits → List ℕ → (at len : ℕ) → (old new : Work) → Bool → Type 0
+TellsElsewhere limits s at len old new true = GoesOnElsewhere limits s at len old new
+TellsElsewhere limits s at len old new false = (all : Bool) × GoesOnBehind limits s at len old new all
+
+-- so it is of all that was to be read
+pub record GoesElsewhere (limits : Limits) (old new : Option (List ℕ)) (window_old window_new : Window) (work_old work_new : Work) (len : ℕ) (elsewhere : Bool) : Type 0 where
+  pub searches : Searches limits old new window_old window_new work_old work_new
+  pub is : (s : List ℕ) → Consumes (Some s) old (ahead_of window_old) → TellsElsewhere limits s window_old.offset len work_old work_new elsewhere
 
 -- whether the document of this length in front of s isn't taken at its length
-abbrev pub IsDoubted : Limits → List ℕ → (at len : ℕ) → Work → Bool → Type 0
-IsDoubted limits s at len work true = HasWrongLength limits s len
-IsDoubted limits s at len work false = IsBelieved limits s at len work
+abbrev pub IsDoubted : Limits → List ℕ → (at len : ℕ) → (old new : Work) → Bool → Type 0
+IsDoubted limits s at len old new true = HasWrongLength limits s at len old new
+IsDoubted limits s at len old new false = IsBelieved limits s at len old new
 
 -- so it is of all that was to be read
 pub record Doubts (limits : Limits) (old new : Option (List ℕ)) (window_old window_new : Window) (work_old work_new : Work) (len : ℕ) (doubted : Bool) : Type 0 where
   pub searches : Searches limits old new window_old window_new work_old work_new
-  pub is : (s : List ℕ) → Consumes (Some s) old (ahead_of window_old) → IsDoubted limits s window_old.offset len work_new doubted
+  pub is : (s : List ℕ) → Consumes (Some s) old (ahead_of window_old) → IsDoubted limits s window_old.offset len work_old work_new doubted
 
 -- What is next in the bytes ahead: a document in front; nothing, at the end of the input; or why bytes are passed over. Where none
 -- may be, it is why there is no document.
@@ -93,14 +111,14 @@ IsPartAhead limits resync new ahead (next.Document len) = (len ≤ length ahead)
 IsPartAhead limits resync new ahead next.Nothing = (ahead ≡ []) × IsAtEnd new
 IsPartAhead limits resync new ahead (next.End end) = (0 < length ahead) × (resync ≡ false → EndsWith limits.bytes end ahead × IsReadBehind end new)
 
--- why it is so of s, the end of an input from this offset on
-abbrev pub IsPartOf : Limits → (resync : Bool) → List ℕ → ℕ → Work → Next → Type 0
-IsPartOf limits resync s at work (next.Document len) = resync ≡ true → IsBelieved limits s at len work
-IsPartOf limits resync s at work next.Nothing = Unit {0}
-IsPartOf limits resync s at work (next.End end) = BreaksWith limits end s
+-- why it is so of s, the end of an input from this offset on, and what searches cost before and after
+abbrev pub IsPartOf : Limits → (resync : Bool) → List ℕ → ℕ → (old new : Work) → Next → Type 0
+IsPartOf limits resync s at old new (next.Document len) = (resync ≡ true → IsBelieved limits s at len old new) × (resync ≡ false → new ≡ old)
+IsPartOf limits resync s at old new next.Nothing = new ≡ old
+IsPartOf limits resync s at old new (next.End end) = BreaksWith limits s at old new end
 
 -- what is next was told
 pub record TellsPart (limits : Limits) (resync : Bool) (old new : Option (List ℕ)) (window_old window_new : Window) (work_old work_new : Work) (told : Next) : Type 0 where
   pub searches : Searches limits old new window_old window_new work_old work_new
   pub ahead : IsPartAhead limits resync new (ahead_of window_new) told
-  pub is : (s : List ℕ) → Consumes (Some s) old (ahead_of window_old) → IsPartOf limits resync s window_old.offset work_new told
+  pub is : (s : List ℕ) → Consumes (Some s) old (ahead_of window_old) → IsPartOf limits resync s window_old.offset work_old work_new told

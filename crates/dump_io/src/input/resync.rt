@@ -1,16 +1,16 @@
 //! Goes on in an input after bytes that no document begins with, and after lengths that aren't believed.
 #![tactic(auto)]
 
-ghost use Rattle.std.specs.Prelude.{◌≡◌, ◌≤◌, ◌<◌, IfErr, IfOk, length, take};
+ghost use Rattle.std.specs.Prelude.{◌≡◌, ◌≤◌, ◌<◌, ◌+◌, IfErr, IfOk, length, take};
 ghost use Rattle.dump_io.specs.input.Cut.{IsPiece};
-ghost use Rattle.dump_io.specs.input.Reading.{GoesAhead, IsWindow, Stays, ahead_of};
-ghost use Rattle.dump_io.specs.input.Resync.{Doubts, SeesInside, SkipsTo};
+ghost use Rattle.dump_io.specs.input.Reading.{GoesAhead, IsWindow, Stays, ahead_of, offset_of};
+ghost use Rattle.dump_io.specs.input.Resync.{Doubts, GoesElsewhere, Sees, SkipsTo};
 ghost use Rattle.dump_io.specs.lines.Failing.{IsReading};
 ghost use Rattle.raw_resync.specs.Seeking.{IsWork};
 
 use crate::input::ending::Ending;
 use crate::input::window::{Next, Window, look_ahead};
-use crate::lines::failure::Failure;
+use crate::lines::failure::{Failure, in_range};
 use raw_resync::{BEFORE_PLACE, Length, Part, Places, Sought, Work, explain_length, seek};
 use raw_tree::Limits;
 use std::alloc::Global;
@@ -84,8 +84,27 @@ pub fn pass_over<R: Read>(
     Err(Failure::Reading(io::Error::from(io::ErrorKind::TimedOut)))
 }
 
+/// Places of the bytes ahead, counted from the one after `base` of them. What is before that one isn't looked at.
+#[derive(Clone, Copy)]
+struct Search {
+    base: usize,
+    /// the first place
+    from: usize,
+    /// the place after the last
+    until: usize,
+}
+
+/// What is seen at places ahead.
+#[derive(Clone, Copy)]
+struct Seen {
+    /// whether documents go on at one of them
+    goes_on: bool,
+    /// whether each place was checked, up to that one
+    all: bool,
+}
+
 /// Whether the first document ahead, of `len` bytes, is damaged and its length isn't believed: its elements don't follow one
-/// another up to its end, and documents go on inside it.
+/// another up to its end, and documents go on inside it, or don't go on after it.
 pub fn is_doubted<R: Read>(
     alloc: Global,
     reader: &mut R,
@@ -98,15 +117,15 @@ pub fn is_doubted<R: Read>(
     ensures doubts { IfOk result (Doubts limits (R.remaining reader.old) (R.remaining reader.new) window.old window.new work.old work.new len) }
     ensures fails { IfErr result (λ _. Stays (R.remaining reader.old) (R.remaining reader.new) window.old window.new) }
 {
-    match explain_length(alloc, part_of(window, false, limits), len, work)? {
+    match explain_length(part_of(window, false, limits), len, work) {
         Length::Explained => Ok(false),
         Length::LeftOut => Ok(false),
-        Length::Unexplained => goes_on_inside(alloc, reader, window, limits, len, work),
+        Length::Unexplained => goes_on_elsewhere(alloc, reader, window, limits, len, work),
     }
 }
 
-/// Whether documents go on after the first of the `len` bytes ahead.
-fn goes_on_inside<R: Read>(
+/// Whether documents go on after the first of the `len` bytes ahead and before their end, or don't go on behind them.
+fn goes_on_elsewhere<R: Read>(
     alloc: Global,
     reader: &mut R,
     window: &mut Window,
@@ -115,19 +134,79 @@ fn goes_on_inside<R: Read>(
     work: &mut Work,
 ) -> Result<bool, Failure>
     requires { IsWindow window.old × IsWork work.old × (1 ≤ len) × (len ≤ length (ahead_of window.old)) }
-    ensures sees { IfOk result (SeesInside limits (R.remaining reader.old) (R.remaining reader.new) window.old window.new work.old work.new len) }
+    ensures goes { IfOk result (GoesElsewhere limits (R.remaining reader.old) (R.remaining reader.new) window.old window.new work.old work.new len) }
     ensures fails { IfErr result (λ _. Stays (R.remaining reader.old) (R.remaining reader.new) window.old window.new) }
 {
-    let mut from = 1;
+    let inside = Search {
+        base: 0,
+        from: 1,
+        until: len,
+    };
+    let seen = see(alloc, reader, window, limits, inside, work)?;
+    if seen.goes_on {
+        return Ok(true);
+    }
+    let behind = Search {
+        base: len,
+        from: 0,
+        until: 1,
+    };
+    let seen = see(alloc, reader, window, limits, behind, work)?;
+    Ok(seen.all && !seen.goes_on)
+}
+
+/// The offset in the input of the byte after `base` of those ahead. Fails if it is over its range.
+fn offset_behind(window: &Window, base: usize) -> Result<u64, Failure>
+    ensures { IfOk result (λ at. at ≡ offset_of window.now + base) }
+{
+    in_range(window.offset().checked_add(base as u64))
+}
+
+/// Whether documents go on at one of these places.
+fn see<R: Read>(
+    alloc: Global,
+    reader: &mut R,
+    window: &mut Window,
+    limits: Limits,
+    search: Search,
+    work: &mut Work,
+) -> Result<Seen, Failure>
+    requires { IsWindow window.old × IsWork work.old × (search.from ≤ search.until) × (search.base + search.from ≤ length (ahead_of window.old)) }
+    ensures sees { IfOk result (Sees limits (R.remaining reader.old) (R.remaining reader.new) window.old window.new work.old work.new search) }
+    ensures fails { IfErr result (λ _. Stays (R.remaining reader.old) (R.remaining reader.new) window.old window.new) }
+{
+    let at = offset_behind(window, search.base)?;
+    let mut from = search.from;
     let mut is_last = false;
+    let mut are_all = true;
     for _ in 0..u64::MAX {
-        let places = Places { from, until: len };
-        match seek(alloc, part_of(window, is_last, limits), places, work)? {
-            Sought::Found { .. } => return Ok(true),
-            Sought::Nowhere { .. } => return Ok(false),
-            Sought::Wants { place, count, .. } => {
-                is_last = !window.look(reader, count)?;
+        let part = Part {
+            bytes: window.ahead().split_at(search.base).1,
+            is_last,
+            at,
+            limits,
+        };
+        let places = Places {
+            from,
+            until: search.until,
+        };
+        match seek(alloc, part, places, work)? {
+            Sought::Found { place: _, all } => {
+                return Ok(Seen {
+                    goes_on: true,
+                    all: are_all && all,
+                });
+            }
+            Sought::Nowhere { all } => {
+                return Ok(Seen {
+                    goes_on: false,
+                    all: are_all && all,
+                });
+            }
+            Sought::Wants { place, count, all } => {
+                is_last = !window.look(reader, search.base.saturating_add(count))?;
                 from = place;
+                are_all = are_all && all;
             }
         }
     }

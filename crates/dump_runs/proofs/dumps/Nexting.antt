@@ -9,7 +9,7 @@ use Rattle.raw_tree.specs.declared.reader.limits.Limits.{Limits}
 use Rattle.dump_io.specs.input.Cut.{IsPiece}
 use Rattle.dump_io.specs.input.Endings.{ending_line}
 use Rattle.dump_io.specs.input.Reading.{GoesAhead, IsWindow, Stays, TellsNext, ahead_of, offset_of}
-use Rattle.dump_io.specs.input.Resync.{BreaksWith, Doubts, IsBelieved, IsNextPlace, SkipsTo, Spends, TellsPart}
+use Rattle.dump_io.specs.input.Resync.{BreaksWith, Doubts, IsBelieved, IsNextPlace, SkipsTo, TellsPart}
 use Rattle.dump_io.specs.lines.Failing.{IsReading}
 use Rattle.dump_io.specs.lines.Fronts.{HasFront}
 use Rattle.dump_io.specs.lines.Origins.{Origin, origin_of}
@@ -22,7 +22,7 @@ use Rattle.dump_io.specs.declared.input.window.Window.{Window}
 use Rattle.dump_io.specs.declared.lines.failure.Failure.{Failure}
 use Rattle.dump_io.specs.declared.lines.find.Finding.{Finding}
 use Rattle.dump_io.specs.declared.lines.style.Style.{Style}
-use Rattle.dump_io.proofs.Face.{front_kept, goes_ahead, passes_none, place_since, stays_on, tells_doubted, tells_other, tells_taken}
+use Rattle.dump_io.proofs.Face.{front_kept, goes_ahead, passes_none, stays_on, tells_doubted, tells_other, tells_taken}
 use Rattle.dump_commands.specs.Counting.{count_document}
 use Rattle.dump_commands.specs.Reporting.{IsJudged, lines_of_repeats}
 use Rattle.dump_commands.specs.declared.counts.Counts.{Counts}
@@ -31,7 +31,7 @@ use Rattle.dump_runs.specs.dumps.Halting.{IsNextFront, IsNextPiece, IsPieceFront
 use Rattle.dump_runs.specs.Plays.{Held, Played}
 use Rattle.dump_runs.specs.dumps.Portion.{IsRunOver}
 use Rattle.dump_runs.specs.Limits.{style_at}
-use Rattle.dump_runs.specs.dumps.Run.{Entry, Gap, IsGap, IsPart, IsTaken, Part, Point, after, events_of, events_of_gap, findings_in, gap, memory_of, piece, repeats_in, style_here, texts_of}
+use Rattle.dump_runs.specs.dumps.Run.{Entry, Gap, IsGap, IsGapOf, IsPart, IsTaken, Part, Point, after, events_of, events_of_gap, findings_in, gap, memory_of, piece, repeats_in, style_here, texts_of}
 use Rattle.dump_runs.specs.dumps.Steps.{GivesEntry, GivesPiece, HaltsGap, HaltsNext, HaltsPiece, IsPassed, IsPieceOf, Looks, Passes, PassesGap, PassesNext, Place, next_of, place_of, point_at, point_of}
 use Rattle.dump_runs.specs.declared.dumps.piece.Piece.{Piece}
 use Rattle.dump_runs.specs.declared.dumps.piece.Step.{Step}
@@ -153,9 +153,9 @@ passes_piece {job = job} {x = x} {y = y} {z = z} {p = p} {e = e} {old = old} {mi
         g.is,
         if_known rest x.left (ahead_of x.window) (λ (s : List ℕ). IsTaken job s here e)
             (λ s read. record {
-              believed = λ asked. subst (λ (u : Work). IsBelieved job.limits s (offset_of x.window) (length e.bytes) u) (sym c.worked)
-                  (subst (λ (m : ℕ). IsBelieved job.limits s (offset_of x.window) m y.work) len_is (t.tells.is s read asked));
-              spends = subst (λ (u : Work). Spends job.limits s (offset_of x.window) x.work u) (sym c.worked) (t.tells.searches.spends s read);
+              believed = λ asked. subst (λ (u : Work). IsBelieved job.limits s (offset_of x.window) (length e.bytes) x.work u) (sym c.worked)
+                  (subst (λ (m : ℕ). IsBelieved job.limits s (offset_of x.window) m x.work y.work) len_is ((t.tells.is s read).0 asked));
+              free = λ not. c.worked ∙ (t.tells.is s read).1 not;
             }) read,
       );
       played = played;
@@ -173,8 +173,8 @@ halts_piece {job = job} {x = x} {y = y} {p = p} {len = len} {old = old} t (es, p
       (λ s read. record {
         in_front = subst (HasFront s) (sym t.bytes) (first_front s (ahead_of y.window) len (ahead_front s (ahead_of y.window) y.left (t.tells.searches.stays.looks.is_read (Some s) read)));
         work = y.work;
-        believed = λ asked. subst (λ (m : ℕ). IsBelieved job.limits s (offset_of x.window) m y.work) (sym (size t)) (t.tells.is s read asked);
-        spends = t.tells.searches.spends s read;
+        believed = λ asked. subst (λ (m : ℕ). IsBelieved job.limits s (offset_of x.window) m x.work y.work) (sym (size t)) ((t.tells.is s read).0 asked);
+        free = (t.tells.is s read).1;
       }) read in
       inr (inl (b, is, there, subst (λ (h : Point). IsPieceFront job h b es) (here_is old t) (front x.work))),
 )
@@ -215,11 +215,13 @@ gap_is : {job : Job} {x y : Place} {end : Ending} (old : Held) (z : Place) (skip
     → (rest : Option (List ℕ)) → Consumes rest x.left (ahead_of x.window) → IsGap job rest (point_of x old) (record { bytes = s.passes.bytes; end = end; skip = skip; work = z.work })
 gap_is {job = job} {x = x} {y = y} {end = end} old z skip t s rest read = record {
   asked = t.asked;
-  breaks = if_known rest x.left (ahead_of x.window) (BreaksWith job.limits end) t.tells.is read;
   len = s.passes.len;
-  next = if_known rest x.left (ahead_of x.window) (λ (all : List ℕ). IsNextPlace job.limits all (offset_of x.window) x.work z.work skip)
-      (λ all reads. place_since all (offset_of x.window) x.work y.work z.work skip (t.tells.searches.spends all reads)
-      (subst (λ (m : ℕ). IsNextPlace job.limits all m y.work z.work skip) t.tells.searches.stays.offset (s.is all (t.tells.searches.stays.looks.is_read (Some all) reads)))) read;
+  next = if_known rest x.left (ahead_of x.window) (λ (all : List ℕ). IsGapOf job all (point_of x old) (record { bytes = s.passes.bytes; end = end; skip = skip; work = z.work }))
+      (λ all reads. (
+        y.work,
+        t.tells.is all reads,
+        subst (λ (m : ℕ). IsNextPlace job.limits all m y.work z.work skip) t.tells.searches.stays.offset (s.is all (t.tells.searches.stays.looks.is_read (Some all) reads)),
+      )) read;
 }
 
 -- they are a gap

@@ -3,7 +3,7 @@ use Rattle.std.specs.Prelude.{◌≡◌, ◌⊎◌, ◌++◌, ◌∷◌, ℕ, Li
 use Rattle.raw_resync.specs.declared.work.Work.{Work}
 use Rattle.dump_io.specs.input.Cut.{EndsWith, IsPiece}
 use Rattle.dump_io.specs.input.Endings.{ending_line}
-use Rattle.dump_io.specs.input.Resync.{IsBelieved, Spends}
+use Rattle.dump_io.specs.input.Resync.{IsBelieved}
 use Rattle.dump_io.specs.lines.Find.{Account}
 use Rattle.dump_io.specs.lines.Fronts.{HasFront}
 use Rattle.dump_io.specs.declared.input.ending.Ending.{Ending}
@@ -40,8 +40,8 @@ IsPieceFront job here b es =
 pub record IsNextPiece (job : Job) (s : List ℕ) (here : Point) (b : List ℕ) : Type 0 where
   pub in_front : HasFront s b
   pub work : Work
-  pub believed : job.resync ≡ true → IsBelieved job.limits s here.at.offset (length b) work
-  pub spends : Spends job.limits s here.at.offset here.work work
+  pub believed : job.resync ≡ true → IsBelieved job.limits s here.at.offset (length b) here.work work
+  pub free : job.resync ≡ false → work ≡ here.work
 
 -- this is the line of what is next here and isn't a document: of a gap; or of bytes that are left, as far as they were read
 abbrev pub IsNextLine : Job → (rest : Option (List ℕ)) → Point → List ℕ → Type 0

@@ -6,7 +6,7 @@ use Rattle.raw_resync.specs.Seeking.{no_work}
 use Rattle.raw_resync.specs.declared.work.Work.{Work}
 use Rattle.dump_io.specs.input.Cut.{IsPiece}
 use Rattle.dump_io.specs.input.Endings.{ending_line}
-use Rattle.dump_io.specs.input.Resync.{BreaksWith, IsBelieved, IsNextPlace, Spends}
+use Rattle.dump_io.specs.input.Resync.{BreaksWith, IsBelieved, IsNextPlace}
 use Rattle.dump_io.specs.lines.Find.{Account}
 use Rattle.dump_io.specs.lines.Origins.{Origin, Repeat, origin_at}
 use Rattle.dump_io.specs.declared.input.ending.Ending.{Ending}
@@ -111,16 +111,19 @@ pub record IsEntry (job : Job) (here : Point) (e : Entry) : Type 0 where
 -- A document is in front of s, the input from here on, and is taken at its length, where bytes may be passed over; and what finding
 -- that out cost.
 pub record IsTaken (job : Job) (s : List ℕ) (here : Point) (e : Entry) : Type 0 where
-  pub believed : job.resync ≡ true → IsBelieved job.limits s here.at.offset (length e.bytes) e.work
-  pub spends : Spends job.limits s here.at.offset here.work e.work
+  pub believed : job.resync ≡ true → IsBelieved job.limits s here.at.offset (length e.bytes) here.work e.work
+  pub free : job.resync ≡ false → e.work ≡ here.work
 
--- What is so of a gap that begins here, where the rest of the input is known or not: it is asked for, no document is in front of
--- it, or a damaged one whose length isn't believed, and the next place at which documents are found to go on is after it.
+-- No document is in front of s, the input from here on, or a damaged one whose length isn't believed, and the next place at which documents
+-- are found to go on is after the gap; and what searches cost before and after finding that out.
+abbrev pub IsGapOf : Job → List ℕ → Point → Gap → Type 0
+IsGapOf job s here g = (before : Work) × BreaksWith job.limits s here.at.offset here.work before g.end × IsNextPlace job.limits s here.at.offset before g.work g.skip
+
+-- what is so of a gap that begins here, where the rest of the input is known or not: it is asked for
 pub record IsGap (job : Job) (rest : Option (List ℕ)) (here : Point) (g : Gap) : Type 0 where
   pub asked : job.resync ≡ true
-  pub breaks : IfSome rest (λ s. BreaksWith job.limits g.end s)
   pub len : length g.bytes ≡ g.skip.count
-  pub next : IfSome rest (λ s. IsNextPlace job.limits s here.at.offset here.work g.work g.skip)
+  pub next : IfSome rest (λ s. IsGapOf job s here g)
 
 -- what is so of a part that begins here
 abbrev pub IsPart : Job → (rest : Option (List ℕ)) → Point → Part → Type 0

@@ -7,8 +7,8 @@ use Rattle.raw_resync.proofs.length.walked_len.Goals as goal
 pub elements-init : goal.elements-init
 elements-init c = walked_none (bytes_of c.args.document) _ c.args.document.envelope c.new-elements.ensures
 
-pub returns-in_default : goal.returns-in_default
-returns-in_default c = walked_all c.elements.invariant _ c.in_default.ensures
+pub returns-in_default-clause-walked : goal.returns-in_default-clause-walked
+returns-in_default-clause-walked c = walked_all c.elements.invariant _ c.args.document.envelope c.in_default.ensures
 
 pub overflow_add-offset-in-elements : goal.overflow_add-offset-in-elements
 overflow_add-offset-in-elements c =

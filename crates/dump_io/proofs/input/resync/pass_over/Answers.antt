@@ -16,7 +16,7 @@ pass-requires g c =
     let seeks = seeks_ahead y
     c.part_of.ensures.limits c.part_of.ensures.bytes c.part_of.ensures.last c.part_of.ensures.at c.in-Found.is
     c.in_ok-place.ensures.sought in
-    (c.loop.invariant.window, (seeks.tells [] (λ is. refl)).2)
+    (c.loop.invariant.window, seeks.here)
 
 pub returns-then-are_all-clause-skips : goal.returns-then-are_all-clause-skips
 returns-then-are_all-clause-skips g c =
@@ -54,7 +54,7 @@ pass-requires-in-Wants g c =
     let seeks = seeks_ahead c.loop.window
     c.part_of.ensures.limits c.part_of.ensures.bytes c.part_of.ensures.last c.part_of.ensures.at
     c.in-Wants.is c.in_ok-place.ensures.sought in
-    let within : c.in-Wants.place ≤ length (ahead_of c.loop.window) = (seeks.tells [] (λ is. refl)).2 in
+    let within : c.in-Wants.place ≤ length (ahead_of c.loop.window) = seeks.here.0 in
     (c.loop.invariant.window, omega (arith, within))
 
 pub overflow_sub-count : goal.overflow_sub-count
@@ -63,9 +63,8 @@ overflow_sub-count g c =
     let seeks = seeks_ahead c.loop.window
     c.part_of.ensures.limits c.part_of.ensures.bytes c.part_of.ensures.last c.part_of.ensures.at
     c.in-Wants.is c.in_ok-place.ensures.sought in
-    let told = seeks.tells [] (λ is. refl) in
-    let within : c.in-Wants.place ≤ length (ahead_of c.loop.window) = told.2 in
-    let more : length (ahead_of c.loop.window) < c.in-Wants.count = told.3.1 in
+    let within : c.in-Wants.place ≤ length (ahead_of c.loop.window) = seeks.here.0 in
+    let more : length (ahead_of c.loop.window) < c.in-Wants.count = seeks.here.1.1 in
     omega (arith, within, more)
 
 pub look-requires : goal.look-requires
@@ -80,9 +79,8 @@ returns-in_err-is_last-in-Wants-clause-fails g c =
     let seeks = seeks_ahead y
     c.part_of.ensures.limits c.part_of.ensures.bytes c.part_of.ensures.last c.part_of.ensures.at
     c.in-Wants.is c.in_ok-place.ensures.sought in
-    let told = seeks.tells [] (λ is. refl) in
     let gone = c.in-Wants.place - c.min-from.result in
-    let within : c.in-Wants.place ≤ length (ahead_of y) = told.2 in
+    let within : c.in-Wants.place ≤ length (ahead_of y) = seeks.here.0 in
     let one = passes_more (r c.args.reader.now) (r c.loop.reader) (ahead_of c.args.window.now) (ahead_of y) (ahead_of c.pass-in-Wants.new.self) inv.n gone inv.passes
     (omega (arith, within)) c.in_ok-pass-in-Wants.ensures.passed.1 in
     let at : c.pass-in-Wants.new.self.offset ≡ c.args.window.now.offset + (inv.n + gone) =
@@ -97,8 +95,7 @@ unreachable-requires g c =
     let seeks = seeks_ahead c.loop.window
     c.part_of.ensures.limits c.part_of.ensures.bytes c.part_of.ensures.last c.part_of.ensures.at
     c.in-Nowhere.is c.in_ok-place.ensures.sought in
-    let told = seeks.tells [] (λ is. refl) in
-    let long : 18446744073709551615 ≤ length (ahead_of c.loop.window) = told.0 in
+    let long : 18446744073709551615 ≤ length (ahead_of c.loop.window) = seeks.here in
     let same : length c.part_of.result.bytes.now ≡ length (ahead_of c.loop.window) = ap length c.part_of.ensures.bytes in
     omega (arith, long, same)
 
