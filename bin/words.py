@@ -1,5 +1,5 @@
 """Answers the words that ask a program for nothing that it has to be built for, as it would answer them: help, its version, an unknown command
-or option, a FILE that isn't there. Its texts are those of words/CRATE, which checks/words.py takes from the program itself.
+or option, a FILE that isn't there. Its texts are those of words/CRATE.txt, which checks/words.py takes from the program itself.
 
     words.py CRATE [--unproved] WORD..   the status is that of the program, or 100 if it has to be run
 
@@ -41,7 +41,7 @@ class Asked(NamedTuple):
 def texts(crate: str) -> Dict[str, Text]:
     """The texts of a program, by the words that it is given."""
     found = {}
-    file = Path(__file__).resolve().parent / "words" / crate
+    file = Path(__file__).resolve().parent / "words" / f"{crate}.txt"
     for part in re.split(r"(?m)^== ", file.read_text(encoding="utf-8"))[1:]:
         head, _, text = part.partition("\n")
         status, stream, _, *words = head.split(" ")

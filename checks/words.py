@@ -1,4 +1,4 @@
-"""Whether bin/words/CRATE has what a program prints of words that it needn't be built for, and bin/words.py answers as the program does.
+"""Whether bin/words/CRATE.txt has what a program prints of words that it needn't be built for, and bin/words.py answers as the program does.
 
     words.py [--write] PROGRAM CRATE   with --write the file is written
 """
@@ -94,12 +94,12 @@ def wrongs(program: str, crate: str) -> Iterator[str]:
 
 
 def main(program: str, crate: str, is_written: bool) -> int:
-    file = TOP / "bin" / "words" / crate
+    file = TOP / "bin" / "words" / f"{crate}.txt"
     text = in_a_file(taken(program))
     if is_written:
         file.write_text(text, encoding="utf-8")
     elif not file.exists() or file.read_text(encoding="utf-8") != text:
-        print(f"words: bin/words/{crate} hasn't what {crate} prints now: checks/words.py --write {program} {crate} writes it", file=sys.stderr)
+        print(f"words: bin/words/{crate}.txt hasn't what {crate} prints now: checks/words.py --write {program} {crate} writes it", file=sys.stderr)
         return 1
     with tempfile.TemporaryDirectory() as folder:
         (Path(folder) / "folder").mkdir()

@@ -2,7 +2,7 @@
 """Prints how a shell completes the words of bsonraw-dump: its commands, their options and the values of these, by the help texts of the
 program, which are in bin/words.
 
-    completions.py bash|zsh|fish [FILE]   FILE has the help texts; without it, it is bin/words/bsonraw_dump
+    completions.py bash|zsh|fish [FILE]   FILE has the help texts; without it, it is bin/words/bsonraw_dump.txt
 """
 
 import re
@@ -144,7 +144,7 @@ def main(arguments: List[str]) -> int:
     if not 1 <= len(arguments) <= 2 or arguments[0] not in SHELLS:
         print(__doc__, file=sys.stderr)
         return 2
-    file = Path(arguments[1]) if arguments[1:] else Path(__file__).resolve().parent.parent / "bin" / "words" / "bsonraw_dump"
+    file = Path(arguments[1]) if arguments[1:] else Path(__file__).resolve().parent.parent / "bin" / "words" / "bsonraw_dump.txt"
     by_words = texts(file)
     sys.stdout.write(SHELLS[arguments[0]](options(by_words["--help"]), commands(by_words)))
     return 0
