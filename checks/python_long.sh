@@ -35,9 +35,11 @@ if [ -f "$asan" ] && CC=clang LDSHARED="clang -shared" BSONRAW_CFLAGS="-fsanitiz
     BSONRAW_LDFLAGS="-fsanitize=address -shared-libasan" built "$python" "$work/asan"; then
     tests="test_documents test_calls.Buffers test_calls.Hostile test_calls.Errors test_dumps test_columns test_json test_texts test_values
         test_made test_large test_service test_resync test_stack test_foreign test_edit test_compat test_into"
-    # shellcheck disable=SC2086 # a list of tests
-    LD_PRELOAD=$asan ASAN_OPTIONS=detect_leaks=0 PYTHONMALLOC=malloc PYTHONPATH=$work/asan:python/tests \
-        "$python" -W ignore -m unittest $tests >"$work/said" 2>&1 || { cat "$work/said" >&2 && failed=1; }
+    for test in $tests; do # one by one, so that a run that is ended early has said what it covered
+        LD_PRELOAD=$asan ASAN_OPTIONS=detect_leaks=0 PYTHONMALLOC=malloc PYTHONPATH=$work/asan:python/tests \
+            "$python" -W ignore -m unittest "$test" >"$work/said" 2>&1 && echo "python_long: $test passes under AddressSanitizer" ||
+            { cat "$work/said" >&2 && failed=1; }
+    done
     LD_PRELOAD=$asan ASAN_OPTIONS=detect_leaks=0 PYTHONMALLOC=malloc PYTHONPATH=$work/asan:python/tests \
         "$python" python/tests/long.py 100000 >"$work/said" 2>&1
     grep -A30 'ERROR: AddressSanitizer' "$work/said" >&2 && failed=1

@@ -86,7 +86,7 @@ def main(arguments: Optional[List[str]] = None) -> int:
         sys.stderr.close()
         return 1
     except OSError as error:
-        print(f"{error.filename}: {error.strerror}", file=sys.stderr)
+        print(f"{error.filename or 'standard output'}: {error.strerror}", file=sys.stderr)
         return 2
     return result
 

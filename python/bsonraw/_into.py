@@ -7,6 +7,7 @@ from datetime import date, datetime
 from decimal import Decimal
 from enum import Enum
 from functools import lru_cache
+from importlib import import_module
 from pathlib import PurePath
 from typing import Any, Callable, Dict, List, Literal, Mapping, Sequence, Tuple, TypeVar, Union, get_args, get_origin, get_type_hints
 from uuid import UUID
@@ -211,8 +212,7 @@ def _dataclass(kind: Any, variables: Variables) -> Maker:
 
 
 def _attrs(kind: Any, variables: Variables) -> Maker:
-    import attr
-
+    attr: Any = import_module("attr")
     fields = [field for field in attr.fields(kind) if field.init]
     hints = {**{field.name: Any if field.type is None else field.type for field in fields}, **_hints(kind, variables)}
     names = {field.name: field.name for field in fields}
@@ -229,14 +229,13 @@ def _typed_dict(kind: Any, variables: Variables) -> Maker:
 
 def _pydantic(kind: Any) -> Maker:
     """Its own validation, whose first error says the place."""
-    from pydantic import ValidationError
-
+    refused: Any = import_module("pydantic").ValidationError
     validate = getattr(kind, "model_validate", None) or kind.parse_obj
 
     def make(value: Any, keys: Keys) -> Any:
         try:
             return validate(value)
-        except ValidationError as error:
+        except refused as error:
             first = error.errors()[0]
             raise MismatchError(first["msg"], (*keys, *map(str, first["loc"])), kind) from error
 

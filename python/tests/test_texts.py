@@ -125,6 +125,9 @@ class FromJson(unittest.TestCase):
         self.assertTrue(run("check", "-", data=good + b"\3")[1].startswith("-:22: at offset 22: "))
         self.assertEqual(run("check", "--max-bytes", "5", "-", data=good)[:2], (1, "-:0: at offset 0: more bytes than allowed: max_bytes is 5\n"))
         self.assertEqual((run("check", "/nowhere")[0], run()[0]), (2, 2))
+        with open("/dev/full", "wb") as full:
+            done = subprocess.run([sys.executable, "-m", "bsonraw", "json", "-"], input=good, stdout=full, stderr=subprocess.PIPE, timeout=60)
+        self.assertTrue(done.returncode == 2 and done.stderr.startswith(b"standard output: "), done.stderr)
 
     def test_made_documents_come_back(self) -> None:
         count = 0
