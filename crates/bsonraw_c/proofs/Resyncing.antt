@@ -80,20 +80,6 @@ module _ (limits : Limits) (at : ℕ) (s : List ℕ) (last : Bool) where
         → GoesOnward limits at s old new (record { count = len; is_believed = true; all = false })
     behind_left old new walks bound = (believed old new false (inr (inl (walks, refl))), bound_of old new bound)
 
-    -- they don't, and documents go on behind it
-    pub behind_piece : (start old new : Work) (all : Bool) → Walks at s len start old lengths.Unexplained → KeepsBound (at + len) start old → GoesOnBehind limits s at len old new all
-        → KeepsBound (at + length s) old new → GoesOnward limits at s start new (record { count = len; is_believed = true; all = all })
-    behind_piece start old new all walks bound goes more =
-        (believed start new all (inr (inr (old, walks, goes))), keeps_on (at + length s) start old new (bound_of start old bound) more)
-
-    -- or elsewhere
-    pub elsewhere_first : (start old mid new : Work) (onward : Onward) → Walks at s len start old lengths.Unexplained → KeepsBound (at + len) start old → GoesOnElsewhere limits s at len old mid
-        → KeepsBound (at + length s) old mid → FindsFirst limits at s mid new onward → GoesOnward limits at s start new onward
-    elsewhere_first start old mid new onward walks bound goes more (is, first, cost) =
-        let doubts : DoubtsLength limits s at len start mid = (old, walks, goes) in
-        (subst (λ b. IsOnward limits s at start new onward.count b onward.all) (sym is) (mid, inr (len, piece, doubts_disbelieved limits s at len start mid doubts, doubts), first),
-        keeps_on (at + length s) start mid new (keeps_on (at + length s) start old mid (bound_of start old bound) more) cost)
-
     -- documents go on inside it
     pub inside_elsewhere : (old new : Work) (place : ℕ) (all : Bool) → Seeks limits s last at (record { from = 1; until = len }) old new (sought.Found place all)
         → LooksBehind limits at s len old new (record { elsewhere = true; all = all })
@@ -102,9 +88,9 @@ module _ (limits : Limits) (at : ℕ) (s : List ℕ) (last : Bool) where
         (inl (place, all, (before, omega (arith, low), high, passed, found)), q.bounded)
 
     -- or not
-    pub inside_passed : (old mid new : Work) (all : Bool) (behind : Behind) → Seeks limits s last at (record { from = 1; until = len }) old mid (sought.Nowhere all)
+    pub inside_passed : (old mid new : Work) {all : Bool} (behind : Behind) → Seeks limits s last at (record { from = 1; until = len }) old mid (sought.Nowhere all)
         → LooksAtEnd limits at s len mid new all behind → LooksBehind limits at s len old new behind
-    inside_passed old mid new all behind q is = let (told, bound) = is old (sought_told q) in (told, keeps_on (at + length s) old mid new q.bounded bound)
+    inside_passed old mid new {all} behind q is = let (told, bound) = is old (sought_told q) in (told, keeps_on (at + length s) old mid new q.bounded bound)
 
     -- what is found behind it
     rest_bound : (old new : Work) → KeepsBound (at + len + length (drop len s)) old new → KeepsBound (at + length s) old new
@@ -125,6 +111,29 @@ module _ (limits : Limits) (at : ℕ) (s : List ℕ) (last : Bool) where
         → LooksAtEnd limits at s len old new all (record { elsewhere = looked; all = false })
     passed_at_end old new all true q inside over = (inr (old, all, over, one_looked (sought_told q)), rest_bound old new q.bounded)
     passed_at_end old new all false q inside over = ((old, all, false, over, one_left (sought_told q), and_false all), rest_bound old new q.bounded)
+
+-- where the elements of a piece in front don't explain its length
+module _ (limits : Limits) (at : ℕ) (s : List ℕ) (len : ℕ) (piece : BeginsPiece limits.bytes s len) where
+  within_all : (old new : Work) → KeepsBound (at + len) old new → KeepsBound (at + length s) old new
+  within_all old new bound = let within : len ≤ length s = piece.0 in keeps_before (at + len) (at + length s) old new (omega (arith, within)) bound
+
+  -- documents go on behind it
+  pub behind_piece : (start old new : Work) (all : Bool) → Walks at s len start old lengths.Unexplained × KeepsBound (at + len) start old
+      → GoesOnBehind limits s at len old new all × KeepsBound (at + length s) old new → GoesOnward limits at s start new (record { count = len; is_believed = true; all = all })
+  behind_piece start old new all (walks, bound) (goes, more) =
+      let believes : BelievesLength limits s at len start new all = inr (inr (old, walks, goes)) in
+      let right : all ≡ true → ¬ IsDisbelieved limits s len = λ is. believes_explained limits s at len start new (subst (BelievesLength limits s at len start new) is believes) in
+      (record { piece = piece; right = right; believed = believes }, keeps_on (at + length s) start old new (within_all start old bound) more)
+
+  -- or elsewhere
+  pub elsewhere_first : (start old mid new : Work) (onward : Onward) → Walks at s len start old lengths.Unexplained × KeepsBound (at + len) start old
+      → (GoesOnElsewhere limits s at len old mid × KeepsBound (at + length s) old mid) × FindsFirst limits at s mid new onward → GoesOnward limits at s start new onward
+  elsewhere_first start old mid new onward (walks, bound) ((goes, more), (is, first, cost)) =
+      let doubts : DoubtsLength limits s at len start mid = (old, walks, goes) in
+      let none = inr (len, piece, doubts_disbelieved limits s at len start mid doubts, doubts) in (
+        subst (λ b. IsOnward limits s at start new onward.count b onward.all) (sym is) (mid, none, first),
+        keeps_on (at + length s) start mid new (keeps_on (at + length s) start old mid (within_all start old bound) more) cost,
+      )
 
 -- a reader goes on there
 module _ (limits : Limits) (b : List ℕ) (damage : ℕ) (before : Resync) (work : Work) (onward : Onward) (within : damage < length b) (bound : IsBounded (length b) (work_of before))

@@ -26,13 +26,6 @@ same_front most s b rest c more is split is' split' =
       sym (drop-append_seam b rest) ∙ ap (drop (length b)) both ∙ ap (λ n. drop n (c ++ more)) same ∙ drop-append_seam c more,
     )
 
--- a piece has bytes
-pub some_bytes : (most : ℕ) (s b rest : List ℕ) → IsPiece most b → s ≡ b ++ rest → 0 < length s
-some_bytes most s b rest is split =
-    let enough : 5 ≤ length b = is.sound.0 in
-    let len : length s ≡ length b + length rest = ap length split ∙ length-append b rest in
-    omega arith
-
 -- no piece is at the front of t, whatever follows it
 pub no_piece : (most : ℕ) (last : Bool) (t rest b more : List ℕ) → LacksPiece most last t → MayFollow last rest → IsPiece most b → ¬ (t ++ rest ≡ b ++ more)
 no_piece most last t rest b more (inl (is, some, inl short)) may piece split =

@@ -137,9 +137,9 @@ module _ {limits : Limits} {r r' : Option (List ℕ)} {x y : Window} {v w w' : W
   passed place more s read high over = passes_after h.low high (h.over s read) over
 
   -- it wants more, and more is read
-  pub sought_on : {r'' : Option (List ℕ)} (z : Window) (place n want : ℕ) (more there last' : Bool) → told ≡ sought.Wants place n more → SeesAhead r' r'' y z want there
-      → (last' ≡ true → there ≡ false) → IsSought limits r r'' x z v w' p place last' (all && more)
-  sought_on {r'' = r''} z place n want more there last' is sees ends =
+  pub sought_on : {r'' : Option (List ℕ)} {want : ℕ} {there : Bool} (z : Window) (place n : ℕ) (more last' : Bool) → told ≡ sought.Wants place n more
+      → SeesAhead r' r'' y z want there → (last' ≡ true → there ≡ false) → IsSought limits r r'' x z v w' p place last' (all && more)
+  sought_on {r'' = r''} {want = want} {there = there} z place n more last' is sees ends =
       let here = subst (TellsSought limits (drop p.base (ahead_of y) ++ []) (y.offset + p.base) (left_of p from) w w') is (seeks.tells [] (λ yes. refl)) in
       let there' = subst (IsSoughtIn limits (drop p.base (ahead_of y)) last (left_of p from)) is seeks.here in
       let low : from ≤ place = here.0 in
@@ -258,9 +258,9 @@ no_sound : (limits : Limits) (b : List ℕ) → ¬ IsFramed b → ¬ IsSound lim
 no_sound limits b unframed sound = unframed (sound_framed limits b sound)
 
 -- documents go on inside it or not at its end, or only at its end
-inside : (limits : Limits) (s : List ℕ) (at len : ℕ) (old mid new : Work) (doubted : Bool) → IsPiece limits.bytes (take len s) → len ≤ length s
+inside : (limits : Limits) (s : List ℕ) (at len : ℕ) (old mid new : Work) (doubted : Bool) → IsPiece limits.bytes (take len s) × (len ≤ length s)
     → Walks at s len old mid lengths.Unexplained → KeepsBound (at + length s) old new → TellsElsewhere limits s at len mid new doubted → IsDoubted limits s at len old new doubted
-inside limits s at len old mid new true front few walks bound how =
+inside limits s at len old mid new true (front, few) walks bound how =
     let doubts : DoubtsLength limits s at len old new = (mid, walks, how) in
     record {
       within = few;
@@ -270,7 +270,7 @@ inside limits s at len old mid new true front few walks bound how =
       doubted = doubts;
       bounded = bound;
     }
-inside limits s at len old mid new false front few walks bound (all, behind) =
+inside limits s at len old mid new false front walks bound (all, behind) =
     let believes : BelievesLength limits s at len old new all = inr (inr (mid, walks, behind)) in
     inr (record { all = all; believed = believes; right = λ is. believes_explained limits s at len old new (subst (BelievesLength limits s at len old new) is believes); bounded = bound })
 
@@ -322,7 +322,8 @@ module _ {limits : Limits} {r : Option (List ℕ)} {x : Window} {v w : Work} {le
         searches = all;
         is = λ s read.
             let (same, few) = front_take s (ahead_of x) r len read within in
-            inside limits s x.offset len v w w' doubted (subst (IsPiece limits.bytes) (sym same) piece) few (shown r x v w len within lengths.Unexplained walks s read) (all.bounded s read) (sees.is s read);
+            inside limits s x.offset len v w w' doubted (subst (IsPiece limits.bytes) (sym same) piece, few) (shown r x v w len within lengths.Unexplained walks s read)
+            (all.bounded s read) (sees.is s read);
       }
 
 some_ahead : (most : ℕ) (e : Ending) (x : List ℕ) → EndsWith most e x → 0 < length x

@@ -179,9 +179,9 @@ module _ {limits : Limits} {r r' : Option (List ℕ)} {x y : Window} {old mid : 
 
     -- documents go on at a place, and what is passed before it
     next_found : {before : Work} (s : List ℕ) (read : Consumes (Some s) r (ahead_of x)) (place : ℕ) {more : Bool} (skip : Skip) → from ≤ place
-        → PassesOver limits (drop is.n s) (x.offset + is.n) q.from place mid before more → IsFoundAt limits (drop is.n s) (x.offset + is.n) place before new
-        → is.n + place ≤ length s → skip.count ≡ is.n + place → skip.all ≡ (all && more) → IsNextPlace limits s x.offset old new skip
-    next_found {before} s read place {more} skip low passed found within count both =
+        → PassesOver limits (drop is.n s) (x.offset + is.n) q.from place mid before more × IsFoundAt limits (drop is.n s) (x.offset + is.n) place before new
+        → is.n + place ≤ length s → (skip.count ≡ is.n + place) × (skip.all ≡ (all && more)) → IsNextPlace limits s x.offset old new skip
+    next_found {before} s read place {more} skip low (passed, found) within (count, both) =
         let bound = bounded s read in
         let earlier = is.searches s read in
         let over' = subst (λ n. PassesOver limits (drop is.n s) (x.offset + is.n) n place mid before more) begin passed in
@@ -236,7 +236,7 @@ module _ {limits : Limits} {r r' : Option (List ℕ)} {x y : Window} {old mid : 
           is = λ s read.
               let (low', high, before, passed', found) = tells seeks s read in
               let within = (left_behind r r' (ahead_of x) (ahead_of z) s (is.n + place) over read).1 in
-              next_found seeks s read place skip low passed' found within count both;
+              next_found seeks s read place skip low (passed', found) within (count, both);
         }
 
 -- a search in these bytes is one in those ahead

@@ -20,7 +20,7 @@ returns-in-Nowhere-clause-behind c =
     let new = c.look_at_end.new.work in
     IfOk-weaker c.look_at_end.result (LooksAtEnd p.limits p.at p.bytes.now c.args.len c.seek.new.work new c.in-Nowhere.all)
     (LooksBehind p.limits p.at p.bytes.now c.args.len c.args.work.now new)
-    (λ behind is. inside_passed p.limits p.at p.bytes.now p.is_last c.args.len c.requires.2 c.args.work.now c.seek.new.work new c.in-Nowhere.all behind
+    (λ behind is. inside_passed p.limits p.at p.bytes.now p.is_last c.args.len c.requires.2 c.args.work.now c.seek.new.work new behind
     (subst (Seeks p.limits p.bytes.now p.is_last p.at q c.args.work.now c.seek.new.work) c.in-Nowhere.is c.in_ok-all.ensures.sought) is) c.look_at_end.ensures.behind
 
 pub unreachable-requires : goal.unreachable-requires

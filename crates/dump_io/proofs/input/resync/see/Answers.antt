@@ -44,7 +44,8 @@ returns-else-are_all-clause-sees g c =
     let bytes : c.split_at.result.1.now ≡ drop base (ahead_of y) = c.split_at.ensures.back ∙ ap (drop base) c.ahead.ensures in
     let at : c.in_ok-at.at ≡ y.offset + base = c.in_ok-at.ensures ∙ ap (λ n. n + base) (sym inv.searches.stays.offset) in
     let seeks = seeks_behind y base bytes at c.in-Found.is c.in_ok-all.ensures.sought in
-    sees_found inv seeks c.seek.ensures.work c.in-Found.place c.in-Found.all (record { goes_on = true; all = c.loop.are_all }) refl refl (c.if-are_all.false ∙ sym (ap (λ b. b && c.in-Found.all) c.if-are_all.false))
+    sees_found inv seeks c.seek.ensures.work c.in-Found.place c.in-Found.all (record { goes_on = true; all = c.loop.are_all })
+    refl refl (c.if-are_all.false ∙ sym (ap (λ b. b && c.in-Found.all) c.if-are_all.false))
 
 pub returns-then-are_all-2-clause-sees : goal.returns-then-are_all-2-clause-sees
 returns-then-are_all-2-clause-sees g c =
@@ -64,7 +65,8 @@ returns-else-are_all-2-clause-sees g c =
     let bytes : c.split_at.result.1.now ≡ drop base (ahead_of y) = c.split_at.ensures.back ∙ ap (drop base) c.ahead.ensures in
     let at : c.in_ok-at.at ≡ y.offset + base = c.in_ok-at.ensures ∙ ap (λ n. n + base) (sym inv.searches.stays.offset) in
     let seeks = seeks_behind y base bytes at c.in-Nowhere.is c.in_ok-all.ensures.sought in
-    sees_none inv seeks c.seek.ensures.work c.in-Nowhere.all (record { goes_on = false; all = c.loop.are_all }) refl refl (c.if-are_all-2.false ∙ sym (ap (λ b. b && c.in-Nowhere.all) c.if-are_all-2.false))
+    sees_none inv seeks c.seek.ensures.work c.in-Nowhere.all (record { goes_on = false; all = c.loop.are_all })
+    refl refl (c.if-are_all-2.false ∙ sym (ap (λ b. b && c.in-Nowhere.all) c.if-are_all-2.false))
 
 pub look-requires : goal.look-requires
 look-requires g c = c.loop.invariant.searches.stays.window
@@ -85,7 +87,7 @@ loop-preserved g c =
     let at : c.in_ok-at.at ≡ y.offset + base = c.in_ok-at.ensures ∙ ap (λ n. n + base) (sym inv.searches.stays.offset) in
     let seeks = seeks_behind y base bytes at c.in-Wants.is c.in_ok-all.ensures.sought in
     let there = c.in_ok-is_last-in-Wants.field-0 in
-    let on = sought_on inv seeks c.seek.ensures.work c.look.new.self c.in-Wants.place c.in-Wants.count _ c.in-Wants.all there (not there) refl
+    let on = sought_on inv seeks c.seek.ensures.work c.look.new.self c.in-Wants.place c.in-Wants.count c.in-Wants.all (not there) refl
     c.in_ok-is_last-in-Wants.ensures.looks (not_true there) in
     elim c.if-are_all-3.branch [
       | then-are_all-3 w ↦
