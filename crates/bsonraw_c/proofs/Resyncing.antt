@@ -11,7 +11,7 @@ use Rattle.raw_resync.specs.declared.search.Sought.{Sought}
 use Rattle.raw_resync.specs.declared.search.Sought.TheVariants as sought
 use Rattle.raw_resync.specs.declared.work.Work.{Work}
 use Rattle.raw_resync.proofs.Face.{and_false, and_true, believes_explained, doubts_disbelieved, found_goes_on, keeps_before, keeps_on, one_found, one_left, one_looked, passes_stop_all}
-use Rattle.bsonraw_c.specs.Resync.{BeginsPiece, FindsFirst, GoesOnIn, GoesOnward, IsBelieved, IsFirstPlace, IsOnward, LeavesWork, LooksAtEnd, LooksBehind, work_of}
+use Rattle.bsonraw_c.specs.Resync.{BeginsPiece, FindsFirst, GoesOnIn, GoesOnward, HasNoLength, IsBelieved, IsFirstPlace, IsOnward, LeavesWork, LooksAtEnd, LooksBehind, work_of}
 use Rattle.bsonraw_c.specs.declared.reader.Reader.{Reader}
 use Rattle.bsonraw_c.specs.declared.resync.Behind.{Behind}
 use Rattle.bsonraw_c.specs.declared.resync.Onward.{Onward}
@@ -130,7 +130,7 @@ module _ (limits : Limits) (at : ℕ) (s : List ℕ) (len : ℕ) (piece : Begins
       → (GoesOnElsewhere limits s at len old mid × KeepsBound (at + length s) old mid) × FindsFirst limits at s mid new onward → GoesOnward limits at s start new onward
   elsewhere_first start old mid new onward (walks, bound) ((goes, more), (is, first, cost)) =
       let doubts : DoubtsLength limits s at len start mid = (old, walks, goes) in
-      let none = inr (len, piece, doubts_disbelieved limits s at len start mid doubts, doubts) in (
+      let none : HasNoLength limits s at start mid = inr (len, piece, doubts_disbelieved limits s at len start mid doubts, doubts) in (
         subst (λ b. IsOnward limits s at start new onward.count b onward.all) (sym is) (mid, none, first),
         keeps_on (at + length s) start mid new (keeps_on (at + length s) start old mid (within_all start old bound) more) cost,
       )
