@@ -148,11 +148,11 @@ def put_exponents(figures, out):
 ALL = "2147483647"
 WORST = {
     "174,000 random keys of four bytes, 1 MB": ("random 1044005 4", ALL),
-    "as many behind ten pairs that share marks": ("sorted 1044005 4", ALL),
+    "as many after ten pairs that share marks": ("sorted 1044005 4", ALL),
     "as many that share the last bits of their hashes": ("crowded", ALL),
     "as many before 180 that crowd the table": ("late 1044005 4", ALL),
     "3,143,038 keys by chance": ("random 16777216 1", ALL),
-    "behind ten pairs that share marks": ("sorted 16777216 1", ALL),
+    "after ten pairs that share marks": ("sorted 16777216 1", ALL),
     "before 180 that crowd the table": ("late 16777216 1", ALL),
     "documents in one another": ("levels 1", ALL),
     "each with a key twice": ("twins", ALL),

@@ -29,7 +29,7 @@ from typing import Dict, Iterator, List, NamedTuple, Tuple
 ROOT = Path(__file__).resolve().parent.parent
 MINUTES = 45
 """How many minutes the first `bin/install PREFIX` takes on four free processors of 2.5 GHz, as measured: 44. README.md names the same, and
-the kit, and checks/builds.sh compares them."""
+the kit, and checks/builds.txt compares them."""
 MEASURED_AT = 4
 """How many crates were proved at a time there."""
 MEMORY = 3_500_000_000

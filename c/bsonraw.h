@@ -316,6 +316,10 @@ BSONRAW_USE int32_t bsonraw_iter_init_find(struct bsonraw_iter *iter, const uint
 BSONRAW_USE int32_t bsonraw_iter_find_descendant(struct bsonraw_iter *iter, const uint8_t *bytes, size_t len,
                                                  const uint8_t *path, size_t path_len, uint8_t separator);
 
+/* bsonraw_iter_init, and with BSONRAW_OK bsonraw_iter_find_descendant. */
+BSONRAW_USE int32_t bsonraw_iter_init_find_descendant(struct bsonraw_iter *iter, const uint8_t *bytes, size_t len,
+                                                      const uint8_t *path, size_t path_len, uint8_t separator);
+
 struct bsonraw_entry {
     uint32_t tag; /* as in a cursor */
     uint32_t key_at;
@@ -429,6 +433,14 @@ BSONRAW_USE BSONRAW_INLINE int32_t bsonraw_checked_iter_find_descendant(struct b
 }
 #define bsonraw_iter_find_descendant bsonraw_checked_iter_find_descendant
 
+BSONRAW_READS(2, 3) BSONRAW_READS(4, 5)
+BSONRAW_USE BSONRAW_INLINE int32_t bsonraw_checked_iter_init_find_descendant(struct bsonraw_iter *iter, const uint8_t *bytes, size_t len,
+                                                                             const uint8_t *path, size_t path_len, uint8_t separator) {
+    if (!iter || BSONRAW_LACKS(bytes, len) || BSONRAW_LACKS(path, path_len)) return BSONRAW_NULL;
+    return bsonraw_iter_init_find_descendant(iter, bsonraw_some_bytes(bytes), len, bsonraw_some_bytes(path), path_len, separator);
+}
+#define bsonraw_iter_init_find_descendant bsonraw_checked_iter_init_find_descendant
+
 BSONRAW_READS(2, 3) BSONRAW_WRITES(4, 5)
 BSONRAW_USE BSONRAW_INLINE int32_t bsonraw_checked_iter_next_many(struct bsonraw_iter *iter, const uint8_t *bytes, size_t len,
                                                                   struct bsonraw_entry *BSONRAW_RESTRICT entries, size_t room, uint64_t *count) {
@@ -457,7 +469,7 @@ BSONRAW_USE BSONRAW_INLINE const char *bsonraw_iter_key(const struct bsonraw_ite
 
 /* ---- values ----------------------------------------------------------------------------------------------------------
  *
- * bsonraw_iter_value is proved; the others, which call it, are tested.
+ * bsonraw_iter_value, bsonraw_value_at and bsonraw_overwrite are proved; the others, which call the first, are tested.
  * What a kind doesn't have is 0; of a part that it doesn't have, the offset is that of a cursor at no element. Texts are
  * UTF-8, and may hold a 0; of a regular expression they hold none.
  */
@@ -489,6 +501,29 @@ struct bsonraw_value {
 BSONRAW_USE int32_t bsonraw_iter_value(const struct bsonraw_iter *iter, const uint8_t *bytes, size_t len,
                                        struct bsonraw_value *value);
 
+/* The value of the element at a path, whose steps have the separator between them: what bsonraw_iter_init_find_descendant returns, and
+ * with BSONRAW_OK what bsonraw_iter_value does. With tags the element has to have one of these: BSONRAW_OTHER_KIND if it hasn't. Without
+ * an element, or with another one, all that is written is 0, except for error, which has the fault.
+ *
+ *     static const uint32_t whole[] = {BSONRAW_TAG_INT32, BSONRAW_TAG_INT64};
+ *     struct bsonraw_value v;
+ *     if (bsonraw_value_at(bytes, len, BSONRAW_KEY("authors.0.born"), '.', whole, 2, &v) == BSONRAW_OK) printf("%ld\n", v.integer);
+ */
+BSONRAW_USE int32_t bsonraw_value_at(const uint8_t *bytes, size_t len, const uint8_t *path, size_t path_len, uint8_t separator,
+                                     const uint32_t *tags, size_t count, struct bsonraw_value *value);
+
+/* Overwrites the payload of the element at a path, if the element has this tag and a payload of as many bytes; else BSONRAW_OTHER_KIND, or
+ * what bsonraw_iter_init_find_descendant returns, and nothing is written. What the payload means isn't looked at.
+ *
+ *     static const uint8_t year[] = {91, 7, 0, 0};
+ *     uint8_t copy[512];
+ *     if (len > sizeof copy) return;
+ *     memcpy(copy, bytes, len);
+ *     if (bsonraw_overwrite(copy, len, BSONRAW_KEY("born"), '.', BSONRAW_TAG_INT32, year, sizeof year) == BSONRAW_OK) puts("1883");
+ */
+BSONRAW_USE int32_t bsonraw_overwrite(uint8_t *bytes, size_t len, const uint8_t *path, size_t path_len, uint8_t separator, uint32_t tag,
+                                      const uint8_t *payload, size_t payload_len);
+
 #ifndef BSONRAW_UNCHECKED
 BSONRAW_READS(2, 3)
 BSONRAW_USE BSONRAW_INLINE int32_t bsonraw_checked_iter_value(const struct bsonraw_iter *iter, const uint8_t *bytes, size_t len,
@@ -497,6 +532,25 @@ BSONRAW_USE BSONRAW_INLINE int32_t bsonraw_checked_iter_value(const struct bsonr
     return bsonraw_iter_value(iter, bsonraw_some_bytes(bytes), len, value);
 }
 #define bsonraw_iter_value bsonraw_checked_iter_value
+
+BSONRAW_READS(1, 2) BSONRAW_READS(3, 4) BSONRAW_READS(6, 7)
+BSONRAW_USE BSONRAW_INLINE int32_t bsonraw_checked_value_at(const uint8_t *bytes, size_t len, const uint8_t *path, size_t path_len,
+                                                            uint8_t separator, const uint32_t *tags, size_t count,
+                                                            struct bsonraw_value *value) {
+    static const uint32_t none[1] = {0};
+    if (BSONRAW_LACKS(bytes, len) || BSONRAW_LACKS(path, path_len) || BSONRAW_LACKS(tags, count) || !value) return BSONRAW_NULL;
+    return bsonraw_value_at(bsonraw_some_bytes(bytes), len, bsonraw_some_bytes(path), path_len, separator, tags ? tags : none, count, value);
+}
+#define bsonraw_value_at bsonraw_checked_value_at
+
+BSONRAW_CHANGES(1, 2) BSONRAW_READS(3, 4) BSONRAW_READS(7, 8)
+BSONRAW_USE BSONRAW_INLINE int32_t bsonraw_checked_overwrite(uint8_t *bytes, size_t len, const uint8_t *path, size_t path_len,
+                                                             uint8_t separator, uint32_t tag, const uint8_t *payload, size_t payload_len) {
+    if (BSONRAW_LACKS(bytes, len) || BSONRAW_LACKS(path, path_len) || BSONRAW_LACKS(payload, payload_len)) return BSONRAW_NULL;
+    return bsonraw_overwrite(bsonraw_some_room(bytes), len, bsonraw_some_bytes(path), path_len, separator, tag, bsonraw_some_bytes(payload),
+                             payload_len);
+}
+#define bsonraw_overwrite bsonraw_checked_overwrite
 #endif
 
 /* The value where its kind is the one that is asked for, in place of all of struct bsonraw_value. BSONRAW_OTHER_KIND where
@@ -1145,7 +1199,7 @@ struct bsonraw_resync {
     uint32_t left_out; /* 1 where a place wasn't looked at, which would have taken spent over that */
 };
 
-/* Goes on behind damage, which is the document that the reader is at, or the place of its last fault where it is at none:
+/* Goes on after damage, which is the document that the reader is at, or the place of its last fault where it is at none:
  * BSONRAW_OK, and next is where documents go on. They do at the end, and where a document counts: one without damage, of over 8 bytes, and
  * of at most max_bytes bytes and max_depth levels, unless the bytes before it, from the damage on, end with the tag of a document, an array
  * or an int32 and a key with its 0, since it may be nested there, or its length a number. Such a key is UTF-8 of 1 to 64 bytes, none
@@ -1286,6 +1340,15 @@ BSONRAW_USE int32_t bsonraw_check(const uint8_t *bytes, size_t len, size_t max_b
 BSONRAW_USE int32_t bsonraw_canonical(const uint8_t *bytes, size_t len, size_t max_bytes, size_t max_depth, uint8_t *BSONRAW_RESTRICT form,
                                       size_t form_len, struct bsonraw_report *report, uint64_t *path, size_t path_room);
 
+/* The order of two documents by the bytes of their canonical forms, as memcmp has it: -1, 0 or 1. It is 0 where both have one form,
+ * whatever their bytes are. BSONRAW_OK; else the status of bsonraw_canonical with the first one that has no form, with as many levels as
+ * there are, and order is 0. It takes memory for both forms.
+ *
+ *     int32_t order;
+ *     if (bsonraw_compare(bytes, len, bytes, len, &order) == BSONRAW_OK && order == 0) puts("one form");
+ */
+BSONRAW_USE int32_t bsonraw_compare(const uint8_t *one, size_t one_len, const uint8_t *other, size_t other_len, int32_t *order);
+
 /* The document as MongoDB's Extended JSON v2, relaxed or, where canonical isn't 0, canonical; on one line or, where indented isn't 0,
  * with a line for each member, indented by two spaces a level, but none within a wrapper, as {"$oid": ..}. Each element is printed as it
  * is: repeated keys in order, an array without its keys. BSONRAW_OK, and the text is at the front of text, with a 0 after it; count is
@@ -1343,6 +1406,14 @@ BSONRAW_USE BSONRAW_INLINE int32_t bsonraw_checked_canonical(const uint8_t *byte
                              bsonraw_some_path(path), path_room);
 }
 #define bsonraw_canonical bsonraw_checked_canonical
+
+BSONRAW_READS(1, 2) BSONRAW_READS(3, 4)
+BSONRAW_USE BSONRAW_INLINE int32_t bsonraw_checked_compare(const uint8_t *one, size_t one_len, const uint8_t *other, size_t other_len,
+                                                           int32_t *order) {
+    if (BSONRAW_LACKS(one, one_len) || BSONRAW_LACKS(other, other_len) || !order) return BSONRAW_NULL;
+    return bsonraw_compare(bsonraw_some_bytes(one), one_len, bsonraw_some_bytes(other), other_len, order);
+}
+#define bsonraw_compare bsonraw_checked_compare
 
 BSONRAW_READS(1, 2) BSONRAW_WRITES(7, 8) BSONRAW_WRITES(10, 11)
 BSONRAW_USE BSONRAW_INLINE int32_t bsonraw_checked_json(const uint8_t *bytes, size_t len, size_t max_bytes, size_t max_depth,
@@ -1490,8 +1561,8 @@ uint32_t bsonraw_oid_time(const uint8_t id[12]);
 /* The sixteen bytes of a Decimal128 as text, as 1.50, 1.5E+20, NaN or -Infinity, and a 0; and the bytes that such a text writes:
  * BSONRAW_FAULT where it is none, or where no Decimal128 is exactly that number. Milliseconds from 1970 on as ISO 8601 has them, as
  * 2012-12-24T12:15:30.501Z, without a fraction where it is 0, and a 0: BSONRAW_FAULT before the year 0 and from 10000 on; and from such a
- * text, in UTC or with a zone as +01:00 or +0100, T and Z in either case. The texts are those of Extended JSON. Calls that make a text
- * take memory for it: BSONRAW_NO_MEMORY; with any status but BSONRAW_OK nothing is written.
+ * text, in UTC or with a zone as +01:00 or +0100, T and Z in either case. The texts are those of Extended JSON. These calls take no
+ * memory; with any status but BSONRAW_OK nothing is written.
  *
  *     char text[BSONRAW_DATE_TIME_TEXT];
  *     if (bsonraw_date_time_to_text(-2769984000000, text) == BSONRAW_OK) puts(text);
@@ -1604,7 +1675,8 @@ size_t bsonraw_path_text(const uint8_t *bytes, size_t len, const uint64_t *path,
 
 /* The element at a path, and its value where it is of the kind that is asked for: BSONRAW_OK; BSONRAW_NO_DOCUMENT, BSONRAW_NONE,
  * BSONRAW_FAULT and BSONRAW_OTHER_KIND as the calls of a cursor. What is written is then 0, and a pointer NULL. Pointers are into the
- * bytes; a 0 follows a text. Other kinds are got by bsonraw_get and bsonraw_iter_regex and its kin.
+ * bytes; a 0 follows a text. Other kinds are got by bsonraw_get and bsonraw_iter_regex and its kin. Each is one call that is proved,
+ * bsonraw_iter_init_find_descendant or bsonraw_value_at, with a dot for the separator; C looks for NULL, and hands out a field or a pointer.
  *
  *     int32_t born;
  *     const char *name;
@@ -1685,18 +1757,12 @@ BSONRAW_USE int32_t bsonraw_check_keys(const uint8_t *bytes, size_t len, size_t 
                                        struct bsonraw_report *report, uint64_t *path, size_t path_room)
                                        BSONRAW_READS(1, 2) BSONRAW_WRITES(7, 8);
 
-/* The order of two documents by the bytes of their canonical forms, as memcmp has it: under 0, 0 or over 0. It is 0 where both have one
- * form, whatever their bytes are. BSONRAW_OK; else the status of bsonraw_canonical with the first one that has no form, with as many
- * levels as there are, and order is 0. It takes memory for both forms. */
-BSONRAW_USE int32_t bsonraw_compare(const uint8_t *one, size_t one_len, const uint8_t *other, size_t other_len, int32_t *order)
-                                    BSONRAW_READS(1, 2) BSONRAW_READS(3, 4);
-
 /* Whether two documents have one canonical form: BSONRAW_OK, and is_equal is 1 or 0; else as bsonraw_compare. */
 BSONRAW_USE int32_t bsonraw_equal(const uint8_t *one, size_t one_len, const uint8_t *other, size_t other_len, int32_t *is_equal)
                                   BSONRAW_READS(1, 2) BSONRAW_READS(3, 4);
 
 /* Overwrites a value of fixed size at a path, where it is of this kind already: the document keeps its length. The others as
- * bsonraw_get, and nothing is written. */
+ * bsonraw_get, and nothing is written. Each is bsonraw_overwrite, which is proved. */
 BSONRAW_USE int32_t bsonraw_set_int32(uint8_t *bytes, size_t len, const char *path, int32_t number) BSONRAW_CHANGES(1, 2);
 BSONRAW_USE int32_t bsonraw_set_int64(uint8_t *bytes, size_t len, const char *path, int64_t number) BSONRAW_CHANGES(1, 2);
 BSONRAW_USE int32_t bsonraw_set_double(uint8_t *bytes, size_t len, const char *path, double number) BSONRAW_CHANGES(1, 2);
@@ -1971,10 +2037,10 @@ int32_t bsonraw_stream_from_file(struct bsonraw_stream *stream, FILE *file);
 BSONRAW_USE int32_t bsonraw_stream_read(struct bsonraw_stream *stream);
 void bsonraw_stream_free(struct bsonraw_stream *stream);
 
-/* Goes on behind damage, as bsonraw_reader_resync does in memory: BSONRAW_OK, and the next bsonraw_stream_read is where documents go on, or
+/* Goes on after damage, as bsonraw_reader_resync does in memory: BSONRAW_OK, and the next bsonraw_stream_read is where documents go on, or
  * at the end. The damage is the document that the last one gave, as where bsonraw_first_fault finds one, or what it returned
  * BSONRAW_NO_DOCUMENT, BSONRAW_TOO_MANY_BYTES or BSONRAW_CUT for. BSONRAW_BAD_OFFSET where there is none: no document was read, or this
- * call went on behind it already. BSONRAW_NOT_READ and BSONRAW_NO_MEMORY, after which it may be called once more; any other status of the
+ * call went on after it already. BSONRAW_NOT_READ and BSONRAW_NO_MEMORY, after which it may be called once more; any other status of the
  * stream it returns as it is. It reads up to four times max_bytes ahead, of at most 2147483647, and has up to twice that in memory;
  * so max_bytes of the stream and this one are best those of the largest document.
  *
@@ -2083,9 +2149,6 @@ BSONRAW_TOUCHING(BSONRAW_USE int32_t, check_keys, (const uint8_t *bytes, size_t 
                  BSONRAW_LACKS(bytes, len) + BSONRAW_LACKS(path, path_room),
                  (bytes, len, max_bytes, max_depth, flags, report, path, path_room))
 #define bsonraw_check_keys bsonraw_touching_check_keys
-BSONRAW_TOUCHING(BSONRAW_USE int32_t, compare, (const uint8_t *one, size_t one_len, const uint8_t *other, size_t other_len, int32_t *order),
-                 BSONRAW_LACKS(one, one_len) + BSONRAW_LACKS(other, other_len), (one, one_len, other, other_len, order))
-#define bsonraw_compare bsonraw_touching_compare
 BSONRAW_TOUCHING(BSONRAW_USE int32_t, equal, (const uint8_t *one, size_t one_len, const uint8_t *other, size_t other_len,
                   int32_t *is_equal),
                  BSONRAW_LACKS(one, one_len) + BSONRAW_LACKS(other, other_len), (one, one_len, other, other_len, is_equal))

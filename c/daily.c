@@ -116,7 +116,7 @@ static const char *json_reason_text(uint32_t reason) {
     static const char *const texts[] = {
         "no fault", "the text ends too early", "a byte order mark in front of the text", "expected a document",
         "expected a key in quotes", "expected a colon", "expected a comma or the end of the object or array", "expected a value",
-        "text behind the document", "not a number of JSON", "an integer of more than 64 bits", "a number beyond the greatest double",
+        "text after the document", "not a number of JSON", "an integer of more than 64 bits", "a number beyond the greatest double",
         "a control character that is not escaped", "not an escape of JSON", "half a surrogate pair",
         "U+0000 in a key, a pattern or options", "no value of its wrapper", "a decimal that no Decimal128 is exactly", "not UTF-8",
     };
@@ -197,48 +197,63 @@ size_t bsonraw_path_text(const uint8_t *bytes, size_t len, const uint64_t *path,
 /* ---- by path ---- */
 
 int32_t bsonraw_get(const uint8_t *bytes, size_t len, const char *path, struct bsonraw_iter *iter) {
-    int32_t status;
     if (iter == NULL || path == NULL || BSONRAW_LACKS(bytes, len)) return BSONRAW_NULL;
-    status = bsonraw_iter_init(iter, bsonraw_some_bytes(bytes), len);
-    return status == BSONRAW_OK ? bsonraw_iter_find_descendant(iter, bytes, len, BSONRAW_STR(path), '.') : status;
+    return bsonraw_iter_init_find_descendant(iter, bsonraw_some_bytes(bytes), len, BSONRAW_STR(path), '.');
 }
 
-/* What the call of a cursor gives of the element at a path; where there is none, it is asked of a cursor at none, which gives 0s. */
-#define GET(name, parameters, ...)                                                                                         \
-    int32_t bsonraw_get_##name(const uint8_t *bytes, size_t len, const char *path, parameters) {                           \
-        struct bsonraw_iter it = {0, 0, 0, 0, 0, 0, 0, 0, {0, 0, 0, 0, 0}};                                                \
-        int32_t found = bsonraw_get(bytes, len, path, &it);                                                                \
-        int32_t status = bsonraw_iter_##name(&it, bsonraw_some_bytes(bytes), bytes == NULL ? 0 : len, __VA_ARGS__);        \
-        return found == BSONRAW_OK || status == BSONRAW_NULL ? status : found;                                             \
-    }
-#define AND ,
-
-GET(int32, int32_t *number, number)
-GET(int64, int64_t *number, number)
-GET(double, double *number, number)
-GET(as_int64, int64_t *number, number)
-GET(as_double, double *number, number)
-GET(bool, int32_t *is_true, is_true)
-GET(date_time, int64_t *millis, millis)
-GET(timestamp, uint32_t *time AND uint32_t *increment, time, increment)
-GET(utf8, const char **text AND size_t *text_len, text, text_len)
-GET(oid, const uint8_t **id, id)
-GET(decimal128, const uint8_t **decimal, decimal)
-GET(binary, uint32_t *subtype AND const uint8_t **data AND size_t *data_len, subtype, data, data_len)
-GET(document, const uint8_t **document AND size_t *document_len, document, document_len)
-GET(array, const uint8_t **array AND size_t *array_len, array, array_len)
+/* The value at a path, if its tag is one of these, or if there are none. */
+static int32_t value_at(const uint8_t *bytes, size_t len, const char *path, const uint32_t *tags, size_t count,
+                        struct bsonraw_value *value) {
+    static const struct bsonraw_value nothing;
+    *value = nothing;
+    if (path == NULL || BSONRAW_LACKS(bytes, len)) return BSONRAW_NULL;
+    return bsonraw_value_at(bsonraw_some_bytes(bytes), len, BSONRAW_STR(path), '.', tags, count, value);
+}
 
 int32_t bsonraw_get_value(const uint8_t *bytes, size_t len, const char *path, struct bsonraw_value *value) {
-    static const struct bsonraw_value nothing;
-    struct bsonraw_iter it;
-    int32_t status;
-    if (value == NULL) return BSONRAW_NULL;
-    *value = nothing;
-    status = bsonraw_get(bytes, len, path, &it);
-    if (status == BSONRAW_OK) return bsonraw_iter_value(&it, bytes, len, value);
-    if (status == BSONRAW_FAULT || status == BSONRAW_NO_DOCUMENT) value->error = it.error;
-    return status;
+    static const uint32_t any[1] = {0};
+    return value == NULL ? BSONRAW_NULL : value_at(bytes, len, path, any, 0, value);
 }
+
+static double double_of(uint64_t bits) {
+    double number;
+    memcpy(&number, &bits, sizeof number);
+    return number;
+}
+
+/* What is handed out of the value v at a path, which has one of the tags. */
+#define GET(name, parameters, places, hands, ...)                                                \
+    int32_t bsonraw_get_##name(const uint8_t *bytes, size_t len, const char *path, parameters) { \
+        static const uint32_t tags[] = {__VA_ARGS__};                                            \
+        struct bsonraw_value v;                                                                  \
+        int32_t status = value_at(bytes, len, path, tags, sizeof tags / sizeof *tags, &v);       \
+        if (!(places)) return BSONRAW_NULL;                                                      \
+        hands;                                                                                   \
+        return status;                                                                           \
+    }
+#define AND ,
+#define PART (status == BSONRAW_OK ? bytes + v.text_at : NULL)
+
+GET(int32, int32_t *number, number, *number = (int32_t)v.integer, BSONRAW_TAG_INT32)
+GET(int64, int64_t *number, number, *number = v.integer, BSONRAW_TAG_INT64)
+GET(double, double *number, number, *number = double_of(v.bits), BSONRAW_TAG_DOUBLE)
+GET(as_int64, int64_t *number, number, *number = v.integer, BSONRAW_TAG_INT32, BSONRAW_TAG_INT64)
+GET(as_double, double *number, number, *number = v.tag == BSONRAW_TAG_DOUBLE ? double_of(v.bits) : (double)v.integer, BSONRAW_TAG_DOUBLE,
+    BSONRAW_TAG_INT32, BSONRAW_TAG_INT64)
+GET(bool, int32_t *is_true, is_true, *is_true = (int32_t)v.integer, BSONRAW_TAG_BOOLEAN)
+GET(date_time, int64_t *millis, millis, *millis = v.integer, BSONRAW_TAG_DATETIME)
+GET(timestamp, uint32_t *time AND uint32_t *increment, time && increment, (*time = v.time, *increment = v.increment),
+    BSONRAW_TAG_TIMESTAMP)
+GET(utf8, const char **text AND size_t *text_len, text && text_len, (*text = (const char *)PART, *text_len = v.text_len),
+    BSONRAW_TAG_STRING)
+GET(oid, const uint8_t **id, id, *id = PART, BSONRAW_TAG_OBJECT_ID)
+GET(decimal128, const uint8_t **decimal, decimal, *decimal = PART, BSONRAW_TAG_DECIMAL128)
+GET(binary, uint32_t *subtype AND const uint8_t **data AND size_t *data_len, subtype && data && data_len,
+    (*subtype = v.subtype, *data = PART, *data_len = v.text_len), BSONRAW_TAG_BINARY)
+GET(document, const uint8_t **document AND size_t *document_len, document && document_len,
+    (*document = PART, *document_len = v.text_len), BSONRAW_TAG_DOCUMENT)
+GET(array, const uint8_t **array AND size_t *array_len, array && array_len, (*array = PART, *array_len = v.text_len),
+    BSONRAW_TAG_ARRAY)
 
 int32_t bsonraw_has_key(const uint8_t *bytes, size_t len, const char *path) {
     struct bsonraw_iter it;
@@ -607,30 +622,12 @@ int32_t bsonraw_check_keys(const uint8_t *bytes, size_t len, size_t max_bytes, s
     return status;
 }
 
-/* The order of two forms, which begin with their lengths: none begins with another one. */
-static int32_t order_of(const uint8_t *one, size_t one_len, const uint8_t *other, size_t other_len) {
-    int order = memcmp(one, other, one_len < other_len ? one_len : other_len);
-    return (order > 0) - (order < 0);
-}
-
-int32_t bsonraw_compare(const uint8_t *one, size_t one_len, const uint8_t *other, size_t other_len, int32_t *order) {
-    uint8_t *first = NULL, *second = NULL;
-    struct bsonraw_report of_first, of_second;
-    int32_t status;
-    if (order == NULL || BSONRAW_LACKS(one, one_len) || BSONRAW_LACKS(other, other_len)) return BSONRAW_NULL;
-    *order = 0;
-    status = bsonraw_canonical_new(one, one_len, SIZE_MAX, SIZE_MAX, &first, &of_first);
-    if (status == BSONRAW_OK) status = bsonraw_canonical_new(other, other_len, SIZE_MAX, SIZE_MAX, &second, &of_second);
-    if (status == BSONRAW_OK) *order = order_of(first, (size_t)of_first.count, second, (size_t)of_second.count);
-    free(first);
-    free(second);
-    return status;
-}
-
 int32_t bsonraw_equal(const uint8_t *one, size_t one_len, const uint8_t *other, size_t other_len, int32_t *is_equal) {
     int32_t order, status;
     if (is_equal == NULL) return BSONRAW_NULL;
-    status = bsonraw_compare(one, one_len, other, other_len, &order);
+    *is_equal = 0;
+    if (BSONRAW_LACKS(one, one_len) || BSONRAW_LACKS(other, other_len)) return BSONRAW_NULL;
+    status = bsonraw_compare(bsonraw_some_bytes(one), one_len, bsonraw_some_bytes(other), other_len, &order);
     *is_equal = status == BSONRAW_OK && order == 0;
     return status;
 }
@@ -638,12 +635,8 @@ int32_t bsonraw_equal(const uint8_t *one, size_t one_len, const uint8_t *other, 
 /* ---- values in place ---- */
 
 static int32_t overwrite(uint8_t *bytes, size_t len, const char *path, uint32_t tag, const uint8_t *payload, uint32_t payload_len) {
-    struct bsonraw_iter it;
-    int32_t status = bsonraw_get(bytes, len, path, &it);
-    if (status != BSONRAW_OK) return status;
-    if (it.tag != tag) return BSONRAW_OTHER_KIND;
-    memcpy(bytes + it.payload_at, payload, payload_len);
-    return BSONRAW_OK;
+    if (path == NULL || BSONRAW_LACKS(bytes, len)) return BSONRAW_NULL;
+    return bsonraw_overwrite(bsonraw_some_room(bytes), len, BSONRAW_STR(path), '.', tag, payload, payload_len);
 }
 
 int32_t bsonraw_set_int32(uint8_t *bytes, size_t len, const char *path, int32_t number) {

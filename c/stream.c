@@ -173,7 +173,7 @@ static int begins_afresh(const uint8_t *bytes, size_t at, size_t left, size_t mo
     return !is_length(bytes + at, left - at, most) && cuts_no_key(bytes, at, left);
 }
 
-/* Searches until where documents go on doesn't depend on what wasn't read yet: two documents behind it were. Where it may, what was
+/* Searches until where documents go on doesn't depend on what wasn't read yet: two documents after it were. Where it may, what was
  * searched is passed by, up to a place where a search may begin. */
 static int32_t search_on(struct bsonraw_stream *stream, size_t most, size_t max_depth) {
     size_t step = most < STEP ? STEP : most, wanted = 2 * most + step, next, left, at;

@@ -12,7 +12,7 @@ from typing import Dict, List, NamedTuple, Set
 ROOT = Path(__file__).resolve().parent.parent
 BUILT = ("bsonraw", "bsonraw_dump", "library", "installed", "tests")
 """What is built, as rows name it."""
-WHEN = ("first", "quick", "proofs", "release", "kept")
+WHEN = ("first", "quick", "proofs", "prover", "release", "kept")
 
 
 PROCESSORS = len(os.sched_getaffinity(0))

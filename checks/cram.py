@@ -2,19 +2,34 @@
 bytes. A line without blanks before it is the name of what follows; below it are
 
       $ COMMAND           a line of the shell, run in the folder of the runs before it
+      > COMMAND           more of it, right after it
       TEXT                a line of standard output; with ` (esc)` at its end it is written as Python escapes it, with ` (re)` as a
                           regular expression
       ! TEXT              a line of standard error, written as these are
       = FILE..            in place of lines: standard output has the bytes of these files
       [STATUS]            the status, if it isn't 0
+
+A run that ends with 77, as by `skip_all` of checks/skips.sh, leaves out what else is below its name.
+
+    python3 -B -m checks.cram TABLE [FOLDER]     tries a table there, or in a new folder, and says what goes wrong. TOP is the repository,
+                                                 CRAMTMP the folder, and what a table puts into bin/ there is in PATH
 """
 
 import codecs
 import os
 import re
 import subprocess
+import sys
+import tempfile
 from pathlib import Path
 from typing import Iterator, List, NamedTuple
+
+SKIPS = Path(__file__).resolve().parent / "skips.sh"
+SKIPPED = 77
+
+
+class Skipped(Exception):
+    """What is below this name can't be tried here."""
 
 
 class Run(NamedTuple):
@@ -37,7 +52,9 @@ class Run(NamedTuple):
     def wrong(self, folder: Path, path: str) -> Iterator[str]:
         """What goes wrong; nothing where all is as it is wanted."""
         how = {"cwd": folder, "stdin": subprocess.DEVNULL, "stdout": subprocess.PIPE, "stderr": subprocess.PIPE}
-        done = subprocess.run(["sh", "-c", self.command], env={**os.environ, "PATH": path}, timeout=300, **how)
+        done = subprocess.run(["sh", "-c", f". {SKIPS}\n{self.command}", "cram"], env={**os.environ, "PATH": path}, timeout=300, **how)
+        if done.returncode == SKIPPED and done.stderr.startswith(b"cram: skipped: "):
+            raise Skipped
         files = self.files()
         if done.returncode != self.status():
             yield f"status {done.returncode}, not {self.status()}"
@@ -74,8 +91,34 @@ def read(table: Path) -> List[Run]:
     for line in table.read_text(encoding="utf-8").splitlines():
         if line.startswith("  $ "):
             found.append(Run(name, line[4:], []))
+        elif (line.startswith("  > ") or line == "  >") and not found[-1].wanted:
+            found[-1] = found[-1]._replace(command=f"{found[-1].command}\n{line[4:]}")
         elif line.startswith("  "):
             found[-1].wanted.append(line[2:])
         elif line and not line.startswith("#"):
             name = line
     return found
+
+
+def failures(runs: List[Run], folder: Path, path: str) -> Iterator[str]:
+    """What goes wrong where these runs are tried in a folder."""
+    skipped = ""
+    for it in runs:
+        try:
+            if it.name != skipped:
+                yield from (f"{it.name}: {it.command}: {why}" for why in it.wrong(folder, path))
+        except Skipped:
+            skipped = it.name
+
+
+def main(table: str, *folders: str) -> int:
+    with tempfile.TemporaryDirectory() as new:
+        folder = Path(*(folders or [new])).resolve()
+        os.environ.update(TOP=str(SKIPS.parent.parent), CRAMTMP=str(folder))
+        found = list(failures(read(Path(table)), folder, f"{folder}/bin:{os.environ['PATH']}"))
+    print("".join(f"{table}: {it}\n" for it in found), end="")
+    return int(bool(found))
+
+
+if __name__ == "__main__":
+    sys.exit(main(*sys.argv[1:]))

@@ -23,7 +23,7 @@ RULES: Dict[str, Tuple[str, Optional[bool], Tuple[str, ...]]] = {
     "binary": ("$binary and $type: an error; both read a binary of version 1", False, BOTH),
     "mixed": ("a wrapper's key and others: an error; libbson goes by the first key, the package by some", False, BOTH),
     "whole": ("the whole text or a scope with a wrapper's key: a document; the package reads a value, or refuses it", True, PACKAGE),
-    "number": ("a text that isn't a number of JSON, Infinity, -Infinity or NaN: an error; both read some", False, BOTH),
+    "number": ("a text in quotes that isn't a number, or has white space after an integer: an error; libbson or the package reads some", False, BOTH),
     "wide": ("$numberInt of more than 32 bits: an error; the package reads an int64", False, PACKAGE),
     "large": ("a number beyond the greatest double: an error; the package reads infinity", False, PACKAGE),
     "fraction": ("a fraction of more than three digits: an error; the package leaves some out", False, PACKAGE),
@@ -109,14 +109,23 @@ def wrapped_double(rng: random.Random) -> Made:
 
 
 def no_number(rng: random.Random) -> Made:
-    name, text = rng.choice([("$numberInt", ""), ("$numberInt", "+"), ("$numberLong", "+"), ("$numberDouble", "+"), ("$numberLong", "0")])
-    written = text + str(rng.randrange(1, 1000))
-    if text == "":
-        written = rng.choice(["", " 1", "1 ", "0x10", "1.0", "1e2", "nan", "inf", "-nan", ".5", "5.", "1_0", "--1", "01"])
-        name = rng.choice(["$numberInt", "$numberLong", "$numberDouble"])
-        if name == "$numberDouble" and written in ("1.0", "1e2"):
-            written = "infinity"
-    return "number", '{"%s":"%s"}' % (name, written)
+    name = rng.choice(["$numberInt", "$numberLong", "$numberDouble"])
+    written = ["", "0x10", "1_0", "--1", "+-1", "- 1", "+", "-", " ", "1x", "e1"]
+    written += ["1e", ".", "nan()", "nan(1)", "infi", "1,5", "1e+"] if name == "$numberDouble" else ["1 ", "1\\n", "1.0", "1e2", "nan", "inf", ".5", "5."]
+    return "number", '{"%s":"%s"}' % (name, rng.choice(written))
+
+
+def spaces(rng: random.Random) -> str:
+    return "".join(rng.choices(" \t\n\x0b\x0c\r", k=rng.randrange(3)))
+
+
+def loose_number(rng: random.Random) -> Made:
+    name = rng.choice(["$numberInt", "$numberLong", "$numberDouble"])
+    text = "0" * rng.randrange(4) + str(rng.randrange(10 ** rng.randrange(1, 10)))
+    if name == "$numberDouble":
+        text = rng.choice([text, text + ".", "." + text, text + ".5", text + ".e3", "inf", "INF", "infinity", "Infinity", "iNfInItY", "nan", "NaN", "NAN"]) + spaces(rng)
+    text = spaces(rng) + rng.choice(["", "+", "-"]) + text
+    return "", rng.choice(['{"%s":%s}', '{"$date":{"%s":%s}}'] if name == "$numberLong" else ['{"%s":%s}']) % (name, json.dumps(text))
 
 
 def object_id(rng: random.Random) -> Made:
@@ -188,9 +197,17 @@ def binary(rng: random.Random) -> Made:
 
 def no_binary(rng: random.Random) -> Made:
     if rng.randrange(2):
-        subtype = rng.choice(["", "0x", "0x0", "000", "g", " 0", "-1"])
+        subtype = rng.choice(["", "0x", "0x0", "000", "g", " 01", "01 ", "-1", "+12", "  "])
         return "subtype", '{"$binary":{"base64":"AQ==","subType":"%s"}}' % subtype
-    return "base64", '{"$binary":{"base64":"%s","subType":"00"}}' % rng.choice(["AQ", "AQ=", "AR==", "A", "A===", "_-8=", "AQ== ", "!AQ=", "AQ==AQ=="])
+    return "base64", '{"$binary":{"base64":"%s","subType":"00"}}' % rng.choice(["AQ", "AQ=", "AR==", "A", "A===", "_-8=", "AQ== AQ==", "!AQ=", "AQ==AQ==", "A R = ="])
+
+
+def loose_binary(rng: random.Random) -> Made:
+    symbols = list(base64_of(rng.randbytes(rng.randrange(20))))
+    for _ in range(rng.randrange(5)):
+        symbols.insert(rng.randrange(len(symbols) + 1), rng.choice(" \t\n\x0b\x0c\r"))
+    subtype = rng.choice(["%x", "0%x", " %x", "\t%x", "%x\n", "+%x"]) % rng.choice([0, 1, 2, 5, 8, 10, 15])
+    return "", '{"$binary":{"base64":%s,"subType":%s}}' % (json.dumps("".join(symbols)), json.dumps(subtype))
 
 
 def uuid(rng: random.Random) -> Made:
@@ -311,7 +328,7 @@ def reference(rng: random.Random) -> Made:
 KINDS: List[Callable[[random.Random], Made]] = [integer, double, plain, int32, int64, wrapped_double, object_id, date, millis, binary, uuid, regex]
 KINDS += [timestamp, ends, decimal, border_decimal, reference]
 RULED = [far_integer, large, minus, wide, no_number, no_object_id, zoned, small, fraction, no_date, far_millis, no_binary, no_uuid, other_options, old_regex]
-RULED += [inner_code, last_subtype, no_timestamp, kept, other_type, no_decimal, mixed, old_binary, nul, repeated]
+RULED += [loose_number, loose_binary, inner_code, last_subtype, no_timestamp, kept, other_type, no_decimal, mixed, old_binary, nul, repeated]
 
 
 def value(rng: random.Random, depth: int, ruled: bool) -> Made:

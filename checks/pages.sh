@@ -43,6 +43,9 @@ skip_lines() {
     without="$without${without:+,}$2"
 }
 
+command -v cc >/dev/null || skip_lines "programs in C and the Python package, without a compiler (gcc)" "cc ,./a.out,./json,bsonraw/bin/,venv"
+command -v pkg-config >/dev/null || skip_lines "C programs by pkg-config (pkg-config)" "pkg-config,./a.out,./json"
+
 # Debian's Python, by which README has the package built, is the first in PATH where it can.
 mkdir "$work/bin" || exit 1
 /usr/bin/python3 -c 'import ensurepip, setuptools, wheel' 2>/dev/null && ln -s /usr/bin/python3 "$work/bin/python3"

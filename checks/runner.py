@@ -62,7 +62,7 @@ def of_whole() -> Plan:
 
 def of_quick() -> Plan:
     """What needs no proof, and nothing that is built."""
-    checks = [it for it in checklist.read()[1].values() if not it.built() and not {"proofs", "release"} & set(it.needs)]
+    checks = [it for it in checklist.read()[1].values() if not it.built() and not {"proofs", "prover", "release"} & set(it.needs)]
     checks.sort(key=lambda it: it.name.startswith("tests-"), reverse=True)
     return Plan({it.name: Step(it.name, [], in_haste=True) for it in checks}, {})
 

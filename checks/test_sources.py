@@ -14,7 +14,7 @@ from contextlib import redirect_stderr, redirect_stdout
 from difflib import unified_diff
 from typing import Iterator, Tuple
 
-from checks import contracts, pages, pictures, proofs, rows
+from checks import contracts, cram, pages, pictures, proofs, rows
 from checks.checklist import ROOT, libraries, tracked
 from checks.programs import Case, copy_tracked, run, skip
 
@@ -163,6 +163,14 @@ class Pages(Case):
 
 
 class Rows(Case):
+    def test_jobs(self):
+        """Each row of the table of jobs in docs/USING.md is a run of checks/dumps.txt."""
+        _, _, table = (ROOT / "docs/USING.md").read_text().partition("| Job | Command |\n|---|---|\n")
+        rows = [(job, command.replace("\\|", "|")) for job, command in re.findall(r"\| (.*?) \| `(.*)` \|\n", table.partition("\n\n")[0] + "\n")]
+        runs = [(it.name, it.command) for it in cram.read(ROOT / "checks/dumps.txt")]
+        self.assertGreaterEqual(len(rows), 30)
+        self.assertEqual([row for row in rows if row not in runs], [])
+
     def test_places(self):
         """Each worked example of checks/rows.txt has a place that runs it."""
         status, said = printed(rows.main, ROOT)
@@ -176,7 +184,7 @@ class Calls(Case):
         (self.work / "calls.stdout").write_bytes((ROOT / "crates/calls/stdout").read_bytes())
         self.put("unknown", b"total_lens 1 2\n")
         self.put("formless", b"total_len 1 two\n")
-        ran = run("rt", "try", "--steps", "1", "--cases", self.work, cwd=ROOT / "crates/calls", stderr=subprocess.STDOUT)
+        ran = run("rt", "try", "--steps", "1", "--seconds", "1000", "--cases", self.work, cwd=ROOT / "crates/calls", stderr=subprocess.STDOUT)
         for wanted in ("calls run=ended status=0 .*output=expected", "unknown run=ended status=2 ", "formless run=ended status=3 "):
             self.assertRegex(ran.out.decode(), f"(?m)^case={wanted}")
 

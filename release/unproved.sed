@@ -16,7 +16,9 @@ s/PROMISES.md says what is proved and what is trusted\./PROMISES.md says what wo
 s/^ \* Proved, but \(bsonraw_[a-z_]*\), which is tested\./ * All but \1 have contracts, whose proof was not seen./
 s/^ \* Proved\./ * It has a contract, whose proof was not seen./
 s/^ \* Tested\./ * It has no contract./
-s/^ \* bsonraw_iter_value is proved; the others, which call it, are tested\./ * bsonraw_iter_value has a contract, whose proof was not seen; the others call it./
+s/^ \* bsonraw_iter_value, bsonraw_value_at and bsonraw_overwrite are proved; the others, which call the first, are tested\./ * bsonraw_iter_value, bsonraw_value_at and bsonraw_overwrite have contracts, whose proof was not seen; the others call the first./
+s/ Each is one call that is proved,$/ Each is one call whose proof was not seen,/
+s/ Each is bsonraw_overwrite, which is proved\. \*\/$/ Each is bsonraw_overwrite, whose proof was not seen. *\//
 s/ and _cancel are proved; the others, which call bsonraw_append for a kind$/ and _cancel have contracts, whose proof was not seen; the others call bsonraw_append for a kind/
 s/^ \* each, are tested\./ * each./
 s/ one after the other: proved -/ one after the other -/

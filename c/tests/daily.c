@@ -86,7 +86,7 @@ static void look_at_json_faults(void) {
         {"{\"a\":", "the text ends too early"}, {"\357\273\277{}", "a byte order mark in front of the text"}, {"[]", "expected a document"},
         {"{a:1}", "expected a key in quotes"}, {"{\"a\" 1}", "expected a colon"},
         {"{\"a\":1 \"b\":1}", "expected a comma or the end of the object or array"}, {"{\"a\":}", "expected a value"},
-        {"{}{}", "text behind the document"}, {"{\"a\":01}", "not a number of JSON"}, {"{\"a\":9223372036854775808}", "an integer of more than 64 bits"},
+        {"{}{}", "text after the document"}, {"{\"a\":01}", "not a number of JSON"}, {"{\"a\":9223372036854775808}", "an integer of more than 64 bits"},
         {"{\"a\":1e999}", "a number beyond the greatest double"}, {"{\"a\":\"\t\"}", "a control character that is not escaped"},
         {"{\"a\":\"\\x\"}", "not an escape of JSON"}, {"{\"a\":\"\\ud800\"}", "half a surrogate pair"},
         {"{\"\\u0000\":1}", "U+0000 in a key, a pattern or options"}, {"{\"a\":{\"$numberDecimal\":\"1E-9999\"}}", "a decimal that no Decimal128 is exactly"},
@@ -195,6 +195,10 @@ static void look_at_values(void) {
     expect(real > 1.25 && real < 1.75, "n.l.1.d", "another number");
     is(bsonraw_get_as_double(SAMPLE, "w", &real), BSONRAW_OK, "w");
     expect(real > 1e12 && real < 1.1e12, "w", "another number");
+    is(bsonraw_get_as_double(SAMPLE, "n.l.1.d", &real), BSONRAW_OK, "n.l.1.d");
+    expect(real > 1.4 && real < 1.6, "n.l.1.d", "another number");
+    is(bsonraw_get_as_double(SAMPLE, "n.s", &real), BSONRAW_OTHER_KIND, "n.s");
+    is(bsonraw_get_as_int64(SAMPLE, "n.l.1.d", &wide), BSONRAW_OTHER_KIND, "n.l.1.d");
     is(bsonraw_get_utf8(SAMPLE, "n.s", &text, &len), BSONRAW_OK, "n.s");
     expect(len == 4, "n.s", "another length");
     is_text(text, "text");
@@ -258,6 +262,43 @@ static void look_at_dots(void) {
     is(bsonraw_iter_bool(&it, bytes, sizeof bytes, &is_true), BSONRAW_OK, "a separator");
     is(is_true, 1, "a separator");
     is_text(bsonraw_iter_key(&it, bytes, sizeof bytes), ".");
+    is(bsonraw_iter_init_find_descendant(&it, bytes, sizeof bytes, BSONRAW_KEY("a.b\0c"), 0), BSONRAW_OK, "a separator");
+    is(it.tag, BSONRAW_TAG_ARRAY, "a separator");
+    is(bsonraw_iter_init_find_descendant(&it, bytes, 4, BSONRAW_KEY("a.b\0c"), 0), BSONRAW_NO_DOCUMENT, "four bytes");
+}
+
+/* A value by a separator and tags. */
+static void look_at_tags(void) {
+    static const uint32_t tags[] = {BSONRAW_TAG_INT64, BSONRAW_TAG_INT32};
+    struct bsonraw_value v;
+    is(bsonraw_value_at(SAMPLE, BSONRAW_KEY("a"), '/', tags, 2, &v), BSONRAW_OK, "a");
+    expect(v.tag == BSONRAW_TAG_INT32 && v.integer == 7, "a", "another value");
+    is(bsonraw_value_at(SAMPLE, BSONRAW_KEY("a"), '/', tags, 1, &v), BSONRAW_OTHER_KIND, "a");
+    expect(v.tag == 0 && v.integer == 0 && v.text_at == 0, "a", "a value");
+    is(bsonraw_value_at(SAMPLE, BSONRAW_KEY("n/l/1/d"), '/', NULL, 0, &v), BSONRAW_OK, "n/l/1/d");
+    expect(v.tag == BSONRAW_TAG_DOUBLE && v.bits == 0x3ff8000000000000, "n/l/1/d", "another value");
+    is(bsonraw_value_at(SAMPLE, BSONRAW_KEY("n.l"), '/', NULL, 0, &v), BSONRAW_NONE, "n.l");
+    is(bsonraw_value_at(sample, 4, BSONRAW_KEY("a"), '/', NULL, 0, &v), BSONRAW_NO_DOCUMENT, "four bytes");
+    is(v.error.reason, BSONRAW_TOO_SHORT, "four bytes");
+}
+
+/* A payload that is overwritten. */
+static void look_at_overwritten(void) {
+    static const uint8_t twin[] = "\5\0\0\0twin";
+    uint8_t own[sizeof sample];
+    const char *text;
+    size_t len;
+    memcpy(own, sample, sizeof own);
+    is(bsonraw_overwrite(own, sizeof own, BSONRAW_KEY("n/s"), '/', BSONRAW_TAG_STRING, twin, sizeof twin - 1), BSONRAW_OTHER_KIND, "n/s");
+    is(bsonraw_overwrite(own, sizeof own, BSONRAW_KEY("n/s"), '/', BSONRAW_TAG_SYMBOL, twin, sizeof twin), BSONRAW_OTHER_KIND, "n/s");
+    is(bsonraw_overwrite(own, sizeof own, BSONRAW_KEY("n/x"), '/', BSONRAW_TAG_STRING, twin, sizeof twin), BSONRAW_NONE, "n/x");
+    is(bsonraw_overwrite(own, 4, BSONRAW_KEY("n"), '/', BSONRAW_TAG_STRING, twin, sizeof twin), BSONRAW_NO_DOCUMENT, "four bytes");
+    expect(memcmp(own, sample, sizeof own) == 0, "what isn't overwritten", "other bytes");
+    is(bsonraw_overwrite(own, sizeof own, BSONRAW_KEY("n/s"), '/', BSONRAW_TAG_STRING, twin, sizeof twin), BSONRAW_OK, "n/s");
+    is(bsonraw_get_utf8(own, sizeof own, "n.s", &text, &len), BSONRAW_OK, "n.s");
+    is_text(text, "twin");
+    memcpy(own + (text - (const char *)own), "text", 4);
+    expect(memcmp(own, sample, sizeof own) == 0, "what is overwritten", "other bytes");
 }
 
 /* What is in new memory, which is given back. */
@@ -944,6 +985,8 @@ int main(void) {
     look_at_values();
     look_at_rarer();
     look_at_dots();
+    look_at_tags();
+    look_at_overwritten();
     look_at_new_forms();
     look_at_new_texts();
     look_at_new_documents();

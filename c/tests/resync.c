@@ -16,7 +16,7 @@ static uint32_t any(uint32_t below) {
     return (uint32_t)((seed >> 33) % below);
 }
 
-static uint8_t *whole, *data; /* the documents one behind the other, and a damaged copy */
+static uint8_t *whole, *data; /* the documents one after the other, and a damaged copy */
 static size_t starts[MOST_DOCUMENTS + 1], len;
 
 static void fill(uint8_t *to, size_t many, int letters) {
@@ -180,7 +180,7 @@ static size_t lie_whole(void) {
     return found;
 }
 
-/* Whether this is one of the documents from a number on, which then is the number behind it. */
+/* Whether this is one of the documents from a number on, which then is the number after it. */
 static int is_next(const uint8_t *document, size_t n, size_t *number) {
     for (size_t i = *number; i < count; i++)
         if (n == starts[i + 1] - starts[i] && memcmp(document, whole + starts[i], n) == 0) return *number = i + 1, 1;

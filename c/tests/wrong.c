@@ -23,9 +23,16 @@ int32_t right_iter_next(struct bsonraw_iter *iter, const uint8_t *bytes, size_t 
 int32_t right_iter_find(struct bsonraw_iter *iter, const uint8_t *bytes, size_t len, const uint8_t *key, size_t key_len);
 int32_t right_iter_find_descendant(struct bsonraw_iter *iter, const uint8_t *bytes, size_t len, const uint8_t *path,
                                    size_t path_len, uint8_t separator);
+int32_t right_iter_init_find_descendant(struct bsonraw_iter *iter, const uint8_t *bytes, size_t len, const uint8_t *path,
+                                        size_t path_len, uint8_t separator);
 int32_t right_iter_next_many(struct bsonraw_iter *iter, const uint8_t *bytes, size_t len, struct bsonraw_entry *entries,
                              size_t room, uint64_t *count);
+int32_t right_value_at(const uint8_t *bytes, size_t len, const uint8_t *path, size_t path_len, uint8_t separator,
+                       const uint32_t *tags, size_t count, struct bsonraw_value *value);
 int32_t right_iter_value(const struct bsonraw_iter *iter, const uint8_t *bytes, size_t len, struct bsonraw_value *value);
+int32_t right_overwrite(uint8_t *bytes, size_t len, const uint8_t *path, size_t path_len, uint8_t separator, uint32_t tag,
+                        const uint8_t *payload, size_t payload_len);
+int32_t right_compare(const uint8_t *one, size_t one_len, const uint8_t *other, size_t other_len, int32_t *order);
 int32_t right_reader_read(struct bsonraw_reader *reader, const uint8_t *bytes, size_t len);
 int32_t right_flatten(const uint8_t *bytes, size_t len, size_t max_bytes, size_t max_depth, struct bsonraw_token *tokens,
                       size_t room, struct bsonraw_report *report, uint64_t *path, size_t path_room);
@@ -180,6 +187,33 @@ int32_t bsonraw_iter_find_descendant(struct bsonraw_iter *iter, const uint8_t *b
                                      size_t path_len, uint8_t separator) {
     int32_t status = right_iter_find_descendant(iter, bytes, len, path, path_len, separator);
     return MISTAKE == 14 && status == BSONRAW_OTHER_KIND ? BSONRAW_NONE : status;
+}
+
+/* 45: the separator isn't the caller's. */
+int32_t bsonraw_iter_init_find_descendant(struct bsonraw_iter *iter, const uint8_t *bytes, size_t len, const uint8_t *path,
+                                          size_t path_len, uint8_t separator) {
+    return right_iter_init_find_descendant(iter, bytes, len, path, path_len, MISTAKE == 45 ? '/' : separator);
+}
+
+/* 46: an element of another kind is taken. */
+int32_t bsonraw_value_at(const uint8_t *bytes, size_t len, const uint8_t *path, size_t path_len, uint8_t separator,
+                         const uint32_t *tags, size_t count, struct bsonraw_value *value) {
+    return right_value_at(bytes, len, path, path_len, separator, tags, MISTAKE == 46 ? 0 : count, value);
+}
+
+/* 48: the order is turned. */
+int32_t bsonraw_compare(const uint8_t *one, size_t one_len, const uint8_t *other, size_t other_len, int32_t *order) {
+    int32_t status = right_compare(one, one_len, other, other_len, order);
+    if (MISTAKE == 48) *order = -*order;
+    return status;
+}
+
+/* 47: a shorter payload is put, too. */
+int32_t bsonraw_overwrite(uint8_t *bytes, size_t len, const uint8_t *path, size_t path_len, uint8_t separator, uint32_t tag,
+                          const uint8_t *payload, size_t payload_len) {
+    int32_t status = right_overwrite(bytes, len, path, path_len, separator, tag, payload, payload_len);
+    if (MISTAKE != 47 || status != BSONRAW_OTHER_KIND) return status;
+    return right_overwrite(bytes, len, path, path_len, separator, tag, payload, payload_len + 1);
 }
 
 int32_t right_builder_begin(struct bsonraw_builder *builder, uint8_t *room, size_t room_len);

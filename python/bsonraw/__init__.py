@@ -212,7 +212,7 @@ def documents(source: Source, *, max_bytes: int = MAX_BYTES, resync: bool = Fals
     that is open for text, raises TypeError at the call.
 
     With resync=True only documents without damage are given, at most 500
-    levels deep, and none of these errors is raised: behind damage it goes on
+    levels deep, and none of these errors is raised: after damage it goes on
     where documents do, which is where one without damage of over 8 bytes
     begins, and the tag and the key of a nested one aren't right in front of it.
     A damaged document is passed over at its length, if its elements follow one

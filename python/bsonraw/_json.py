@@ -70,7 +70,7 @@ def _documents_of(data: bytes, max_bytes: int, max_depth: int) -> List[bytes]:
     if not isinstance(whole, bytes):
         message, offset = whole
         at = min(offset - len(_BEFORE), len(data))
-        if at == len(data) and message.startswith("text behind"):  # the text's own last brace ended what is around the array
+        if at == len(data) and message.startswith("text after"):  # the text's own last brace ended what is around the array
             at = data.rindex(b"}")
         raise _error(_with_limit(message, _MOST_BYTES, max_depth), data, at)
     first, *others = _native.elements(whole)
@@ -79,7 +79,7 @@ def _documents_of(data: bytes, max_bytes: int, max_depth: int) -> List[bytes]:
 
         written = data.decode()
         behind = len(written) - len(written.lstrip())
-        raise JSONDecodeError("text behind the array", written, JSONDecoder().raw_decode(written, behind)[1])
+        raise JSONDecodeError("text after the array", written, JSONDecoder().raw_decode(written, behind)[1])
     made = []
     for number, element in enumerate(_native.elements(first.payload)):
         if element.kind != 3:

@@ -626,7 +626,7 @@ INLINE const uint8_t *digits_end(const uint8_t *at) {
     return *at == 0 ? at : NULL;
 }
 
-/* How many bytes a payload of this kind has that begins there, of so many that are left; more than those where it is damaged. */
+/* How many bytes a payload of this kind has that begins there, of the bytes that are left; more than those where it is damaged. */
 INLINE size_t payload_len(uint8_t tag, const uint8_t *at, size_t left) {
     size_t len;
     switch (tag) {

@@ -383,7 +383,7 @@ static int add_step(const struct out *out, const struct level *level, PyObject *
     return status;
 }
 
-/* Has an error say where the value is that wasn't written: behind the steps of a path, which may be NULL. */
+/* Has an error say where the value is that wasn't written: after the steps of a path, which may be NULL. */
 static void set_place(const struct out *out, const struct levels *levels, PyObject *front) {
     PyObject *type, *error, *trace, *path, *keys, *placed = NULL;
     size_t level;

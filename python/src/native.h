@@ -329,7 +329,7 @@ struct option;
 struct signature {
     const char *call;
     const char *places[MOST_PLACES];
-    const struct option *options[MOST_OPTIONS]; /* NULL behind the last one */
+    const struct option *options[MOST_OPTIONS]; /* NULL after the last one */
     int placed; /* how many of them may be given by their places, too */
 };
 extern const struct signature OF_DECODE, OF_ENCODE, OF_VALUE, OF_ELEMENTS, OF_GET, OF_FIND, OF_WALK, OF_CANONICAL, OF_CHECK,
@@ -386,7 +386,7 @@ const uint8_t *utf8_of(PyObject *text, const char *name, size_t *len); /* as lon
 /* ---- lazy.c: what RawDocument is over ---- */
 
 int lazy_bytes(PyObject *lazy, struct bytes *part); /* 0, or -1 with an error set */
-/* Whether it has no fault and, with so many before, no more levels: 0, or -1 with an error set. */
+/* Whether it has no fault and, with this many before, no more levels: 0, or -1 with an error set. */
 int lazy_check(PyObject *lazy, size_t max_depth, size_t before);
 PyObject *lazy_raw(PyObject *lazy, void *unused); /* its bytes as an object */
 

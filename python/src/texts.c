@@ -11,7 +11,7 @@ static const char *reason_text(const struct bsonraw_json_report *report) {
         [BSONRAW_JSON_EXPECTED_COLON] = "expected a colon",
         [BSONRAW_JSON_EXPECTED_COMMA] = "expected a comma or the end of the object or array",
         [BSONRAW_JSON_EXPECTED_VALUE] = "expected a value",
-        [BSONRAW_JSON_TEXT_BEHIND] = "text behind the document",
+        [BSONRAW_JSON_TEXT_BEHIND] = "text after the document",
         [BSONRAW_JSON_BAD_NUMBER] = "not a number of JSON",
         [BSONRAW_JSON_INTEGER_TOO_LARGE] = "an integer of more than 64 bits",
         [BSONRAW_JSON_NUMBER_TOO_LARGE] = "a number beyond the greatest double",

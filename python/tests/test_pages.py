@@ -33,7 +33,6 @@ me ['logic', 'poetry']
 {"name":"Ada","born":1815,"tags":["maths","poetry"]}
 2
 0 name Ada
-{'maths': 2, 'poetry': 1}
 {'price': {'amount': Decimal128('9.90'), 'tags': ['new']}} ['price']
 2.5
 at key 'tags.0': int in place of str ('tags', '0')

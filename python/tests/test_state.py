@@ -142,7 +142,7 @@ def output_of(code: str, *arguments: str) -> List[str]:
 
 class State(unittest.TestCase):
     def test_imported_again(self) -> None:
-        """Two modules are side by side after an import behind a purge, each with its classes; and what nobody uses goes."""
+        """Two modules are side by side after a purge and another import, each with its classes; and what nobody uses goes."""
         self.assertEqual(output_of(AGAIN), ["right True"])
 
     def test_interpreters(self) -> None:

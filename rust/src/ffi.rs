@@ -2,7 +2,7 @@
 //! head of `bsonraw.h`, and every call here keeps it in the same way:
 //!
 //! - A pointer with its length is that of a slice, which is never null, lives for the call, and is initialised; or that of a buffer
-//!   with its capacity, where what isn't initialised is only written. What is written is behind a `&mut`, or in a buffer that is owned,
+//!   with its capacity, where what isn't initialised is only written. What is written is in a `&mut`, or in a buffer that is owned,
 //!   so that it overlaps nothing else and no other thread touches it.
 //! - A pointer to a struct or to a number is that of a reference, so it is aligned, and points to a `repr(C)` struct whose fields
 //!   are those of the header (`bsonraw-sys/tests/header.rs`), and of the library: see [`LAYOUT`]. Any fields may be handed over.
@@ -593,7 +593,7 @@ fn text_of(room: &[u8]) -> String {
     text.to_string_lossy().into_owned()
 }
 
-/// `bsonraw_decimal128_to_text`; none without memory.
+/// `bsonraw_decimal128_to_text`, which always returns `BSONRAW_OK`.
 pub(crate) fn decimal128_to_text(decimal: &[u8; 16]) -> Option<String> {
     let mut room = [0_u8; DECIMAL128_TEXT];
     // SAFETY: as said at the head of this file; a decimal has 16 bytes, and no text more than the room.
@@ -609,7 +609,7 @@ pub(crate) fn decimal128_from_text(text: &[u8]) -> Option<[u8; 16]> {
     (status == BSONRAW_OK).then_some(decimal)
 }
 
-/// `bsonraw_date_time_to_text`; none in a year that has no text, and without memory.
+/// `bsonraw_date_time_to_text`; none in a year that has no text.
 pub(crate) fn date_time_to_text(millis: i64) -> Option<String> {
     let mut room = [0_u8; DATE_TIME_TEXT];
     // SAFETY: as said at the head of this file; no text has more bytes than the room.

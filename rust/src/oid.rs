@@ -142,7 +142,7 @@ impl ObjectId {
     }
 }
 
-/// Why a text is no id: an odd length comes before a character, and any other length behind it.
+/// Why a text is no id: an odd length comes before a character, and any other length after it.
 #[cold]
 fn refused(hex: &str) -> Error {
     let length = hex.len();

@@ -1,4 +1,9 @@
--- Trees of values, whatever holds them in memory.
+-- Trees of values, whatever holds them in memory. `tree_of` is the tree of a value:
+--   tree_of (Array values) is array of the trees of the values, in order
+--   tree_of (Document d) is document of the pairs of d, in order, each a key and the tree of its value
+--   tree_of (JavaScriptCodeWithScope c) is code_with_scope of the bytes of the code and of the pairs of the scope
+--   tree_of of any other value is leaf of what it holds: tree_of (Int32 x) is leaf (int32 x)
+-- `TreeEquations`, at the end, has the first three as equations. The definition, above them, follows how values are held.
 use Rattle.std.specs.Prelude.{◌≡◌, ℕ, List, [], ◌∷◌, map}
 use Rattle.std.specs.String.{string_bytes}
 use Rattle.std.specs.declared.alloc.Global.{Global}
@@ -100,7 +105,7 @@ tree_of_document d = document (entries (with_trees (pairs_of d)))
 abbrev pub tree_of_list : List Bson → Tree
 tree_of_list vs = array (trees (map tree_of vs))
 
--- What `tree_of` is at the variants that hold other values. The lines above follow how these are held in memory. Each
+-- What `tree_of` is at the variants that hold other values. Its definition follows how these are held in memory. Each
 -- equation is proved (`tree_equations`).
 pub record TreeEquations : Type 0 where
   pub of_array : (values : Vec Bson Global) → tree_of (b.Array values) ≡ tree_of_list values.items

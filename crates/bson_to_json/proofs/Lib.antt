@@ -14,3 +14,4 @@ pub mod Blocks
 pub mod Walking
 pub mod DocumentUtf8
 pub mod Sinks
+pub mod ShortTexts

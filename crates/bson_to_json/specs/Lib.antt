@@ -4,6 +4,7 @@ pub mod Decimals
 pub mod Leaves
 pub mod Measured
 pub mod Json
+pub mod ShortTexts
 pub mod Written
 pub mod Errors
 pub mod Levels

@@ -1,11 +1,13 @@
 //! Times as text.
 #![tactic(auto)]
 
-ghost use Rattle.std.specs.Prelude.{◌≡◌, ◌<◌, ◌+◌, ◌∷◌, ◌↔◌, ℕ, List, IsTrue, IfOk, OnErr, OnOk, Ok, true, false, pos, ◌+ℤ◌};
+ghost use Rattle.std.specs.Prelude.{◌≡◌, ◌<◌, ◌+◌, ◌∷◌, ◌↔◌, ℕ, List, IfSome, IsSome, OnOk, pos, ◌+ℤ◌};
 ghost use Rattle.std.specs.Io.KnownBytes.{Appends};
 ghost use Rattle.bson_to_json.specs.Dates.{HasInstantText, IsDateJson, IsInstantText, second_text, three_digits};
+ghost use Rattle.bson_to_json.specs.ShortTexts.{short_bytes};
 
-use crate::put::{put, put_between, put_bytes_between};
+use crate::put::{put_between, put_bytes_between};
+use crate::short_text::ShortText;
 use crate::style::Format;
 use itoa::Buffer;
 use jiff_core::civil::Date;
@@ -85,46 +87,37 @@ fn since_first_day(millis: i64) -> u64
     (millis + EPOCH) as u64
 }
 
-/// Writes a time of the years 0 to 9999 in ISO 8601.
-fn put_instant<W: Write>(out: &mut W, millis: i64) -> io::Result<()>
+/// A time of the years 0 to 9999 in ISO 8601.
+fn instant_text(millis: i64) -> ShortText
     requires { HasInstantText millis }
-    ensures { OnOk result ((text : List ℕ) × IsInstantText millis text
-        × Appends (W.contents out.old) (W.contents out.new) text) }
+    ensures { IsInstantText millis (short_bytes result) }
 {
     let since = since_first_day(millis);
     let date = Date::from_days_since_min((since / DAY) as u32);
     let year = u64::from(date.year.unsigned_abs());
     let second = since % DAY / 1000;
-    put(
-        out,
-        &seconds(year, u64::from(date.month), u64::from(date.day), second),
-    )?;
+    let front = seconds(year, u64::from(date.month), u64::from(date.day), second);
+    let whole = ShortText::new().with(&front);
     match since % 1000 {
-        0 => put(out, b"Z"),
-        rest => put_bytes_between(out, "", &fraction(rest), "Z"),
+        0 => whole.with(b"Z"),
+        rest => whole.with(&fraction(rest)).with(b"Z"),
     }
 }
 
-/// Writes a time, given in milliseconds since 1970, in ISO 8601, as `2012-12-24T12:15:30.501Z`, without a fraction
-/// if that is 0. Returns whether the time is in the years 0 to 9999. If it isn't, nothing is written, and that is
-/// no error.
+/// A time, given in milliseconds since 1970, in ISO 8601, as `2012-12-24T12:15:30.501Z`, without a fraction if that
+/// is 0; `None` if it isn't in the years 0 to 9999. It takes no memory.
 /// ```
-/// let mut text = Vec::new(alloc);
-/// assert!(rt; write_time(&mut text, 1356351330501).ok() == Some(true));
-/// assert_eq!(rt; text.as_slice(), b"2012-12-24T12:15:30.501Z".as_slice());
+/// let Some(text) = time_text(1356351330501) else { unreachable!() };
+/// assert_eq!(rt; text.as_bytes(), b"2012-12-24T12:15:30.501Z".as_slice());
 /// ```
-pub fn write_time<W: Write>(out: &mut W, millis: i64) -> io::Result<bool>
-    ensures has_text { IfOk result (λ has_text. IsTrue has_text ↔ HasInstantText millis) }
-    ensures text { result ≡ Ok true → (text : List ℕ) × IsInstantText millis text
-        × Appends (W.contents out.old) (W.contents out.new) text }
-    ensures same { result ≡ Ok false → W.contents out.new ≡ W.contents out.old }
-    ensures err { OnErr result (HasInstantText millis) }
+pub fn time_text(millis: i64) -> Option<ShortText>
+    ensures some { IfSome result (λ text. IsInstantText millis (short_bytes text)) }
+    ensures has_text { IsSome result ↔ HasInstantText millis }
 {
     if millis < FIRST_MILLIS || LAST_MILLIS < millis {
-        return Ok(false);
+        return None;
     }
-    put_instant(out, millis)?;
-    Ok(true)
+    Some(instant_text(millis))
 }
 
 /// Writes a time, given in milliseconds since 1970.
@@ -133,9 +126,8 @@ pub(crate) fn put_date<W: Write>(out: &mut W, format: Format, millis: i64) -> io
         × Appends (W.contents out.old) (W.contents out.new) text) }
 {
     if format == Format::Relaxed && 0 <= millis && millis <= LAST_MILLIS {
-        put(out, b"{\"$date\":\"")?;
-        put_instant(out, millis)?;
-        return put(out, b"\"}");
+        let text = instant_text(millis);
+        return put_bytes_between(out, "{\"$date\":\"", text.as_bytes(), "\"}");
     }
     let mut digits = Buffer::new();
     put_between(

@@ -1,18 +1,16 @@
 //! Decimal128 as text.
 #![tactic(auto)]
 
-ghost use Rattle.std.specs.Prelude.{◌≡◌, ◌<◌, ◌≤◌, ◌^◌, length, OnOk};
+ghost use Rattle.std.specs.Prelude.{◌≡◌, ◌<◌, ◌≤◌, ◌+◌, ◌^◌, length};
 ghost use Rattle.std.specs.Fmt.{sign_text};
 ghost use Rattle.std.specs.Int.{w64, from_le_bytes};
-ghost use Rattle.std.specs.Io.KnownBytes.{Appends};
 ghost use Rattle.bson_model.specs.Scalars.{bytes_of_decimal128};
-ghost use Rattle.bson_to_json.specs.Decimals.{decimal_of, decimal_text, decimal128_text, finite_text, plain_text, scientific_text};
+ghost use Rattle.bson_to_json.specs.Decimals.{behind_point, decimal_of, decimal_text, decimal128_text as text_of_decimal, exponent_text, finite_text, plain_text, scientific_text};
+ghost use Rattle.bson_to_json.specs.ShortTexts.{Adds, short_bytes};
 
-use crate::put::{put, put_repeated, put_words};
+use crate::short_text::ShortText;
 use bson_model::Decimal128;
 use itoa::Buffer;
-use std::io;
-use std::io::Write;
 
 /// The value of a Decimal128.
 pub(crate) enum Decimal {
@@ -64,84 +62,90 @@ fn parts_of(low: u64, high: u64) -> Decimal
     )
 }
 
-/// Writes a minus sign if the number is negative.
-fn put_sign<W: Write>(out: &mut W, is_negative: bool) -> io::Result<()>
-    ensures { OnOk result (Appends (W.contents out.old) (W.contents out.new) (sign_text is_negative)) }
+/// The text with a minus after it if a number is negative.
+fn with_sign(text: ShortText, is_negative: bool) -> ShortText
+    ensures { Adds text result (sign_text is_negative) }
 {
-    if is_negative {
-        return put(out, b"-");
-    }
-    Ok(())
+    if is_negative { text.with(b"-") } else { text }
 }
 
-/// Writes digits with an exponent, one digit before the point.
-fn put_scientific<W: Write>(out: &mut W, digits: &[u8], exponent: u64) -> io::Result<()>
+/// The text with a point and these digits after it, if there are any.
+fn with_fraction(text: ShortText, digits: &[u8]) -> ShortText
+    ensures { Adds text result (behind_point digits.now) }
+{
+    match digits {
+        [] => text,
+        _ => text.with(b".").with(digits),
+    }
+}
+
+/// The text with an exponent after it, which is given plus 6177.
+fn with_exponent(text: ShortText, reach: u64) -> ShortText
+    requires { reach < 2 ^ 17 }
+    ensures { Adds text result (exponent_text reach) }
+{
+    let mut digits = Buffer::new();
+    if reach > BIAS {
+        return text
+            .with(b"E+")
+            .with(digits.format(reach - (BIAS + 1)).as_bytes());
+    }
+    text.with(b"E-")
+        .with(digits.format(BIAS + 1 - reach).as_bytes())
+}
+
+/// The text with digits and an exponent after it, one digit before the point.
+fn with_scientific(text: ShortText, digits: &[u8], exponent: u64) -> ShortText
     requires few { length digits.now ≤ 40 }
     requires exponent { exponent < 2 ^ 16 }
-    ensures { OnOk result (Appends (W.contents out.old) (W.contents out.new) (scientific_text digits.now exponent)) }
+    ensures { Adds text result (scientific_text digits.now exponent) }
 {
     let (first, others) = digits.split_at(digits.len().min(1));
-    put(out, first)?;
-    if !others.is_empty() {
-        put(out, b".")?;
-        put(out, others)?;
-    }
-    let reach = exponent + digits.len() as u64;
-    let mut text = Buffer::new();
-    if reach > BIAS {
-        put(out, b"E+")?;
-        return put_words(out, text.format(reach - (BIAS + 1)));
-    }
-    put(out, b"E-")?;
-    put_words(out, text.format(BIAS + 1 - reach))
+    let number = with_fraction(text.with(first), others);
+    with_exponent(number, exponent + digits.len() as u64)
 }
 
-/// Writes digits with a point before the last `places` of them.
-fn put_plain<W: Write>(out: &mut W, digits: &[u8], places: usize) -> io::Result<()>
-    ensures { OnOk result (Appends (W.contents out.old) (W.contents out.new) (plain_text digits.now places)) }
+/// The text with digits after it, and a point before the last `places` of them.
+fn with_plain(text: ShortText, digits: &[u8], places: usize) -> ShortText
+    requires { places ≤ length digits.now + 5 }
+    ensures { Adds text result (plain_text digits.now places) }
 {
     if places == 0 {
-        return put(out, digits);
+        return text.with(digits);
     }
     if places < digits.len() {
         let (whole, fraction) = digits.split_at(digits.len() - places);
-        put(out, whole)?;
-        put(out, b".")?;
-        return put(out, fraction);
+        return text.with(whole).with(b".").with(fraction);
     }
-    put(out, b"0.")?;
-    put_repeated(out, b'0', places - digits.len())?;
-    put(out, digits)
+    let zeros = [b'0'; 5];
+    text.with(b"0.")
+        .with(&zeros[..places - digits.len()])
+        .with(digits)
 }
 
-/// Writes digits times 10 to an exponent.
-fn put_finite<W: Write>(out: &mut W, digits: &[u8], exponent: u64) -> io::Result<()>
+/// The text with digits times 10 to an exponent after it.
+fn with_finite(text: ShortText, digits: &[u8], exponent: u64) -> ShortText
     requires few { length digits.now ≤ 40 }
     requires exponent { exponent < 2 ^ 16 }
-    ensures { OnOk result (Appends (W.contents out.old) (W.contents out.new) (finite_text digits.now exponent)) }
+    ensures { Adds text result (finite_text digits.now exponent) }
 {
     if exponent > BIAS || exponent + digits.len() as u64 + 5 < BIAS {
-        return put_scientific(out, digits, exponent);
+        return with_scientific(text, digits, exponent);
     }
-    put_plain(out, digits, (BIAS - exponent) as usize)
+    with_plain(text, digits, (BIAS - exponent) as usize)
 }
 
-/// Writes the value of a Decimal128.
-fn put_parts<W: Write>(out: &mut W, parts: Decimal) -> io::Result<()>
-    ensures { OnOk result
-        (Appends (W.contents out.old) (W.contents out.new) (decimal_text parts)) }
+/// The text with the value of a Decimal128 after it.
+fn with_parts(text: ShortText, parts: Decimal) -> ShortText
+    ensures { Adds text result (decimal_text parts) }
 {
     match parts {
-        Decimal::NaN => put(out, b"NaN"),
-        Decimal::Infinity(is_negative) => {
-            put_sign(out, is_negative)?;
-            put(out, b"Infinity")
-        }
+        Decimal::NaN => text.with(b"NaN"),
+        Decimal::Infinity(is_negative) => with_sign(text, is_negative).with(b"Infinity"),
         Decimal::Finite(is_negative, coefficient, exponent) => {
-            put_sign(out, is_negative)?;
             let mut digits = Buffer::new();
-            put_finite(
-                out,
+            with_finite(
+                with_sign(text, is_negative),
                 digits.format(coefficient).as_bytes(),
                 u64::from(exponent),
             )
@@ -149,19 +153,15 @@ fn put_parts<W: Write>(out: &mut W, parts: Decimal) -> io::Result<()>
     }
 }
 
-/// Writes a Decimal128 as text, as `1.50`, `1.5E+20`, `NaN` or `-Infinity`, of at most 42 bytes.
+/// A Decimal128 as text, as `1.50`, `1.5E+20`, `NaN` or `-Infinity`. It takes no memory.
 /// ```
-/// let mut text = Vec::new(alloc);
 /// let one = Decimal128::from_bytes([1, 0, 0, 0, 0, 0, 0, 0, 0, 0, 0, 0, 0, 0, 0x40, 0x30]);
-/// assert!(rt; write_decimal128(&mut text, one).is_ok());
-/// assert_eq!(rt; text.as_slice(), b"1".as_slice());
+/// assert_eq!(rt; decimal128_text(one).as_bytes(), b"1".as_slice());
 /// ```
-pub fn write_decimal128<W: Write>(out: &mut W, number: Decimal128) -> io::Result<()>
-    ensures written { OnOk result
-        (Appends (W.contents out.old) (W.contents out.new) (decimal128_text (bytes_of_decimal128 number))) }
-    ensures short { length (decimal128_text (bytes_of_decimal128 number)) ≤ 42 }
+pub fn decimal128_text(number: Decimal128) -> ShortText
+    ensures { short_bytes result ≡ text_of_decimal (bytes_of_decimal128 number) }
 {
     let bytes = number.bytes();
     let (low, high) = bytes.split_at(8);
-    put_parts(out, parts_of(number_of(low), number_of(high)))
+    with_parts(ShortText::new(), parts_of(number_of(low), number_of(high)))
 }

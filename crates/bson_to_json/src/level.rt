@@ -9,12 +9,12 @@ ghost use Rattle.bson_to_json.specs.Levels.{PutsOpening, PutsSingle, level_sort,
 ghost use Rattle.raw_view.specs.Meaning.Value.{held_value, value_of};
 
 use crate::dates::put_date;
-use crate::decimals::write_decimal128;
+use crate::decimals::decimal128_text;
 use crate::doubles::put_double;
 use crate::leaf::{
     put_binary, put_id, put_int32, put_int64, put_pointer, put_regex, put_text, put_timestamp,
 };
-use crate::put::{put, put_repeated};
+use crate::put::{put, put_bytes_between, put_repeated};
 use crate::quote::put_quoted;
 use crate::style::{Format, Layout};
 use raw_view::{Holder, RawBsonRef, RawLevel};
@@ -154,9 +154,8 @@ pub(crate) fn put_single<W: Write>(
         RawBsonRef::Timestamp(time) => put_timestamp(out, time),
         RawBsonRef::Int64(number) => put_int64(out, format, number),
         RawBsonRef::Decimal128(number) => {
-            put(out, b"{\"$numberDecimal\":\"")?;
-            write_decimal128(out, number)?;
-            put(out, b"\"}")
+            let text = decimal128_text(number);
+            put_bytes_between(out, "{\"$numberDecimal\":\"", text.as_bytes(), "\"}")
         }
         RawBsonRef::Null => put(out, b"null"),
         RawBsonRef::Undefined => put(out, b"{\"$undefined\":true}"),

@@ -2,8 +2,8 @@
 //!
 //! Begin at `print` in `print.rt`, which walks over a document and writes its text block by block. `level.rt`
 //! writes what is around the members of a level, `leaf.rt` single values. Numbers and times are in `doubles.rt`,
-//! `decimals.rt` and `dates.rt`, texts in `quote.rt`. `sink.rt` has what takes a text block by block, and
-//! `document.rt` the calls for users.
+//! `decimals.rt` and `dates.rt`, over the arrays of `short_text.rt`, and texts in `quote.rt`. `sink.rt` has what
+//! takes a text block by block, and `document.rt` the calls for users.
 //!
 //! In `specs/`, `Json.antt` says which text a document has, `Leaves.antt` which one a single value has, with
 //! `Doubles.antt`, `Dates.antt` and `Decimals.antt`; `Errors.antt` says why a document isn't printed.
@@ -23,13 +23,15 @@ mod plain;
 mod print;
 mod put;
 mod quote;
+mod short_text;
 mod sink;
 mod style;
 
-pub use dates::write_time;
-pub use decimals::write_decimal128;
+pub use dates::time_text;
+pub use decimals::decimal128_text;
 pub use document::{measured_json, to_json, write_json};
 pub use error::{ToJsonError, WriteJsonError};
+pub use short_text::ShortText;
 pub use sink::Measured;
 pub use style::{Format, Layout, Style};
 // For the lines of `dump_io` alone.

@@ -15,6 +15,7 @@ use Rattle.bsonraw_c.specs.Codes.{SaysKind}
 use Rattle.bsonraw_c.specs.Iters.{GoesThrough, IsAstray, IsAtFrame, IsAtStop, IsKeyAt, IsShortKey, IsWorkedOut, StopsAtFault, place_of_none}
 use Rattle.bsonraw_c.specs.Places.{StandsAt}
 use Rattle.bsonraw_c.specs.declared.iter.Iter.{Iter}
+use Rattle.raw_view.proofs.Face.{stop_key}
 use Rattle.bsonraw_c.proofs.Placing.{frame_within, left_behind, stands_behind, stop_told}
 
 -- a number, as it crosses to C
@@ -84,8 +85,7 @@ module _ {b d : List ℕ} {at len offset : ℕ} (stands : StandsAt b at len d) (
   -- the key of a stop ends there, too
   pub key_within : (fault : Fault) (key : Option (List ℕ)) → at + len < 2 ^ 32 → IsStop (drop (offset - at) d) fault key → IsShortKey offset key
   key_within fault None small stop = tt
-  key_within (Malformed why) (Some key) small stop = omega (arith, small, key_ends key stop.0)
-  key_within Utf8 (Some key) small stop = omega (arith, small, key_ends key stop.0)
+  key_within fault (Some key) small stop = omega (arith, small, key_ends key (stop_key (drop (offset - at) d) fault key stop))
 
   key_in : (key : List ℕ) (it : Iter) → HasKey (drop (offset - at) d) key → it.key_at ≡ offset + 1 → it.key_len ≡ length key → StandsAt b it.key_at it.key_len key
   key_in key it k at_is len_is = stands_there b d key at len (offset - at + 1) it.key_len it.key_at stands
@@ -95,8 +95,7 @@ module _ {b d : List ℕ} {at len offset : ℕ} (stands : StandsAt b at len d) (
   -- the iterator says where the key of the stop is
   pub stopped_in : (fault : Fault) (key : Option (List ℕ)) (it : Iter) → IsStop (drop (offset - at) d) fault key → IsKeyAt (place_of_none b) offset key it → IsAtStop b offset key it
   stopped_in fault None it stop out = out
-  stopped_in (Malformed why) (Some key) it stop out = (out.0, out.1, key_in key it stop.0 out.1 out.2, out.3, out.4)
-  stopped_in Utf8 (Some key) it stop out = (out.0, out.1, key_in key it stop.0 out.1 out.2, out.3, out.4)
+  stopped_in fault (Some key) it stop out = (out.0, out.1, key_in key it (stop_key (drop (offset - at) d) fault key stop) out.1 out.2, out.3, out.4)
 
   -- what a stop says
   pub fault_in : (stop : BorrowedError) (it : Iter) → StopsWith stop.kind (option_copied stop.key) (drop (offset - at) d)

@@ -1,7 +1,10 @@
 pub mod Build
 pub mod BuildParts
 pub mod Codes
+pub mod Comparing
 pub mod Paths
+pub mod PathValues
+pub mod Overwriting
 pub mod Places
 pub mod Dumps
 pub mod Entries

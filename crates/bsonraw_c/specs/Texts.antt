@@ -20,26 +20,19 @@ ReadsHex text before after code =
 abbrev pub seconds_of : List ℕ → ℕ
 seconds_of id = from_be_bytes w32 (take 4 id)
 
--- a text with a 0 behind it is at the front of the room, and behind them is what stood there
+-- a text with a 0 after it is at the front of the room, and after them is what stood there
 abbrev pub HasText : List ℕ → List ℕ → List ℕ → Type 0
 HasText text before after = after ≡ (text ++ (0 ∷ [])) ++ drop (suc (length text)) before
 
--- memory ran out, and the room is as it was
-abbrev pub LacksMemory : List ℕ → List ℕ → ℤ → Type 0
-LacksMemory before after code = (after ≡ before) × Returns status.NoMemory code
-
--- the room has the text of the Decimal128 of these bytes, or memory ran out
+-- the room has the text of the Decimal128 of these bytes
 abbrev pub PutsDecimal : List ℕ → List ℕ → List ℕ → ℤ → Type 0
-PutsDecimal bytes before after code =
-    (HasText (decimal128_text bytes) before after × Returns status.Done code)
-    ⊎ LacksMemory before after code
+PutsDecimal bytes before after code = HasText (decimal128_text bytes) before after × Returns status.Done code
 
--- the room has the text of a time; or the time isn't of the years 0 to 9999, and the room is as it was; or it is, and memory ran out
+-- the room has the text of a time; or the time isn't of the years 0 to 9999, and the room is as it was
 abbrev pub PutsTime : ℤ → List ℕ → List ℕ → ℤ → Type 0
 PutsTime millis before after code =
     ((text : List ℕ) × IsInstantText millis text × HasText text before after × Returns status.Done code)
     ⊎ ((¬ HasInstantText millis) × (after ≡ before) × Returns status.Fault code)
-    ⊎ (HasInstantText millis × LacksMemory before after code)
 
 -- a text writes a Decimal128, whose bytes are in the room; or none, and the room is as it was
 abbrev pub ReadsDecimal : List ℕ → List ℕ → List ℕ → ℤ → Type 0

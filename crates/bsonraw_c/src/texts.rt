@@ -1,15 +1,12 @@
 //! Decimal128s and times as text.
 
-ghost use Rattle.std.specs.Prelude.{◌≡◌, ◌<◌, ◌⊎◌, length};
+ghost use Rattle.std.specs.Prelude.{◌<◌, length};
 ghost use Rattle.bsonraw_c.specs.Texts.{HasText, PutsDecimal, PutsTime, ReadsDecimal, ReadsTime};
-ghost use Rattle.bsonraw_c.specs.declared.codes.Status.TheVariants as status;
 
 use crate::codes::Status;
-use crate::room::put;
 use bson_from_json::{decimal128_of, millis_of};
 use bson_model::Decimal128;
-use bson_to_json::{write_decimal128, write_time};
-use std::alloc::Global;
+use bson_to_json::{decimal128_text, time_text};
 
 /// The sixteen bytes of a Decimal128, the least first.
 #[repr(C)]
@@ -35,20 +32,14 @@ pub struct TimeText {
     pub bytes: [u8; 25],
 }
 
-/// Puts a Decimal128 into the room as text, with a 0 behind it.
+/// Puts a Decimal128 into the room as text, with a 0 after it. It takes no memory.
 #[unsafe(no_mangle)]
-pub extern "C" fn bsonraw_decimal128_to_text(
-    alloc: Global,
-    decimal: &Decimal,
-    text: &mut DecimalText,
-) -> i32
+pub extern "C" fn bsonraw_decimal128_to_text(decimal: &Decimal, text: &mut DecimalText) -> i32
     ensures { PutsDecimal decimal.now.bytes text.old.bytes text.new.bytes result }
 {
-    let mut own = Vec::new(alloc);
-    match write_decimal128(&mut own, Decimal128::from_bytes(decimal.bytes)) {
-        Ok(()) => put_text(own, &mut text.bytes).number(),
-        Err(_) => Status::NoMemory.number(),
-    }
+    let own = decimal128_text(Decimal128::from_bytes(decimal.bytes));
+    put_text(own.as_bytes(), &mut text.bytes);
+    Status::Done.number()
 }
 
 /// Puts the bytes of the Decimal128 that a text writes into the room.
@@ -65,18 +56,17 @@ pub extern "C" fn bsonraw_decimal128_from_text(text: &[u8], decimal: &mut Decima
     }
 }
 
-/// Puts a time, as milliseconds from 1970 on, into the room as text, with a 0 behind it.
+/// Puts a time, as milliseconds from 1970 on, into the room as text, with a 0 after it. It takes no memory.
 #[tactic(auto, using(crate::proofs::TimeTexts::instant_short))]
 #[unsafe(no_mangle)]
-pub extern "C" fn bsonraw_date_time_to_text(alloc: Global, millis: i64, text: &mut TimeText) -> i32
+pub extern "C" fn bsonraw_date_time_to_text(millis: i64, text: &mut TimeText) -> i32
     ensures { PutsTime millis text.old.bytes text.new.bytes result }
 {
-    let mut own = Vec::new(alloc);
-    match write_time(&mut own, millis) {
-        Ok(true) => put_text(own, &mut text.bytes).number(),
-        Ok(false) => Status::Fault.number(),
-        Err(_) => Status::NoMemory.number(),
-    }
+    let Some(own) = time_text(millis) else {
+        return Status::Fault.number();
+    };
+    put_text(own.as_bytes(), &mut text.bytes);
+    Status::Done.number()
 }
 
 /// Puts the milliseconds from 1970 on that a text writes into the room.
@@ -93,16 +83,12 @@ pub extern "C" fn bsonraw_date_time_from_text(text: &[u8], millis: &mut i64) -> 
     }
 }
 
-/// Puts a text and the 0 behind it into the room, which has place for both.
-fn put_text(text: Vec<u8>, room: &mut [u8]) -> Status
-    requires { length text.items < length room.old }
-    ensures { (HasText text.items room.old room.new × (result ≡ status.Done))
-        ⊎ ((room.new ≡ room.old) × (result ≡ status.NoMemory)) }
+/// Puts a text and a 0 after it into the room, which has place for both.
+fn put_text(text: &[u8], room: &mut [u8])
+    requires { length text.now < length room.old }
+    ensures { HasText text.now room.old room.new }
 {
-    let mut ended = text;
-    if ended.push(0).is_err() {
-        return Status::NoMemory;
-    }
-    put(room, &ended);
-    Status::Done
+    let (front, rest) = room.split_at_mut(text.len());
+    front.copy_from_slice(text);
+    rest[0] = 0;
 }

@@ -6,11 +6,12 @@ mod builder;
 mod commands;
 mod folders;
 mod names;
+mod numbers;
 mod task;
 mod words;
 
 pub use commands::printing_of;
 pub use folders::listing;
 pub use names::{copied, expanded};
-pub use task::{Task, parsed};
+pub use task::{Task, parsed, refusal};
 pub use words::{Words, given_words};

@@ -2,6 +2,8 @@
 //! takes the place of another; and what is reported of them on standard error.
 #![tactic(auto)]
 
+pub mod alone;
+pub mod colors;
 pub mod findings;
 mod guess;
 pub mod inputs;

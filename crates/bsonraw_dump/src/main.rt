@@ -6,10 +6,11 @@
 //!
 //! Begin at `all` in `program.rt`. An option is added in `command_line/args.rt`, and read in `command_line/task.rt`; the table
 //! of commands is `command_line/commands.rt`. What is proved of a run is below, in `dump_runs`: here are the files, the terminal and
-//! the environment, of which no contract can speak. Change them with `checks/outputs.sh` at hand, which sees that OUTPUT is put in
+//! the environment, of which no contract can speak. Change them with `bin/test outputs` at hand, which sees that OUTPUT is put in
 //! place if and only if all went well.
 #![tactic(auto)]
 
+mod asked;
 mod command_line;
 mod files;
 mod program;

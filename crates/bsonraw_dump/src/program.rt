@@ -1,7 +1,12 @@
 //! Runs a command over files.
 #![tactic(auto)]
 
-use crate::command_line::{Task, Words, copied, expanded, given_words, parsed, printing_of};
+use crate::asked::wrong_with;
+use crate::command_line::{
+    Task, Words, copied, expanded, given_words, parsed, printing_of, refusal,
+};
+use crate::files::alone::{Alone, failed};
+use crate::files::colors::{Colors, When, are_colored};
 use crate::files::findings::Findings;
 use crate::files::inputs::{Files, Unread, are_one, node_of, size_of};
 use crate::files::output::{BLOCK, Fill, into_file};
@@ -27,10 +32,14 @@ struct Run<'a> {
     reading: Reading<'a>,
     /// the file that is written in place of standard output
     output: Option<&'a str>,
+    /// the file that documents are written to that stand alone
+    alone: Option<&'a str>,
     /// what is read; `-` is standard input
     inputs: Vec<&'a str>,
     /// which of them can't be opened
     unread: Unread<'a>,
+    /// when lines are in colors
+    color: When,
 }
 
 /// Does what the arguments ask for.
@@ -89,6 +98,10 @@ fn with_words(rt: &HostRuntime, task: &Task<'_>, words: &Words) -> Status {
     if let Some(name) = words.misplaced(&task.inputs) {
         return misplaced(rt, name);
     }
+    if let Some(wrong) = wrong_with(rt, task) {
+        let error = refusal(rt.alloc(), VERSION, wrong);
+        return printed(rt, &error, Status::Usage);
+    }
     with_names(rt, task, words).unwrap_or(Status::Memory)
 }
 
@@ -138,6 +151,7 @@ fn with_names(rt: &HostRuntime, task: &Task<'_>, words: &Words) -> Result<Status
         &Run {
             reading: task.reading,
             output: task.output,
+            alone: task.alone,
             inputs,
             unread: Unread {
                 names: &names.unread,
@@ -145,6 +159,7 @@ fn with_names(rt: &HostRuntime, task: &Task<'_>, words: &Words) -> Result<Status
                 packed: &names.packed,
                 packed_words: way_of_packed.as_str(),
             },
+            color: task.color,
         },
     ))
 }
@@ -167,19 +182,33 @@ fn start(rt: &HostRuntime, run: &Run<'_>) -> Status {
         Some(printing) if printing.soon => {
             let is_file = node_of(rt, "/dev/stdout").is_some();
             let clears = rt.stdout().is_terminal() && shows_progress(rt, run);
-            let mut out = Prompt::new(rt, out, !is_file, clears);
+            let lines = colored(rt, run, out, rt.stdout().is_terminal());
+            let mut out = Prompt::new(rt, lines, !is_file, clears);
             each(rt, run, &mut io::sink(), &mut out).status
         }
-        Some(printing) if !printing.documents => each(rt, run, &mut io::sink(), &mut out).status,
+        Some(printing) if !printing.documents => {
+            let mut lines = colored(rt, run, out, rt.stdout().is_terminal());
+            each(rt, run, &mut io::sink(), &mut lines).status
+        }
         _ => {
             let mut findings = Findings {
                 rt,
-                writer: rt.stderr(),
+                writer: colored(rt, run, rt.stderr(), rt.stderr().is_terminal()),
                 clears: shows_progress(rt, run),
                 is_apart: !are_one(rt, "/dev/stdout", "/dev/stderr"),
             };
             each(rt, run, &mut out, &mut findings).status
         }
+    }
+}
+
+/// The writer of lines, which are in colors where that is asked for.
+fn colored<W>(rt: &HostRuntime, run: &Run<'_>, writer: W, is_terminal: bool) -> Colors<W> {
+    let is_text = matches!(run.reading.style(), Style::Words);
+    Colors {
+        writer,
+        on: is_text && are_colored(rt, run.color, is_terminal),
+        alloc: rt.alloc(),
     }
 }
 
@@ -195,7 +224,7 @@ impl<'a> Fill<'a> for Run<'a> {
     fn fill(&self, rt: &HostRuntime, data: &mut BufWriter<File>) -> Done<'a> {
         let mut findings = Findings {
             rt,
-            writer: rt.stderr(),
+            writer: colored(rt, self, rt.stderr(), rt.stderr().is_terminal()),
             clears: shows_progress(rt, self),
             is_apart: true,
         };
@@ -210,6 +239,37 @@ fn each<'a, D: Write, W: Write>(
     data: &mut D,
     report: &mut W,
 ) -> Done<'a> {
+    let Some(name) = run.alone else {
+        return told(rt, run, over_each(rt, run, data, &mut io::sink(), report));
+    };
+    match Alone::open(rt, run.reading.style(), name) {
+        Ok(mut alone) => {
+            let done = over_each(rt, run, data, &mut alone, report);
+            told(rt, run, alone.end(rt, done))
+        }
+        Err(error) => {
+            tell(rt, run.reading.style(), name, None, &error);
+            failed(error)
+        }
+    }
+}
+
+/// Reports a failure of a run.
+fn told<'a>(rt: &HostRuntime, run: &Run<'_>, done: Done<'a>) -> Done<'a> {
+    if let Some(Lack::Failed(failure)) = &done.lack {
+        tell_failure(rt, run, failure);
+    }
+    done
+}
+
+/// Runs the command over each input.
+fn over_each<'a, D: Write, A: Write, W: Write>(
+    rt: &HostRuntime,
+    run: &Run<'a>,
+    data: &mut D,
+    alone: &mut A,
+    report: &mut W,
+) -> Done<'a> {
     let shows = shows_progress(rt, run);
     let size = if shows {
         size_of(rt, &run.inputs)
@@ -218,12 +278,12 @@ fn each<'a, D: Write, W: Write>(
     };
     let progress = Progress::new(rt, shows, size);
     let inputs = files_of(&*rt, &*run, &progress);
-    let mut writers = Writers { out: data, report };
-    let done = run_all(rt.alloc(), run.reading, &inputs, &run.inputs, &mut writers);
-    if let Some(Lack::Failed(failure)) = &done.lack {
-        tell_failure(rt, run, failure);
-    }
-    done
+    let mut writers = Writers {
+        out: data,
+        alone,
+        report,
+    };
+    run_all(rt.alloc(), run.reading, &inputs, &run.inputs, &mut writers)
 }
 
 /// Whether it is shown how far the reading has come: not where documents or lines are written to the same terminal.

@@ -1,5 +1,5 @@
 -- How what was counted is told: in words, as an object of JSON, or not at all.
-use Rattle.std.specs.Prelude.{ℕ, List, [], ◌∷◌, ◌++◌, ◌-◌, Option, None, Some, codes, decimal, flat_map}
+use Rattle.std.specs.Prelude.{ℕ, zero, suc, List, [], ◌∷◌, ◌++◌, ◌-◌, Bool, true, false, Option, None, Some, codes, decimal, flat_map}
 use Rattle.dump_io.specs.lines.Quoting.{quoted}
 use Rattle.json.specs.Token.{Token, key, string, number}
 use Rattle.dump_commands.specs.declared.command.Command.{Command}
@@ -18,14 +18,23 @@ Count = List ℕ × ℕ
 abbrev pub count_of : summary.Count → Count
 count_of count = (count.name.now, count.number)
 
--- how many documents a command kept, and how many it left out; check, list, count, sizes and fields keep none
-abbrev pub kept_counts : Command → Counts → ℕ → List Count
-kept_counts command.Check n kept = []
-kept_counts command.List n kept = []
-kept_counts command.Count n kept = []
-kept_counts command.Sizes n kept = []
-kept_counts command.Fields n kept = []
-kept_counts _ n kept = (codes "kept", kept) ∷ (codes "left out", n.documents - kept) ∷ []
+-- whether a command keeps documents: check, list, count, sizes and fields keep none
+abbrev pub keeps : Command → Bool
+keeps command.Check = false
+keeps command.List = false
+keeps command.Count = false
+keeps command.Sizes = false
+keeps command.Fields = false
+keeps _ = true
+
+-- what a command that keeps documents tells first: how many, how many damaged regions there are, and how many bytes they have
+abbrev pub first_counts : Counts → (kept : ℕ) → List Count
+first_counts n kept = (codes "kept", kept) ∷ (codes "damaged regions", n.regions) ∷ (codes "bytes lost", n.lost) ∷ []
+
+-- how many documents stand alone, and how many others a command left out, if it keeps any
+abbrev pub left_out_counts : Bool → Counts → (kept : ℕ) → List Count
+left_out_counts false n kept = []
+left_out_counts true n kept = (codes "alone", n.alone) ∷ (codes "left out", n.documents - n.alone - kept) ∷ []
 
 -- how many documents without damage aren't canonical, where that changes what the command does
 abbrev pub breached_counts : Command → Counts → List Count
@@ -48,10 +57,10 @@ abbrev pub hidden_counts : Option ℕ → Counts → List Count
 hidden_counts None n = []
 hidden_counts (Some most) n = (codes "findings not printed", n.findings - most) ∷ []
 
--- all that is counted beside the documents, where how many findings are printed at most
+-- all that is counted beside the documents and what is told first, where how many findings are printed at most
 abbrev pub counts_of : Option ℕ → Command → Counts → ℕ → List Count
 counts_of limit c n kept =
-    (codes "bytes", n.bytes) ∷ kept_counts c n kept ++ breached_counts c n ++ damaged_counts c n ++ left_counts n ++ hidden_counts limit n
+    (codes "bytes", n.bytes) ∷ left_out_counts (keeps c) n kept ++ breached_counts c n ++ damaged_counts c n ++ left_counts n ++ hidden_counts limit n
 
 -- a number after its name, in words
 abbrev pub count_text : Count → List ℕ
@@ -84,9 +93,29 @@ counts_line style.Words name documents counts = name_text name ++ counts_text do
 counts_line style.Json name documents counts = object_line (name_members name ++ count_members (codes "documents", documents) ++ flat_map count_members counts)
 counts_line style.Quiet name documents counts = []
 
--- the same of what a command counted
+-- the same unless it is 0
+abbrev pub some_text : Count → List ℕ
+some_text (name, zero) = []
+some_text (name, suc n) = next_text (name, suc n)
+
+-- what a command that keeps documents tells first, in words
+abbrev pub kept_text : Counts → (kept : ℕ) → List ℕ
+kept_text n kept = decimal kept ++ codes " kept; " ++ decimal n.regions ++ codes " damaged regions, " ++ decimal n.lost ++ codes " bytes lost"
+
+-- the line that tells what a command that keeps documents counted: in words that, and then the counts that aren't 0
+abbrev pub kept_line : Style → Option (List ℕ) → Counts → (kept : ℕ) → List Count → List ℕ
+kept_line style.Words name n kept counts = name_text name ++ kept_text n kept ++ some_text (codes "documents", n.documents) ++ flat_map some_text counts ++ codes "\n"
+kept_line style.Json name n kept counts =
+    object_line (name_members name ++ count_members (codes "documents", n.documents) ++ flat_map count_members (first_counts n kept) ++ flat_map count_members counts)
+kept_line style.Quiet name n kept counts = []
+
+-- the same of any command
+abbrev pub line_of : Bool → Style → Option (List ℕ) → Counts → (kept : ℕ) → List Count → List ℕ
+line_of true style name n kept counts = kept_line style name n kept counts
+line_of false style name n kept counts = counts_line style name n.documents counts
+
 abbrev pub summary_line : Style → Option (List ℕ) → Option ℕ → Command → Counts → ℕ → List ℕ
-summary_line style name limit c n kept = counts_line style name n.documents (counts_of limit c n kept)
+summary_line style name limit c n kept = line_of (keeps c) style name n kept (counts_of limit c n kept)
 
 -- what is counted of texts beside the documents: the texts with a fault, and the files that aren't read to their end
 abbrev pub text_counts : Option ℕ → Counts → List Count

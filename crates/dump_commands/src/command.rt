@@ -1,8 +1,9 @@
 //! What is asked of the documents of an input.
 #![tactic(auto)]
 
-ghost use Rattle.std.specs.Prelude.{MatchBool};
+ghost use Rattle.std.specs.Prelude.{◌≡◌, MatchBool};
 ghost use Rattle.dump_commands.specs.Binary.{MakesBson, MakesNoBson};
+ghost use Rattle.dump_commands.specs.Summary as says;
 
 use bson_to_json::Style;
 
@@ -50,6 +51,21 @@ pub enum Command<'a> {
 }
 
 impl Command<'_> {
+    /// Whether it keeps documents, and leaves out others.
+    pub fn keeps(self) -> bool
+        ensures { result ≡ says.keeps self.entry }
+    {
+        match self {
+            Command::Canon
+            | Command::Sound
+            | Command::Unique(_)
+            | Command::Json(_)
+            | Command::Pick(_) => true,
+            Command::Check | Command::List | Command::Count | Command::Sizes | Command::Fields =>
+                false,
+        }
+    }
+
     /// Whether what it writes is BSON, which is no text.
     pub fn writes_documents(self) -> bool
         ensures { MatchBool result (MakesBson self.entry) (MakesNoBson self.entry) }

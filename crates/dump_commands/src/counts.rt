@@ -1,5 +1,5 @@
 ghost use Rattle.std.specs.Prelude.{◌≡◌, IfSome, IsNone};
-ghost use Rattle.dump_commands.specs.Counting.{AreInRange, count_document, count_fault, count_gap, count_left, count_rest, count_said, no_counts, plus};
+ghost use Rattle.dump_commands.specs.Counting.{AreInRange, count_alone, count_document, count_fault, count_gap, count_left, count_rest, count_said, no_counts, plus};
 
 use dump_io::lines::find::Finding;
 
@@ -16,8 +16,14 @@ pub struct Counts {
     pub damaged: u64,
     /// those that are too deep
     pub too_deep: u64,
+    /// those without damage that stand alone, and aren't written to the output
+    pub alone: u64,
     /// bytes that were passed over
     pub passed_over: u64,
+    /// damaged regions: documents with damage, and bytes that were passed over
+    pub regions: u64,
+    /// the bytes of these
+    pub lost: u64,
     /// bytes of which no document was made, in files that weren't read to their end
     pub not_read: u64,
     /// those files
@@ -37,7 +43,10 @@ impl Counts {
             breached: 0,
             damaged: 0,
             too_deep: 0,
+            alone: 0,
             passed_over: 0,
+            regions: 0,
+            lost: 0,
             not_read: 0,
             files: 0,
             findings: 0,
@@ -63,6 +72,8 @@ impl Counts {
             }),
             Finding::Damaged => Some(Counts {
                 damaged: read.damaged.checked_add(1)?,
+                regions: read.regions.checked_add(1)?,
+                lost: read.lost.checked_add(len as u64)?,
                 ..read
             }),
             Finding::TooDeep => Some(Counts {
@@ -70,6 +81,19 @@ impl Counts {
                 ..read
             }),
         }
+    }
+
+    /// One document more, of `len` bytes, that stands alone; `None` where a count would be over its range.
+    pub fn with_alone(self, len: usize) -> Option<Counts>
+        ensures counted { IfSome result (λ n. n ≡ count_alone self len) }
+        ensures none { IsNone result → ¬ AreInRange (count_alone self len) }
+    {
+        Some(Counts {
+            documents: self.documents.checked_add(1)?,
+            bytes: self.bytes.checked_add(len as u64)?,
+            alone: self.alone.checked_add(1)?,
+            ..self
+        })
     }
 
     /// One document more, of `len` bytes, that a text says; `None` where a count would be over its range.
@@ -103,6 +127,8 @@ impl Counts {
     {
         Some(Counts {
             passed_over: self.passed_over.checked_add(count)?,
+            regions: self.regions.checked_add(1)?,
+            lost: self.lost.checked_add(count)?,
             findings: self.findings.checked_add(1)?,
             ..self
         })
@@ -144,7 +170,10 @@ impl Counts {
             breached: self.breached.checked_add(other.breached)?,
             damaged: self.damaged.checked_add(other.damaged)?,
             too_deep: self.too_deep.checked_add(other.too_deep)?,
+            alone: self.alone.checked_add(other.alone)?,
             passed_over: self.passed_over.checked_add(other.passed_over)?,
+            regions: self.regions.checked_add(other.regions)?,
+            lost: self.lost.checked_add(other.lost)?,
             not_read: self.not_read.checked_add(other.not_read)?,
             files: self.files.checked_add(other.files)?,
             findings: self.findings.checked_add(other.findings)?,

@@ -10,7 +10,7 @@ ghost use Rattle.dump_commands.specs.elements.Listing.{HasListingFront, ListsDoc
 ghost use Rattle.dump_io.specs.lines.Find.{account_of};
 ghost use Rattle.dump_commands.specs.state.Forms.{repeat_at};
 ghost use Rattle.dump_io.specs.lines.Origins.{origin_of};
-ghost use Rattle.dump_commands.specs.Summary.{count_of, counts_line, summary_line, text_summary};
+ghost use Rattle.dump_commands.specs.Summary.{count_of, counts_line, kept_line, summary_line, text_summary};
 ghost use Rattle.dump_io.specs.lines.Failing.{IsReading};
 ghost use Rattle.dump_commands.specs.Reporting as says;
 
@@ -18,7 +18,9 @@ use crate::command::Command;
 use crate::counts::Counts;
 use crate::elements::listing::list_levels;
 use crate::job::Job;
-use crate::summary::{Count, counted, counts_object, counts_words, text_counted};
+use crate::summary::{
+    Count, counted, counts_object, counts_words, kept_object, kept_words, text_counted,
+};
 use dump_io::lines::failure::Failure;
 use dump_io::lines::find::{Finding, Found, Told};
 use dump_io::lines::object::{repeat_object, told_object};
@@ -139,7 +141,29 @@ pub fn put_summary<W: Write>(
         return Ok(());
     }
     let all = counted(alloc, job.limit, job.command, counts, kept)?;
+    if job.command.keeps() {
+        let text = kept_text(alloc, job.style, name, counts, kept, &all)?;
+        return put(report, &text);
+    }
     put_counts(alloc, job.style, name, counts.documents, &all, report)
+}
+
+/// The line that tells what a command that keeps documents counted.
+fn kept_text(
+    alloc: Global,
+    style: Style,
+    name: Option<&str>,
+    counts: &Counts,
+    kept: u64,
+    others: &[Count],
+) -> Result<Vec<u8>, AllocError>
+    ensures { IfOk result (λ text. text.items ≡ kept_line style (option_copied name.entry) counts.now kept (map count_of others.now)) }
+{
+    match style {
+        Style::Words => kept_words(alloc, name, counts, kept, others),
+        Style::Json => kept_object(alloc, name, counts, kept, others),
+        Style::Quiet => Ok(Vec::new(alloc)),
+    }
 }
 
 /// Writes the line that tells what was counted of texts.

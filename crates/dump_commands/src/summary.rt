@@ -4,7 +4,7 @@
 ghost use Rattle.std.specs.Prelude.{◌≡◌, ◌++◌, ◌∷◌, [], IfOk, OnOk, flat_map, map};
 ghost use Rattle.std.specs.Option.{option_copied};
 ghost use Rattle.dump_io.specs.lines.Told.{Grows};
-ghost use Rattle.dump_commands.specs.Summary.{breached_counts, count_members, count_of, count_text, counts_line, counts_of, damaged_counts, hidden_counts, kept_counts, left_counts, name_members, name_text, next_text, text_counts};
+ghost use Rattle.dump_commands.specs.Summary.{breached_counts, count_members, count_of, count_text, counts_line, counts_of, damaged_counts, first_counts, hidden_counts, kept_line, kept_text, left_counts, left_out_counts, name_members, name_text, next_text, some_text, text_counts};
 ghost use Rattle.dump_io.specs.declared.lines.style.Style.TheVariants.{Json, Words};
 
 use crate::command::Command;
@@ -31,28 +31,21 @@ fn push(counts: &mut Vec<Count>, name: &'static str, number: u64) -> Result<(), 
     Ok(())
 }
 
-/// How many documents were kept and left out, where the command keeps any.
-fn push_kept(
+/// How many documents stand alone, and how many others were left out, where the command keeps any.
+fn push_left_out(
     all: &mut Vec<Count>,
-    command: Command<'_>,
+    keeps: bool,
     counts: &Counts,
     kept: u64,
 ) -> Result<(), AllocError>
-    ensures { OnOk result (map count_of all.new.items ≡ map count_of all.old.items ++ kept_counts command.entry counts.now kept) }
+    ensures { OnOk result (map count_of all.new.items ≡ map count_of all.old.items ++ left_out_counts keeps counts.now kept) }
 {
-    match command {
-        Command::Check | Command::List | Command::Count | Command::Sizes | Command::Fields => Ok(
-            (),
-        ),
-        Command::Canon
-        | Command::Sound
-        | Command::Unique(_)
-        | Command::Json(_)
-        | Command::Pick(_) => {
-            push(all, "kept", kept)?;
-            push(all, "left out", counts.documents.saturating_sub(kept))
-        }
+    if !keeps {
+        return Ok(());
     }
+    push(all, "alone", counts.alone)?;
+    let others = counts.documents.saturating_sub(counts.alone);
+    push(all, "left out", others.saturating_sub(kept))
 }
 
 /// How many documents aren't canonical, where that changes what the command does.
@@ -123,7 +116,7 @@ fn push_hidden(all: &mut Vec<Count>, limit: Option<u64>, counts: &Counts) -> Res
     }
 }
 
-/// All that a command counted beside the documents.
+/// All that a command counted beside the documents and what is told first.
 pub fn counted(
     alloc: Global,
     limit: Option<u64>,
@@ -135,7 +128,7 @@ pub fn counted(
 {
     let mut all = Vec::new(alloc);
     push(&mut all, "bytes", counts.bytes)?;
-    push_kept(&mut all, command, counts, kept)?;
+    push_left_out(&mut all, command.keeps(), counts, kept)?;
     push_breached(&mut all, command, counts)?;
     push_damaged(&mut all, command, counts)?;
     push_left(&mut all, counts)?;
@@ -208,6 +201,59 @@ pub fn counts_words(
     Ok(text)
 }
 
+/// Appends a number to the text, after its name, unless it is 0.
+fn push_some(text: &mut Vec<u8>, name: &str, number: u64) -> Result<(), AllocError>
+    ensures { OnOk result (text.new.items ≡ text.old.items ++ some_text (name.now, number)) }
+{
+    match number {
+        0 => Ok(()),
+        _ => {
+            push_words(text, ", ")?;
+            push_count(text, name, number)
+        }
+    }
+}
+
+fn push_some_counts(text: &mut Vec<u8>, counts: &[Count]) -> Result<(), AllocError>
+    ensures { OnOk result (text.new.items ≡ text.old.items ++ flat_map some_text (map count_of counts.now)) }
+{
+    for count in counts {
+        push_some(text, count.name, count.number)?;
+    }
+    Ok(())
+}
+
+/// What a command that keeps documents tells first.
+fn push_kept(text: &mut Vec<u8>, counts: &Counts, kept: u64) -> Result<(), AllocError>
+    ensures { OnOk result (text.new.items ≡ text.old.items ++ kept_text counts.now kept) }
+{
+    push_number(text, kept)?;
+    push_words(text, " kept; ")?;
+    push_number(text, counts.regions)?;
+    push_words(text, " damaged regions, ")?;
+    push_number(text, counts.lost)?;
+    push_words(text, " bytes lost")
+}
+
+/// The line that tells what a command that keeps documents counted.
+pub fn kept_words(
+    alloc: Global,
+    name: Option<&str>,
+    counts: &Counts,
+    kept: u64,
+    others: &[Count],
+) -> Result<Vec<u8>, AllocError>
+    ensures { IfOk result (λ text. text.items ≡ kept_line Words (option_copied name.entry) counts.now kept (map count_of others.now)) }
+{
+    let mut text = Vec::new(alloc);
+    push_name(&mut text, name)?;
+    push_kept(&mut text, counts, kept)?;
+    push_some(&mut text, "documents", counts.documents)?;
+    push_some_counts(&mut text, others)?;
+    push_words(&mut text, "\n")?;
+    Ok(text)
+}
+
 fn put_counts(object: &mut Writer, counts: &[Count]) -> Result<(), AllocError>
     ensures { OnOk result
         (Grows object.old object.new (flat_map count_members (map count_of counts.now))) }
@@ -240,5 +286,31 @@ pub fn counts_object(
     put_name(&mut object, name)?;
     put_number(&mut object, "documents", documents)?;
     put_counts(&mut object, counts)?;
+    ended(object)
+}
+
+fn put_first(object: &mut Writer, counts: &Counts, kept: u64) -> Result<(), AllocError>
+    ensures { OnOk result (Grows object.old object.new (flat_map count_members (first_counts counts.now kept))) }
+{
+    put_number(object, "kept", kept)?;
+    put_number(object, "damaged regions", counts.regions)?;
+    put_number(object, "bytes lost", counts.lost)
+}
+
+/// The same as an object of JSON.
+pub fn kept_object(
+    alloc: Global,
+    name: Option<&str>,
+    counts: &Counts,
+    kept: u64,
+    others: &[Count],
+) -> Result<Vec<u8>, AllocError>
+    ensures { IfOk result (λ text. text.items ≡ kept_line Json (option_copied name.entry) counts.now kept (map count_of others.now)) }
+{
+    let mut object = begun(alloc)?;
+    put_name(&mut object, name)?;
+    put_number(&mut object, "documents", counts.documents)?;
+    put_first(&mut object, counts, kept)?;
+    put_counts(&mut object, others)?;
     ended(object)
 }

@@ -64,9 +64,10 @@ module _ (asked : Reading) (bytes_of : List ℕ → Option (List ℕ)) where
 
   -- after all of them
   pub halts_behind : {A : Type 0} (f : A → List ℕ) (names : List A) (i : ℕ) (last : State) (w : Written) → length names ≤ i
-      → Keeps last.out w.out → AppendsFront last.report w.report (line_of_all asked last.counts last.kept) → HaltsBefore asked bytes_of (map f (drop i names)) last w last.counts
-  halts_behind f names i last w all kept front =
-      subst (λ xs. HaltsBefore asked bytes_of (map f xs) last w last.counts) (sym (drop_all i names all)) (kept, front, refl)
+      → Keeps last.out w.out → Keeps last.alone w.alone → AppendsFront last.report w.report (line_of_all asked last.counts last.kept)
+      → HaltsBefore asked bytes_of (map f (drop i names)) last w last.counts
+  halts_behind f names i last w all kept apart front =
+      subst (λ xs. HaltsBefore asked bytes_of (map f xs) last w last.counts) (sym (drop_all i names all)) (kept, apart, front, refl)
 
 -- nothing more is counted
 pub plus_none : (n : Counts) → plus n no_counts ≡ n
@@ -76,7 +77,10 @@ plus_none n = λ i. record {
   breached = add-zero n.breached i;
   damaged = add-zero n.damaged i;
   too_deep = add-zero n.too_deep i;
+  alone = add-zero n.alone i;
   passed_over = add-zero n.passed_over i;
+  regions = add-zero n.regions i;
+  lost = add-zero n.lost i;
   not_read = add-zero n.not_read i;
   files = add-zero n.files i;
   findings = add-zero n.findings i;
@@ -91,10 +95,11 @@ halts_run asked name input before w t m (Ok ended) ends halts counted = inr (rec
   could = goes_on ended;
   is = inl (record { ended = ended; ends = ends; cut = refl });
   out = refl;
+  alone = refl;
   report = front_none w.report (line_of_input asked name t.counts);
   is_counted = counted;
 })
-halts_run asked name input before w t m (Err e) ends halts counted = inl (record { came = held w t; halts = halts; out = refl; report = refl; is_counted = counted })
+halts_run asked name input before w t m (Err e) ends halts counted = inl (record { came = held w t; halts = halts; out = refl; alone = refl; report = refl; is_counted = counted })
 
 -- nothing is read of it
 nothing_halts : (asked : Reading) (name : List ℕ) (input : Option (List ℕ)) (old : Held) → HaltsInput asked name input old old
@@ -102,12 +107,14 @@ nothing_halts (reading.Dumps job) name input old = halts_first
 nothing_halts (reading.Texts job) name input old = texts_first job name input old
 
 -- nothing comes of it
-pub halts_unread : (asked : Reading) (name : List ℕ) (input : Option (List ℕ)) (before : State) (w : Written) (m : Counts) → w.out ≡ before.out → w.report ≡ before.report → m ≡ before.counts
+pub halts_unread : (asked : Reading) (name : List ℕ) (input : Option (List ℕ)) (before : State) (w : Written) (m : Counts) → w.out ≡ before.out
+    → w.alone ≡ before.alone → w.report ≡ before.report → m ≡ before.counts
     → HaltsWithin asked name input before w m
-halts_unread asked name input before w m out report same = inl (record {
+halts_unread asked name input before w m out alone report same = inl (record {
   came = next_of before;
   halts = nothing_halts (asked_after asked before.counts) name input (next_of before);
   out = out;
+  alone = alone;
   report = report;
   is_counted = inl (same ∙ sym (plus_none before.counts));
 })
@@ -125,7 +132,7 @@ lack_of (Some x) (Some y) one = ap Some one
 module _ (old : Written) (totals : Totals) where
   -- nothing was counted before
   start : totals.counts ≡ no_counts → totals.cut ≡ None → state_of old totals ≡ start_of old totals.tally.kept
-  start counts cut = λ i. record { out = old.out; report = old.report; counts = counts i; kept = totals.tally.kept; cut = option_map cut_of (cut i) }
+  start counts cut = λ i. record { out = old.out; alone = old.alone; report = old.report; counts = counts i; kept = totals.tally.kept; cut = option_map cut_of (cut i) }
 
 module _ {asked : Reading} {bytes_of : List ℕ → Option (List ℕ)} {names : List (List ℕ)} (old : Written) (totals : Totals) where
   -- all inputs were run over

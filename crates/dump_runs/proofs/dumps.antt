@@ -1,3 +1,4 @@
+mod Apart
 mod Findings
 mod Giving
 mod Passing

@@ -40,10 +40,11 @@ abbrev pub first_cut : Option CutInput → List ℕ → Option Bool → Option C
 first_cut (Some cut) name could = Some cut
 first_cut None name could = option_map (input_of name) could
 
--- What came of inputs: what two writers hold, where it is known; what was counted; what is kept of documents; and the first input that wasn't
+-- What came of inputs: what the writers hold, where it is known; what was counted; what is kept of documents; and the first input that wasn't
 -- read to its end.
 pub record State : Type 0 where
   pub out : Option (List ℕ)
+  pub alone : Option (List ℕ)
   pub report : Option (List ℕ)
   pub counts : Counts
   pub kept : Kept
@@ -51,15 +52,15 @@ pub record State : Type 0 where
 
 -- the same of the code
 abbrev pub state_of : Written → Totals → State
-state_of written totals = record { out = written.out; report = written.report; counts = totals.counts; kept = totals.tally.kept; cut = option_map cut_of totals.cut }
+state_of written totals = record { out = written.out; alone = written.alone; report = written.report; counts = totals.counts; kept = totals.tally.kept; cut = option_map cut_of totals.cut }
 
 -- nothing came of anything: the writers hold this
 abbrev pub start_of : Written → Kept → State
-start_of written kept = record { out = written.out; report = written.report; counts = no_counts; kept = kept; cut = None }
+start_of written kept = record { out = written.out; alone = written.alone; report = written.report; counts = no_counts; kept = kept; cut = None }
 
 -- nothing is counted of the next input
 abbrev pub next_of : State → Held
-next_of state = record { out = state.out; report = state.report; counts = no_counts; kept = state.kept }
+next_of state = record { out = state.out; alone = state.alone; report = state.report; counts = no_counts; kept = state.kept }
 
 -- whether the forms of documents are kept where they first came, and of how many paths elements are counted at most
 abbrev pub repeats_of : Reading → Bool
@@ -87,7 +88,7 @@ pub record IsRun (r : Reading) (name : List ℕ) (input : Option (List ℕ)) (be
 -- bytes left.
 pub record IsNotOpened (input : Option (List ℕ)) (before : State) (came : Held) (could : Option Bool) : Type 0 where
   pub unknown : input ≡ None
-  pub is : came ≡ record { out = before.out; report = before.report; counts = count_left no_counts 0; kept = before.kept }
+  pub is : came ≡ record { out = before.out; alone = before.alone; report = before.report; counts = count_left no_counts 0; kept = before.kept }
   pub cut : could ≡ Some false
 
 -- one of both
@@ -100,6 +101,7 @@ pub record CountsAnother (r : Reading) (input : Option (List ℕ)) (name : List 
   pub could : Option Bool
   pub is : IsInput r name input old came could
   pub out : new.out ≡ came.out
+  pub alone : new.alone ≡ came.alone
   pub told : Appends came.report new.report (line_of_input r name came.counts)
   pub kept : new.kept ≡ came.kept
   pub is_counted : new.counts ≡ plus old.counts came.counts
@@ -114,6 +116,7 @@ RunsOver r bytes_of (name ∷ names) old new = (between : State) × CountsAnothe
 pub record RunsAll (r : Reading) (bytes_of : List ℕ → Option (List ℕ)) (names : List (List ℕ)) (first last : State) (written : Written) : Type 0 where
   pub runs : RunsOver r bytes_of names first last
   pub out : Keeps last.out written.out
+  pub alone : Keeps last.alone written.alone
   pub report : Appends last.report written.report (line_of_all r last.counts last.kept)
 
 -- this is counted as well; nothing where a sum would be over the range of a count
@@ -125,6 +128,7 @@ pub record HaltsInside (r : Reading) (name : List ℕ) (input : Option (List ℕ
   pub came : Held
   pub halts : HaltsInput (asked_after r before.counts) name input (next_of before) came
   pub out : written.out ≡ came.out
+  pub alone : written.alone ≡ came.alone
   pub report : written.report ≡ came.report
   pub is_counted : CountsMore before.counts came.counts counts
 
@@ -134,6 +138,7 @@ pub record HaltsAfter (r : Reading) (name : List ℕ) (input : Option (List ℕ)
   pub could : Option Bool
   pub is : IsInput r name input before came could
   pub out : written.out ≡ came.out
+  pub alone : written.alone ≡ came.alone
   pub report : AppendsFront came.report written.report (line_of_input r name came.counts)
   pub is_counted : CountsMore before.counts came.counts counts
 
@@ -144,7 +149,7 @@ HaltsWithin r name input before written counts = HaltsInside r name input before
 -- What is written of the first of these inputs, which isn't done with. Where none is left, a front of the line of all.
 abbrev pub HaltsBefore : Reading → (bytes_of : List ℕ → Option (List ℕ)) → List (List ℕ) → State → Written → Counts → Type 0
 HaltsBefore r bytes_of [] last written counts =
-    Keeps last.out written.out × AppendsFront last.report written.report (line_of_all r last.counts last.kept) × (counts ≡ last.counts)
+    Keeps last.out written.out × Keeps last.alone written.alone × AppendsFront last.report written.report (line_of_all r last.counts last.kept) × (counts ≡ last.counts)
 HaltsBefore r bytes_of (name ∷ names) last written counts = HaltsWithin r name (bytes_of name) last written counts
 
 -- Some of the inputs of these names were run over, from this state on, in order; and then a failure came, in the next, or after all.

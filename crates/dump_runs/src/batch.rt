@@ -76,12 +76,12 @@ impl<'a> Totals<'a> {
 }
 
 /// Runs over the inputs of these names, in order, does what is asked with each, and writes what was counted. What is written is flushed.
-pub fn run_all<'a, I: Inputs, D: Write + Drop, W: Write + Drop>(
+pub fn run_all<'a, I: Inputs, D: Write + Drop, A: Write + Drop, W: Write + Drop>(
     alloc: Global,
     reading: Reading<'a>,
     inputs: &I,
     names: &[&'a str],
-    writers: &mut Writers<D, W>,
+    writers: &mut Writers<D, A, W>,
 ) -> Done<'a>
     ensures { IsDone reading.entry (I.bytes_of inputs.now) (map (λ name. name.now) names.now) writers.old writers.new result }
 {
@@ -99,12 +99,12 @@ pub fn run_all<'a, I: Inputs, D: Write + Drop, W: Write + Drop>(
 }
 
 /// Runs over the inputs of these names, in order, and writes what was counted of all.
-fn run_each<'a, I: Inputs, D: Write + Drop, W: Write + Drop>(
+fn run_each<'a, I: Inputs, D: Write + Drop, A: Write + Drop, W: Write + Drop>(
     alloc: Global,
     reading: Reading<'a>,
     inputs: &I,
     names: &[&'a str],
-    writers: &mut Writers<D, W>,
+    writers: &mut Writers<D, A, W>,
     totals: &mut Totals<'a>,
 ) -> Result<(), Failure>
     ensures runs { OnOk result ((last : State) × RunsAll reading.entry (I.bytes_of inputs.now) (map (λ name. name.now) names.now)
@@ -120,30 +120,31 @@ fn run_each<'a, I: Inputs, D: Write + Drop, W: Write + Drop>(
 }
 
 /// Writes what was counted of all inputs. What is written is flushed.
-fn finish<D: Write + Drop, W: Write + Drop>(
+fn finish<D: Write + Drop, A: Write + Drop, W: Write + Drop>(
     alloc: Global,
     reading: Reading<'_>,
     totals: &Totals<'_>,
-    writers: &mut Writers<D, W>,
+    writers: &mut Writers<D, A, W>,
 ) -> Result<(), Failure>
-    ensures written { OnOk result (Keeps writers.old.out writers.new.out
+    ensures written { OnOk result (Keeps writers.old.out writers.new.out × Keeps writers.old.alone writers.new.alone
         × Appends writers.old.report writers.new.report (line_of_all reading.entry totals.now.counts totals.now.tally.kept)) }
-    ensures front { OnErr result (Keeps writers.old.out writers.new.out
+    ensures front { OnErr result (Keeps writers.old.out writers.new.out × Keeps writers.old.alone writers.new.alone
         × AppendsFront writers.old.report writers.new.report (line_of_all reading.entry totals.now.counts totals.now.tally.kept)) }
     ensures failed { IfErr result (λ failure. ¬ IsReading failure) }
 {
     flush(&mut writers.out)?;
+    flush(&mut writers.alone)?;
     put_all_counts(alloc, reading, totals, &mut writers.report)?;
     flush(&mut writers.report)
 }
 
 /// Runs over one input, and writes what was counted of it.
-fn run_one<'a, I: Inputs, D: Write + Drop, W: Write + Drop>(
+fn run_one<'a, I: Inputs, D: Write + Drop, A: Write + Drop, W: Write + Drop>(
     alloc: Global,
     reading: Reading<'a>,
     inputs: &I,
     name: &'a str,
-    writers: &mut Writers<D, W>,
+    writers: &mut Writers<D, A, W>,
     totals: &mut Totals<'a>,
 ) -> Result<(), Failure>
     ensures comes { OnOk result (CountsAnother reading.entry (I.bytes_of inputs.now name.entry.now) name.entry.now
@@ -163,12 +164,12 @@ fn run_one<'a, I: Inputs, D: Write + Drop, W: Write + Drop>(
 }
 
 /// Runs over one input, and counts it. One that can't be opened isn't read to its end.
-fn count_one<'a, I: Inputs, D: Write + Drop, W: Write + Drop>(
+fn count_one<'a, I: Inputs, D: Write + Drop, A: Write + Drop, W: Write + Drop>(
     alloc: Global,
     reading: Reading<'a>,
     inputs: &I,
     name: &'a str,
-    writers: &mut Writers<D, W>,
+    writers: &mut Writers<D, A, W>,
     totals: &mut Totals<'a>,
 ) -> Result<(), Failure>
     ensures counted { OnOk result (CountsInput reading.entry name.entry.now (I.bytes_of inputs.now name.entry.now) (state_of writers.old totals.old) writers.new totals.new) }
@@ -198,12 +199,12 @@ fn tell_failure<I: Inputs>(inputs: &I, name: &str, ended: &Ended) {
 }
 
 /// Runs over an input that is open, and counts it.
-fn run_open<'a, R: Read + Drop, D: Write + Drop, W: Write + Drop>(
+fn run_open<'a, R: Read + Drop, D: Write + Drop, A: Write + Drop, W: Write + Drop>(
     alloc: Global,
     reading: Reading<'a>,
     name: &'a str,
     reader: R,
-    writers: &mut Writers<D, W>,
+    writers: &mut Writers<D, A, W>,
     totals: &mut Totals<'a>,
 ) -> Result<Ended, Failure>
     ensures counted { IfOk result (CountsRun reading.entry name.entry.now (R.remaining reader) (state_of writers.old totals.old) writers.new totals.new) }
@@ -228,12 +229,12 @@ fn could_go_on(ran: &Result<Ended, Failure>) -> Option<bool>
 }
 
 /// Runs over an input, and does what is asked with what it holds.
-fn run_over<'a, R: Read + Drop, D: Write + Drop, W: Write + Drop>(
+fn run_over<'a, R: Read + Drop, D: Write + Drop, A: Write + Drop, W: Write + Drop>(
     alloc: Global,
     reading: Reading<'a>,
     name: &'a str,
     reader: R,
-    writers: &mut Writers<D, W>,
+    writers: &mut Writers<D, A, W>,
     tally: &mut Tally<'a>,
 ) -> Result<Ended, Failure>
     ensures ends { IfOk result (EndsInput reading.entry name.entry.now (R.remaining reader) (held writers.old tally.old) (held writers.new tally.new)) }

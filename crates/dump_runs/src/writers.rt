@@ -10,17 +10,19 @@ use std::marker::Model;
 
 /// What a run writes to.
 #[derive(Drop)]
-pub struct Writers<D: Write + Drop, W: Write + Drop> {
+pub struct Writers<D: Write + Drop, A: Write + Drop, W: Write + Drop> {
     /// takes documents, and what else is made of them
     pub out: D,
+    /// takes documents that stand alone
+    pub alone: A,
     /// takes findings and counts
     pub report: W,
 }
 
-impl<D: Write + Drop, W: Write + Drop> Model for Writers<D, W> {
+impl<D: Write + Drop, A: Write + Drop, W: Write + Drop> Model for Writers<D, A, W> {
     ghost Value = { Written };
 
-    ghost view = { λ w. record { out = D.contents w.out; report = W.contents w.report } };
+    ghost view = { λ w. record { out = D.contents w.out; alone = A.contents w.alone; report = W.contents w.report } };
 }
 
 /// What came of an input so far.

@@ -1,5 +1,6 @@
 pub mod Plain
 pub mod Shapes
+pub mod Dense
 pub mod Doubles
 pub mod Scientific
 pub mod Numerals

@@ -39,7 +39,8 @@ IsWithin limits b = (t : Tree) × ReadsWithin limits b t
 abbrev pub IsReadWithin : List ℕ → List ℕ → Type 0
 IsReadWithin text b = (limits : Limits) (r : JsonReason) → IsWithin limits b → IsCause limits text r → r ≡ reason.OutOfMemory
 
--- if so, each text of it in the canonical format writes b alone, and is read unless memory runs out
+-- if so, each text of it in the canonical format writes b alone, and within any limits that b is within (`IsReadWithin`) the text is
+-- read unless memory runs out
 abbrev pub ClosesCircle : List ℕ → Type 0
 ClosesCircle b = IsReturning b → (layout : Layout) (text : List ℕ) → IsJson (canonical_in layout) b text → SaysAlone text b × IsReadWithin text b
 

@@ -37,8 +37,9 @@ pub record EndsInKey (s : List ℕ) : Type 0 where
   pub text : IsUtf8 key
   pub plain : All (λ c. 32 ≤ c) key
 
--- A document that counts begins j bytes after the front of s: it is undamaged and has over 8 bytes, and the bytes before it don't end as
--- they do before a nested one.
+-- A document that counts begins j bytes after the front of s: it is undamaged and has over 8 bytes, and the bytes before it don't say
+-- that it is inside of another. They say so where they end in the key of a document or an array, or in that of an int32, whose number
+-- may look like the length of what follows.
 pub record IsEvidence (limits : Limits) (s : List ℕ) (j : ℕ) : Type 0 where
   pub b : List ℕ
   pub rest : List ℕ

@@ -9,7 +9,7 @@ pub use Rattle.raw_view.proofs.Frames.Iteration.{front_and_rest}
 pub use Rattle.raw_view.proofs.Frames.Walks.{AreBytes-rest, document_has_walk}
 pub use Rattle.raw_view.proofs.Values.Meanings.{has_meaning}
 -- and there is one alone
-pub use Rattle.raw_view.proofs.Unique.Walks.{one_frame, one_stop, one_walk, the_walk, no_frame_at_stop, no_frame_at_final, no_stop_at_final}
+pub use Rattle.raw_view.proofs.Unique.Walks.{one_frame, one_stop, one_walk, stop_key, the_walk, no_frame_at_stop, no_frame_at_final, no_stop_at_final}
 pub use Rattle.raw_view.proofs.Unique.Items.{the_items}
 pub use Rattle.raw_view.proofs.Unique.LookUps.{one_look_up}
 pub use Rattle.raw_view.proofs.Unique.Meanings.{one_meaning}
@@ -23,5 +23,6 @@ pub use Rattle.raw_view.proofs.Frames.Written.{length-framed, length-scoped_payl
 pub use Rattle.raw_view.proofs.Bytes.Headers.{first_four, header_of_front}
 pub use Rattle.raw_view.proofs.Frames.FirstDocuments.{refused_none, one_first}
 pub use Rattle.raw_view.proofs.Bytes.Numbers.{read_front, IsLe32-same}
--- an error with a copy of its key says the fault
+-- an error with a copy of its key says the fault, and that of a stop says the stop
 pub use Rattle.raw_view.proofs.Frames.Iteration.{told_fault}
+pub use Rattle.raw_view.proofs.LookUps.ByNumber.{stop_said}

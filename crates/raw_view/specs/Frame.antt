@@ -169,20 +169,21 @@ IsPayloadReason kind.Decimal128 z why = why ≡ reason.PastEnd 16 (length z)
 IsPayloadReason kind.MaxKey z why = ⊥
 IsPayloadReason kind.MinKey z why = ⊥
 
--- why no element with this tag is there, where z follows the key: no kind has the tag; or no payload of its kind is at
--- the front of z
-abbrev pub IsElementReason : ℕ → List ℕ → Reason → Type 0
-IsElementReason tag z why =
-    (((k : ElementType) → tag ≢ tag_of k) × (why ≡ reason.InvalidTag tag))
-    ⊎ ((k : ElementType) × (tag ≡ tag_of k) × IsPayloadReason k z why)
-
--- Where frames end without the final 0: no byte is left; the key isn't UTF-8; or there is a key but no frame. In the
--- last case the fault is that of a text only for the texts of a regular expression.
-abbrev pub IsStop : List ℕ → Fault → Option (List ℕ) → Type 0
-IsStop s (Malformed why) None = (s ≡ []) × (why ≡ reason.Overflowed)
-IsStop s Utf8 None = (key : List ℕ) × HasKey s key × ¬ IsUtf8 key
-IsStop s (Malformed why) (Some key) = (k : HasKey s key) × IsUtf8 key × HasNoFrame s × (¬ HasBadText k.tag k.behind) × IsElementReason k.tag k.behind why
-IsStop s Utf8 (Some key) = (k : HasKey s key) × IsUtf8 key × HasNoFrame s × HasBadText k.tag k.behind
+-- Where frames end without the final 0: s stops with this fault, and with the key if there is one that is UTF-8.
+pub data IsStop (s : List ℕ) (fault : Fault) (key : Option (List ℕ)) : Type 0 where
+  -- no byte is left
+  no_byte_left : s ≡ [] → fault ≡ Malformed reason.Overflowed → key ≡ None → IsStop s fault key
+  -- the key isn't UTF-8
+  key_not_utf8 : (k : List ℕ) → HasKey s k → (¬ IsUtf8 k) → fault ≡ Utf8 → key ≡ None → IsStop s fault key
+  -- no kind has the tag
+  no_such_tag : (k : List ℕ) (at : HasKey s k) → IsUtf8 k → ((t : ElementType) → at.tag ≢ tag_of t)
+      → fault ≡ Malformed (reason.InvalidTag at.tag) → key ≡ Some k → IsStop s fault key
+  -- the tag is that of a regular expression, and its pattern or its options aren't UTF-8
+  regex_not_utf8 : (k : List ℕ) (at : HasKey s k) → IsUtf8 k → HasNoFrame s → HasBadText at.tag at.behind
+      → fault ≡ Utf8 → key ≡ Some k → IsStop s fault key
+  -- the tag is that of the kind t, and for this reason no payload of t follows the key; its texts are no reason
+  no_payload : (k : List ℕ) (at : HasKey s k) (t : ElementType) (why : Reason) → IsUtf8 k → at.tag ≡ tag_of t → HasNoFrame s
+      → (¬ HasBadText at.tag at.behind) → IsPayloadReason t at.behind why → fault ≡ Malformed why → key ≡ Some k → IsStop s fault key
 
 -- how a walk ends: at the final 0, or at a stop
 pub data End : Type 0 where

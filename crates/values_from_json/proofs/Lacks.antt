@@ -12,7 +12,8 @@ use Rattle.json.specs.Token.{Token}
 use Rattle.json.specs.Tree.{json_tokens}
 use Rattle.hex.specs.Hex.{decode_sized}
 use Rattle.values_from_json.specs.DecimalTexts.{IsQuotedDecimal, WritesDecimal}
-use Rattle.values_from_json.specs.Numbers.{IsQuotedDouble, IsQuotedInt32, WritesDouble, WritesInteger}
+use Rattle.values_from_json.specs.Numbers.{IsQuotedDouble, IsQuotedInt32, WritesDouble, WritesInteger, WritesQuotedInteger}
+use Rattle.values_from_json.specs.Spaces.{trimmed, without_spaces}
 use Rattle.values_from_json.specs.Taken.{LacksJson, LacksToken, TakesNone, TakesToken, pointed}
 use Rattle.values_from_json.specs.Times.{WritesTime}
 use Rattle.values_from_json.specs.Wrapped.{AreTwo, InString, IsBinary, IsDate, IsDbPointer, WritesUnsigned, two_hex_digits}
@@ -22,6 +23,15 @@ same_string e f = cc
 
 same_number : {old new rest : List Token} {s t : List ℕ} → TakesToken old new (Token.number s) → TakesToken old rest (Token.number t) → t ≡ s
 same_number e f = cc
+
+-- a string that writes something isn't next
+pub no_string : (Writes : List ℕ → Leaf → Type 0) {ts : List Token} → ((s : List ℕ) (l : Leaf) → Writes s l → LacksToken ts (Token.string s)) → TakesNone (InString Writes) ts
+no_string Writes none json.null l w rest f = w
+no_string Writes none (json.boolean b) l w rest f = w
+no_string Writes none (json.number n) l w rest f = w
+no_string Writes none (json.string s) l w rest f = none s l w rest f
+no_string Writes none (json.array js) l w rest f = w
+no_string Writes none (json.object ms) l w rest f = w
 
 -- a string that writes none
 pub none_quoted : (Writes : List ℕ → Leaf → Type 0) {old new : List Token} {s : List ℕ} → TakesToken old new (Token.string s) → ((l : Leaf) → Writes s l → ⊥)
@@ -33,7 +43,7 @@ none_quoted Writes e none (json.string t) l w rest f = none l (subst (λ (x : Li
 none_quoted Writes e none (json.array js) l w rest f = w
 none_quoted Writes e none (json.object ms) l w rest f = w
 
-pub no_double : {old new : List Token} {s : List ℕ} → TakesToken old new (Token.string s) → ((bits : ℕ) → WritesDouble s bits → ⊥) → TakesNone (InString IsQuotedDouble) old
+pub no_double : {old new : List Token} {s : List ℕ} → TakesToken old new (Token.string s) → ((bits : ℕ) → WritesDouble (trimmed s) bits → ⊥) → TakesNone (InString IsQuotedDouble) old
 no_double e none = none_quoted IsQuotedDouble e (λ l w. none w.0 w.1)
 
 pub no_decimal : {old new : List Token} {s : List ℕ} → TakesToken old new (Token.string s) → ((bytes : List ℕ) → WritesDecimal s bytes → ⊥)
@@ -44,9 +54,9 @@ pub wider : (z : ℤ) → FitsSigned w32 z → FitsSigned w64 z
 wider z f = search rules
 
 -- an integer of more than 32 bits
-pub no_int32 : {old new : List Token} {s : List ℕ} (z : ℤ) → TakesToken old new (Token.string s) → ((y : ℤ) → FitsSigned w64 y → WritesInteger s y → y ≡ z)
-    → (FitsSigned w32 z → ⊥) → TakesNone (InString IsQuotedInt32) old
-no_int32 z e only large = none_quoted IsQuotedInt32 e (λ l w. large (subst (FitsSigned w32) (only w.0 (wider w.0 w.2) w.1) w.2))
+pub no_int32 : {old new : List Token} {s : List ℕ} (z : ℤ) → TakesToken old new (Token.string s) → WritesQuotedInteger s z → (FitsSigned w32 z → ⊥)
+    → TakesNone (InString IsQuotedInt32) old
+no_int32 z e written large = none_quoted IsQuotedInt32 e (λ l w. large (subst (FitsSigned w32) (w.1.1 ∙ sym written.1) w.2))
 
 wide : (n : ℕ) → n < 2 ^ 32 → FitsSigned w64 (pos n)
 wide n small = fits (pos n) (omega (arith, ints)) (omega (arith, ints))
@@ -127,7 +137,7 @@ pub differ_at_1 : (k k' : List ℕ) → (get_or k 1 0 ≡ get_or k' 1 0 → ⊥)
 differ_at_1 k k' n e = n (ap (λ (l : List ℕ). get_or l 1 0) e)
 
 -- what isn't an object is neither a binary nor a pointer
-pub no_binary : (old : List Token) → ((text digits bytes : List ℕ) (subtype : ℕ) → decode_of standard text ≡ Ok bytes → decode_sized (two_hex_digits digits) 1 ≡ Ok (subtype ∷ [])
+pub no_binary : (old : List Token) → ((text digits bytes : List ℕ) (subtype : ℕ) → decode_of standard (without_spaces text) ≡ Ok bytes → decode_sized (two_hex_digits digits) 1 ≡ Ok (subtype ∷ [])
     → (ms : Members) → AreTwo (codes "base64") (json.string text) (codes "subType") (json.string digits) ms → LacksJson old (json.object ms)) → TakesNone IsBinary old
 no_binary old none json.null l w rest f = w
 no_binary old none (json.boolean b) l w rest f = w

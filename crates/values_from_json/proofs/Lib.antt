@@ -1,5 +1,6 @@
 mod Integers
 mod Uuids
+mod Spaces
 mod Times
 mod Takes
 mod Keys

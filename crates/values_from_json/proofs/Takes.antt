@@ -16,7 +16,8 @@ use Rattle.json.specs.Tree.{json_tokens}
 use Rattle.values_from_json.specs.Taken.{pointed, Takes, TakesToken, TakesTwo}
 use Rattle.values_from_json.specs.Wrapped.{InString, IsBinary, IsDate, IsDbPointer, IsOid, IsRegex, IsTimestamp, IsUuid, WritesUnsigned, one_member, two_hex_digits}
 use Rattle.values_from_json.specs.DecimalTexts.{IsQuotedDecimal, WritesDecimal}
-use Rattle.values_from_json.specs.Numbers.{IsQuotedDouble, IsQuotedInt32, IsQuotedInt64, WritesDouble, WritesInteger}
+use Rattle.values_from_json.specs.Numbers.{IsQuotedDouble, IsQuotedInt32, IsQuotedInt64, WritesDouble, WritesInteger, WritesQuotedInteger}
+use Rattle.values_from_json.specs.Spaces.{trimmed, without_spaces}
 use Rattle.values_from_json.specs.Times.{WritesTime}
 
 -- the first of two keys, and the second
@@ -60,13 +61,13 @@ options_then_pattern {old} {a} {b} {c} {d} {e} {new} {x} {y} p q r s t u =
 
 pub base64_then_subtype : {old a b c d e new : List Token} {x y bytes : List ℕ} {subtype : ℕ} → TakesToken old a Token.begin_object → TakesToken a b (Token.key (codes "base64"))
     → TakesToken b c (Token.string x) → TakesToken c d (Token.key (codes "subType")) → TakesToken d e (Token.string y) → TakesToken e new Token.end_object
-    → (decode_of standard x ≡ Ok bytes) × (decode_sized (two_hex_digits y) 1 ≡ Ok (subtype ∷ [])) → Takes IsBinary old new (binary (subtype_of subtype) bytes)
+    → (decode_of standard (without_spaces x) ≡ Ok bytes) × (decode_sized (two_hex_digits y) 1 ≡ Ok (subtype ∷ [])) → Takes IsBinary old new (binary (subtype_of subtype) bytes)
 base64_then_subtype {old} {a} {b} {c} {d} {e} {new} {x} {y} {bytes} {subtype} p q r s t u f =
     (object (member (codes "base64") (string x) (one_member (codes "subType") (string y))), two p q r s t u, (x, y, bytes, subtype, inl refl, f.0, f.1, refl))
 
 pub subtype_then_base64 : {old a b c d e new : List Token} {x y bytes : List ℕ} {subtype : ℕ} → TakesToken old a Token.begin_object → TakesToken a b (Token.key (codes "subType"))
     → TakesToken b c (Token.string y) → TakesToken c d (Token.key (codes "base64")) → TakesToken d e (Token.string x) → TakesToken e new Token.end_object
-    → (decode_of standard x ≡ Ok bytes) × (decode_sized (two_hex_digits y) 1 ≡ Ok (subtype ∷ [])) → Takes IsBinary old new (binary (subtype_of subtype) bytes)
+    → (decode_of standard (without_spaces x) ≡ Ok bytes) × (decode_sized (two_hex_digits y) 1 ≡ Ok (subtype ∷ [])) → Takes IsBinary old new (binary (subtype_of subtype) bytes)
 subtype_then_base64 {old} {a} {b} {c} {d} {e} {new} {x} {y} {bytes} {subtype} p q r s t u f =
     (object (member (codes "subType") (string y) (one_member (codes "base64") (string x))), two p q r s t u, (x, y, bytes, subtype, inr refl, f.0, f.1, refl))
 
@@ -83,7 +84,7 @@ pub millis_taken : {old new : List Token} {s : List ℕ} {z : ℤ} → TakesToke
 millis_taken {old} {new} {s} {z} p w fits = (number s, p, (z, w, fits, refl))
 
 pub long_taken : {old a b c new : List Token} {s : List ℕ} {z : ℤ} → TakesToken old a Token.begin_object → TakesToken a b (Token.key (codes "$numberLong"))
-    → TakesToken b c (Token.string s) → TakesToken c new Token.end_object → WritesInteger s z → FitsSigned w64 z → Takes IsDate old new (date_time z)
+    → TakesToken b c (Token.string s) → TakesToken c new Token.end_object → WritesQuotedInteger s z → FitsSigned w64 z → Takes IsDate old new (date_time z)
 long_taken {old} {a} {b} {c} {new} {s} {z} p q r t w fits = (object (one_member (codes "$numberLong") (string s)), one p q r t, (z, (s, refl, w), fits, refl))
 
 pub ref_then_id : {old a b c d e new : List Token} {x s id : List ℕ} → TakesToken old a Token.begin_object → TakesToken a b (Token.key (codes "$ref"))
@@ -107,15 +108,15 @@ id_then_ref {old} {a} {b} {c} {d} {e} {new} {x} {s} {id} p q r t u v f = (
 )
 
 -- values of one string
-pub int32_taken : {old new : List Token} {s : List ℕ} {z : ℤ} → TakesToken old new (Token.string s) → WritesInteger s z → FitsSigned w32 z
+pub int32_taken : {old new : List Token} {s : List ℕ} {z : ℤ} → TakesToken old new (Token.string s) → WritesQuotedInteger s z → FitsSigned w32 z
     → Takes (InString IsQuotedInt32) old new (int32 z)
 int32_taken {old} {new} {s} {z} t w fits = (string s, t, (z, w, fits, refl))
 
-pub int64_taken : {old new : List Token} {s : List ℕ} {z : ℤ} → TakesToken old new (Token.string s) → WritesInteger s z → FitsSigned w64 z
+pub int64_taken : {old new : List Token} {s : List ℕ} {z : ℤ} → TakesToken old new (Token.string s) → WritesQuotedInteger s z → FitsSigned w64 z
     → Takes (InString IsQuotedInt64) old new (int64 z)
 int64_taken {old} {new} {s} {z} t w fits = (string s, t, (z, w, fits, refl))
 
-pub double_taken : {old new : List Token} {s : List ℕ} {bits : ℕ} → TakesToken old new (Token.string s) → WritesDouble s bits
+pub double_taken : {old new : List Token} {s : List ℕ} {bits : ℕ} → TakesToken old new (Token.string s) → WritesDouble (trimmed s) bits
     → Takes (InString IsQuotedDouble) old new (double bits)
 double_taken {old} {new} {s} {bits} t w = (string s, t, (bits, w, refl))
 

@@ -1,5 +1,6 @@
 pub mod Place
 pub mod Reasons
+pub mod Spaces
 pub mod Numbers
 pub mod DecimalTexts
 pub mod Digits

@@ -1,6 +1,6 @@
 -- Objects that write one value for which JSON has no notation: the type wrappers of Extended JSON v2, each known by its key. These are the
 -- wrappers that hold no other values. The comment of each is its line of the specification's table, written from memory.
-use Rattle.std.specs.Prelude.{◌≡◌, ◌⊎◌, ℕ, ℤ, pos, ◌<◌, ◌^◌, Bool, List, [], ◌∷◌, Some, Ok, codes, FitsSigned}
+use Rattle.std.specs.Prelude.{◌≡◌, ◌⊎◌, ◌==◌, ◌||◌, ℕ, ℤ, pos, ◌<◌, ◌^◌, Bool, List, [], ◌∷◌, Some, Ok, codes, FitsSigned, if◌then◌else◌}
 use Rattle.std.specs.Int.{w64}
 use Rattle.base64.specs.Engines.{standard}
 use Rattle.base64.specs.GeneralPurpose.{decode_of}
@@ -12,8 +12,9 @@ use Rattle.bson_model.specs.Leaf.{Leaf, binary, undefined, object_id, date_time,
 use Rattle.bson_model.specs.Options.{sorted_options}
 use Rattle.bson_model.specs.Subtype.{subtype_of}
 use Rattle.bson_model.specs.declared.binaries.BinarySubtype.TheVariants.{Uuid}
-use Rattle.values_from_json.specs.Numbers.{WritesInteger, IsQuotedInt32, IsQuotedInt64, IsQuotedDouble}
+use Rattle.values_from_json.specs.Numbers.{WritesInteger, WritesQuotedInteger, IsQuotedInt32, IsQuotedInt64, IsQuotedDouble}
 use Rattle.values_from_json.specs.DecimalTexts.{IsQuotedDecimal}
+use Rattle.values_from_json.specs.Spaces.{is_space, without_spaces}
 use Rattle.values_from_json.specs.Times.{WritesTime}
 
 -- an object of this one member
@@ -34,17 +35,19 @@ abbrev pub InString : (List ℕ → Leaf → Type 0) → Json → Leaf → Type 
 InString Writes (string s) l = Writes s l
 InString Writes _ l = ⊥
 
--- one or two hex digits
+-- One or two hex digits. Other programs take white space in place of either of two, and a plus in place of the first.
 abbrev pub two_hex_digits : List ℕ → List ℕ
 two_hex_digits (digit ∷ []) = 48 ∷ digit ∷ []
+two_hex_digits (a ∷ b ∷ []) = if is_space a || (a == 43) then 48 ∷ b ∷ [] else if is_space b then 48 ∷ a ∷ [] else a ∷ b ∷ []
 two_hex_digits digits = digits
 
 -- Binary: {"$binary": {"base64": <base64-encoded (with padding as =) payload as a string>, "subType": <BSON binary type as a one- or
--- two-character hex string>}}. The payload of subtype 2 excludes the inner length.
+-- two-character hex string>}}. The payload of subtype 2 excludes the inner length. White space in base64, as at the end of the lines of
+-- MIME, counts for nothing.
 abbrev pub IsBinary : Json → Leaf → Type 0
 IsBinary (object ms) l =
     (text digits bytes : List ℕ) × (subtype : ℕ) × AreTwo (codes "base64") (string text) (codes "subType") (string digits) ms
-    × (decode_of standard text ≡ Ok bytes) × (decode_sized (two_hex_digits digits) 1 ≡ Ok (subtype ∷ []))
+    × (decode_of standard (without_spaces text) ≡ Ok bytes) × (decode_sized (two_hex_digits digits) 1 ≡ Ok (subtype ∷ []))
     × (l ≡ binary (subtype_of subtype) bytes)
 IsBinary _ l = ⊥
 
@@ -56,7 +59,7 @@ IsUuid _ l = ⊥
 
 -- an object {"$numberLong": <64-bit signed integer as a string>}
 abbrev pub IsLongObject : Members → ℤ → Type 0
-IsLongObject ms z = (s : List ℕ) × (ms ≡ one_member (codes "$numberLong") (string s)) × WritesInteger s z
+IsLongObject ms z = (s : List ℕ) × (ms ≡ one_member (codes "$numberLong") (string s)) × WritesQuotedInteger s z
 
 -- Datetime: {"$date": {"$numberLong": <milliseconds relative to the epoch, as a string>}}
 -- or {"$date": <ISO-8601 Internet Date/Time Format as in RFC 3339, with maximum time precision of milliseconds, as a string>};

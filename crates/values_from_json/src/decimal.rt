@@ -64,7 +64,7 @@ pub fn decimal128_of(text: &[u8]) -> Option<[u8; 16]>
 }
 
 /// Whether a text begins with a minus, and what follows its sign.
-fn split_sign(text: &[u8]) -> (bool, &[u8])
+pub(crate) fn split_sign(text: &[u8]) -> (bool, &[u8])
     ensures negative { result.0 ≡ starts_with_minus text.now }
     ensures behind { result.1.now ≡ without_sign text.now }
 {
@@ -99,7 +99,7 @@ fn sign_of(is_negative: bool) -> u128
 }
 
 /// Whether a text is this word, whatever its case.
-fn is_word(text: &[u8], word: &[u8]) -> bool
+pub(crate) fn is_word(text: &[u8], word: &[u8]) -> bool
     ensures { IsTrue result ↔ (map to_ascii_lowercase text.now ≡ map to_ascii_lowercase word.now) }
 {
     text.eq_ignore_ascii_case(word)

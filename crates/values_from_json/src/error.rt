@@ -92,7 +92,7 @@ impl JsonReason {
             JsonReason::ExpectedColon => "expected a colon",
             JsonReason::ExpectedComma => "expected a comma or the end of the object or array",
             JsonReason::ExpectedValue => "expected a value",
-            JsonReason::TextBehind => "text behind the document",
+            JsonReason::TextBehind => "text after the document",
             JsonReason::BadNumber => "not a number of JSON",
             JsonReason::IntegerTooLarge => "an integer of more than 64 bits",
             JsonReason::NumberTooLarge => "a number beyond the greatest double",

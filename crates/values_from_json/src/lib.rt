@@ -19,6 +19,7 @@ mod fault;
 mod leaves;
 pub mod place;
 mod source;
+mod space;
 mod wrapper;
 
 pub use date::millis_of;

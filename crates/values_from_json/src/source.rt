@@ -13,7 +13,8 @@ ghost use Rattle.bson_model.specs.Leaf.{binary, date_time, db_pointer, decimal12
 ghost use Rattle.bson_model.specs.Subtype.{subtype_of};
 ghost use Rattle.bson_model.specs.declared.binaries.BinarySubtype.TheVariants.{Uuid as UuidSubtype};
 ghost use Rattle.values_from_json.specs.DecimalTexts.{IsQuotedDecimal};
-ghost use Rattle.values_from_json.specs.Numbers.{WritesInteger, IsQuotedInt32, IsQuotedInt64, IsQuotedDouble};
+ghost use Rattle.values_from_json.specs.Numbers.{WritesQuotedInteger, IsQuotedInt32, IsQuotedInt64, IsQuotedDouble};
+ghost use Rattle.values_from_json.specs.Spaces.{without_spaces};
 ghost use Rattle.values_from_json.specs.Taken.{Takes, TakesToken, TakesTwo, LacksJson, LacksToken, NoToken, TakesNone, TakesNoTwo, pointed};
 ghost use Rattle.values_from_json.specs.Wrapped.{InString, IsBinary, IsDate, IsDbPointer, IsTimestamp, IsUuid, WritesUnsigned, two_hex_digits};
 ghost use Rattle.bson_model.specs.Bytes.{NulFree};
@@ -23,10 +24,10 @@ use crate::date::millis_of;
 use crate::decimal::decimal_of;
 use crate::error::JsonReason;
 use crate::fault::{Wanted, fault_at};
-use crate::leaves::{integer_of, oid_of, quoted_double_of, subtype_of_digits, uuid_of};
+use crate::leaves::{
+    base64_of, integer_of, oid_of, quoted_double_of, quoted_integer_of, subtype_of_digits, uuid_of,
+};
 use crate::wrapper::Wrapper;
-use base64::DecodeAllocError;
-use base64::engine::general_purpose::STANDARD;
 use json::{Reader as Tokens, Token};
 use std::alloc::Global;
 
@@ -222,12 +223,11 @@ impl<'a> Source<'a> {
 
     /// Takes an integer in quotes.
     fn integer(&mut self, wrapper: Wrapper) -> Result<i64, JsonReason>
-        ensures some { IfOk result (λ z. (s : List ℕ) × TakesToken self.old.tokens self.new.tokens (string s) × WritesInteger s z × FitsSigned w64 z
-            × ((y : ℤ) → FitsSigned w64 y → WritesInteger s y → y ≡ z)) }
-        ensures none { OnErr result ((s : List ℕ) (z : ℤ) → FitsSigned w64 z → WritesInteger s z → LacksToken self.old.tokens (string s)) }
+        ensures some { IfOk result (λ z. (s : List ℕ) × TakesToken self.old.tokens self.new.tokens (string s) × WritesQuotedInteger s z × FitsSigned w64 z) }
+        ensures none { OnErr result ((s : List ℕ) (z : ℤ) → FitsSigned w64 z → WritesQuotedInteger s z → LacksToken self.old.tokens (string s)) }
     {
         let text = self.text(wrapper)?;
-        match integer_of(text.as_bytes()) {
+        match quoted_integer_of(text.as_bytes()) {
             Some(value) => Ok(value),
             None => Err(JsonReason::Malformed(wrapper)),
         }
@@ -260,7 +260,7 @@ impl<'a> Source<'a> {
         ensures none { OnErr result (TakesNone (InString IsQuotedDouble) self.old.tokens) }
     {
         let text = self.text(Wrapper::NumberDouble)?;
-        match quoted_double_of(text) {
+        match quoted_double_of(text.as_bytes()) {
             Some(bits) => Ok(bits),
             None => Err(JsonReason::Malformed(Wrapper::NumberDouble)),
         }
@@ -315,15 +315,12 @@ impl<'a> Source<'a> {
 
     /// Takes text in base64.
     fn base64(&mut self, alloc: Global) -> Result<Vec<u8>, JsonReason>
-        ensures some { IfOk result (λ bytes. (s : List ℕ) × TakesToken self.old.tokens self.new.tokens (string s) × (decode_of standard s ≡ Ok bytes.items)) }
-        ensures none { IfErr result (λ reason. (reason ≡ OutOfMemory) ⊎ ((s bytes : List ℕ) → decode_of standard s ≡ Ok bytes → LacksToken self.old.tokens (string s))) }
+        ensures some { IfOk result (λ bytes. (s : List ℕ) × TakesToken self.old.tokens self.new.tokens (string s) × (decode_of standard (without_spaces s) ≡ Ok bytes.items)) }
+        ensures none { IfErr result (λ reason. (reason ≡ OutOfMemory) ⊎ ((s bytes : List ℕ) → decode_of standard (without_spaces s) ≡ Ok bytes → LacksToken self.old.tokens (string s))) }
     {
         let text = self.text(Wrapper::Binary)?;
-        match STANDARD.decode(alloc, text.as_bytes()) {
-            Ok(bytes) => Ok(bytes),
-            Err(DecodeAllocError::OutOfMemory) => Err(JsonReason::OutOfMemory),
-            Err(_) => Err(JsonReason::Malformed(Wrapper::Binary)),
-        }
+        let bytes = base64_of(alloc, text.as_bytes())?;
+        Ok(bytes)
     }
 
     /// Takes the digits of a subtype.

@@ -347,11 +347,22 @@ functions! {
     fn bsonraw_iter_find_descendant(
         iter: *mut bsonraw_iter, bytes: *const u8, len: usize, path: *const u8, path_len: usize, separator: u8
     ) -> i32;
+    fn bsonraw_iter_init_find_descendant(
+        iter: *mut bsonraw_iter, bytes: *const u8, len: usize, path: *const u8, path_len: usize, separator: u8
+    ) -> i32;
     fn bsonraw_iter_next_many(
         iter: *mut bsonraw_iter, bytes: *const u8, len: usize, entries: *mut bsonraw_entry, room: usize, count: *mut u64
     ) -> i32;
     fn bsonraw_iter_value(
         iter: *const bsonraw_iter, bytes: *const u8, len: usize, value: *mut bsonraw_value
+    ) -> i32;
+    fn bsonraw_value_at(
+        bytes: *const u8, len: usize, path: *const u8, path_len: usize, separator: u8, tags: *const u32, count: usize,
+        value: *mut bsonraw_value
+    ) -> i32;
+    fn bsonraw_overwrite(
+        bytes: *mut u8, len: usize, path: *const u8, path_len: usize, separator: u8, tag: u32, payload: *const u8,
+        payload_len: usize
     ) -> i32;
     fn bsonraw_builder_begin(builder: *mut bsonraw_builder, room: *mut u8, room_len: usize) -> i32;
     fn bsonraw_builder_end(builder: *mut bsonraw_builder, room: *mut u8, room_len: usize) -> i32;
@@ -391,6 +402,9 @@ functions! {
     fn bsonraw_canonical(
         bytes: *const u8, len: usize, max_bytes: usize, max_depth: usize, form: *mut u8, form_len: usize,
         report: *mut bsonraw_report, path: *mut u64, path_room: usize
+    ) -> i32;
+    fn bsonraw_compare(
+        one: *const u8, one_len: usize, other: *const u8, other_len: usize, order: *mut i32
     ) -> i32;
     fn bsonraw_json(
         bytes: *const u8, len: usize, max_bytes: usize, max_depth: usize, canonical: u32, indented: u32, text: *mut u8,

@@ -39,6 +39,7 @@ fn findings<'a>(alloc: Global, command: CommandBuilder<'a>) -> CommandBuilder<'a
         .arg(form)
         .arg(switch(alloc, "json", "As --findings=json"))
         .arg(switch(alloc, "quiet", quiet).short('q'))
+        .arg(color(alloc))
         .arg(number(alloc, "limit", "N", 0, u64::MAX, limit))
 }
 
@@ -51,6 +52,20 @@ fn switch<'a>(alloc: Global, name: &'a str, help: &'a str) -> Arg<'a> {
 
 /// The most that a limit can be: no length of a document is over it.
 const LARGEST: u64 = 2_147_483_647;
+
+/// When lines are in colors.
+const WHEN: &[&str] = &["auto", "always", "never"];
+
+fn color<'a>(alloc: Global) -> Arg<'a> {
+    Arg::new(alloc, "color")
+        .long("color")
+        .value_name("WHEN")
+        .value_parser(WHEN)
+        .help(
+            "Prints lines in colors; auto if it isn't given: on a terminal, unless NO_COLOR is set",
+        )
+        .action(ArgAction::Set)
+}
 
 /// An option whose value is a number, from the least on that there may be.
 fn number<'a>(
@@ -69,6 +84,15 @@ fn number<'a>(
         .action(ArgAction::Set)
 }
 
+/// An option whose value is a number of bytes or of documents, which may have a unit.
+fn size<'a>(alloc: Global, name: &'a str, value: &'a str, help: &'a str) -> Arg<'a> {
+    Arg::new(alloc, name)
+        .long(name)
+        .value_name(value)
+        .help(help)
+        .action(ArgAction::Set)
+}
+
 /// What a document may cost.
 fn limits<'a>(alloc: Global, command: CommandBuilder<'a>) -> CommandBuilder<'a> {
     let bytes = "A length over N bytes is unsound; 16793600 if it isn't given";
@@ -80,27 +104,38 @@ fn limits<'a>(alloc: Global, command: CommandBuilder<'a>) -> CommandBuilder<'a> 
 
 /// Which documents of an input are asked for.
 fn portion<'a>(alloc: Global, command: CommandBuilder<'a>) -> CommandBuilder<'a> {
-    let at = "Reads each FILE from this offset on";
+    let at = "Reads each FILE from this offset on, as 4096, 0x1000, 4K, 48M or 2G";
     let skip = "Passes over the first N documents of each FILE, by their lengths";
     let take = "Reads at most N documents of each FILE";
     command
-        .arg(number(alloc, "at", "OFFSET", 0, u64::MAX, at))
-        .arg(number(alloc, "skip", "N", 0, u64::MAX, skip))
-        .arg(number(alloc, "take", "N", 0, u64::MAX, take))
+        .arg(size(alloc, "at", "OFFSET", at))
+        .arg(size(alloc, "skip", "N", skip))
+        .arg(size(alloc, "take", "N", take))
 }
 
 /// A command that reads FILEs.
 fn reading<'a>(alloc: Global, command: CommandBuilder<'a>) -> CommandBuilder<'a> {
-    let help =
-        "Continues after an unsound length, at the next place where two sound documents begin";
+    let help = "Continues after an unsound length, at the next document that counts";
     limits(alloc, portion(alloc, command))
         .arg(switch(alloc, "resync", help))
         .arg(files(alloc, "Dumps; nothing or -: standard input"))
 }
 
+/// Where documents go that stand alone.
+fn alone<'a>(alloc: Global) -> Arg<'a> {
+    Arg::new(alloc, "alone")
+        .long("alone")
+        .value_name("ALONE")
+        .help(
+            "Takes the documents that --resync finds alone, unchanged; without it they are left out",
+        )
+        .action(ArgAction::Set)
+}
+
 /// A command that writes documents.
 fn writing<'a>(alloc: Global, command: CommandBuilder<'a>) -> CommandBuilder<'a> {
-    reading(alloc, findings(alloc, command).arg(output(alloc)))
+    let command = findings(alloc, command).arg(output(alloc));
+    reading(alloc, command.arg(alone(alloc)))
 }
 
 /// A command that prints documents as Extended JSON.
@@ -180,7 +215,10 @@ fn checks<'a>(alloc: Global) -> CommandBuilder<'a> {
 /// The command that lists elements.
 fn lists<'a>(alloc: Global) -> CommandBuilder<'a> {
     let about = "Lists the elements of each document, at every level";
-    reading(alloc, CommandBuilder::new(alloc, "list", about))
+    reading(
+        alloc,
+        CommandBuilder::new(alloc, "list", about).arg(color(alloc)),
+    )
 }
 
 /// The command that counts documents.

@@ -3,6 +3,9 @@
 
 use crate::command_line::args::command_line;
 use crate::command_line::commands::{command_of, printing_of};
+use crate::command_line::numbers::number_in;
+use crate::files::colors::When;
+use clap::error::ErrorKind;
 use clap::{ArgMatches, Error};
 use dump_commands::command::Command;
 use dump_commands::job::Job;
@@ -20,8 +23,21 @@ pub struct Task<'a> {
     pub reading: Reading<'a>,
     /// the file that is written in place of standard output
     pub output: Option<&'a str>,
+    /// the file that documents are written to that stand alone
+    pub alone: Option<&'a str>,
     /// what is read; nothing and `-` are standard input
     pub inputs: Vec<&'a str>,
+    /// when lines are in colors
+    pub color: When,
+}
+
+/// When lines are in colors.
+fn color_of(matches: &ArgMatches<'_>) -> When {
+    match matches.get_str("color") {
+        Some("always") => When::Always,
+        Some("never") => When::Never,
+        _ => When::Auto,
+    }
 }
 
 /// Of how many paths elements are counted where no number is given.
@@ -55,15 +71,62 @@ fn paths_of(command: Command<'_>, matches: &ArgMatches<'_>) -> usize {
     }
 }
 
+/// An error of the command line of the program of this version, in these words.
+pub fn refusal(alloc: Global, version: &str, words: &str) -> Error {
+    match command_line(alloc, version) {
+        Ok(mut line) => line
+            .error(ErrorKind::ValueValidation, words)
+            .unwrap_or_else(|error| Error::from(error)),
+        Err(error) => Error::from(error),
+    }
+}
+
+/// The number of bytes or of documents that an option was given.
+fn size_of(
+    alloc: Global,
+    version: &str,
+    matches: &ArgMatches<'_>,
+    option: &str,
+) -> Result<Option<u64>, Error> {
+    let Some(text) = matches.get_str(option) else {
+        return Ok(None);
+    };
+    match number_in(text) {
+        Some(number) => Ok(Some(number)),
+        None => {
+            let value = if option == "at" { "OFFSET" } else { "N" };
+            let words = format!(in alloc;
+                "invalid value '{text}' for '--{option} <{value}>': not a number, as 4096, 0x1000, 4K, 48M or 2G"
+            )?;
+            Err(refusal(alloc, version, words.as_str()))
+        }
+    }
+}
+
+/// Which documents of each input are asked for.
+fn portion_of(alloc: Global, version: &str, matches: &ArgMatches<'_>) -> Result<Portion, Error> {
+    Ok(Portion {
+        at: size_of(alloc, version, matches, "at")?.unwrap_or(0),
+        skip: size_of(alloc, version, matches, "skip")?.unwrap_or(0),
+        take: size_of(alloc, version, matches, "take")?,
+    })
+}
+
 /// The task of a command that was given.
 fn task_of<'a>(
     alloc: Global,
+    version: &str,
     command: Command<'a>,
     matches: &ArgMatches<'a>,
 ) -> Result<Task<'a>, Error> {
     let printing = printing_of(command);
     let output = if printing.documents {
         matches.get_str("output").filter(|name| *name != "-")
+    } else {
+        None
+    };
+    let alone = if printing.documents {
+        matches.get_str("alone")
     } else {
         None
     };
@@ -84,15 +147,13 @@ fn task_of<'a>(
                 None
             },
             limits: limits_of(matches),
-            portion: Portion {
-                at: matches.get_one("at").unwrap_or(0),
-                skip: matches.get_one("skip").unwrap_or(0),
-                take: matches.get_one("take"),
-            },
+            portion: portion_of(alloc, version, matches)?,
             paths: paths_of(command, matches),
         }),
         output,
+        alone,
         inputs: inputs_of(alloc, matches)?,
+        color: color_of(matches),
     })
 }
 
@@ -116,17 +177,23 @@ fn text_task<'a>(alloc: Global, matches: &ArgMatches<'a>) -> Result<Task<'a>, Er
             limit: matches.get_one("limit"),
         }),
         output: matches.get_str("output").filter(|name| *name != "-"),
+        alone: None,
         inputs: inputs_of(alloc, matches)?,
+        color: color_of(matches),
     })
 }
 
 /// What the matches of a command line ask for.
-fn task_in<'a>(alloc: Global, matches: &ArgMatches<'a>) -> Result<Option<Task<'a>>, Error> {
+fn task_in<'a>(
+    alloc: Global,
+    version: &str,
+    matches: &ArgMatches<'a>,
+) -> Result<Option<Task<'a>>, Error> {
     let Some((name, inner)) = matches.subcommand() else {
         return Ok(None);
     };
     let task = match command_of(name, inner) {
-        Some(command) => task_of(alloc, command, inner)?,
+        Some(command) => task_of(alloc, version, command, inner)?,
         None => text_task(alloc, inner)?,
     };
     Ok(Some(task))
@@ -139,5 +206,5 @@ pub fn parsed<'a>(
     words: &'a [String],
 ) -> Result<Option<Task<'a>>, Error> {
     let matches = command_line(alloc, version)?.try_get_matches_from(words)?;
-    task_in(alloc, &matches)
+    task_in(alloc, version, &matches)
 }

@@ -60,7 +60,7 @@ fn without(rt: &HostRuntime, style: Style, name: &str, error: &io::Error) -> Sta
 
 /// Takes the numbers of standard streams that are closed, so that no file that is opened later gets one of them and what is
 /// written to the stream doesn't go there. The streams fail as before: input isn't read, output isn't written.
-fn guards(rt: &HostRuntime) -> io::Result<(Option<File>, File, File)> {
+pub fn guards(rt: &HostRuntime) -> io::Result<(Option<File>, File, File)> {
     let input = OpenOptions::new().write(true).open(rt, "/dev/null")?;
     let input = if input.as_raw_fd() == 0 {
         Some(input)
@@ -82,13 +82,24 @@ fn written<'a, F: Fill<'a>>(rt: &HostRuntime, run: &F, name: &str) -> io::Result
     Ok(run.fill(rt, &mut data).status)
 }
 
-/// Writes into a file beside it, with the same mode, owner and group, which takes its place if nothing but damage went wrong.
-fn replaced<'a, F: Fill<'a>>(
+/// A file beside another, whose place it takes at the end.
+#[derive(Drop)]
+pub struct Temporary {
+    /// the file
+    pub file: File,
+    /// its name
+    pub name: String,
+    /// the name of the other
+    pub place: String,
+}
+
+/// Makes such a file for one of this name, of which this is known if it is there.
+pub fn made_beside(
     rt: &HostRuntime,
-    run: &F,
+    style: Style,
     name: &str,
-    old: Option<Metadata>,
-) -> io::Result<Status> {
+    old: Option<&Metadata>,
+) -> io::Result<Temporary> {
     if old.is_some() {
         let _may_be_written = OpenOptions::new().write(true).open(rt, name)?;
     }
@@ -96,13 +107,31 @@ fn replaced<'a, F: Fill<'a>>(
         Ok(place) => format!(in rt.alloc(); "{}", place.display())?,
         Err(_) => String::from_str(rt.alloc(), name)?,
     };
-    tell_left(rt, run.style(), place.as_str())?;
+    tell_left(rt, style, place.as_str())?;
     let beside = beside(rt, place.as_str())?;
-    let file = match File::create_new(rt, beside.as_str()) {
-        Ok(file) => file,
-        Err(error) if old.is_some() => return Err(not_beside(rt, &error)),
-        Err(error) => return Err(error),
-    };
+    match File::create_new(rt, beside.as_str()) {
+        Ok(file) => Ok(Temporary {
+            file,
+            name: beside,
+            place,
+        }),
+        Err(error) if old.is_some() => Err(not_beside(rt, &error)),
+        Err(error) => Err(error),
+    }
+}
+
+/// Writes into a file beside it, which takes its place if nothing but damage went wrong.
+fn replaced<'a, F: Fill<'a>>(
+    rt: &HostRuntime,
+    run: &F,
+    name: &str,
+    old: Option<Metadata>,
+) -> io::Result<Status> {
+    let Temporary {
+        file,
+        name: beside,
+        place,
+    } = made_beside(rt, run.style(), name, old.as_ref())?;
     let result = match filled(rt, run, name, file, old) {
         Ok(done) if done.lack.is_none() => {
             fs::rename(rt, beside.as_str(), place.as_str())?;
@@ -194,8 +223,7 @@ fn filled<'a, F: Fill<'a>>(
     old: Option<Metadata>,
 ) -> io::Result<Done<'a>> {
     if let Some(old) = old {
-        keep_owner(rt, run.style(), name, &file, &old);
-        file.set_permissions(old.permissions())?;
+        keep_mode(rt, run.style(), name, &file, &old)?;
     }
     let mut data = BufWriter::with_capacity(rt.alloc(), BLOCK, file)?;
     let done = run.fill(rt, &mut data);
@@ -203,6 +231,18 @@ fn filled<'a, F: Fill<'a>>(
         data.get_ref().sync_all()?;
     }
     Ok(done)
+}
+
+/// Gives a file the mode, the owner and the group of the one whose place it takes, and reports if it can't.
+pub fn keep_mode(
+    rt: &HostRuntime,
+    style: Style,
+    name: &str,
+    file: &File,
+    old: &Metadata,
+) -> io::Result<()> {
+    keep_owner(rt, style, name, file, old);
+    file.set_permissions(old.permissions())
 }
 
 /// Gives a file the owner and the group of the one whose place it takes, and reports if it can't.

@@ -7,19 +7,16 @@ use Rattle.std.proofs.KnownBytes.{Appends-nil, Appends-trans}
 use Rattle.std.specs.Option.{option_copied}
 use Rattle.raw_tree.proofs.Face.{held_holds, nested_beside}
 use Rattle.raw_view.specs.Document.{bytes_of}
-use Rattle.raw_view.specs.Errors.{SaysFault}
-use Rattle.raw_view.specs.Frame.{Frame, IsStop, IsWalk, LeadsTo, Fault, End, Malformed, Utf8, Done, Stopped}
+use Rattle.raw_view.specs.Frame.{Frame, IsWalk, LeadsTo, End, Done, Stopped}
 use Rattle.raw_view.specs.Frame.ElementSteps.{frame_of}
-use Rattle.raw_view.specs.Frame.Front.{StepsFront, StopsWith}
+use Rattle.raw_view.specs.Frame.Front.{StepsFront}
 use Rattle.raw_view.specs.Meaning.{RawValue}
 use Rattle.raw_view.specs.Meaning.Value.{HoldsLevel, holding}
 use Rattle.raw_view.specs.declared.element.RawElement.{RawElement}
 use Rattle.raw_view.specs.declared.error.BorrowedError.{BorrowedError}
-use Rattle.raw_view.specs.declared.error.ErrorKind.{ErrorKind}
-use Rattle.raw_view.specs.declared.error.ErrorKind.TheVariants as kind
 use Rattle.raw_view.specs.declared.level.Holder.{Holder}
 use Rattle.raw_view.specs.declared.level.RawLevel.{RawLevel}
-use Rattle.raw_view.proofs.Face.{IsFrame-shorter}
+use Rattle.raw_view.proofs.Face.{IsFrame-shorter, stop_said}
 use Rattle.dump_io.specs.lines.Fronts.{AppendsFront, HasFront}
 use Rattle.dump_commands.specs.elements.Listing.{HasLinesFront, HasNextFront, Lists, ListsEnd, ListsFrame, ListsFrames, ListsInside, ListsNext, TellsElement, TellsStop, indented}
 use Rattle.dump_commands.specs.declared.elements.listing.Next.TheVariants as next
@@ -226,16 +223,11 @@ front_within m here (Some s) new e lines text (r, at, is) one front = ([], s, []
 
 -- stops
 
-stop_of : (k : ErrorKind) (key : Option (List ℕ)) (s : List ℕ) → StopsWith k key s → (fault : Fault) × IsStop s fault key × SaysFault k fault
-stop_of (kind.MalformedValue reason) key s h = (Malformed reason, h, refl)
-stop_of (kind.Utf8EncodingError error) key s h = (Utf8, h, refl)
-stop_of kind.OutOfMemory key s h = absurd h
-
 left_stop : (m here : ℕ) (left new : Option (List ℕ)) (e : BorrowedError) (line text : List ℕ) → StepsFront left (Some (Err e)) new → TellsStop here e line
     → ListsLeft m here new text → ListsLeft m here left (line ++ text)
 left_stop m here None new e line text (none, gone) tells h = absurd (cc)
 left_stop m here (Some s) new e line text (stops, gone) (reading, is) h =
-    let (fault, stop, says) = stop_of e.kind (option_copied e.key) s stops in
+    let (fault, says, stop) = stop_said e.kind (option_copied e.key) s stops in
     let none : text ≡ [] = subst (λ (x : Option (List ℕ)). ListsLeft m here x text) gone h in
     ([], Stopped fault (option_copied e.key), [], line, stop, refl, (_, (e.kind, says, reading, refl), is), ap (λ (x : List ℕ). line ++ x) none ∙ append-nil line)
 
@@ -243,7 +235,7 @@ front_stop : (m here : ℕ) (left new : Option (List ℕ)) (e : BorrowedError) (
     → HasFront line text → HasLeftFront m here left text
 front_stop m here None new e line text (none, gone) tells front = absurd (cc)
 front_stop m here (Some s) new e line text (stops, gone) (reading, is) (behind, whole) =
-    let (fault, stop, says) = stop_of e.kind (option_copied e.key) s stops in
+    let (fault, says, stop) = stop_said e.kind (option_copied e.key) s stops in
     ([], s, [], text, refl, refl, inr (inr (fault, option_copied e.key, _, stop, (e.kind, says, reading, refl), (behind, sym is ∙ whole))), refl)
 
 -- nothing is after the line of a stop

@@ -5,7 +5,7 @@ use Rattle.std.proofs.Math.Seq.{take-length}
 use Rattle.std.specs.Io.KnownBytes.{Consumes, IsAtEnd}
 use Rattle.raw_tree.specs.declared.reader.limits.Limits.{Limits}
 use Rattle.raw_resync.specs.Resync.{IsFramed, IsSound}
-use Rattle.raw_resync.specs.Searches.{BelievesLength, DoubtsLength, IsFoundAt, IsOpen, PassesOver, Walks}
+use Rattle.raw_resync.specs.Searches.{BelievesLength, DoubtsLength, IsFoundAt, PassesOver, Walks}
 use Rattle.raw_resync.specs.Seeking.{IsWork, KeepsBound, MayFollow, IsSoughtIn, Seeks, TellsSought}
 use Rattle.raw_resync.specs.declared.length.Length.{Length}
 use Rattle.raw_resync.specs.declared.length.Length.TheVariants as lengths
@@ -13,11 +13,11 @@ use Rattle.raw_resync.specs.declared.search.Places.{Places}
 use Rattle.raw_resync.specs.declared.search.Sought.{Sought}
 use Rattle.raw_resync.specs.declared.search.Sought.TheVariants as sought
 use Rattle.raw_resync.specs.declared.work.Work.{Work}
-use Rattle.raw_resync.proofs.Face.{and_false, and_true, believes_explained, doubts_disbelieved, keeps_before, keeps_on, keeps_same, one_found, one_left, one_looked, passes_after, sound_framed, walks_front}
+use Rattle.raw_resync.proofs.Face.{and_false, and_true, believes_explained, doubts_disbelieved, found_goes_on, keeps_before, keeps_on, keeps_same, one_found, one_left, one_looked, passes_after, passes_stop_all, sound_framed, walks_front}
 use Rattle.raw_resync.proofs.Face as face
 use Rattle.dump_io.specs.input.Cut.{EndsWith, IsPiece}
 use Rattle.dump_io.specs.input.Reading.{IsReadBehind, IsWindow, ReadsAhead, SeesAhead, Stays, TellsNext, ahead_of}
-use Rattle.dump_io.specs.input.Resync.{BreaksWith, Doubts, GoesElsewhere, HasWrongLength, IsBelieved, IsDoubted, Searches, Sees, TellsElsewhere, TellsPart, TellsSeen}
+use Rattle.dump_io.specs.input.Resync.{BreaksWith, Doubts, GoesElsewhere, HasWrongLength, IsBelieved, IsDoubted, LooksBehind, Searches, Sees, TellsBehind, TellsElsewhere, TellsPart, TellsSeen}
 use Rattle.dump_io.specs.declared.input.ending.Ending.{Ending}
 use Rattle.dump_io.specs.declared.input.ending.Ending.TheVariants as ending
 use Rattle.dump_io.specs.declared.input.resync.Search.{Search}
@@ -209,34 +209,40 @@ module _ {limits : Limits} {r r' : Option (List ℕ)} {x y : Window} {v w : Work
         );
   }
 
-  module _ {r'' : Option (List ℕ)} {z : Window} {u : Work} (inside behind : Seen) (none : inside.goes_on ≡ false) (first : Sees limits r r' x y v w (inside_of len) inside)
-      (second : Sees limits r' r'' y z w u (behind_of len) behind) where
-    both : Searches limits r r'' x z v u
-    both = searches_on r r' r'' x y z v w u first.searches second.searches
+  -- whether documents go on at the place behind it
+  module _ (behind : Seen) (sees : Sees limits r r' x y v w (behind_of len) behind) where
+    found_there : (s : List ℕ) (all : Bool) → TellsSeen limits s x.offset (behind_of len) v w true all → TellsBehind limits s x.offset len v w false
+    found_there s all (place, at, low, high, passed, found) =
+        let here = one_found limits (drop len s) (x.offset + len) 0 place v at w all (omega (arith, high)) passed found in
+        (true, λ looked. found_goes_on limits (drop len s) (x.offset + len) 0 v w here, here)
 
+    behind_it : (s : List ℕ) (goes all : Bool) → TellsSeen limits s x.offset (behind_of len) v w goes all → TellsBehind limits s x.offset len v w (all && not goes)
+    behind_it s true true seen = found_there s true seen
+    behind_it s true false seen = found_there s false seen
+    behind_it s false true passed = (passes_stop_all passed 0 (omega arith) (omega arith), one_looked passed)
+    behind_it s false false passed = (false, λ looked. let impossible : ⊥ = cc in absurd impossible, one_left passed)
+
+    pub looks_behind : LooksBehind limits r r' x y v w len (behind.all && not behind.goes_on)
+    looks_behind = record { searches = sees.searches; is = λ s read. behind_it s behind.goes_on behind.all (sees.is s read) }
+
+  module _ {r'' : Option (List ℕ)} {z : Window} {u : Work} {inside : Seen} {alone : Bool} (none : inside.goes_on ≡ false) (first : Sees limits r r' x y v w (inside_of len) inside)
+      (second : LooksBehind limits r' r'' y z w u len alone) where
     before : (s : List ℕ) → Consumes (Some s) r (ahead_of x) → PassesOver limits s x.offset 1 len v w inside.all
     before s read =
         subst (λ n. PassesOver limits s n 1 len v w inside.all) (no_offset x.offset)
         (subst (λ b. TellsSeen limits s x.offset (inside_of len) v w b inside.all) none (first.is s read))
 
-    there : (s : List ℕ) → Consumes (Some s) r (ahead_of x) → TellsSeen limits s x.offset (behind_of len) w u behind.goes_on behind.all
+    there : (s : List ℕ) → Consumes (Some s) r (ahead_of x) → TellsBehind limits s x.offset len w u alone
     there s read =
-        subst (λ n. TellsSeen limits s n (behind_of len) w u behind.goes_on behind.all) first.searches.stays.offset
-        (second.is s (first.searches.stays.looks.is_read (Some s) read))
+        subst (λ n. TellsBehind limits s n len w u alone) first.searches.stays.offset (second.is s (first.searches.stays.looks.is_read (Some s) read))
 
-    open_there : (s : List ℕ) (all : Bool) → TellsSeen limits s x.offset (behind_of len) w u true all → IsOpen limits (drop len s) (x.offset + len) w u true
-    open_there s all (place, at, low, high, passed, found) =
-        one_found limits (drop len s) (x.offset + len) 0 place w at u all (omega (arith, high)) passed found
+    elsewhere : (s : List ℕ) (shut : Bool) → PassesOver limits s x.offset 1 len v w inside.all → TellsBehind limits s x.offset len w u shut → TellsElsewhere limits s x.offset len v u shut
+    elsewhere s true over (stops, shut) = inr (w, inside.all, over, shut)
+    elsewhere s false over (true, goes, open') = (inside.all, (w, inside.all, true, over, open', and_true inside.all))
+    elsewhere s false over (false, goes, open') = (false, (w, inside.all, false, over, open', and_false inside.all))
 
-    elsewhere : (s : List ℕ) (goes all : Bool) → PassesOver limits s x.offset 1 len v w inside.all → TellsSeen limits s x.offset (behind_of len) w u goes all
-        → TellsElsewhere limits s x.offset len v u (all && not goes)
-    elsewhere s true true over seen = (inside.all, (w, inside.all, true, over, open_there s true seen, and_true inside.all))
-    elsewhere s true false over seen = (inside.all, (w, inside.all, true, over, open_there s false seen, and_true inside.all))
-    elsewhere s false true over passed = inr (w, inside.all, over, one_looked passed)
-    elsewhere s false false over passed = (false, (w, inside.all, false, over, one_left passed, and_false inside.all))
-
-    pub goes_behind : GoesElsewhere limits r r'' x z v u len (behind.all && not behind.goes_on)
-    goes_behind = record { searches = both; is = λ s read. elsewhere s behind.goes_on behind.all (before s read) (there s read) }
+    pub goes_behind : GoesElsewhere limits r r'' x z v u len alone
+    goes_behind = record { searches = searches_on r r' r'' x y z v w u first.searches second.searches; is = λ s read. elsewhere s alone (before s read) (there s read) }
 
 -- how many bytes a piece in front has
 pub piece_len : {most : ℕ} (x : List ℕ) (len : ℕ) → len ≤ length x → IsPiece most (take len x) → (5 ≤ len) × (len ≤ most)

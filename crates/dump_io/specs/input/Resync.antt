@@ -2,7 +2,7 @@
 use Rattle.std.specs.Prelude.{◌≡◌, ◌⊎◌, ◌<◌, ◌≤◌, ◌+◌, ◌-◌, ℕ, List, [], Bool, true, false, Option, Some, drop, length, take}
 use Rattle.std.specs.Io.KnownBytes.{Consumes, IsAtEnd}
 use Rattle.raw_resync.specs.Resync.{GoesOn, IsDisbelieved, IsSound}
-use Rattle.raw_resync.specs.Searches.{BelievesLength, DoubtsLength, GoesOnBehind, GoesOnElsewhere, IsFoundAt, PassesOver}
+use Rattle.raw_resync.specs.Searches.{BelievesLength, DoubtsLength, GoesOnBehind, GoesOnElsewhere, IsFoundAt, IsOpen, IsShut, PassesOver}
 use Rattle.raw_resync.specs.Seeking.{IsWork, KeepsBound}
 use Rattle.raw_resync.specs.declared.work.Work.{Work}
 use Rattle.raw_tree.specs.declared.reader.limits.Limits.{Limits}
@@ -83,6 +83,17 @@ TellsSeen limits s at p old new false all = PassesOver limits (drop p.base s) (a
 pub record Sees (limits : Limits) (old new : Option (List ℕ)) (window_old window_new : Window) (work_old work_new : Work) (p : Search) (seen : Seen) : Type 0 where
   pub searches : Searches limits old new window_old window_new work_old work_new
   pub is : (s : List ℕ) → Consumes (Some s) old (ahead_of window_old) → TellsSeen limits s window_old.offset p work_old work_new seen.goes_on seen.all
+
+-- whether documents don't go on after the piece of this length in front of s, the end of an input from this offset on, which is looked at; they
+-- are found to, or the place is left out
+abbrev pub TellsBehind : Limits → List ℕ → (at len : ℕ) → (old new : Work) → (alone : Bool) → Type 0
+TellsBehind limits s at len old new true = (¬ GoesOn limits (drop len s) 0) × IsShut limits (drop len s) (at + len) old new
+TellsBehind limits s at len old new false = (all : Bool) × (all ≡ true → GoesOn limits (drop len s) 0) × IsOpen limits (drop len s) (at + len) old new all
+
+-- so it is of all that was to be read
+pub record LooksBehind (limits : Limits) (old new : Option (List ℕ)) (window_old window_new : Window) (work_old work_new : Work) (len : ℕ) (alone : Bool) : Type 0 where
+  pub searches : Searches limits old new window_old window_new work_old work_new
+  pub is : (s : List ℕ) → Consumes (Some s) old (ahead_of window_old) → TellsBehind limits s window_old.offset len work_old work_new alone
 
 -- whether documents go on inside the piece of this length in front of s, the end of an input from this offset on, or not behind it
 abbrev pub TellsElsewhere : Limits → List ℕ → (at len : ℕ) → (old new : Work) → Bool → Type 0

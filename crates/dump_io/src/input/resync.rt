@@ -4,7 +4,7 @@
 ghost use Rattle.std.specs.Prelude.{◌≡◌, ◌≤◌, ◌<◌, ◌+◌, IfErr, IfOk, length, take};
 ghost use Rattle.dump_io.specs.input.Cut.{IsPiece};
 ghost use Rattle.dump_io.specs.input.Reading.{GoesAhead, IsWindow, Stays, ahead_of, offset_of};
-ghost use Rattle.dump_io.specs.input.Resync.{Doubts, GoesElsewhere, Sees, SkipsTo};
+ghost use Rattle.dump_io.specs.input.Resync.{Doubts, GoesElsewhere, LooksBehind, Sees, SkipsTo};
 ghost use Rattle.dump_io.specs.lines.Failing.{IsReading};
 ghost use Rattle.raw_resync.specs.Seeking.{IsWork};
 
@@ -146,6 +146,22 @@ fn goes_on_elsewhere<R: Read>(
     if seen.goes_on {
         return Ok(true);
     }
+    stands_alone(alloc, reader, window, limits, len, work)
+}
+
+/// Whether documents don't go on after the first `len` bytes ahead, where that is looked at.
+pub fn stands_alone<R: Read>(
+    alloc: Global,
+    reader: &mut R,
+    window: &mut Window,
+    limits: Limits,
+    len: usize,
+    work: &mut Work,
+) -> Result<bool, Failure>
+    requires { IsWindow window.old × IsWork work.old × (len ≤ length (ahead_of window.old)) }
+    ensures looks { IfOk result (LooksBehind limits (R.remaining reader.old) (R.remaining reader.new) window.old window.new work.old work.new len) }
+    ensures fails { IfErr result (λ _. Stays (R.remaining reader.old) (R.remaining reader.new) window.old window.new) }
+{
     let behind = Search {
         base: len,
         from: 0,

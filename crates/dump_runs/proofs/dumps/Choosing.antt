@@ -10,7 +10,7 @@ use Rattle.dump_commands.specs.declared.counts.Counts.{Counts}
 use Rattle.dump_commands.specs.declared.job.Job.{Job}
 use Rattle.dump_runs.specs.Plays.{Held}
 use Rattle.dump_runs.specs.dumps.Portion.{AreAsked, IsChosen, IsRunOver, documents_of_parts}
-use Rattle.dump_runs.specs.dumps.Run.{Part, Passed, Point, after, after_all, findings_in, piece, gap, repeats_in, skipped, start_of}
+use Rattle.dump_runs.specs.dumps.Run.{Part, Passed, Point, after, after_all, findings_in, gap, lone, piece, repeats_in, skipped, start_of}
 use Rattle.dump_runs.specs.dumps.Steps.{Place}
 use Rattle.dump_runs.proofs.dumps.Passing.{HasPassed, counts_passed}
 
@@ -33,10 +33,16 @@ pub record HasPassedPortion (job : Job) (name : List ℕ) (input : Option (List 
 documents_behind : (job : Job) (here : Point) (ps : List Part) → (after_all job here ps).counts.documents ≡ here.counts.documents + length (documents_of_parts ps)
 documents_behind job here [] = sym (add-zero here.counts.documents)
 documents_behind job here (skipped b ∷ ps) = documents_behind job (after job here (skipped b)) ps
+documents_behind job here (lone a ∷ ps) =
+    let n = here.counts in
+    let rest : (after_all job here (lone a ∷ ps)).counts.documents ≡ (n.documents + 1) + length (documents_of_parts ps) = documents_behind job (after job here (lone a)) ps in
+    let step : (n.documents + 1) + length (documents_of_parts ps) ≡ n.documents + suc (length (documents_of_parts ps)) = omega arith in
+    rest ∙ step
 documents_behind job here (gap g ∷ ps) = documents_behind job (after job here (gap g)) ps
 documents_behind job here (piece e ∷ ps) =
     let n = here.counts in
-    let one : (f : Finding) (m : Counts) → (count_finding f m).documents ≡ m.documents = λ f m. elim f as (λ f. (count_finding f m).documents ≡ m.documents) [
+    let len = length e.bytes in
+    let one : (f : Finding) (m : Counts) → (count_finding len f m).documents ≡ m.documents = λ f m. elim f as (λ f. (count_finding len f m).documents ≡ m.documents) [
       | finding.Canonical ↦ refl
       | finding.Breached ↦ refl
       | finding.Damaged ↦ refl
@@ -65,6 +71,9 @@ asked_more take count [] q are over few = (over, subst (λ m. IfSome take (λ n.
 asked_more take count (piece e ∷ qs) q (x, before, rest) over few =
     let step : count + suc (length (documents_of_parts qs)) ≡ (count + 1) + length (documents_of_parts qs) = omega arith in
     (x, before, asked_more take (count + 1) qs q rest over (subst (λ m. IfSome take (λ n. m < n)) step few))
+asked_more take count (lone a ∷ qs) q (x, before, rest) over few =
+    let step : count + suc (length (documents_of_parts qs)) ≡ (count + 1) + length (documents_of_parts qs) = omega arith in
+    (x, before, asked_more take (count + 1) qs q rest over (subst (λ m. IfSome take (λ n. m < n)) step few))
 asked_more take count (gap g ∷ qs) q (x, before, rest) over few =
     let step : count + length (documents_of_parts qs) ≡ (count + 0) + length (documents_of_parts qs) = omega arith in
     (x, before, asked_more take (count + 0) qs q rest over (subst (λ m. IfSome take (λ n. m < n)) step few))
@@ -74,6 +83,9 @@ asked_more take count (skipped b ∷ qs) q (x, before, rest) over few = absurd x
 asked_most : (take count : ℕ) (qs : List Part) → count ≤ take → AreAsked (Some take) count qs → count + length (documents_of_parts qs) ≤ take
 asked_most take count [] few are = subst (λ m. m ≤ take) (sym (add-zero count)) few
 asked_most take count (piece e ∷ qs) few (x, before, rest) =
+    let step : (count + 1) + length (documents_of_parts qs) ≡ count + suc (length (documents_of_parts qs)) = omega arith in
+    subst (λ m. m ≤ take) step (asked_most take (count + 1) qs (omega (arith, before)) rest)
+asked_most take count (lone a ∷ qs) few (x, before, rest) =
     let step : (count + 1) + length (documents_of_parts qs) ≡ count + suc (length (documents_of_parts qs)) = omega arith in
     subst (λ m. m ≤ take) step (asked_most take (count + 1) qs (omega (arith, before)) rest)
 asked_most take count (gap g ∷ qs) few (x, before, rest) =

@@ -168,10 +168,11 @@ module _ {job : Job} {x : Place} {old mid : Held} (z : Place) (h : HasPassedPort
       }
 
 -- reading fails in front of the documents that are asked for
-pub stops_before : {job : Job} {z y : Place} {old : Held} (from : ℕ) (s : Stop) → FailsAt from s → from ≡ offset_of y.window → z.work ≡ no_work → PassesSomeFront job.portion job.limits.bytes z y
+pub stops_before : {job : Job} {z y : Place} {old : Held} (from : ℕ) (s : Stop) → FailsAt from s → from ≡ offset_of y.window → z.work ≡ no_work → z.broken ≡ false
+    → PassesSomeFront job.portion job.limits.bytes z y
     → PassesAll job z y old old s
-stops_before {job = job} {z = z} {y = y} {old = old} from s fails at unworked p =
-    let h = has_front p.named (p.work ∙ unworked) p.has in
+stops_before {job = job} {z = z} {y = y} {old = old} from s fails at unworked whole p =
+    let h = has_front p.named (p.work ∙ unworked) (p.same ∙ whole) p.has in
     let end : offset_of y.window ≡ length (bytes_of_parts h.passed.ps) = ap (λ (q : Point). q.at.offset) h.to ∙ offset_of_parts job z.name old h.passed.ps in
     record {
       named = p.named;
@@ -311,4 +312,4 @@ module _ {job : Job} {x y : Place} {old new : Held} where
         let said : text ≡ ending_line style here.at.name here.at.offset e (comes.NotRead (length line.rest)) =
         line.is ∙ ap (λ (s : Style). ending_line s y.name (offset_of y.window) e (comes.NotRead (length line.rest))) (sym last_style)
         ∙ ap (λ (a : Origin). ending_line style a.name a.offset e (comes.NotRead (length line.rest))) (sym last_place) in
-        halts_with q.passed q.front q.chosen es played (inr (inr (text, front, inr (e, line.rest, line.ends, unasked, there, said), has, is)))
+        halts_with q.passed q.front q.chosen es played (inr (inr (inr (text, front, inr (e, line.rest, line.ends, unasked, there, said), has, is))))

@@ -61,21 +61,21 @@ pub record IsCounted (job : Job) (p : Piece) (k k' k'' : Kept) : Type 0 where
 
 module _ {job : Job} {p : Piece} {n : Counts} (j : IsFound job p n) where
   -- a front of the first line is reported
-  pub front_line : {d w w' : Option (List ℕ)} {k : Kept} → AppendsFront w w' p.judged.line.items → HaltsPiece job p (holds d w n k) (holds d w' n k)
-  front_line {d = d} {w = w} {w' = w'} {k = k} front = (
+  pub front_line : {d a w w' : Option (List ℕ)} {k : Kept} → AppendsFront w w' p.judged.line.items → HaltsPiece job p (holds d a w n k) (holds d a w' n k)
+  front_line {d = d} {a = a} {w = w} {w' = w'} {k = k} front = (
     reported front.front ∷ [],
     played_text d d w w' n k k front.front front.put,
-    λ before. (p.judged.finding, j.told, j.found, inl (front.front, inl (front.behind, sym j.line ∙ front.whole), refl)),
+    λ before broken. (j.told, j.found, inl (front.front, inl (front.behind, sym j.line ∙ front.whole), refl)),
   )
 
   -- that line, and a front of the listing
-  pub front_listing : {d w w' : Option (List ℕ)} {k : Kept} (v : Option (List ℕ)) → Appends w v p.judged.line.items → (lines : List ℕ) × ListsFront job.command p.bytes.now lines × Appends v w' lines
-      → HaltsPiece job p (holds d w n k) (holds d w' n k)
-  front_listing {d = d} {w = w} {w' = w'} {k = k} v first (lines, front, put) =
+  pub front_listing : {d a w w' : Option (List ℕ)} {k : Kept} (v : Option (List ℕ)) → Appends w v p.judged.line.items → (lines : List ℕ) × ListsFront job.command p.bytes.now lines × Appends v w' lines
+      → HaltsPiece job p (holds d a w n k) (holds d a w' n k)
+  front_listing {d = d} {a = a} {w = w} {w' = w'} {k = k} v first (lines, front, put) =
       let text = p.judged.line.items ++ lines in (
         reported text ∷ [],
         played_text d d w w' n k k text (Appends-trans w v w' p.judged.line.items lines first put),
-        λ before. (p.judged.finding, j.told, j.found, inl (text, inr (lines, front, ap (λ (l : List ℕ). l ++ lines) j.line), refl)),
+        λ before broken. (j.told, j.found, inl (text, inr (lines, front, ap (λ (l : List ℕ). l ++ lines) j.line), refl)),
       )
 
   -- both are reported
@@ -85,18 +85,18 @@ module _ {job : Job} {p : Piece} {n : Counts} (j : IsFound job p n) where
 
   module _ {d w u : Option (List ℕ)} {k : Kept} (r : IsReported job p w u) where
     -- and a front of what is made is written, or nothing
-    pub front_made : {d' : Option (List ℕ)} {k' : Kept} → WritesFront (IsMade job.command p.bytes.now p.judged.finding k) d d' → HaltsPiece job p (holds d w n k) (holds d' u n k')
-    front_made {d' = d'} {k' = k'} (inl same) =
+    pub front_made : {a d' : Option (List ℕ)} {k' : Kept} → WritesFront (IsMade job.command p.bytes.now p.judged.finding k) d d' → HaltsPiece job p (holds d a w n k) (holds d' a u n k')
+    front_made {a = a} {d' = d'} {k' = k'} (inl same) =
         let text = p.judged.line.items ++ r.lines in (
           reported text ∷ [],
-          subst (λ (o : Option (List ℕ)). Played (reported text ∷ []) (holds d w n k) (holds o u n k')) (sym same) (played_text d d w u n k k' text r.put),
-          λ before. (p.judged.finding, j.told, j.found, inr (text, reports r, inl refl)),
+          subst (λ (o : Option (List ℕ)). Played (reported text ∷ []) (holds d a w n k) (holds o a u n k')) (sym same) (played_text d d w u n k k' text r.put),
+          λ before broken. (j.told, j.found, inr (text, reports r, inl refl)),
         )
-    front_made {d' = d'} {k' = k'} (inr (bytes, (made, makes, is), front)) =
+    front_made {a = a} {d' = d'} {k' = k'} (inr (bytes, (made, makes, is), front)) =
         let text = p.judged.line.items ++ r.lines in (
           reported text ∷ given front.front ∷ [],
           played_made d d' w u n k k' text front.front r.put front.put,
-          λ before. (p.judged.finding, j.told, j.found, inr (text, reports r, inr (inl (made, makes, (front.front, (front.behind, sym is ∙ front.whole), refl))))),
+          λ before broken. (j.told, j.found, inr (text, reports r, inr (inl (made, makes, (front.front, (front.behind, sym is ∙ front.whole), refl))))),
         )
 
     -- all of it is written
@@ -109,22 +109,22 @@ module _ {job : Job} {p : Piece} {n : Counts} (j : IsFound job p n) where
           ap (λ (s : Style). lines_of_repeats s (repeat_at (origin_of p.at) (option_map origin_of first))) style_is ∙ ap (lines_of_repeats (style_at job.style job.limit n)) m.puts.1.repeats
 
       -- and a front of the line of a repeat
-      pub front_repeat : {w' : Option (List ℕ)} {k'' : Kept} → AppendsFront u w' line → HaltsPiece job p (holds d w n k) (holds d' w' n k'')
-      front_repeat {w' = w'} {k'' = k''} front =
+      pub front_repeat : {a w' : Option (List ℕ)} {k'' : Kept} → AppendsFront u w' line → HaltsPiece job p (holds d a w n k) (holds d' a w' n k'')
+      front_repeat {a = a} {w' = w'} {k'' = k''} front =
           let bytes = written_of job.command (knows k) m.made in
           let text = p.judged.line.items ++ r.lines in (
             reported text ∷ given bytes ∷ reported front.front ∷ [],
             played_texts d d' w w' n k k'' text bytes front.front (Appends-trans w u w' text front.front r.put front.put) m.puts.0.is_written,
-            λ before. (p.judged.finding, j.told, j.found, inr (text, reports r, inr (inr (m.made, m.makes, (front.front, (front.behind, sym line_same ∙ front.whole), refl))))),
+            λ before broken. (j.told, j.found, inr (text, reports r, inr (inr (m.made, m.makes, (front.front, (front.behind, sym line_same ∙ front.whole), refl))))),
           )
 
       -- or that line, and the elements are counted
-      pub gives : {w' : Option (List ℕ)} {k'' : Kept} {findings : ℕ} → IsPiece job.limits.bytes p.bytes.now → Appends u w' line → IsCounted job p k k' k''
-          → findings ≡ findings_in job.command p.judged.finding + cond (is_some first) 1 0 → GivesPiece job p (holds d w n k) (holds d' w' n k'') findings
-      gives {w' = w'} {k'' = k''} {findings = findings} piece put counts number before behind =
+      pub gives : {a w' : Option (List ℕ)} {k'' : Kept} {findings : ℕ} → IsPiece job.limits.bytes p.bytes.now → Appends u w' line → IsCounted job p k k' k''
+          → findings ≡ findings_in job.command p.judged.finding + cond (is_some first) 1 0 → GivesPiece job p (holds d a w n k) (holds d' a w' n k'') findings
+      gives {a = a} {w' = w'} {k'' = k''} {findings = findings} piece put counts number before behind broken =
           let c = job.command in
           let at = origin_of p.at in
-          let here = point_at p before (holds d w n k) in
+          let here = point_at p before broken (holds d a w n k) in
           let text = p.judged.line.items ++ r.lines in
           let (fields, has, added) = counts.fields in
           let e : Entry =
@@ -138,7 +138,7 @@ module _ {job : Job} {p : Piece} {n : Counts} (j : IsFound job p n) where
               bytes = refl;
               finding = refl;
               is = record { piece = piece; found = j.found; makes = m.makes; reports = reports r; has = has };
-              played = subst (λ (l : List ℕ). Played (reported text ∷ given (written_of c (knows k) m.made) ∷ reported l ∷ []) (holds d w n k) (holds d' w' n k'')) line_same
+              played = subst (λ (l : List ℕ). Played (reported text ∷ given (written_of c (knows k) m.made) ∷ reported l ∷ []) (holds d a w n k) (holds d' a w' n k'')) line_same
                   (played_texts d d' w w' n k k'' text (written_of c (knows k) m.made) line (Appends-trans w u w' text line r.put put) m.puts.0.is_written);
               kept = λ i. record {
                 known = λ (x : List ℕ). written.is_known x i;

@@ -30,18 +30,18 @@ pub line_same : {s s' : Style} {a a' : Origin} (end : Ending) (rest : Rest) → 
 line_same {s = s} {s' = s'} {a = a} {a' = a'} end rest style at =
     ap (λ (x : Style). ending_line x a.name a.offset end rest) style ∙ ap (λ (x : Origin). ending_line s' x.name x.offset end rest) at
 
-module _ {s s' : Style} {a a' : Origin} {d w w' : Option (List ℕ)} {n : Counts} {k : Kept} (end : Ending) (style : s ≡ s') (at : a ≡ a') where
+module _ {s s' : Style} {a a' : Origin} {d l w w' : Option (List ℕ)} {n : Counts} {k : Kept} (end : Ending) (style : s ≡ s') (at : a ≡ a') where
   -- that of a gap is written, and it is counted
   pub gap_played : (skip : Skip) {m : Counts} → Appends w w' (ending_line s a.name a.offset end (comes.PassedOver skip)) → m ≡ count_gap n skip.count
-      → Played (events_of_gap s' a' end skip) (holds d w n k) (holds d w' m k)
+      → Played (events_of_gap s' a' end skip) (holds d l w n k) (holds d l w' m k)
   gap_played skip put counts =
       let line = ending_line s' a'.name a'.offset end (comes.PassedOver skip) in
       played_count (λ (m : Counts). count_gap m skip.count) counts (reported line ∷ [])
       (played_text d d w w' n k k line (subst (Appends w w') (line_same end (comes.PassedOver skip) style at) put))
 
 -- a front of a line is written
-pub line_front : (Is : List ℕ → Type 0) (d w w' : Option (List ℕ)) (n : Counts) (k : Kept) (text : List ℕ) → Is text → AppendsFront w w' text → HaltsLine Is (holds d w n k) (holds d w' n k)
-line_front Is d w w' n k text is front = (reported front.front ∷ [], played_text d d w w' n k k front.front front.put, inr (text, front.front, is, (front.behind, front.whole), refl))
+pub line_front : (Is : List ℕ → Type 0) (d l w w' : Option (List ℕ)) (n : Counts) (k : Kept) (text : List ℕ) → Is text → AppendsFront w w' text → HaltsLine Is (holds d l w n k) (holds d l w' n k)
+line_front Is d l w w' n k text is front = (reported front.front ∷ [], played_text d d w w' n k k front.front front.put, inr (text, front.front, is, (front.behind, front.whole), refl))
 
 -- or nothing
 pub line_none : (Is : List ℕ → Type 0) {old new : Held} → new ≡ old → HaltsLine Is old new

@@ -9,8 +9,9 @@ use Rattle.raw_tree.specs.declared.reader.limits.Limits.{Limits}
 use Rattle.dump_io.specs.input.Cut.{IsPiece}
 use Rattle.dump_io.specs.input.Endings.{ending_line}
 use Rattle.dump_io.specs.input.Reading.{GoesAhead, IsWindow, Stays, TellsNext, ahead_of, offset_of}
-use Rattle.dump_io.specs.input.Resync.{BreaksWith, Doubts, IsBelieved, IsNextPlace, SkipsTo, TellsPart}
+use Rattle.dump_io.specs.input.Resync.{Doubts, IsBelieved, IsNextPlace, Searches, SkipsTo, TellsPart}
 use Rattle.dump_io.specs.lines.Failing.{IsReading}
+use Rattle.dump_io.specs.lines.Find.{Account}
 use Rattle.dump_io.specs.lines.Fronts.{HasFront}
 use Rattle.dump_io.specs.lines.Origins.{Origin, origin_of}
 use Rattle.dump_io.specs.declared.input.ending.Ending.{Ending}
@@ -22,8 +23,9 @@ use Rattle.dump_io.specs.declared.input.window.Window.{Window}
 use Rattle.dump_io.specs.declared.lines.failure.Failure.{Failure}
 use Rattle.dump_io.specs.declared.lines.find.Finding.{Finding}
 use Rattle.dump_io.specs.declared.lines.style.Style.{Style}
-use Rattle.dump_io.proofs.Face.{front_kept, goes_ahead, passes_none, stays_on, tells_doubted, tells_other, tells_taken}
+use Rattle.dump_io.proofs.Face.{front_kept, goes_ahead, passes_none, searches_on, stays_on, tells_doubted, tells_other, tells_taken}
 use Rattle.dump_commands.specs.Counting.{count_document}
+use Rattle.dump_commands.specs.Findings.{FindsFor}
 use Rattle.dump_commands.specs.Reporting.{IsJudged, lines_of_repeats}
 use Rattle.dump_commands.specs.declared.counts.Counts.{Counts}
 use Rattle.dump_commands.specs.declared.job.Job.{Job}
@@ -31,8 +33,8 @@ use Rattle.dump_runs.specs.dumps.Halting.{IsNextFront, IsNextPiece, IsPieceFront
 use Rattle.dump_runs.specs.Plays.{Held, Played}
 use Rattle.dump_runs.specs.dumps.Portion.{IsRunOver}
 use Rattle.dump_runs.specs.Limits.{style_at}
-use Rattle.dump_runs.specs.dumps.Run.{Entry, Gap, IsGap, IsGapOf, IsPart, IsTaken, Part, Point, after, events_of, events_of_gap, findings_in, gap, memory_of, piece, repeats_in, style_here, texts_of}
-use Rattle.dump_runs.specs.dumps.Steps.{GivesEntry, GivesPiece, HaltsGap, HaltsNext, HaltsPiece, IsPassed, IsPieceOf, Looks, Passes, PassesGap, PassesNext, Place, next_of, place_of, point_at, point_of}
+use Rattle.dump_runs.specs.dumps.Run.{Entry, Gap, IsGap, IsGapOf, IsPart, IsTaken, Part, Point, TellsApart, after, events_of, events_of_gap, findings_in, gap, lone, memory_of, piece, repeats_in, style_here, texts_of}
+use Rattle.dump_runs.specs.dumps.Steps.{GivesEntry, GivesPiece, HaltsAside, HaltsGap, HaltsNext, HaltsPiece, IsPassed, IsPieceOf, Looks, LooksApart, Passes, PassesGap, PassesNext, Place, SetsAside, next_of, place_of, point_at, point_of}
 use Rattle.dump_runs.specs.declared.dumps.piece.Piece.{Piece}
 use Rattle.dump_runs.specs.declared.dumps.piece.Step.{Step}
 use Rattle.dump_runs.specs.declared.dumps.piece.Step.TheVariants as step
@@ -84,24 +86,55 @@ goes_since stays goes = record {
   passes = record { bytes = goes.passes.bytes; len = goes.passes.len; is_read = λ before read. goes.passes.is_read before (stays.looks.is_read before read) };
 }
 
--- the document of this length is next, and is taken at it
-pub record IsTakenAt (job : Job) (x y : Place) (p : Piece) (len : ℕ) : Type 0 where
+-- the document of this length is next, and is taken at it, whether it stands alone or not
+pub record IsTakenAt (job : Job) (found : Finding) (alone : Bool) (x y : Place) (len : ℕ) : Type 0 where
   pub named : y.name ≡ x.name
-  pub tells : TellsPart job.limits job.resync x.left y.left x.window y.window x.work y.work (next.Document len)
+  pub searches : Searches job.limits x.left y.left x.window y.window x.work y.work
+  pub within : len ≤ length (ahead_of y.window)
+  pub piece : IsPiece job.limits.bytes (take len (ahead_of y.window))
+  pub is : (b : List ℕ) (old : Held) → length b ≡ len → (s : List ℕ) → Consumes (Some s) x.left (ahead_of x.window) → IsTaken job s (point_of x old) b found y.work alone
+
+-- its length is taken, and then whether it stands alone is found out
+module _ {job : Job} {found : Finding} {alone : Bool} {x y z : Place} {len : ℕ} where
+  pub taken_at : y.name ≡ x.name → y.broken ≡ x.broken → TellsPart job.limits job.resync x.left y.left x.window y.window x.work y.work (next.Document len) → z.name ≡ y.name
+      → LooksApart job found y z len alone → IsTakenAt job found alone x z len
+  taken_at named broken tells named' looks =
+      let (within, whole) = tells.ahead in
+      let stays = looks.searches.stays in
+      let (rest, split) = front_kept (ahead_of y.window) (ahead_of z.window) stays.looks.kept in
+      let more : length (ahead_of y.window) ≤ length (ahead_of z.window) = stays.looks.len in
+      record {
+        named = named' ∙ named;
+        searches = searches_on x.left y.left z.left x.window y.window z.window x.work y.work z.work tells.searches looks.searches;
+        within = omega (arith, within, more);
+        piece = subst (IsPiece job.limits.bytes) (sym (ap (take len) split ∙ take-append-le len (ahead_of y.window) rest within)) whole;
+        is = λ b old size s read. record {
+          mid = y.work;
+          believed = λ asked. subst (λ (m : ℕ). IsBelieved job.limits s (offset_of x.window) m x.work y.work) (sym size) ((tells.is s read).0 asked);
+          free = λ not. (tells.is s read).1 not;
+          apart = subst (λ (m : ℕ). TellsApart job x.broken found s (offset_of x.window) m y.work z.work alone) (sym size)
+              (subst (λ (m : ℕ). TellsApart job x.broken found s m len y.work z.work alone) tells.searches.stays.offset
+              (subst (λ (broken : Bool). TellsApart job broken found s (offset_of y.window) len y.work z.work alone) broken
+              (looks.is s (tells.searches.stays.looks.is_read (Some s) read))));
+        };
+      }
+
+-- a piece is that document
+pub record IsPieceAt (x y : Place) (p : Piece) (len : ℕ) : Type 0 where
   pub at : origin_of p.at ≡ place_of x
   pub bytes : p.bytes.now ≡ take len (ahead_of y.window)
 
-size : {job : Job} {x y : Place} {p : Piece} {len : ℕ} → IsTakenAt job x y p len → length p.bytes.now ≡ len
-size {y = y} {len = len} t = ap length t.bytes ∙ length-take-le len (ahead_of y.window) t.tells.ahead.0
+size : {job : Job} {f : Finding} {alone : Bool} {x y : Place} {p : Piece} {len : ℕ} → IsTakenAt job f alone x y len → IsPieceAt x y p len → length p.bytes.now ≡ len
+size {y = y} {len = len} t q = ap length q.bytes ∙ length-take-le len (ahead_of y.window) t.within
 
-here_is : {job : Job} {x y : Place} {p : Piece} {len : ℕ} (old : Held) → IsTakenAt job x y p len → point_at p x.work old ≡ point_of x old
-here_is {x = x} old t = λ i. record { at = t.at i; work = x.work; counts = old.counts; memory = memory_of old.kept }
+here_is : {x y : Place} {p : Piece} {len : ℕ} (old : Held) → IsPieceAt x y p len → point_at p x.work x.broken old ≡ point_of x old
+here_is {x = x} old q = λ i. record { at = q.at i; work = x.work; broken = x.broken; counts = old.counts; memory = memory_of old.kept }
 
 -- what it gives is written, and it is to be counted
 pub record IsToCount (job : Job) (x y : Place) (p : Piece) (e : Entry) (old mid : Held) (findings : ℕ) : Type 0 where
   pub worked : e.work ≡ y.work
-  pub gives : GivesEntry job p (point_at p x.work old) e old mid
-  pub found : findings ≡ findings_in job.command e.finding + length (repeats_in job (point_at p x.work old) e)
+  pub gives : GivesEntry job p (point_at p x.work x.broken old) e old mid
+  pub found : findings ≡ findings_in job.command e.finding + length (repeats_in job (point_at p x.work x.broken old) e)
 
 -- the first bytes ahead are the same where more is read
 pub same_front : {r r' : Option (List ℕ)} {x y : Window} {len : ℕ} → Stays r r' x y → len ≤ length (ahead_of x) → take len (ahead_of y) ≡ take len (ahead_of x)
@@ -116,80 +149,135 @@ judged_on job n p {s = s} {b = b} style same is judged =
     subst (λ (x : List ℕ). IsPiece job.limits.bytes x × IsJudged job.limits job.command (style_at job.style job.limit n) (origin_of p.at) x p.judged) (sym same)
     (is, subst (λ (x : Style). IsJudged job.limits job.command x (origin_of p.at) b p.judged) style judged)
 
+-- the bytes of a document are ahead, and are passed
+module _ {job : Job} {f : Finding} {alone : Bool} {x y z : Place} {len : ℕ} (t : IsTakenAt job f alone x y len) {broken : Bool}
+    (passed : IsPassed len broken y z) (b : List ℕ) (is : b ≡ take len (ahead_of y.window)) where
+  len_is : len ≡ length b
+  len_is = sym (ap length is ∙ length-take-le len (ahead_of y.window) t.within)
+
+  pub offset_after : offset_of z.window ≡ offset_of x.window + length b
+  offset_after = passed.offset ∙ ap (λ (m : ℕ). m + len) t.searches.stays.offset ∙ ap (λ (m : ℕ). offset_of x.window + m) len_is
+
+  pub read_after : (before : Option (List ℕ)) → Consumes before x.left (ahead_of x.window) → Consumes before z.left (b ++ ahead_of z.window)
+  read_after before read =
+      let split : ahead_of y.window ≡ b ++ ahead_of z.window =
+      sym (take-append-drop len (ahead_of y.window)) ∙ ap (λ (l : List ℕ). l ++ drop len (ahead_of y.window)) (sym is) ∙ ap (λ (l : List ℕ). b ++ l) (sym passed.ahead) in
+      subst (λ (r : Option (List ℕ)). Consumes before r (b ++ ahead_of z.window)) (sym passed.left) (subst (Consumes before y.left) split (t.searches.stays.looks.is_read before read))
+
 -- it is passed, and counted
-pub passes_piece : {job : Job} {x y z : Place} {p : Piece} {e : Entry} {old mid : Held} {len findings : ℕ} (n : Counts) → IsTakenAt job x y p len → IsToCount job x y p e old mid findings
-    → n ≡ count_document mid.counts len p.judged.finding findings → IsPassed len y z → Passes job (piece e) x z old (record mid { counts = n })
-passes_piece {job = job} {x = x} {y = y} {z = z} {p = p} {e = e} {old = old} {mid = mid} {len = len} {findings = findings} n t c counted passed =
+pub passes_piece : {job : Job} {x y z : Place} {p : Piece} {e : Entry} {old mid : Held} {len findings : ℕ} (n : Counts) → IsTakenAt job p.judged.finding false x y len → IsPieceAt x y p len
+    → IsToCount job x y p e old mid findings → n ≡ count_document mid.counts len p.judged.finding findings → IsPassed len false y z → Passes job (piece e) x z old (record mid { counts = n })
+passes_piece {job = job} {x = x} {y = y} {z = z} {p = p} {e = e} {old = old} {mid = mid} {len = len} {findings = findings} n t q c counted passed =
     let here = point_of x old in
-    let same = here_is old t in
-    let stays = t.tells.searches.stays in
+    let same = here_is old q in
     let g : GivesEntry job p here e old mid = subst (λ (h : Point). GivesEntry job p h e old mid) same c.gives in
     let all : findings ≡ findings_in job.command e.finding + length (repeats_in job here e) =
     subst (λ (h : Point). findings ≡ findings_in job.command e.finding + length (repeats_in job h e)) same c.found in
-    let len_is : len ≡ length e.bytes = sym (ap length g.bytes ∙ size t) in
+    let size_is : length e.bytes ≡ len = ap length g.bytes ∙ size t q in
     let is : n ≡ count_document mid.counts (length e.bytes) e.finding (findings_in job.command e.finding + length (repeats_in job here e)) =
-    counted ∙ ap (λ (m : ℕ). count_document mid.counts m p.judged.finding findings) len_is
+    counted ∙ ap (λ (m : ℕ). count_document mid.counts m p.judged.finding findings) (sym size_is)
     ∙ ap (λ (f : Finding). count_document mid.counts (length e.bytes) f findings) (sym g.finding)
     ∙ ap (λ (m : ℕ). count_document mid.counts (length e.bytes) e.finding m) all in
     let played : Played (events_of job here (piece e)) old (record mid { counts = n }) =
     played_count (λ m. count_document m (length e.bytes) e.finding (findings_in job.command e.finding + length (repeats_in job here e))) is (texts_of job here e) g.played in
-    let offset : offset_of z.window ≡ offset_of x.window + length e.bytes =
-    passed.offset ∙ ap (λ (m : ℕ). m + len) stays.offset ∙ ap (λ (m : ℕ). offset_of x.window + m) len_is in
-    let split : ahead_of y.window ≡ e.bytes ++ ahead_of z.window =
-    sym (take-append-drop len (ahead_of y.window)) ∙ ap (λ (l : List ℕ). l ++ drop len (ahead_of y.window)) (sym (g.bytes ∙ t.bytes))
-    ∙ ap (λ (l : List ℕ). e.bytes ++ l) (sym passed.ahead) in
+    let offset : offset_of z.window ≡ offset_of x.window + length e.bytes = offset_after t passed e.bytes (g.bytes ∙ q.bytes) in
     record {
       window = passed.window;
-      work = subst IsWork (sym passed.work) t.tells.searches.work;
+      work = subst IsWork (sym passed.work) t.searches.work;
       to = λ i. record {
         at = record { name = (passed.named ∙ t.named) i; offset = offset i };
         work = (passed.work ∙ sym c.worked) i;
+        broken = passed.is_broken i;
         counts = played.counts i;
         memory = g.kept i;
       };
-      is_read = λ before read.
-          subst (λ (r : Option (List ℕ)). Consumes before r (e.bytes ++ ahead_of z.window)) (sym passed.left) (subst (Consumes before y.left) split (stays.looks.is_read before read));
+      is_read = read_after t passed e.bytes (g.bytes ∙ q.bytes);
       is = λ rest read. (
         g.is,
-        if_known rest x.left (ahead_of x.window) (λ (s : List ℕ). IsTaken job s here e)
-            (λ s read. record {
-              believed = λ asked. subst (λ (u : Work). IsBelieved job.limits s (offset_of x.window) (length e.bytes) x.work u) (sym c.worked)
-                  (subst (λ (m : ℕ). IsBelieved job.limits s (offset_of x.window) m x.work y.work) len_is ((t.tells.is s read).0 asked));
-              free = λ not. c.worked ∙ (t.tells.is s read).1 not;
-            }) read,
+        if_known rest x.left (ahead_of x.window) (λ (s : List ℕ). IsTaken job s here e.bytes e.finding e.work false)
+            (λ s read. subst (λ (f : Finding). IsTaken job s here e.bytes f e.work false) (sym g.finding)
+            (subst (λ (u : Work). IsTaken job s here e.bytes p.judged.finding u false) (sym c.worked) (t.is e.bytes old size_is s read))) read,
       );
       played = played;
     }
 
+-- a document that stands alone is set aside, counted and passed
+pub passes_lone : {job : Job} {f : Finding} {x y z : Place} {old new : Held} {len : ℕ} (told : Option Account) → IsTakenAt job f true x y len
+    → FindsFor job.limits job.command (take len (ahead_of y.window)) f told → SetsAside len y z old new → (p : Part) × IsRunOver p × Passes job p x z old new
+passes_lone {job = job} {f = f} {x = x} {y = y} {z = z} {old = old} {new = new} {len = len} told t finds s =
+    let b = take len (ahead_of y.window) in
+    let here = point_of x old in
+    let passed = s.passed in
+    let size_is : length b ≡ len = length-take-le len (ahead_of y.window) t.within in
+    let offset : offset_of z.window ≡ offset_of x.window + length b = offset_after t passed b refl in (
+      lone (record { bytes = b; finding = f; work = y.work }),
+      tt,
+      record {
+        window = passed.window;
+        work = subst IsWork (sym passed.work) t.searches.work;
+        to = λ i. record {
+          at = record { name = (passed.named ∙ t.named) i; offset = offset i };
+          work = passed.work i;
+          broken = passed.is_broken i;
+          counts = s.played.counts i;
+          memory = memory_of (s.kept i);
+        };
+        is_read = read_after t passed b refl;
+        is = λ rest read. (
+          record { piece = t.piece; told = told; finds = finds },
+          if_known rest x.left (ahead_of x.window) (λ (s : List ℕ). IsTaken job s here b f y.work true) (λ s read. t.is b old size_is s read) read,
+        );
+        played = s.played;
+      },
+    )
+
+-- what is next is a document
+next_piece : {job : Job} {f : Finding} {alone : Bool} {x y : Place} {len : ℕ} (old : Held) → IsTakenAt job f alone x y len → (b : List ℕ) → b ≡ take len (ahead_of y.window)
+    → (rest : Option (List ℕ)) → Consumes rest x.left (ahead_of x.window) → IfSome rest (λ s. IsNextPiece job s (point_of x old) b f alone)
+next_piece {job = job} {f = f} {alone = alone} {x = x} {y = y} {len = len} old t b is rest read =
+    if_known rest x.left (ahead_of x.window) (λ (s : List ℕ). IsNextPiece job s (point_of x old) b f alone)
+    (λ s read. record {
+      in_front = subst (HasFront s) (sym is) (first_front s (ahead_of y.window) len (ahead_front s (ahead_of y.window) y.left (t.searches.stays.looks.is_read (Some s) read)));
+      work = y.work;
+      taken = t.is b old (ap length is ∙ length-take-le len (ahead_of y.window) t.within) s read;
+    }) read
+
 -- a front of what it gives is one of what is next
-pub halts_piece : {job : Job} {x y : Place} {p : Piece} {len : ℕ} {old new : Held} → IsTakenAt job x y p len → HaltsPiece job p old new → HaltsNext job x old new
-halts_piece {job = job} {x = x} {y = y} {p = p} {len = len} {old = old} t (es, played, front) = (
+pub halts_piece : {job : Job} {x y : Place} {p : Piece} {len : ℕ} {old new : Held} → IsTakenAt job p.judged.finding false x y len → IsPieceAt x y p len → HaltsPiece job p old new
+    → HaltsNext job x old new
+halts_piece {job = job} {x = x} {y = y} {p = p} {len = len} {old = old} t q (es, played, front) = (
   es,
   played,
   λ rest read.
       let b = p.bytes.now in
-      let is : IsPiece job.limits.bytes b = subst (IsPiece job.limits.bytes) (sym t.bytes) t.tells.ahead.1 in
-      let there : IfSome rest (λ s. IsNextPiece job s (point_of x old) b) = if_known rest x.left (ahead_of x.window) (λ (s : List ℕ). IsNextPiece job s (point_of x old) b)
-      (λ s read. record {
-        in_front = subst (HasFront s) (sym t.bytes) (first_front s (ahead_of y.window) len (ahead_front s (ahead_of y.window) y.left (t.tells.searches.stays.looks.is_read (Some s) read)));
-        work = y.work;
-        believed = λ asked. subst (λ (m : ℕ). IsBelieved job.limits s (offset_of x.window) m x.work y.work) (sym (size t)) ((t.tells.is s read).0 asked);
-        free = (t.tells.is s read).1;
-      }) read in
-      inr (inl (b, is, there, subst (λ (h : Point). IsPieceFront job h b es) (here_is old t) (front x.work))),
+      let is : IsPiece job.limits.bytes b = subst (IsPiece job.limits.bytes) (sym q.bytes) t.piece in
+      let found = p.judged.finding in
+      inr (inl (b, found, is, next_piece old t b q.bytes rest read, subst (λ (h : Point). IsPieceFront job h b found es) (here_is old q) (front x.work x.broken))),
+)
+
+-- the same of one that stands alone
+pub halts_lone : {job : Job} {f : Finding} {x y : Place} {len : ℕ} {old new : Held} (told : Option Account) → IsTakenAt job f true x y len
+    → FindsFor job.limits job.command (take len (ahead_of y.window)) f told → HaltsAside (take len (ahead_of y.window)) old new → HaltsNext job x old new
+halts_lone {job = job} {f = f} {x = x} {y = y} {len = len} {old = old} told t finds (es, played, front) = (
+  es,
+  played,
+  λ rest read.
+      let b = take len (ahead_of y.window) in
+      inr (inr (inl (b, f, record { piece = t.piece; told = told; finds = finds }, next_piece old t b refl rest read, front))),
 )
 
 -- all of it is a front of it
 pub halts_given : {job : Job} {p : Piece} {old new : Held} (findings : ℕ) → GivesPiece job p old new findings → HaltsPiece job p old new
 halts_given {job = job} {p = p} {old = old} findings gives =
-    let (e, worked, g, found) = gives no_work no_work in
-    let here = point_at p no_work old in
+    let (e, worked, g, found) = gives no_work no_work false in
+    let here = point_at p no_work false old in
     let line = lines_of_repeats (style_here job here) (repeats_in job here e) in (
       texts_of job here e,
       g.played,
-      λ before.
-          subst (λ (b : List ℕ). IsPieceFront job (point_at p before old) b (texts_of job here e)) g.bytes
-          (e.finding, e.told, g.is.found, inr (e.lines, g.is.reports, inr (inr (e.made, g.is.makes, (line, ([], sym (append-nil line)), refl))))),
+      λ before broken.
+          subst (λ (b : List ℕ). IsPieceFront job (point_at p before broken old) b p.judged.finding (texts_of job here e)) g.bytes
+          (subst (λ (f : Finding). IsPieceFront job (point_at p before broken old) e.bytes f (texts_of job here e)) g.finding
+          (e.told, g.is.found, inr (e.lines, g.is.reports, inr (inr (e.made, g.is.makes, (line, ([], sym (append-nil line)), refl)))))),
     )
 
 -- no document that is believed is next, and bytes are passed over
@@ -199,8 +287,8 @@ pub record IsOver (job : Job) (x y : Place) (end : Ending) : Type 0 where
   pub tells : TellsPart job.limits job.resync x.left y.left x.window y.window x.work y.work (next.End end)
 
 -- the same of what was told of the bytes ahead
-pub over_here : {job : Job} (w x : Place) {end : Ending} → TellsNext job.limits.bytes w.left x.left w.window x.window 0 (next.End end) → (x.name ≡ w.name) × (x.work ≡ w.work) → IsWork w.work
-    → job.resync ≡ true → IsOver job x x end
+pub over_here : {job : Job} (w x : Place) {end : Ending} → TellsNext job.limits.bytes w.left x.left w.window x.window 0 (next.End end) → (x.name ≡ w.name) × (x.work ≡ w.work) × (x.broken ≡ w.broken)
+    → IsWork w.work → job.resync ≡ true → IsOver job x x end
 over_here {job = job} w x {end = end} t same work asked = record {
   named = refl;
   asked = asked;
@@ -242,6 +330,7 @@ passes_gap {job = job} {x = x} {y = y} {z = z} {end = end} {old = old} {new = ne
         to = λ i. record {
           at = record { name = (over.named ∙ t.named) i; offset = offset i };
           work = z.work;
+          broken = over.broken i;
           counts = played.counts i;
           memory = memory_of (over.kept i);
         };
@@ -258,16 +347,17 @@ halts_over {job = job} {x = x} {end = end} {old = old} t (es, played, inr (text,
     let style = style_at job.style job.limit old.counts in
     let said : text ≡ ending_line style x.name (offset_of x.window) end (comes.PassedOver line.skip) =
     line.is ∙ ap (λ (a : Origin). ending_line style a.name a.offset end (comes.PassedOver line.skip)) (place_is t) in
-    (es, played, λ rest read. inr (inr (text, front, inl (_, gap_is old line.y line.skip t line.skips rest read, said), has, is)))
+    (es, played, λ rest read. inr (inr (inr (text, front, inl (_, gap_is old line.y line.skip t line.skips rest read, said), has, is))))
 
 -- bytes were read, and none passed
 pub record IsSince (w x : Place) : Type 0 where
   pub named : x.name ≡ w.name
   pub worked : x.work ≡ w.work
+  pub joined : x.broken ≡ w.broken
   pub stays : Stays w.left x.left w.window x.window
 
 since : {w x : Place} (old : Held) → IsSince w x → point_of x old ≡ point_of w old
-since old s = λ i. record { at = record { name = s.named i; offset = s.stays.offset i }; work = s.worked i; counts = old.counts; memory = memory_of old.kept }
+since old s = λ i. record { at = record { name = s.named i; offset = s.stays.offset i }; work = s.worked i; broken = s.joined i; counts = old.counts; memory = memory_of old.kept }
 
 -- what is passed is passed from before that on
 pub passes_since : {job : Job} {w x y : Place} {old new : Held} (p : Part) → IsSince w x → Passes job p x y old new → Passes job p w y old new
@@ -294,8 +384,8 @@ halts_since {job = job} {old = old} b (es, played, front) =
     (es, played, λ rest read. subst (λ (h : Point). IsNextFront job rest h es) (since old b) (front rest (b.stays.looks.is_read rest read)))
 
 -- what is told of the bytes ahead is so from before they were read on
-pub looked : {most : ℕ} {w x : Place} {told : Next} → TellsNext most w.left x.left w.window x.window 0 told → (x.name ≡ w.name) × (x.work ≡ w.work) → IsSince w x
-looked t (named, worked) = record { named = named; worked = worked; stays = record { window = t.window; offset = t.offset; looks = t.looks } }
+pub looked : {most : ℕ} {w x : Place} {told : Next} → TellsNext most w.left x.left w.window x.window 0 told → (x.name ≡ w.name) × (x.work ≡ w.work) × (x.broken ≡ w.broken) → IsSince w x
+looked t (named, worked, joined) = record { named = named; worked = worked; joined = joined; stays = record { window = t.window; offset = t.offset; looks = t.looks } }
 
 -- a failure to read is that of what was called
 pub fails_on : {A : Type 0} (r : Result A Failure) (e : Failure) (P : Type 0) → IsErrAnd r (λ x. x ≡ e) → (IsReading e → P) → IfErr r (λ failure. IsReading failure → P)

@@ -1,5 +1,5 @@
 -- How what was passed grows by one more part.
-use Rattle.std.proofs.Common.{◌≡◌, ℕ, ◌+◌, List, [], ◌∷◌, ◌++◌, Option, None, Some, add-zero, add_assoc, ap, append-nil, append_assoc, drop, fold, length, length-append, refl, subst, sym, zero-add, ◌∙◌}
+use Rattle.std.proofs.Common.{◌≡◌, ℕ, ◌+◌, List, [], ◌∷◌, ◌++◌, false, Option, None, Some, add-zero, add_assoc, ap, append-nil, append_assoc, drop, fold, length, length-append, refl, subst, sym, zero-add, ◌∙◌}
 use Rattle.std.proofs.Math.Seq.{drop-append_seam}
 use Rattle.std.proofs.lemmas.Grind.{flat_map-append, fold-append}
 use Rattle.std.specs.Io.KnownBytes.{Consumes}
@@ -70,8 +70,8 @@ pub record HasPassed (job : Job) (name : List ℕ) (input : Option (List ℕ)) (
 
 -- bytes in front of the documents that are asked for are passed
 module _ {job : Job} {name : List ℕ} {input : Option (List ℕ)} {front : List ℕ} {y : Place} {h : Held} where
-  abbrev pub has_front : y.name ≡ name → y.work ≡ no_work → HasPassedFront front input y.left y.window → HasPassed job name input y h h
-  has_front named worked has =
+  abbrev pub has_front : y.name ≡ name → y.work ≡ no_work → y.broken ≡ false → HasPassedFront front input y.left y.window → HasPassed job name input y h h
+  has_front named worked joined has =
       let at : offset_of y.window ≡ 0 + length front = has.offset ∙ sym (zero-add (length front)) in
       record {
         passed = record {
@@ -81,7 +81,7 @@ module _ {job : Job} {name : List ℕ} {input : Option (List ℕ)} {front : List
           played = played_none refl;
           kept = refl;
         };
-        to = λ i. record { at = record { name = named i; offset = at i }; work = worked i; counts = h.counts; memory = memory_of h.kept };
+        to = λ i. record { at = record { name = named i; offset = at i }; work = worked i; broken = joined i; counts = h.counts; memory = memory_of h.kept };
       }
 
 -- one more part is passed

@@ -176,19 +176,19 @@ module _ (style : Style) (name : List ℕ) (told : NextText) (y : Cursor) {old n
 pub halts_none : (style : Style) (name : List ℕ) (told : NextText) (y : Cursor) (old : Held) → HaltsText style name told y old old
 halts_none style name told y old = inl (played_none refl)
 
-module _ {d w : Option (List ℕ)} {n : Counts} {k : Kept} where
+module _ {d a w : Option (List ℕ)} {n : Counts} {k : Kept} where
   -- a document is written, and counted
-  pub said_played : (bytes : List ℕ) {d' : Option (List ℕ)} {m : Counts} → Appends d d' bytes → m ≡ count_said n (length bytes) → Played (events_of (said bytes)) (holds d w n k) (holds d' w m k)
+  pub said_played : (bytes : List ℕ) {d' : Option (List ℕ)} {m : Counts} → Appends d d' bytes → m ≡ count_said n (length bytes) → Played (events_of (said bytes)) (holds d a w n k) (holds d' a w m k)
   said_played bytes {d' = d'} put counts = played_count (λ m. count_said m (length bytes)) counts (given bytes ∷ []) (played_given d d' w w n k k bytes put)
 
   -- or a front of it
-  pub said_front : (bytes : List ℕ) {d' : Option (List ℕ)} → AppendsFront d d' bytes → HaltsSaid (said bytes) (holds d w n k) (holds d' w n k)
+  pub said_front : (bytes : List ℕ) {d' : Option (List ℕ)} → AppendsFront d d' bytes → HaltsSaid (said bytes) (holds d a w n k) (holds d' a w n k)
   said_front bytes {d' = d'} front = (given front.front ∷ [], played_given d d' w w n k k front.front front.put, inr (front.front, (front.behind, front.whole), refl))
 
   -- the line of a fault is told, and it is counted
-  pub refused_played : (line : List ℕ) {w' : Option (List ℕ)} {m : Counts} → Appends w w' line → m ≡ count_fault n → Played (events_of (refused line)) (holds d w n k) (holds d w' m k)
+  pub refused_played : (line : List ℕ) {w' : Option (List ℕ)} {m : Counts} → Appends w w' line → m ≡ count_fault n → Played (events_of (refused line)) (holds d a w n k) (holds d a w' m k)
   refused_played line {w' = w'} put counts = played_count count_fault counts (reported line ∷ []) (played_text d d w w' n k k line put)
 
   -- or a front of it
-  pub refused_front : (line : List ℕ) {w' : Option (List ℕ)} → AppendsFront w w' line → HaltsSaid (refused line) (holds d w n k) (holds d w' n k)
+  pub refused_front : (line : List ℕ) {w' : Option (List ℕ)} → AppendsFront w w' line → HaltsSaid (refused line) (holds d a w n k) (holds d a w' n k)
   refused_front line {w' = w'} front = (reported front.front ∷ [], played_text d d w w' n k k front.front front.put, inr (front.front, (front.behind, front.whole), refl))

@@ -2,11 +2,12 @@
 use Rattle.std.specs.Prelude.{◌≡◌, ◌⊎◌, ◌<◌, ◌+◌, ◌∷◌, ℕ, List, [], Option, IfSome, Some, flat_map, length}
 use Rattle.dump_io.specs.input.InFront.{IsAllInFront, IsInFront}
 use Rattle.dump_io.specs.declared.input.portion.Portion.{Portion}
-use Rattle.dump_runs.specs.dumps.Run.{Part, piece, gap, skipped}
+use Rattle.dump_runs.specs.dumps.Run.{Part, gap, lone, piece, skipped}
 
 -- the documents of a part, at their lengths
 abbrev pub documents_of_part : Part → List (List ℕ)
 documents_of_part (piece e) = e.bytes ∷ []
+documents_of_part (lone a) = a.bytes ∷ []
 documents_of_part (gap g) = []
 documents_of_part (skipped b) = []
 
@@ -16,6 +17,7 @@ documents_of_parts ps = flat_map documents_of_part ps
 -- a part that the command is run over
 abbrev pub IsRunOver : Part → Type 0
 IsRunOver (piece e) = Unit {0}
+IsRunOver (lone a) = Unit {0}
 IsRunOver (gap g) = Unit {0}
 IsRunOver (skipped b) = ⊥
 

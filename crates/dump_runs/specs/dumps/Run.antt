@@ -1,12 +1,12 @@
 -- The parts of an input, what each gives, and what is counted and kept after it.
-use Rattle.std.specs.Prelude.{◌≡◌, ℕ, ◌+◌, List, [], ◌∷◌, ◌++◌, Bool, true, false, Option, IfSome, drop, flat_map, fold, length}
+use Rattle.std.specs.Prelude.{◌≡◌, ◌⊎◌, ℕ, ◌+◌, List, [], ◌∷◌, ◌++◌, Bool, true, false, Option, IfSome, drop, flat_map, fold, length}
 use Rattle.std.specs.Io.KnownBytes.{Consumes}
 use Rattle.std.specs.Option.{option_map}
 use Rattle.raw_resync.specs.Seeking.{no_work}
 use Rattle.raw_resync.specs.declared.work.Work.{Work}
 use Rattle.dump_io.specs.input.Cut.{IsPiece}
 use Rattle.dump_io.specs.input.Endings.{ending_line}
-use Rattle.dump_io.specs.input.Resync.{BreaksWith, IsBelieved, IsNextPlace}
+use Rattle.dump_io.specs.input.Resync.{BreaksWith, IsBelieved, IsNextPlace, TellsBehind}
 use Rattle.dump_io.specs.lines.Find.{Account}
 use Rattle.dump_io.specs.lines.Origins.{Origin, Repeat, origin_at}
 use Rattle.dump_io.specs.declared.input.ending.Ending.{Ending}
@@ -16,10 +16,11 @@ use Rattle.dump_io.specs.declared.lines.find.Finding.{Finding}
 use Rattle.dump_io.specs.declared.lines.find.Finding.TheVariants as finding
 use Rattle.dump_io.specs.declared.lines.style.Style.{Style}
 use Rattle.dump_commands.specs.Counted.{HasFields}
-use Rattle.dump_commands.specs.Counting.{count_document, count_gap}
+use Rattle.dump_commands.specs.Counting.{count_alone, count_document, count_gap}
 use Rattle.dump_commands.specs.Findings.{FindsFor}
 use Rattle.dump_commands.specs.Making.{Makes}
 use Rattle.dump_commands.specs.Reporting.{Reports, lines_of_repeats}
+use Rattle.dump_commands.specs.Summary.{keeps}
 use Rattle.dump_commands.specs.Unique.{firsts_behind, kept_of, known_behind, repeats_of, written_of}
 use Rattle.dump_commands.specs.state.Fields.{Document, Table, tabled, with_document}
 use Rattle.dump_commands.specs.state.Forms.{Firsts, Made, firsts_of, knows, placed_at, written_count}
@@ -29,7 +30,7 @@ use Rattle.dump_commands.specs.declared.counts.Counts.{Counts}
 use Rattle.dump_commands.specs.declared.job.Job.{Job}
 use Rattle.dump_commands.specs.declared.state.kept.Kept.{Kept}
 use Rattle.dump_runs.specs.Limits.{style_at}
-use Rattle.dump_runs.specs.Plays.{Event, Held, Played, count_event, counted, given, reported}
+use Rattle.dump_runs.specs.Plays.{Event, Held, Played, count_event, counted, given, reported, set_aside}
 
 -- a document of an input, at its length: its bytes, what is found in it and what is told of that, what is made of it, what is reported of it, its
 -- elements, if they are counted, and what searches cost then
@@ -50,14 +51,22 @@ pub record Gap : Type 0 where
   pub skip : Skip
   pub work : Work
 
--- a part of an input: a document; a gap; or bytes in front of the documents that are asked for
+-- a document of an input that stands alone, at its length: its bytes, what is found in it, and what searches cost then
+pub record Lone : Type 0 where
+  pub bytes : List ℕ
+  pub finding : Finding
+  pub work : Work
+
+-- a part of an input: a document; one that stands alone; a gap; or bytes in front of the documents that are asked for
 pub data Part : Type 0 where
   piece : Entry → Part
+  lone : Lone → Part
   gap : Gap → Part
   skipped : List ℕ → Part
 
 abbrev pub bytes_of_part : Part → List ℕ
 bytes_of_part (piece e) = e.bytes
+bytes_of_part (lone a) = a.bytes
 bytes_of_part (gap g) = g.bytes
 bytes_of_part (skipped b) = b
 
@@ -75,16 +84,17 @@ pub record Memory : Type 0 where
 abbrev pub memory_of : Kept → Memory
 memory_of kept = record { known = knows kept; firsts = firsts_of kept; count = written_count kept; table = tabled kept }
 
--- where a part of an input begins, and what came before it: what searches cost, what was counted, and what is kept
+-- where a part of an input begins, and what came before it: what searches cost, whether a gap is right before it or a document that stands alone, what was counted, and what is kept
 pub record Point : Type 0 where
   pub at : Origin
   pub work : Work
+  pub broken : Bool
   pub counts : Counts
   pub memory : Memory
 
 -- the first part of an input begins here
 abbrev pub start_of : List ℕ → Held → Point
-start_of name held = record { at = origin_at name 0; work = no_work; counts = held.counts; memory = memory_of held.kept }
+start_of name held = record { at = origin_at name 0; work = no_work; broken = false; counts = held.counts; memory = memory_of held.kept }
 
 abbrev pub style_here : Job → Point → Style
 style_here job here = style_at job.style job.limit here.counts
@@ -108,11 +118,30 @@ pub record IsEntry (job : Job) (here : Point) (e : Entry) : Type 0 where
   pub reports : Reports job.command (style_here job here) here.at e.bytes e.finding e.told e.lines
   pub has : HasFields job.limits job.command here.at e.bytes e.finding e.fields
 
--- A document is in front of s, the input from here on, and is taken at its length, where bytes may be passed over; and what finding
--- that out cost.
-pub record IsTaken (job : Job) (s : List ℕ) (here : Point) (e : Entry) : Type 0 where
-  pub believed : job.resync ≡ true → IsBelieved job.limits s here.at.offset (length e.bytes) here.work e.work
-  pub free : job.resync ≡ false → e.work ≡ here.work
+-- a command writes a document in which this is found, if it keeps any
+abbrev pub IsWritten : Command → Finding → Type 0
+IsWritten c found = (keeps c ≡ true) × ((found ≡ finding.Canonical) ⊎ (found ≡ finding.Breached))
+
+-- Whether the document of this length in front of s, the end of an input from this offset on, stands alone, in which this is found. Only
+-- one that the command writes, and that has a gap or a lone document right before it, may; it does if documents don't go on after it, where that is looked at.
+abbrev pub TellsApart : Job → (broken : Bool) → Finding → List ℕ → (at len : ℕ) → (old new : Work) → (alone : Bool) → Type 0
+TellsApart job broken found s at len old new alone =
+    ((broken ≡ true) × IsWritten job.command found × TellsBehind job.limits s at len old new alone)
+    ⊎ (¬ ((broken ≡ true) × IsWritten job.command found) × (alone ≡ false) × (new ≡ old))
+
+-- A document b, in which this is found, is in front of s, the input from here on, and is taken at its length, where bytes may be passed over;
+-- whether it stands alone; and what finding that out cost.
+pub record IsTaken (job : Job) (s : List ℕ) (here : Point) (b : List ℕ) (found : Finding) (work : Work) (alone : Bool) : Type 0 where
+  pub mid : Work
+  pub believed : job.resync ≡ true → IsBelieved job.limits s here.at.offset (length b) here.work mid
+  pub free : job.resync ≡ false → mid ≡ here.work
+  pub apart : TellsApart job here.broken found s here.at.offset (length b) mid work alone
+
+-- what is so of a document in which this is found
+pub record HasFinding (job : Job) (b : List ℕ) (found : Finding) : Type 0 where
+  pub piece : IsPiece job.limits.bytes b
+  pub told : Option Account
+  pub finds : FindsFor job.limits job.command b found told
 
 -- No document is in front of s, the input from here on, or a damaged one whose length isn't believed, and the next place at which documents
 -- are found to go on is after the gap; and what searches cost before and after finding that out.
@@ -127,7 +156,8 @@ pub record IsGap (job : Job) (rest : Option (List ℕ)) (here : Point) (g : Gap)
 
 -- what is so of a part that begins here
 abbrev pub IsPart : Job → (rest : Option (List ℕ)) → Point → Part → Type 0
-IsPart job rest here (piece e) = IsEntry job here e × IfSome rest (λ s. IsTaken job s here e)
+IsPart job rest here (piece e) = IsEntry job here e × IfSome rest (λ s. IsTaken job s here e.bytes e.finding e.work false)
+IsPart job rest here (lone a) = HasFinding job a.bytes a.finding × IfSome rest (λ s. IsTaken job s here a.bytes a.finding a.work true)
 IsPart job rest here (gap g) = IsGap job rest here g
 IsPart job rest here (skipped b) = Unit {0}
 
@@ -139,10 +169,15 @@ texts_of job here e = reported e.lines ∷ given (written_of job.command here.me
 abbrev pub events_of_gap : Style → Origin → Ending → Skip → List Event
 events_of_gap style at end skip = reported (ending_line style at.name at.offset end (comes.PassedOver skip)) ∷ counted (λ n. count_gap n skip.count) ∷ []
 
+-- a document that stands alone is set aside, as it is, and counted
+abbrev pub events_of_lone : List ℕ → List Event
+events_of_lone b = set_aside b ∷ counted (λ n. count_alone n (length b)) ∷ []
+
 -- what a part gives that begins here
 abbrev pub events_of : Job → Point → Part → List Event
 events_of job here (piece e) =
     texts_of job here e ++ counted (λ n. count_document n (length e.bytes) e.finding (findings_in job.command e.finding + length (repeats_in job here e))) ∷ []
+events_of job here (lone a) = events_of_lone a.bytes
 events_of job here (gap g) = events_of_gap (style_here job here) here.at g.end g.skip
 events_of job here (skipped b) = []
 
@@ -157,19 +192,28 @@ with_entry job here e = record {
 
 abbrev pub memory_behind : Job → Point → Part → Memory
 memory_behind job here (piece e) = with_entry job here e
+memory_behind job here (lone a) = here.memory
 memory_behind job here (gap g) = here.memory
 memory_behind job here (skipped b) = here.memory
 
 abbrev pub work_behind : Work → Part → Work
 work_behind work (piece e) = e.work
+work_behind work (lone a) = a.work
 work_behind work (gap g) = g.work
 work_behind work (skipped b) = work
+
+-- whether what follows a part may stand alone: after a gap, and after one that does
+abbrev pub breaks : Part → Bool
+breaks (gap g) = true
+breaks (lone a) = true
+breaks _ = false
 
 -- where the next part begins after one that begins here
 abbrev pub after : Job → Point → Part → Point
 after job here p = record {
   at = origin_at here.at.name (here.at.offset + length (bytes_of_part p));
   work = work_behind here.work p;
+  broken = breaks p;
   counts = fold count_event here.counts (events_of job here p);
   memory = memory_behind job here p;
 }

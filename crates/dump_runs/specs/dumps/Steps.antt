@@ -1,5 +1,5 @@
 -- What the code tells of an input that is read, and of the part that is next in it. No public contract cites this file.
-use Rattle.std.specs.Prelude.{◌≡◌, ◌⊎◌, ◌+◌, ℕ, List, [], ◌∷◌, ◌++◌, Bool, true, false, Option, IsNone, drop, length}
+use Rattle.std.specs.Prelude.{◌≡◌, ◌⊎◌, ◌+◌, ℕ, List, [], ◌∷◌, ◌++◌, Bool, true, false, Option, Some, IsNone, drop, length, take}
 use Rattle.std.specs.Io.KnownBytes.{Consumes, IsAtEnd}
 use Rattle.raw_resync.specs.Seeking.{IsWork, no_work}
 use Rattle.raw_resync.specs.declared.work.Work.{Work}
@@ -7,7 +7,7 @@ use Rattle.dump_io.specs.input.Cut.{EndsWith, IsPiece}
 use Rattle.dump_io.specs.input.Endings.{ending_line}
 use Rattle.dump_io.specs.input.InFront.{HasPassedFront, IsAllInFront, IsInFront}
 use Rattle.dump_io.specs.input.Reading.{IsReadBehind, IsWindow, Stays, ahead_of, offset_of}
-use Rattle.dump_io.specs.input.Resync.{SkipsTo}
+use Rattle.dump_io.specs.input.Resync.{Searches, SkipsTo}
 use Rattle.dump_io.specs.lines.Fronts.{HasFront}
 use Rattle.dump_io.specs.lines.Origins.{Origin, origin_at, origin_of}
 use Rattle.dump_io.specs.declared.input.ending.Ending.{Ending}
@@ -19,15 +19,16 @@ use Rattle.dump_io.specs.declared.input.window.Drained.{Drained}
 use Rattle.dump_io.specs.declared.input.window.Next.{Next}
 use Rattle.dump_io.specs.declared.input.window.Next.TheVariants as next
 use Rattle.dump_io.specs.declared.input.window.Window.{Window}
+use Rattle.dump_io.specs.declared.lines.find.Finding.{Finding}
 use Rattle.dump_commands.specs.Reporting.{IsJudged}
 use Rattle.dump_commands.specs.declared.counts.Counts.{Counts}
 use Rattle.dump_commands.specs.declared.job.Job.{Job}
 use Rattle.dump_runs.specs.dumps.Ends.{events_of_rest}
-use Rattle.dump_runs.specs.dumps.Halting.{IsNextFront, IsPieceFront}
+use Rattle.dump_runs.specs.dumps.Halting.{IsLoneFront, IsNextFront, IsPieceFront}
 use Rattle.dump_runs.specs.Plays.{Event, Held, Played, reported}
 use Rattle.dump_runs.specs.dumps.Portion.{IsChosen, IsEnough, IsRunOver}
 use Rattle.dump_runs.specs.Limits.{style_at}
-use Rattle.dump_runs.specs.dumps.Run.{Entry, IsEntry, IsPart, Part, Passed, Point, after, bytes_of_part, bytes_of_parts, events_of, events_of_gap, findings_in, memory_of, repeats_in, texts_of, with_entry}
+use Rattle.dump_runs.specs.dumps.Run.{Entry, IsEntry, IsPart, Part, Passed, Point, TellsApart, after, bytes_of_part, bytes_of_parts, events_of, events_of_gap, events_of_lone, findings_in, memory_of, repeats_in, texts_of, with_entry}
 use Rattle.dump_runs.specs.declared.ends.Ended.{Ended}
 use Rattle.dump_runs.specs.declared.ends.Ended.TheVariants as how
 use Rattle.dump_runs.specs.declared.dumps.piece.Piece.{Piece}
@@ -36,12 +37,13 @@ use Rattle.dump_runs.specs.declared.dumps.piece.Step.TheVariants as step
 use Rattle.dump_runs.specs.declared.dumps.run.Stop.{Stop}
 use Rattle.dump_runs.specs.declared.dumps.run.Stop.TheVariants as stop
 
--- an input that is read: its name, what its reader has left, what was read and isn't passed, and what searches cost
+-- an input that is read: its name, what its reader has left, what was read and isn't passed, what searches cost, and whether what is next may stand alone
 pub record Place : Type 0 where
   pub name : List ℕ
   pub left : Option (List ℕ)
   pub window : Window
   pub work : Work
+  pub broken : Bool
 
 -- how many of its bytes were read
 abbrev pub end_of : Place → ℕ
@@ -52,7 +54,7 @@ abbrev pub place_of : Place → Origin
 place_of x = origin_at x.name (offset_of x.window)
 
 abbrev pub point_of : Place → Held → Point
-point_of x held = record { at = place_of x; work = x.work; counts = held.counts; memory = memory_of held.kept }
+point_of x held = record { at = place_of x; work = x.work; broken = x.broken; counts = held.counts; memory = memory_of held.kept }
 
 -- nothing is read of an input of this name, of which these bytes are known
 pub record Begins (name : List ℕ) (input : Option (List ℕ)) (x : Place) : Type 0 where
@@ -62,12 +64,14 @@ pub record Begins (name : List ℕ) (input : Option (List ℕ)) (x : Place) : Ty
   pub nothing : ahead_of x.window ≡ []
   pub start : offset_of x.window ≡ 0
   pub unworked : x.work ≡ no_work
+  pub whole : x.broken ≡ false
 
--- this number of the bytes ahead were passed
-pub record IsPassed (len : ℕ) (x y : Place) : Type 0 where
+-- this number of the bytes ahead were passed, and what is next may stand alone or not
+pub record IsPassed (len : ℕ) (broken : Bool) (x y : Place) : Type 0 where
   pub named : y.name ≡ x.name
   pub left : y.left ≡ x.left
   pub work : y.work ≡ x.work
+  pub is_broken : y.broken ≡ broken
   pub window : IsWindow y.window
   pub ahead : ahead_of y.window ≡ drop len (ahead_of x.window)
   pub offset : offset_of y.window ≡ offset_of x.window + len
@@ -76,6 +80,7 @@ pub record IsPassed (len : ℕ) (x y : Place) : Type 0 where
 pub record PassesSomeFront (p : Portion) (most : ℕ) (x y : Place) : Type 0 where
   pub named : y.name ≡ x.name
   pub work : y.work ≡ x.work
+  pub same : y.broken ≡ x.broken
   pub front : List ℕ
   pub has : HasPassedFront front x.left y.left y.window
   pub is : IsInFront p most x.left front
@@ -84,6 +89,7 @@ pub record PassesSomeFront (p : Portion) (most : ℕ) (x y : Place) : Type 0 whe
 pub record PassesAllFront (p : Portion) (most : ℕ) (x y : Place) : Type 0 where
   pub named : y.name ≡ x.name
   pub work : y.work ≡ x.work
+  pub same : y.broken ≡ x.broken
   pub front : List ℕ
   pub has : HasPassedFront front x.left y.left y.window
   pub is : IsAllInFront p most x.left front
@@ -124,8 +130,8 @@ IsPieceOf job n piece =
     IsPiece job.limits.bytes piece.bytes.now
     × IsJudged job.limits job.command (style_at job.style job.limit n) (origin_of piece.at) piece.bytes.now piece.judged
 
-abbrev pub point_at : Piece → Work → Held → Point
-point_at piece work held = record { at = origin_of piece.at; work = work; counts = held.counts; memory = memory_of held.kept }
+abbrev pub point_at : Piece → Work → Bool → Held → Point
+point_at piece work broken held = record { at = origin_of piece.at; work = work; broken = broken; counts = held.counts; memory = memory_of held.kept }
 
 -- what a document gives is written, and it isn't counted yet
 pub record GivesEntry (job : Job) (piece : Piece) (here : Point) (e : Entry) (old new : Held) : Type 0 where
@@ -135,21 +141,39 @@ pub record GivesEntry (job : Job) (piece : Piece) (here : Point) (e : Entry) (ol
   pub played : Played (texts_of job here e) old new
   pub kept : memory_of new.kept ≡ with_entry job here e
 
--- the same, whatever searches cost before it and after it; and it has this number of findings
+-- the same, whatever searches cost before it and after it, and whether it may stand alone; and it has this number of findings
 abbrev pub GivesPiece : Job → Piece → (old new : Held) → ℕ → Type 0
 GivesPiece job piece old new findings =
-    (before behind : Work)
-    → (e : Entry) × (e.work ≡ behind) × GivesEntry job piece (point_at piece before old) e old new
-    × (findings ≡ findings_in job.command e.finding + length (repeats_in job (point_at piece before old) e))
+    (before behind : Work) (broken : Bool)
+    → (e : Entry) × (e.work ≡ behind) × GivesEntry job piece (point_at piece before broken old) e old new
+    × (findings ≡ findings_in job.command e.finding + length (repeats_in job (point_at piece before broken old) e))
 
 -- a front of it is played
 abbrev pub HaltsPiece : Job → Piece → (old new : Held) → Type 0
-HaltsPiece job piece old new = (es : List Event) × Played es old new × ((before : Work) → IsPieceFront job (point_at piece before old) piece.bytes.now es)
+HaltsPiece job piece old new =
+    (es : List Event) × Played es old new × ((before : Work) (broken : Bool) → IsPieceFront job (point_at piece before broken old) piece.bytes.now piece.judged.finding es)
+
+-- whether the document of this length in front of the bytes ahead stands alone, in which this is found
+pub record LooksApart (job : Job) (found : Finding) (x y : Place) (len : ℕ) (alone : Bool) : Type 0 where
+  pub searches : Searches job.limits x.left y.left x.window y.window x.work y.work
+  pub same : y.broken ≡ x.broken
+  pub is : (s : List ℕ) → Consumes (Some s) x.left (ahead_of x.window) → TellsApart job x.broken found s (offset_of x.window) len x.work y.work alone
+
+-- it is set aside, counted and passed
+pub record SetsAside (len : ℕ) (x y : Place) (old new : Held) : Type 0 where
+  pub passed : IsPassed len true x y
+  pub played : Played (events_of_lone (take len (ahead_of x.window))) old new
+  pub kept : new.kept ≡ old.kept
+
+-- a front of it is set aside
+abbrev pub HaltsAside : List ℕ → (old new : Held) → Type 0
+HaltsAside b old new = (es : List Event) × Played es old new × IsLoneFront b es
 
 -- at the bytes ahead no document begins, and bytes are passed over; their line was written
 pub record PassesGap (job : Job) (end : Ending) (x y : Place) (old new : Held) : Type 0 where
   pub skip : Skip
   pub named : y.name ≡ x.name
+  pub broken : y.broken ≡ true
   pub skips : SkipsTo job.limits x.left y.left x.window y.window x.work y.work skip
   pub played : Played (events_of_gap (style_at job.style job.limit old.counts) (place_of x) end skip) old new
   pub kept : new.kept ≡ old.kept

@@ -30,12 +30,12 @@ use std::io;
 use std::io::{Read, Write};
 
 /// Counts the rest of an input, with which no document begins, and tells why. Returns whether reading it failed, or the input ends so.
-pub fn leave<'a, R: Read + Drop, D: Write + Drop, W: Write + Drop>(
+pub fn leave<'a, R: Read + Drop, D: Write + Drop, A: Write + Drop, W: Write + Drop>(
     alloc: Global,
     job: Job<'a>,
     ending: Ending,
     source: &mut Source<'a, R>,
-    writers: &mut Writers<D, W>,
+    writers: &mut Writers<D, A, W>,
     tally: &mut Tally<'a>,
 ) -> Result<Ended, Failure>
     requires { IsWindow source.old.window × EndsWith job.limits.bytes ending (ahead_of source.old.window) × IsReadBehind ending source.old.left }
@@ -72,12 +72,12 @@ fn ended_at(at: u64, error: Option<io::Error>) -> Ended
 }
 
 /// Passes over bytes in front of which is no document that is believed, and tells why none is there.
-pub fn pass_gap<'a, R: Read + Drop, D: Write + Drop, W: Write + Drop>(
+pub fn pass_gap<'a, R: Read + Drop, D: Write + Drop, A: Write + Drop, W: Write + Drop>(
     alloc: Global,
     job: Job<'a>,
     ending: Ending,
     source: &mut Source<'a, R>,
-    writers: &mut Writers<D, W>,
+    writers: &mut Writers<D, A, W>,
     tally: &mut Tally<'a>,
 ) -> Result<(), Failure>
     requires { IsWindow source.old.window × IsWork source.old.work × (0 < length (ahead_of source.old.window)) }

@@ -12,6 +12,7 @@ ghost use Rattle.dump_runs.specs.Plays.{held};
 ghost use Rattle.dump_runs.specs.dumps.Steps.{GivesPiece, HaltsNext, HaltsPiece, IsPieceOf, PassesNext, next_of};
 ghost use Rattle.raw_resync.specs.Seeking.{IsWork};
 
+use crate::dumps::alone::{set_aside, stands_alone};
 use crate::dumps::found::findings_of;
 use crate::dumps::gap::pass_gap;
 use crate::dumps::source::Source;
@@ -53,11 +54,11 @@ struct Piece<'a, 'b> {
 }
 
 /// Looks what is next in an input, and passes it where it is a document, or where bytes may be passed over.
-pub fn pass_next<'a, R: Read + Drop, D: Write + Drop, W: Write + Drop>(
+pub fn pass_next<'a, R: Read + Drop, D: Write + Drop, A: Write + Drop, W: Write + Drop>(
     alloc: Global,
     job: Job<'a>,
     source: &mut Source<'a, R>,
-    writers: &mut Writers<D, W>,
+    writers: &mut Writers<D, A, W>,
     tally: &mut Tally<'a>,
 ) -> Result<Step, Failure>
     requires { IsWindow source.old.window × IsWork source.old.work }
@@ -82,12 +83,12 @@ pub fn pass_next<'a, R: Read + Drop, D: Write + Drop, W: Write + Drop>(
 
 /// Passes the first document ahead, of `len` bytes. Where bytes may be passed over, it has to be without damage, or its length has to be
 /// believed; else bytes are passed over.
-fn pass_document<'a, R: Read + Drop, D: Write + Drop, W: Write + Drop>(
+fn pass_document<'a, R: Read + Drop, D: Write + Drop, A: Write + Drop, W: Write + Drop>(
     alloc: Global,
     job: Job<'a>,
     len: usize,
     source: &mut Source<'a, R>,
-    writers: &mut Writers<D, W>,
+    writers: &mut Writers<D, A, W>,
     tally: &mut Tally<'a>,
 ) -> Result<Step, Failure>
     requires { IsWindow source.old.window × IsWork source.old.work × (len ≤ length (ahead_of source.old.window))
@@ -105,6 +106,10 @@ fn pass_document<'a, R: Read + Drop, D: Write + Drop, W: Write + Drop>(
         pass_gap(alloc, job, Ending::WrongLength(len), source, writers, tally)?;
         return Ok(Step::Passed);
     }
+    if stands_alone(alloc, job, finding, len, source)? {
+        set_aside(len, source, writers, tally)?;
+        return Ok(Step::Passed);
+    }
     let piece = Piece {
         at,
         bytes: source.front(len),
@@ -112,7 +117,7 @@ fn pass_document<'a, R: Read + Drop, D: Write + Drop, W: Write + Drop>(
     };
     let findings = pass(alloc, job, piece, writers, tally)?;
     let counted = in_range(tally.counts.with(len, finding, findings))?;
-    source.pass(len)?;
+    source.pass(len, false)?;
     tally.counts = counted;
     Ok(Step::Passed)
 }
@@ -133,7 +138,7 @@ fn is_taken<R: Read + Drop>(
         source.old.work source.new.work (next_of len taken)) }
     ensures asked { IfOk result (λ taken. taken ≡ false → job.entry.resync ≡ true) }
     ensures fails { IfErr result (λ _. Stays source.old.left source.new.left source.old.window source.new.window) }
-    ensures same { source.new.name ≡ source.old.name }
+    ensures same { (source.new.name ≡ source.old.name) × (source.new.broken ≡ source.old.broken) }
 {
     if !job.resync || !finding.may_be_damaged() {
         return Ok(true);
@@ -143,11 +148,11 @@ fn is_taken<R: Read + Drop>(
 }
 
 /// Writes what the command gives of a document, and returns how many findings that is.
-fn pass<'a, D: Write + Drop, W: Write + Drop>(
+fn pass<'a, D: Write + Drop, A: Write + Drop, W: Write + Drop>(
     alloc: Global,
     job: Job<'a>,
     piece: Piece<'a, '_>,
-    writers: &mut Writers<D, W>,
+    writers: &mut Writers<D, A, W>,
     tally: &mut Tally<'a>,
 ) -> Result<u64, Failure>
     requires { IsPieceOf job tally.old.counts piece }

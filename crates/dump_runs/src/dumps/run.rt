@@ -36,12 +36,12 @@ pub enum Stop {
 /// Reads an input, a document at a time, writes what the command gives of each, and reports in a line what is wrong with
 /// it. Where no document is in front of what is left, or a damaged one whose length isn't believed, bytes are passed over until
 /// documents go on, if that is asked for; else what is left is counted, and the run ends.
-pub fn run<'a, R: Read + Drop, D: Write + Drop, W: Write + Drop>(
+pub fn run<'a, R: Read + Drop, D: Write + Drop, A: Write + Drop, W: Write + Drop>(
     alloc: Global,
     job: Job<'a>,
     name: &'a str,
     reader: R,
-    writers: &mut Writers<D, W>,
+    writers: &mut Writers<D, A, W>,
     tally: &mut Tally<'a>,
 ) -> Result<Ended, Failure>
     ensures ends { IfOk result (EndsRun job.entry name.entry.now (R.remaining reader) (held writers.old tally.old) (held writers.new tally.new)) }
@@ -61,11 +61,11 @@ pub fn run<'a, R: Read + Drop, D: Write + Drop, W: Write + Drop>(
 }
 
 /// Passes the documents of an input, and the bytes between them where that is asked for.
-fn pass_all<'a, R: Read + Drop, D: Write + Drop, W: Write + Drop>(
+fn pass_all<'a, R: Read + Drop, D: Write + Drop, A: Write + Drop, W: Write + Drop>(
     alloc: Global,
     job: Job<'a>,
     source: &mut Source<'a, R>,
-    writers: &mut Writers<D, W>,
+    writers: &mut Writers<D, A, W>,
     tally: &mut Tally<'a>,
 ) -> Result<Stop, Failure>
     requires { (left : Option (List ℕ)) × Begins source.old.name left source.old }

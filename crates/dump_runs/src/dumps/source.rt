@@ -1,10 +1,10 @@
 //! An input that is read, as far as it is passed.
 #![tactic(auto)]
 
-ghost use Rattle.std.specs.Prelude.{◌≡◌, ◌≤◌, ◌<◌, ℕ, List, Option, IfErr, IfOk, OnOk, length, take};
+ghost use Rattle.std.specs.Prelude.{◌≡◌, ◌≤◌, ◌<◌, ℕ, List, Option, IfErr, IfOk, OnOk, length, take, true};
 ghost use Rattle.dump_io.specs.input.Cut.{EndsWith, IsPiece};
 ghost use Rattle.dump_io.specs.input.Reading.{GoesAhead, IsReadBehind, IsWindow, Stays, TellsNext, ahead_of};
-ghost use Rattle.dump_io.specs.input.Resync.{Doubts, SkipsTo};
+ghost use Rattle.dump_io.specs.input.Resync.{Doubts, LooksBehind, SkipsTo};
 ghost use Rattle.dump_io.specs.lines.Failing.{IsReading};
 ghost use Rattle.dump_io.specs.lines.Origins.{origin_of};
 ghost use Rattle.dump_runs.specs.dumps.Steps.{Begins, IsLeft, IsPassed, PassesAllFront, PassesSomeFront, Place, end_of, place_of};
@@ -12,7 +12,7 @@ ghost use Rattle.raw_resync.specs.Seeking.{IsWork};
 
 use dump_io::input::ending::Ending;
 use dump_io::input::portion::Portion;
-use dump_io::input::resync::{Skip, is_doubted, pass_over};
+use dump_io::input::resync::{Skip, is_doubted, pass_over, stands_alone};
 use dump_io::input::window::{Drained, Next, Window, look_ahead};
 use dump_io::lines::failure::Failure;
 use dump_io::lines::origin::Origin;
@@ -33,12 +33,14 @@ pub struct Source<'a, R: Read + Drop> {
     window: Window,
     /// what was spent on searches in it
     work: Work,
+    /// whether what is next may stand alone: bytes were passed over right before it, or a document stands alone there
+    is_broken: bool,
 }
 
 impl<'a, R: Read + Drop> Model for Source<'a, R> {
     ghost Value = { Place };
 
-    ghost view = { λ s. record { name = s.name.now; left = R.remaining s.reader; window = s.window; work = s.work } };
+    ghost view = { λ s. record { name = s.name.now; left = R.remaining s.reader; window = s.window; work = s.work; broken = s.is_broken } };
 }
 
 impl<'a, R: Read + Drop> Source<'a, R> {
@@ -51,7 +53,15 @@ impl<'a, R: Read + Drop> Source<'a, R> {
             reader,
             window: Window::new(alloc),
             work: Work::new(),
+            is_broken: false,
         }
+    }
+
+    /// Whether its next part may stand alone.
+    pub fn is_broken(&self) -> bool
+        ensures { result ≡ self.now.broken }
+    {
+        self.is_broken
     }
 
     /// Where its next part begins.
@@ -81,13 +91,15 @@ impl<'a, R: Read + Drop> Source<'a, R> {
         self.window.end()
     }
 
-    /// Passes `len` bytes. Fails if the offset would be over its range.
-    pub fn pass(&mut self, len: usize) -> Result<(), Failure>
+    /// Passes the document of `len` bytes, which stands alone or not. Fails if the offset would be over its range.
+    pub fn pass(&mut self, len: usize, is_alone: bool) -> Result<(), Failure>
         requires { IsWindow self.old.window × (len ≤ length (ahead_of self.old.window)) }
-        ensures passed { OnOk result (IsPassed len self.old self.new) }
+        ensures passed { OnOk result (IsPassed len is_alone self.old self.new) }
         ensures failed { IfErr result (λ failure. ¬ IsReading failure) }
     {
-        self.window.pass(len)
+        self.window.pass(len)?;
+        self.is_broken = is_alone;
+        Ok(())
     }
 
     /// Passes what is in front of the documents that are asked for, where a document has at most `most` bytes.
@@ -104,7 +116,7 @@ impl<'a, R: Read + Drop> Source<'a, R> {
         requires { IsWindow self.old.window }
         ensures told { IfOk result (TellsNext most self.old.left self.new.left self.old.window self.new.window 0) }
         ensures fails { IfErr result (λ _. Stays self.old.left self.new.left self.old.window self.new.window) }
-        ensures same { (self.new.name ≡ self.old.name) × (self.new.work ≡ self.old.work) }
+        ensures same { (self.new.name ≡ self.old.name) × (self.new.work ≡ self.old.work) × (self.new.broken ≡ self.old.broken) }
     {
         look_ahead(&mut self.reader, &mut self.window, 0, most)
     }
@@ -114,9 +126,31 @@ impl<'a, R: Read + Drop> Source<'a, R> {
         requires { IsWindow self.old.window × IsWork self.old.work × (len ≤ length (ahead_of self.old.window)) × IsPiece limits.bytes (take len (ahead_of self.old.window)) }
         ensures doubts { IfOk result (Doubts limits self.old.left self.new.left self.old.window self.new.window self.old.work self.new.work len) }
         ensures fails { IfErr result (λ _. Stays self.old.left self.new.left self.old.window self.new.window) }
-        ensures same { self.new.name ≡ self.old.name }
+        ensures same { (self.new.name ≡ self.old.name) × (self.new.broken ≡ self.old.broken) }
     {
         is_doubted(
+            alloc,
+            &mut self.reader,
+            &mut self.window,
+            limits,
+            len,
+            &mut self.work,
+        )
+    }
+
+    /// Whether documents don't go on after the first `len` bytes ahead, where that is looked at.
+    pub fn stands_alone(
+        &mut self,
+        alloc: Global,
+        limits: Limits,
+        len: usize,
+    ) -> Result<bool, Failure>
+        requires { IsWindow self.old.window × IsWork self.old.work × (len ≤ length (ahead_of self.old.window)) }
+        ensures looks { IfOk result (LooksBehind limits self.old.left self.new.left self.old.window self.new.window self.old.work self.new.work len) }
+        ensures fails { IfErr result (λ _. Stays self.old.left self.new.left self.old.window self.new.window) }
+        ensures same { (self.new.name ≡ self.old.name) × (self.new.broken ≡ self.old.broken) }
+    {
+        stands_alone(
             alloc,
             &mut self.reader,
             &mut self.window,
@@ -131,15 +165,18 @@ impl<'a, R: Read + Drop> Source<'a, R> {
         requires { IsWindow self.old.window × IsWork self.old.work × (0 < length (ahead_of self.old.window)) }
         ensures skips { IfOk result (SkipsTo limits self.old.left self.new.left self.old.window self.new.window self.old.work self.new.work) }
         ensures fails { IfErr result (λ failure. IsReading failure → GoesAhead self.old.left self.new.left self.old.window self.new.window) }
+        ensures broken { OnOk result (self.new.broken ≡ true) }
         ensures same { self.new.name ≡ self.old.name }
     {
-        pass_over(
+        let skip = pass_over(
             alloc,
             &mut self.reader,
             &mut self.window,
             limits,
             &mut self.work,
-        )
+        )?;
+        self.is_broken = true;
+        Ok(skip)
     }
 
     /// Reads the rest, with which no document begins, and counts it.

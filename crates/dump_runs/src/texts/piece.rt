@@ -60,12 +60,12 @@ struct Fault {
 }
 
 /// Passes what is next.
-pub fn pass_next<D: Write + Drop, W: Write + Drop>(
+pub fn pass_next<D: Write + Drop, A: Write + Drop, W: Write + Drop>(
     alloc: Global,
     telling: Telling<'_>,
     next: NextText,
     cursor: &mut Cursor,
-    writers: &mut Writers<D, W>,
+    writers: &mut Writers<D, A, W>,
     tally: &mut Tally<'_>,
 ) -> Result<Went, Failure>
     requires { IsWindow cursor.old.window × HasNext (ahead_of cursor.old.window) cursor.old.turn next }
@@ -86,12 +86,12 @@ pub fn pass_next<D: Write + Drop, W: Write + Drop>(
 }
 
 /// Passes the text of a document, as far as it comes.
-fn pass_found<D: Write + Drop, W: Write + Drop>(
+fn pass_found<D: Write + Drop, A: Write + Drop, W: Write + Drop>(
     alloc: Global,
     telling: Telling<'_>,
     found: Scanned,
     cursor: &mut Cursor,
-    writers: &mut Writers<D, W>,
+    writers: &mut Writers<D, A, W>,
     tally: &mut Tally<'_>,
 ) -> Result<Went, Failure>
     requires { IsWindow cursor.old.window × (may_begin cursor.old.turn ≡ true) × HasBrace (ahead_of cursor.old.window) × ScansAhead (ahead_of cursor.old.window) found }
@@ -154,11 +154,11 @@ fn fault_of(len: usize, begun: usize, at: usize, reason: TextReason) -> Fault
 }
 
 /// Writes the document of a whole text, of `len` bytes, and passes the text.
-fn pass_document<D: Write + Drop, W: Write + Drop>(
+fn pass_document<D: Write + Drop, A: Write + Drop, W: Write + Drop>(
     len: usize,
     document: &RawDocumentBuf,
     cursor: &mut Cursor,
-    writers: &mut Writers<D, W>,
+    writers: &mut Writers<D, A, W>,
     tally: &mut Tally<'_>,
 ) -> Result<Went, Failure>
     requires { IsWindow cursor.old.window × (may_begin cursor.old.turn ≡ true) × HasBrace (ahead_of cursor.old.window)
@@ -175,12 +175,12 @@ fn pass_document<D: Write + Drop, W: Write + Drop>(
 }
 
 /// Tells the fault of a whole text, and passes the text.
-fn pass_refused<D: Write + Drop, W: Write + Drop>(
+fn pass_refused<D: Write + Drop, A: Write + Drop, W: Write + Drop>(
     alloc: Global,
     telling: Telling<'_>,
     fault: Fault,
     cursor: &mut Cursor,
-    writers: &mut Writers<D, W>,
+    writers: &mut Writers<D, A, W>,
     tally: &mut Tally<'_>,
 ) -> Result<Went, Failure>
     requires { IsWindow cursor.old.window × (may_begin cursor.old.turn ≡ true) × HasBrace (ahead_of cursor.old.window)
@@ -194,12 +194,12 @@ fn pass_refused<D: Write + Drop, W: Write + Drop>(
 }
 
 /// Tells why no whole text is there, and passes what there is of one.
-fn pass_astray<D: Write + Drop, W: Write + Drop>(
+fn pass_astray<D: Write + Drop, A: Write + Drop, W: Write + Drop>(
     alloc: Global,
     telling: Telling<'_>,
     fault: Fault,
     cursor: &mut Cursor,
-    writers: &mut Writers<D, W>,
+    writers: &mut Writers<D, A, W>,
     tally: &mut Tally<'_>,
 ) -> Result<Went, Failure>
     requires { IsWindow cursor.old.window × (fault.len ≤ length (ahead_of cursor.old.window))
@@ -213,12 +213,12 @@ fn pass_astray<D: Write + Drop, W: Write + Drop>(
 }
 
 /// Tells a fault, counts it, and passes the bytes that it ends.
-fn tell_fault<D: Write + Drop, W: Write + Drop>(
+fn tell_fault<D: Write + Drop, A: Write + Drop, W: Write + Drop>(
     alloc: Global,
     telling: Telling<'_>,
     fault: Fault,
     cursor: &mut Cursor,
-    writers: &mut Writers<D, W>,
+    writers: &mut Writers<D, A, W>,
     tally: &mut Tally<'_>,
 ) -> Result<(), Failure>
     requires { IsWindow cursor.old.window × (fault.len ≤ length (ahead_of cursor.old.window)) × (fault.at ≤ fault.len) }

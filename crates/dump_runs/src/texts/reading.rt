@@ -25,12 +25,12 @@ use std::io::{Read, Write};
 /// Reads the documents of an input of texts, one after the other or the items of one array, writes their bytes, and reports in a
 /// line what is wrong with a text. A fault ends the run, unless it is asked to go on: after the text, where that is whole, else at
 /// the next line that begins with a brace.
-pub fn read_texts<R: Read + Drop, D: Write + Drop, W: Write + Drop>(
+pub fn read_texts<R: Read + Drop, D: Write + Drop, A: Write + Drop, W: Write + Drop>(
     alloc: Global,
     job: TextJob,
     name: &str,
     reader: R,
-    writers: &mut Writers<D, W>,
+    writers: &mut Writers<D, A, W>,
     tally: &mut Tally<'_>,
 ) -> Result<Ended, Failure>
     ensures reads { IfOk result (ReadsTexts job name.now (R.remaining reader) (held writers.old tally.old) (held writers.new tally.new)) }
@@ -48,12 +48,12 @@ pub fn read_texts<R: Read + Drop, D: Write + Drop, W: Write + Drop>(
 }
 
 /// Does so, and doesn't count yet where reading failed.
-fn pass_texts<R: Read, D: Write + Drop, W: Write + Drop>(
+fn pass_texts<R: Read, D: Write + Drop, A: Write + Drop, W: Write + Drop>(
     alloc: Global,
     job: TextJob,
     name: &str,
     reader: &mut R,
-    writers: &mut Writers<D, W>,
+    writers: &mut Writers<D, A, W>,
     tally: &mut Tally<'_>,
 ) -> Result<Ended, Failure>
     ensures passed { IfOk result (PassesTexts job name.now (R.remaining reader.old) (R.remaining reader.new) (held writers.old tally.old) (held writers.new tally.new)) }

@@ -21,7 +21,7 @@ use Rattle.json_round_trip.proofs.Wrappers.{only_wrapped}
 use Rattle.json_round_trip.proofs.leaves.Binaries.{base64_plain, byte_alone, hex_plain, is_binary, one_binary, payload}
 use Rattle.json_round_trip.proofs.leaves.Decimals.{decimal_just}
 use Rattle.json_round_trip.proofs.leaves.Doubles.{double_plain, double_written, one_double}
-use Rattle.json_round_trip.proofs.leaves.Integers.{integer_plain, is_date, is_timestamp, long_object, one_date, one_int32, one_int64, one_timestamp, pair_object, small_32, small_64}
+use Rattle.json_round_trip.proofs.leaves.Integers.{integer_plain, is_date, is_timestamp, long_object, one_date, one_int32, one_int64, one_timestamp, pair_object, quoted_written, small_32, small_64}
 use Rattle.json_round_trip.proofs.leaves.Shapes.{prints_binary, prints_code, prints_date, prints_decimal, prints_double, prints_int32, prints_int64, prints_oid, prints_pointer, prints_regex, prints_symbol, prints_timestamp}
 use Rattle.json_round_trip.proofs.leaves.Texts.{is_oid, is_pointer, is_regex, one_oid, one_pointer, one_regex, pointer_object, regex_object}
 
@@ -36,7 +36,7 @@ double_printed bits r text (number, is, shown) =
         text_is = shown ∙ prints_double number (double_plain (from_bits binary64 bits) number is);
         numbers = (tt, tt);
         says = inr (inl (double bits, inr (inr (inr (inl (refl, (bits, written, refl))))), refl));
-        only = only_wrapped wrapper.NumberDouble (json.string number) (double bits) (λ other w. w.2 ∙ ap double (one_double number w.0 bits w.1 written));
+        only = only_wrapped wrapper.NumberDouble (json.string number) (double bits) (λ other w. w.2 ∙ ap double (one_double (from_bits binary64 bits) number w.0 bits is w.1 written));
       },
     )
 
@@ -152,7 +152,7 @@ int32_printed z r text shown = (
   record {
     text_is = shown ∙ prints_int32 (signed_decimal z) (integer_plain z (small_32 z r.in_range));
     numbers = (tt, tt);
-    says = inr (inl (int32 z, inr (inl (refl, (z, inl refl, r.in_range, refl))), refl));
+    says = inr (inl (int32 z, inr (inl (refl, (z, quoted_written z (small_32 z r.in_range), r.in_range, refl))), refl));
     only = only_wrapped wrapper.NumberInt (json.string (signed_decimal z)) (int32 z) (one_int32 z r.in_range);
   },
 )
@@ -163,7 +163,7 @@ int64_printed z r text shown = (
   record {
     text_is = shown ∙ prints_int64 (signed_decimal z) (integer_plain z (small_64 z r.in_range));
     numbers = (tt, tt);
-    says = inr (inl (int64 z, inr (inr (inl (refl, (z, inl refl, r.in_range, refl)))), refl));
+    says = inr (inl (int64 z, inr (inr (inl (refl, (z, quoted_written z (small_64 z r.in_range), r.in_range, refl)))), refl));
     only = only_wrapped wrapper.NumberLong (json.string (signed_decimal z)) (int64 z) (one_int64 z r.in_range);
   },
 )

@@ -23,7 +23,8 @@ held_read N v t sort d h holds = grind arith
 -- faults at a front
 
 fails_over : (s : List ℕ) (key : Option (List ℕ)) (fault : KeyedFault) → s ≡ 0 ∷ [] → ¬ FailsAt s key fault
-fails_over s key fault e h = grind (arith, no_stop_at_final, no_frame_at_final)
+fails_over s None fault e stop = no_stop_at_final s fault.fault fault.key e stop
+fails_over s (Some key) fault e (f, r, at, means, key_is) = no_frame_at_final s e f r at
 
 fails_same : (s : List ℕ) (key other : Option (List ℕ)) (a c : KeyedFault) → FailsAt s key a → FailsAt s other c → (other ≡ key) × (c ≡ a)
 fails_same s None None a c h g = (refl, stop_same s c a g h)

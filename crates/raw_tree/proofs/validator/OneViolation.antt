@@ -66,7 +66,8 @@ frame_nor_breach sort keys f v why more means none (inr bad) = none (rw (one_mea
 
 module _ (sort : Sort) (keys : List (List ℕ)) (s : List ℕ) where
   breach_over : (key : Option (List ℕ)) (why : Cause) → s ≡ 0 ∷ [] → ¬ BreachesHere sort keys s key why
-  breach_over key why e h = grind (arith, no_stop_at_final, no_frame_at_final)
+  breach_over None why e (fault, key, stop, why_is) = no_stop_at_final s fault key e stop
+  breach_over (Some key) why e (f, r, at, key_is, bad) = no_frame_at_final s e f r at
 
   one_breach_here : (key other : Option (List ℕ)) (why cause : Cause) → BreachesHere sort keys s key why → BreachesHere sort keys s other cause → (other ≡ key) × (cause ≡ why)
   one_breach_here None None why cause h g = (refl, g.3 ∙ sym h.3)

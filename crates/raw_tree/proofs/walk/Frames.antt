@@ -3,8 +3,7 @@ use Rattle.std.proofs.Common.{◌≡◌, ◌∙◌, ◌<◌, ◌+◌, ◌++◌, 
 use Rattle.std.proofs.lemmas.Bool.Decides.{nat_tests}
 use Rattle.raw_tree.proofs.Common.{BorrowedError, Done, Frame, IsFrame, IsWalk, StepsFront, drop-append-add, element_of, slice_get-get_or}
 use Rattle.raw_tree.proofs.walk.Common.{HasNoFrame, TakesFrame, end_of, option_copied, size_of}
-use Rattle.raw_tree.proofs.walk.Fronts.{stop_of}
-use Rattle.raw_view.proofs.Face.{front_and_rest, no_frame_at_final, no_frame_at_stop, one_frame}
+use Rattle.raw_view.proofs.Face.{front_and_rest, no_frame_at_final, no_frame_at_stop, one_frame, stop_said}
 
 -- what is at the front of a walk
 
@@ -19,7 +18,7 @@ walk_step s (g ∷ fs) f r w at =
 
 pub taken_stop : (old new : Option (List ℕ)) (e : BorrowedError) → StepsFront old (Some (Err e)) new → TakesFrame old None new
 taken_stop None new e st = refl
-taken_stop (Some s) new e st = let stop = stop_of e.kind (option_copied e.key) s st.0 in no_frame_at_stop s stop.0.fault stop.0.key stop.1
+taken_stop (Some s) new e st = let (fault, says, stop) = stop_said e.kind (option_copied e.key) s st.0 in no_frame_at_stop s fault (option_copied e.key) stop
 
 -- where no frame is at the front, the walk has none
 pub walk_over : (s : List ℕ) (frames : List Frame) → IsWalk s frames Done → HasNoFrame s → frames ≡ []

@@ -1,5 +1,5 @@
 -- A frame is determined by the bytes that begin with it; where none begins, the walk stops.
-use Rattle.std.proofs.Common.{◌≡◌, ◌≢◌, ℕ, List, [], ◌∷◌, ◌++◌, ◌-◌, length, ap, sym, ◌∙◌, subst, refl, arith, inl, inr, Option, Some, None, ◌==◌, if◌then◌else◌, slice_get}
+use Rattle.std.proofs.Common.{◌≡◌, ◌≢◌, ℕ, List, [], ◌∷◌, ◌++◌, ◌-◌, length, ap, sym, ◌∙◌, subst, refl, arith, Option, Some, None, ◌==◌, if◌then◌else◌, slice_get}
 use Rattle.std.specs.Str.{IsUtf8}
 use Rattle.raw_view.specs.declared.element_type.ElementType.{ElementType}
 use Rattle.raw_view.specs.declared.element_type.ElementType.TheVariants as kind
@@ -8,7 +8,7 @@ use Rattle.raw_view.specs.declared.error.ErrorKind.TheVariants as what
 use Rattle.raw_view.specs.declared.error.Reason.TheVariants as reason
 use Rattle.raw_view.specs.Frame.Kind.{tag_of}
 use Rattle.bson_model.specs.Bytes.{NulFree}
-use Rattle.raw_view.specs.Frame.{HasShape, HasNoFrame, IsStop, Malformed}
+use Rattle.raw_view.specs.Frame.{HasShape, HasNoFrame, IsStop, Malformed, key_not_utf8, no_such_tag, regex_not_utf8, no_payload}
 use Rattle.raw_view.specs.Frame.Front.{StopsWith, IsTextFault, IsPayloadFault}
 use Rattle.bson_model.proofs.Face.{NulFree-head, NulFree-tail}
 use Rattle.raw_view.proofs.Bytes.Cuts.{cut}
@@ -77,13 +77,6 @@ no_frame s tag k z kind e h t none f r b =
     let same : f.kind ≡ kind = tag_of-same f.kind kind (sym tags ∙ t) in
     none f.payload r parts.1 (subst (λ (x : ElementType). HasShape x f.payload r) same b.payload_is)
 
--- if the tag is that of no kind, no frame is at the front
-no_kind : (s : List ℕ) (tag : ℕ) (z : List ℕ) → s ≡ tag ∷ z → ((kind : ElementType) → tag ≢ tag_of kind) → HasNoFrame s
-no_kind s tag z e none f r b =
-    let both : tag ∷ z ≡ tag_of f.kind ∷ (f.key ++ 0 ∷ (f.payload ++ r)) = sym e ∙ b.spelled in
-    let tags : tag ≡ tag_of f.kind = cc in
-    none f.kind tags
-
 -- the bytes after the tag contain a 0 if the whole ends with one
 pub no_nul_ends : (tag : ℕ) (z : List ℕ) → NulFree z → slice_get (tag ∷ z) (length z) ≡ Some 0 → z ≡ []
 no_nul_ends tag [] h e = refl
@@ -96,20 +89,20 @@ key_stop s tag behind (what.MalformedValue why) e some last h =
     let at : length (tag ∷ behind) - 1 ≡ length behind = omega arith in
     absurd (some (no_nul_ends tag behind h.0 (rw at at (subst (λ (x : List ℕ). slice_get x (length x - 1) ≡ Some 0) e last))))
 key_stop s tag behind (what.Utf8EncodingError error) e some last h =
-    (h.0, record { tag = tag; behind = h.1; spelled = e ∙ ap (λ x. tag ∷ x) h.2; nul_free = h.3 }, h.4)
+    key_not_utf8 h.0 (record { tag = tag; behind = h.1; spelled = e ∙ ap (λ x. tag ∷ x) h.2; nul_free = h.3 }) h.4 refl refl
 key_stop s tag behind what.OutOfMemory e some last h = h
 
 -- a tag that is no kind's
 pub tag_stop : (s : List ℕ) (tag : ℕ) (key behind : List ℕ) → s ≡ tag ∷ (key ++ 0 ∷ behind) → NulFree key → IsUtf8 key → ((kind : ElementType) → tag ≢ tag_of kind)
     → IsStop s (Malformed (reason.InvalidTag tag)) (Some key)
-tag_stop s tag key behind e h u none = (record { tag = tag; behind = behind; spelled = e; nul_free = h }, u, no_kind s tag _ e none, λ bad. none kind.RegularExpression bad.0, inl (none, refl))
+tag_stop s tag key behind e h u none = no_such_tag key (record { tag = tag; behind = behind; spelled = e; nul_free = h }) u none refl refl
 
 -- a payload that isn't there
 pub payload_stop : (s : List ℕ) (tag : ℕ) (key behind : List ℕ) (kind : ElementType) (fault : ErrorKind) → s ≡ tag ∷ (key ++ 0 ∷ behind) → NulFree key
     → IsUtf8 key → tag ≡ tag_of kind → ((p r : List ℕ) → behind ≡ p ++ r → HasShape kind p r → ⊥) → IsPayloadFault kind behind fault
     → StopsWith fault (Some key) s
 payload_stop s tag key behind kind (what.MalformedValue why) e h u t none fault =
-    (record { tag = tag; behind = behind; spelled = e; nul_free = h }, u, no_frame s tag key behind kind e h t none, λ bad. fault.0 (sym t ∙ bad.0, bad.1), inr (kind, t, fault.1))
+    no_payload key (record { tag = tag; behind = behind; spelled = e; nul_free = h }) kind why u t (no_frame s tag key behind kind e h t none) (λ bad. fault.0 (sym t ∙ bad.0, bad.1)) fault.1 refl refl
 payload_stop s tag key behind kind (what.Utf8EncodingError error) e h u t none fault =
-    (record { tag = tag; behind = behind; spelled = e; nul_free = h }, u, no_frame s tag key behind kind e h t none, (t ∙ fault.0, fault.1))
+    regex_not_utf8 key (record { tag = tag; behind = behind; spelled = e; nul_free = h }) u (no_frame s tag key behind kind e h t none) (t ∙ fault.0, fault.1) refl refl
 payload_stop s tag key behind kind what.OutOfMemory e h u t none fault = fault

@@ -10,7 +10,9 @@ use Rattle.raw_view.specs.Frame.Kind.{tag_of}
 use Rattle.raw_view.specs.declared.element_type.ElementType.TheVariants as kind
 use Rattle.raw_view.specs.declared.error.Reason.{Reason}
 use Rattle.raw_view.specs.declared.error.Reason.TheVariants as reason
-use Rattle.raw_view.specs.Frame.{Frame, IsFrame, HasNoFrame, Fault, Malformed, Utf8, HasKey, IsElementReason, IsStop, End, Done, Stopped, IsWalk}
+use Rattle.raw_view.specs.Frame.{Frame, IsFrame, HasNoFrame, Fault, Malformed, Utf8, HasKey, IsPayloadReason, IsStop, End, Done, Stopped, IsWalk}
+use Rattle.raw_view.specs.Frame.{no_byte_left, key_not_utf8, regex_not_utf8, no_payload}
+use Rattle.raw_view.specs.declared.element_type.ElementType.{ElementType}
 use Rattle.raw_view.specs.Frame.Front.{EndsWithNul}
 use Rattle.raw_view.proofs.Bytes.DecidedTexts.{front_text_or_not, bad_regex_or_not}
 use Rattle.raw_view.proofs.Frames.Decided.{both_or_not, kind_or_not, payload_or_not}
@@ -52,14 +54,13 @@ last_is_final tag behind h last =
     let zero : Some tag ≡ Some 0 = subst (λ (x : List ℕ). slice_get (tag ∷ x) (length x) ≡ Some 0) none end in
     cc
 
--- a key and no frame: a stop, whose fault is one of text where a text of a regular expression is bad
-key_and_no_frame : (s : List ℕ) (tag : ℕ) (key behind : List ℕ) → s ≡ tag ∷ (key ++ 0 ∷ behind) → NulFree key → IsUtf8 key → HasNoFrame s
-    → (why : Reason) → IsElementReason tag behind why → (fault : Fault) × (key : Option (List ℕ)) × IsStop s fault key
-key_and_no_frame s tag key behind e h u none why is =
-    let k : HasKey s key = record { tag = tag; behind = behind; spelled = e; nul_free = h } in
-    elim (both_or_not (cases_eq tag (tag_of kind.RegularExpression)) (bad_regex_or_not behind)) [
-      | inl bad ↦ (Utf8, Some key, (k, u, none, bad))
-      | inr good ↦ (Malformed why, Some key, (k, u, none, good, is))
+-- a key and no payload of its tag's kind: a stop, whose fault is one of text where a text of a regular expression is bad
+key_and_no_payload : (s : List ℕ) (key : List ℕ) (at : HasKey s key) (k : ElementType) (why : Reason) → IsUtf8 key → at.tag ≡ tag_of k → HasNoFrame s → IsPayloadReason k at.behind why
+    → (fault : Fault) × (key : Option (List ℕ)) × IsStop s fault key
+key_and_no_payload s key at k why u tag none is =
+    elim (both_or_not (cases_eq at.tag (tag_of kind.RegularExpression)) (bad_regex_or_not at.behind)) [
+      | inl bad ↦ (Utf8, Some key, regex_not_utf8 key at u none bad refl refl)
+      | inr good ↦ (Malformed why, Some key, no_payload key at k why u tag none good is refl refl)
     ]
 
 -- a key that is a text: a frame, or a stop
@@ -79,14 +80,15 @@ behind_key s tag key behind bytes l e h u =
         ))
         | inr none ↦ (
             let why = payload_reason k.0 behind bytes none in
-            inr (inr (key_and_no_frame s tag key behind e h u (no_frame s tag key behind k.0 e h k.1 none) why.0 (inr (k.0, k.1, why.1)))))
+            let at : HasKey s key = record { tag = tag; behind = behind; spelled = e; nul_free = h } in
+            inr (inr (key_and_no_payload s key at k.0 why.0 u k.1 (no_frame s tag key behind k.0 e h k.1 none) why.1)))
       ]
       | inr none ↦ inr (inr (Malformed (reason.InvalidTag tag), Some key, tag_stop s tag key behind e h u none))
     ]
 
 -- one of the three is at the front
 pub has_front : (s : List ℕ) → AreBytes s → EndsWithNul s → HasFront s
-has_front [] bytes last = inr (inr (Malformed reason.Overflowed, None, (refl, refl)))
+has_front [] bytes last = inr (inr (Malformed reason.Overflowed, None, no_byte_left refl refl refl))
 has_front (tag ∷ behind) bytes last =
     elim (front_text_or_not behind) [
       | inl t ↦ (
@@ -95,13 +97,13 @@ has_front (tag ∷ behind) bytes last =
           behind_key (tag ∷ behind) tag t.0 t.1 (AreBytes-back (t.0 ++ 0 ∷ []) t.1 (subst AreBytes text back)) (bytes 0) (ap (λ x. tag ∷ x) t.2) t.3 t.4)
       | inr none ↦ elim none [
         | inl h ↦ inl (last_is_final tag behind h last)
-        | inr b ↦ inr (inr (Utf8, None, (b.0, record { tag = tag; behind = b.1; spelled = ap (λ x. tag ∷ x) b.2; nul_free = b.3 }, b.4)))
+        | inr b ↦ inr (inr (Utf8, None, key_not_utf8 b.0 (record { tag = tag; behind = b.1; spelled = ap (λ x. tag ∷ x) b.2; nul_free = b.3 }) b.4 refl refl))
       ]
     ]
 
 -- a walk through at most n bytes
 walk_within : (n : ℕ) (s : List ℕ) → length s ≤ n → AreBytes s → EndsWithNul s → (frames : List Frame) × (end : End) × IsWalk s frames end
-walk_within zero s l bytes last = ([], Stopped (Malformed reason.Overflowed) None, (nil_from_length s (omega arith), refl))
+walk_within zero s l bytes last = ([], Stopped (Malformed reason.Overflowed) None, no_byte_left (nil_from_length s (omega arith)) refl refl)
 walk_within (suc n) s l bytes last =
     elim (has_front s bytes last) [
       | inl e ↦ ([], Done, e)

@@ -1,4 +1,4 @@
--- Reasons are determined: why no element is there, and why bytes have no envelope.
+-- Reasons are determined: why no payload is there, and why bytes have no envelope.
 use Rattle.std.proofs.Common.{◌≡◌, inl, inr, ◌+◌, ◌∙◌, ℕ, ℤ, List, length, take, arith, ap, sym, subst, refl}
 use Rattle.raw_view.specs.declared.element_type.ElementType.{ElementType}
 use Rattle.raw_view.specs.declared.element_type.ElementType.TheVariants as kind
@@ -6,7 +6,8 @@ use Rattle.raw_view.specs.declared.error.Reason.{Reason}
 use Rattle.raw_view.specs.declared.error.Reason.TheVariants as reason
 use Rattle.raw_view.specs.Frame.Envelope.{IsEnvelope, Refuses}
 use Rattle.raw_view.specs.Frame.Reasons.{string_row, document_row, binary_row, scope_row, ByDeclaredLength, IsStringReason}
-use Rattle.raw_view.specs.Frame.{IsPointerReason, IsPayloadReason, IsElementReason}
+use Rattle.raw_view.specs.Frame.{IsPointerReason, IsPayloadReason}
+use Rattle.raw_view.specs.Frame.Kind.{tag_of}
 use Rattle.raw_view.proofs.Bytes.Numbers.{IsLe32-same}
 use Rattle.raw_view.proofs.Frames.Fronts.{tag_of-same}
 use Rattle.raw_view.proofs.Frames.Payloads.{string_same}
@@ -53,14 +54,11 @@ one_payload_reason kind.Decimal128 z why other a b = a ∙ sym b
 one_payload_reason kind.MaxKey z why other a b = absurd a
 one_payload_reason kind.MinKey z why other a b = absurd a
 
--- of any tag
-pub one_element_reason : (tag : ℕ) (z : List ℕ) (why other : Reason) → IsElementReason tag z why → IsElementReason tag z other → why ≡ other
-one_element_reason tag z why other (inl a) (inl b) = a.1 ∙ sym b.1
-one_element_reason tag z why other (inl a) (inr b) = absurd (a.0 b.0 b.1)
-one_element_reason tag z why other (inr a) (inl b) = absurd (b.0 a.0 a.1)
-one_element_reason tag z why other (inr a) (inr b) =
-    let same : a.0 ≡ b.0 = tag_of-same a.0 b.0 (sym a.1 ∙ b.1) in
-    one_payload_reason a.0 z why other a.2 (subst (λ (x : ElementType). IsPayloadReason x z other) (sym same) b.2)
+-- of the kind that has a tag
+pub one_tagged_reason : (tag : ℕ) (k l : ElementType) (z : List ℕ) (why other : Reason) → tag ≡ tag_of k → tag ≡ tag_of l → IsPayloadReason k z why → IsPayloadReason l z other → why ≡ other
+one_tagged_reason tag k l z why other is also a b =
+    let same : k ≡ l = tag_of-same k l (sym is ∙ also) in
+    one_payload_reason k z why other a (subst (λ (x : ElementType). IsPayloadReason x z other) (sym same) b)
 
 -- why bytes have no envelope
 pub one_refusal : (b : List ℕ) (why other : Reason) → Refuses b why → Refuses b other → why ≡ other

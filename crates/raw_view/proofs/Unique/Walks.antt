@@ -2,13 +2,16 @@
 use Rattle.std.proofs.Common.{◌≡◌, ℕ, List, [], ◌∷◌, ◌++◌, ◌≤◌, length, ap, sym, ◌∙◌, subst, refl, Option, Some, None, arith, length-append}
 use Rattle.std.specs.Str.{IsUtf8}
 use Rattle.raw_view.specs.declared.element_type.ElementType.{ElementType}
+use Rattle.raw_view.specs.declared.element_type.ElementType.TheVariants as kind
+use Rattle.raw_view.specs.declared.error.Reason.{Reason}
+use Rattle.raw_view.specs.declared.error.Reason.TheVariants as reason
 use Rattle.raw_view.specs.Frame.Kind.{tag_of}
-use Rattle.raw_view.specs.Frame.{Frame, IsFrame, HasShape, HasNoFrame, HasKey, IsWalk, End, Done, Stopped, EndsIn, IsStop, Fault, Malformed, Utf8}
+use Rattle.raw_view.specs.Frame.{Frame, IsFrame, HasShape, HasNoFrame, HasKey, IsWalk, End, Done, Stopped, EndsIn, IsStop, Fault, HasBadText, IsPayloadReason, Malformed, no_byte_left, key_not_utf8, no_such_tag, regex_not_utf8, no_payload}
 use Rattle.raw_view.specs.OneReading.{IsTheWalk}
 use Rattle.raw_view.proofs.Bytes.Cuts.{cut}
 use Rattle.raw_view.proofs.Frames.Fronts.{tag_of-same}
 use Rattle.raw_view.proofs.Unique.Payloads.{payload_same}
-use Rattle.raw_view.proofs.Unique.Reasons.{one_element_reason}
+use Rattle.raw_view.proofs.Unique.Reasons.{one_tagged_reason}
 
 -- frames and stops
 
@@ -50,56 +53,73 @@ empty_has_no_key s key e k = omega (arith, ap length e, key_takes_two s key k)
 final_has_no_key : (s key : List ℕ) → s ≡ 0 ∷ [] → HasKey s key → ⊥
 final_has_no_key s key e k = omega (arith, ap length e, key_takes_two s key k)
 
--- a stop that has a key: the key is a text, and no frame is there
-stop_key : (s : List ℕ) (fault : Fault) (key : List ℕ) → IsStop s fault (Some key) → HasKey s key × IsUtf8 key × HasNoFrame s
-stop_key s (Malformed why) key a = (a.0, a.1, a.2)
-stop_key s Utf8 key a = (a.0, a.1, a.2)
+-- a stop with a key has it
+pub stop_key : (s : List ℕ) (fault : Fault) (key : List ℕ) → IsStop s fault (Some key) → HasKey s key
+stop_key s fault key stop = grind arith
 
--- of one key, the fault is one
-one_stop_with_key : (s : List ℕ) (fault fault2 : Fault) (key key2 : List ℕ) → IsStop s fault (Some key) → IsStop s fault2 (Some key2) → (fault ≡ fault2) × (key ≡ key2)
-one_stop_with_key s (Malformed why) (Malformed other) key key2 a b =
-    let same = one_key s key key2 a.0 b.0 in
-    (ap Malformed (one_element_reason a.0.tag a.0.behind why other a.4 (rw (same.1, same.2) b.4)), same.0)
-one_stop_with_key s Utf8 Utf8 key key2 a b = (refl, (one_key s key key2 a.0 b.0).0)
-one_stop_with_key s (Malformed why) Utf8 key key2 a b =
-    let same = one_key s key key2 a.0 b.0 in
-    absurd (a.3 (rw (same.1, same.2) b.3))
-one_stop_with_key s Utf8 (Malformed why) key key2 a b =
-    let same = one_key s key key2 a.0 b.0 in
-    absurd (b.3 (rw (← same.1, ← same.2) a.3))
+-- what one key says of a stop, another key of the same bytes says too
+module _ {s k l : List ℕ} (a : HasKey s k) (b : HasKey s l) where
+  same_text : IsUtf8 l → IsUtf8 k
+  same_text u = subst IsUtf8 (sym (one_key s k l a b).0) u
 
--- a stop without a key: no byte is left, or the key is no text
-one_stop_without_key : (s : List ℕ) (fault fault2 : Fault) → IsStop s fault None → IsStop s fault2 None → fault ≡ fault2
-one_stop_without_key s (Malformed why) (Malformed other) a b = ap Malformed (a.1 ∙ sym b.1)
-one_stop_without_key s Utf8 Utf8 a b = refl
-one_stop_without_key s (Malformed why) Utf8 a b = absurd (empty_has_no_key s b.0 a.0 b.1)
-one_stop_without_key s Utf8 (Malformed why) a b = absurd (empty_has_no_key s a.0 b.0 a.1)
+  same_bad_text : HasBadText b.tag b.behind → HasBadText a.tag a.behind
+  same_bad_text bad = let (key_is, tag_is, behind_is) = one_key s k l a b in rw (tag_is, behind_is) bad
 
--- it has no key that is a text
-no_text_key : (s : List ℕ) (fault : Fault) (key : List ℕ) → IsStop s fault None → HasKey s key → IsUtf8 key → ⊥
-no_text_key s (Malformed why) key a k u = empty_has_no_key s key a.0 k
-no_text_key s Utf8 key a k u = a.2 (subst IsUtf8 (one_key s key a.0 k a.1).0 u)
+  same_reason : (t u : ElementType) (why other : Reason) → a.tag ≡ tag_of t → b.tag ≡ tag_of u → IsPayloadReason t a.behind why → IsPayloadReason u b.behind other → why ≡ other
+  same_reason t u why other is also x y =
+      let (key_is, tag_is, behind_is) = one_key s k l a b in
+      one_tagged_reason a.tag t u a.behind why other is (tag_is ∙ also) x (rw behind_is y)
 
 -- a stop is one
-pub one_stop : (s : List ℕ) (fault fault2 : Fault) (key key2 : Option (List ℕ)) → IsStop s fault key → IsStop s fault2 key2 → (fault ≡ fault2) × (key ≡ key2)
-one_stop s fault fault2 None None a b = (one_stop_without_key s fault fault2 a b, refl)
-one_stop s fault fault2 None (Some key2) a b = let k = stop_key s fault2 key2 b in absurd (no_text_key s fault key2 a k.0 k.1)
-one_stop s fault fault2 (Some key) None a b = let k = stop_key s fault key a in absurd (no_text_key s fault2 key b k.0 k.1)
-one_stop s fault fault2 (Some key) (Some key2) a b = let same = one_stop_with_key s fault fault2 key key2 a b in (same.0, ap Some same.1)
+pub one_stop : (s : List ℕ) (fault other : Fault) (key next : Option (List ℕ)) → IsStop s fault key → IsStop s other next → (fault ≡ other) × (key ≡ next)
+one_stop s fault other key next (no_byte_left e f n) (no_byte_left _ g m) = (f ∙ sym g, n ∙ sym m)
+one_stop s fault other key next (no_byte_left e _ _) (key_not_utf8 l b _ _ _) = absurd (empty_has_no_key s l e b)
+one_stop s fault other key next (no_byte_left e _ _) (no_such_tag l b _ _ _ _) = absurd (empty_has_no_key s l e b)
+one_stop s fault other key next (no_byte_left e _ _) (regex_not_utf8 l b _ _ _ _ _) = absurd (empty_has_no_key s l e b)
+one_stop s fault other key next (no_byte_left e _ _) (no_payload l b _ _ _ _ _ _ _ _ _) = absurd (empty_has_no_key s l e b)
+one_stop s fault other key next (key_not_utf8 k a _ _ _) (no_byte_left e _ _) = absurd (empty_has_no_key s k e a)
+one_stop s fault other key next (key_not_utf8 k a _ f n) (key_not_utf8 l b _ g m) = (f ∙ sym g, n ∙ sym m)
+one_stop s fault other key next (key_not_utf8 k a bad _ _) (no_such_tag l b u _ _ _) = absurd (bad (same_text a b u))
+one_stop s fault other key next (key_not_utf8 k a bad _ _) (regex_not_utf8 l b u _ _ _ _) = absurd (bad (same_text a b u))
+one_stop s fault other key next (key_not_utf8 k a bad _ _) (no_payload l b _ _ u _ _ _ _ _ _) = absurd (bad (same_text a b u))
+one_stop s fault other key next (no_such_tag k a _ _ _ _) (no_byte_left e _ _) = absurd (empty_has_no_key s k e a)
+one_stop s fault other key next (no_such_tag k a u _ _ _) (key_not_utf8 l b bad _ _) = absurd (bad (same_text b a u))
+one_stop s fault other key next (no_such_tag k a _ _ f n) (no_such_tag l b _ _ g m) =
+    let same = one_key s k l a b in
+    (f ∙ ap (λ x. Malformed (reason.InvalidTag x)) same.1 ∙ sym g, n ∙ ap Some same.0 ∙ sym m)
+one_stop s fault other key next (no_such_tag k a _ none _ _) (regex_not_utf8 l b _ _ bad _ _) = absurd (none kind.RegularExpression (same_bad_text a b bad).0)
+one_stop s fault other key next (no_such_tag k a _ none _ _) (no_payload l b t _ _ is _ _ _ _ _) = absurd (none t ((one_key s k l a b).1 ∙ is))
+one_stop s fault other key next (regex_not_utf8 k a _ _ _ _ _) (no_byte_left e _ _) = absurd (empty_has_no_key s k e a)
+one_stop s fault other key next (regex_not_utf8 k a u _ _ _ _) (key_not_utf8 l b bad _ _) = absurd (bad (same_text b a u))
+one_stop s fault other key next (regex_not_utf8 k a _ _ bad _ _) (no_such_tag l b _ none _ _) = absurd (none kind.RegularExpression (same_bad_text b a bad).0)
+one_stop s fault other key next (regex_not_utf8 k a _ _ _ f n) (regex_not_utf8 l b _ _ _ g m) = (f ∙ sym g, n ∙ ap Some (one_key s k l a b).0 ∙ sym m)
+one_stop s fault other key next (regex_not_utf8 k a _ _ bad _ _) (no_payload l b _ _ _ _ _ good _ _ _) = absurd (good (same_bad_text b a bad))
+one_stop s fault other key next (no_payload k a _ _ _ _ _ _ _ _ _) (no_byte_left e _ _) = absurd (empty_has_no_key s k e a)
+one_stop s fault other key next (no_payload k a _ _ u _ _ _ _ _ _) (key_not_utf8 l b bad _ _) = absurd (bad (same_text b a u))
+one_stop s fault other key next (no_payload k a t _ _ is _ _ _ _ _) (no_such_tag l b _ none _ _) = absurd (none t ((one_key s l k b a).1 ∙ is))
+one_stop s fault other key next (no_payload k a _ _ _ _ _ good _ _ _) (regex_not_utf8 l b _ _ bad _ _) = absurd (good (same_bad_text a b bad))
+one_stop s fault other key next (no_payload k a t why _ is _ _ x f n) (no_payload l b u because _ also _ _ y g m) =
+    (f ∙ ap Malformed (same_reason a b t u why because is also x y) ∙ sym g, n ∙ ap Some (one_key s k l a b).0 ∙ sym m)
 
 -- where there is a stop, there is no frame
 pub no_frame_at_stop : (s : List ℕ) (fault : Fault) (key : Option (List ℕ)) → IsStop s fault key → HasNoFrame s
-no_frame_at_stop s fault None a f r b = no_text_key s fault f.key a (frame_key s f r b) b.key_utf8
-no_frame_at_stop s fault (Some key) a f r b = (stop_key s fault key a).2 f r b
+unfolding frame_key
+no_frame_at_stop s fault key (no_byte_left none _ _) f r b = empty_has_no_key s f.key none (frame_key s f r b)
+no_frame_at_stop s fault key (key_not_utf8 k at bad _ _) f r b = bad (subst IsUtf8 (sym (one_key s k f.key at (frame_key s f r b)).0) b.key_utf8)
+no_frame_at_stop s fault key (no_such_tag k at text none _ _) f r b = none f.kind (one_key s k f.key at (frame_key s f r b)).1
+no_frame_at_stop s fault key (regex_not_utf8 k at text none bad _ _) f r b = none f r b
+no_frame_at_stop s fault key (no_payload k at t why text tag none good is _ _) f r b = none f r b
 
 -- at the final 0 there is neither a frame nor a stop
 pub no_frame_at_final : (s : List ℕ) → s ≡ 0 ∷ [] → HasNoFrame s
 no_frame_at_final s e f r b = final_has_no_key s f.key e (frame_key s f r b)
 
 pub no_stop_at_final : (s : List ℕ) (fault : Fault) (key : Option (List ℕ)) → s ≡ 0 ∷ [] → ¬ IsStop s fault key
-no_stop_at_final s (Malformed why) None e a = let bad : ◌≡◌ {A = List ℕ} (0 ∷ []) [] = sym e ∙ a.0 in cc
-no_stop_at_final s Utf8 None e a = final_has_no_key s a.0 e a.1
-no_stop_at_final s fault (Some key) e a = final_has_no_key s key e (stop_key s fault key a).0
+no_stop_at_final s fault key e (no_byte_left none _ _) = let bad : ◌≡◌ {A = List ℕ} (0 ∷ []) [] = sym e ∙ none in cc
+no_stop_at_final s fault key e (key_not_utf8 k at bad _ _) = final_has_no_key s k e at
+no_stop_at_final s fault key e (no_such_tag k at text none _ _) = final_has_no_key s k e at
+no_stop_at_final s fault key e (regex_not_utf8 k at text none bad _ _) = final_has_no_key s k e at
+no_stop_at_final s fault key e (no_payload k at t why text tag none good is _ _) = final_has_no_key s k e at
 
 -- walks
 

@@ -56,4 +56,4 @@ returns-in_ok-totals-in-Err-clause-halts g c =
     let before = state_of w c.args.totals.now in
     let input = g.I.Inputs.bytes_of c.args.inputs.now name in
     on_err c.add.result _ (HaltsWithin c.args.reading name input before w c.add.new.self.counts)
-    (λ (range, same). halts_unread c.args.reading name input before w c.add.new.self.counts refl refl same) c.add.ensures.uncounted
+    (λ (range, same). halts_unread c.args.reading name input before w c.add.new.self.counts refl refl refl same) c.add.ensures.uncounted

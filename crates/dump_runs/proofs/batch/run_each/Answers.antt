@@ -17,12 +17,13 @@ returns-clause-runs g c =
     let asked = c.args.reading in
     let first = state_of c.args.writers.now c.args.totals.now in
     let last = state_of c.loop-name.writers c.loop-name.totals in
-    on_ok c.finish.result _ _ (λ (out, report). (
+    on_ok c.finish.result _ _ (λ (out, alone, report). (
       last,
       record {
         runs = runs_whole asked (g.I.Inputs.bytes_of c.args.inputs.now) (λ (name : Bor (List ℕ)). name.now) c.args.names.now c.loop-name.name-index first last
             c.loop-name-test.false c.loop-name.invariant;
         out = out;
+        alone = alone;
         report = report;
       },
       refl,
@@ -50,5 +51,5 @@ returns-clause-fails g c =
     let first = state_of c.args.writers.now c.args.totals.now in
     let last = state_of c.loop-name.writers c.loop-name.totals in
     on_err c.finish.result _ _
-    (λ (out, report). runs_front asked bytes_of f c.args.names.now c.loop-name.name-index first last w c.loop-name.totals.counts c.loop-name.invariant
-    (halts_behind asked bytes_of f c.args.names.now c.loop-name.name-index last w c.loop-name-test.false out report)) c.finish.ensures.front
+    (λ (out, alone, report). runs_front asked bytes_of f c.args.names.now c.loop-name.name-index first last w c.loop-name.totals.counts c.loop-name.invariant
+    (halts_behind asked bytes_of f c.args.names.now c.loop-name.name-index last w c.loop-name-test.false out alone report)) c.finish.ensures.front

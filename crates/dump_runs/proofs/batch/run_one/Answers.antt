@@ -16,13 +16,14 @@ returns-clause-comes g c =
     let w' = g.W.Write.contents c.writers.inside.report in
     let w'' = g.W.Write.contents c.put_counts.new.report in
     let line = line_of_input c.args.reading name t'.tally.counts in
-    let last : Written = record { out = g.D.Write.contents c.writers.inside.out; report = w'' } in
+    let last : Written = record { out = g.D.Write.contents c.writers.inside.out; alone = g.A.Write.contents c.writers.inside.alone; report = w'' } in
     on_ok c.put_counts.result (Appends w' w'' line) _
     (λ told. record {
       came = held mid t'.tally;
       could = is.could;
       is = is.is;
       out = λ i. (c.writers.view_is i).out;
+      alone = λ i. (c.writers.view_is i).alone;
       told = subst (λ (w : Written). Appends w.report w'' line) c.writers.view_is told;
       kept = refl;
       is_counted = is.is_counted;
@@ -44,6 +45,7 @@ returns-clause-halts g c =
       could = is.could;
       is = is.is;
       out = λ i. (c.writers.view_is i).out;
+      alone = λ i. (c.writers.view_is i).alone;
       report = subst (λ (w : Written). AppendsFront w.report w'' line) c.writers.view_is front;
       is_counted = inl is.is_counted;
     })) c.put_counts.ensures.front

@@ -14,10 +14,11 @@ returns-in_err-put_ending-clause-halts g c =
     let t = c.args.tally.now in
     let left = c.in_ok-rest.ensures.left job.limits.bytes c.requires.1 in
     let o = g.D.Write.contents c.writers.inside.out in
+    let l = g.A.Write.contents c.writers.inside.alone in
     let w = g.W.Write.contents c.writers.inside.report in
     let w' = g.W.Write.contents c.put_ending.new.report in
-    on_any _ _ (subst (λ (v : Written). HaltsLeaving job c.args.ending c.args.source.now (held v t) (held (record { out = o; report = w' }) t)) c.writers.view_is
-    (line_front _ o w w' t.counts t.kept _ (rest_line {left = c.drain.new.self.left} left c.style_at-style.ensures c.at-at.ensures) c.in_err-put_ending.ensures.front))
+    on_any _ _ (subst (λ (v : Written). HaltsLeaving job c.args.ending c.args.source.now (held v t) (held (record { out = o; alone = l; report = w' }) t)) c.writers.view_is
+    (line_front _ o l w w' t.counts t.kept _ (rest_line {left = c.drain.new.self.left} left c.style_at-style.ensures c.at-at.ensures) c.in_err-put_ending.ensures.front))
 
 pub returns-in_err-end-clause-halts : goal.returns-in_err-end-clause-halts
 returns-in_err-end-clause-halts g c =
@@ -25,10 +26,11 @@ returns-in_err-end-clause-halts g c =
     let t = c.args.tally.now in
     let left = c.in_ok-rest.ensures.left job.limits.bytes c.requires.1 in
     let o = g.D.Write.contents c.writers.inside.out in
+    let l = g.A.Write.contents c.writers.inside.alone in
     let w = g.W.Write.contents c.writers.inside.report in
     let w' = g.W.Write.contents c.put_ending.new.report in
-    on_any _ _ (subst (λ (v : Written). HaltsLeaving job c.args.ending c.args.source.now (held v t) (held (record { out = o; report = w' }) t)) c.writers.view_is
-    (line_front _ o w w' t.counts t.kept _ (rest_line {left = c.drain.new.self.left} left c.style_at-style.ensures c.at-at.ensures) (front_whole w w' _ c.in_ok-put_ending.ensures.written)))
+    on_any _ _ (subst (λ (v : Written). HaltsLeaving job c.args.ending c.args.source.now (held v t) (held (record { out = o; alone = l; report = w' }) t)) c.writers.view_is
+    (line_front _ o l w w' t.counts t.kept _ (rest_line {left = c.drain.new.self.left} left c.style_at-style.ensures c.at-at.ensures) (front_whole w w' _ c.in_ok-put_ending.ensures.written)))
 
 pub returns-in_err-tally-clause-halts : goal.returns-in_err-tally-clause-halts
 returns-in_err-tally-clause-halts g c =
@@ -36,7 +38,8 @@ returns-in_err-tally-clause-halts g c =
     let t = c.args.tally.now in
     let left = c.in_ok-rest.ensures.left job.limits.bytes c.requires.1 in
     let o = g.D.Write.contents c.writers.inside.out in
+    let l = g.A.Write.contents c.writers.inside.alone in
     let w = g.W.Write.contents c.writers.inside.report in
     let w' = g.W.Write.contents c.put_ending.new.report in
-    on_any _ _ (subst (λ (v : Written). HaltsLeaving job c.args.ending c.args.source.now (held v t) (held (record { out = o; report = w' }) t)) c.writers.view_is
-    (line_front _ o w w' t.counts t.kept _ (rest_line {left = c.drain.new.self.left} left c.style_at-style.ensures c.at-at.ensures) (front_whole w w' _ c.in_ok-put_ending.ensures.written)))
+    on_any _ _ (subst (λ (v : Written). HaltsLeaving job c.args.ending c.args.source.now (held v t) (held (record { out = o; alone = l; report = w' }) t)) c.writers.view_is
+    (line_front _ o l w w' t.counts t.kept _ (rest_line {left = c.drain.new.self.left} left c.style_at-style.ensures c.at-at.ensures) (front_whole w w' _ c.in_ok-put_ending.ensures.written)))

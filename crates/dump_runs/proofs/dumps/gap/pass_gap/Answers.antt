@@ -13,10 +13,13 @@ returns-clause-passed g c =
     let x = c.args.source.now in
     let t = c.args.tally.now in
     let skip = c.in_ok-skip.skip in
-    let new = held (record { out = g.D.Write.contents c.writers.inside.out; report = g.W.Write.contents c.put_ending.new.report }) (record t { counts = c.in_ok-tally.field-0 }) in
+    let new =
+    held (record { out = g.D.Write.contents c.writers.inside.out; alone = g.A.Write.contents c.writers.inside.alone; report = g.W.Write.contents c.put_ending.new.report })
+    (record t { counts = c.in_ok-tally.field-0 }) in
     record {
       skip = skip;
       named = c.pass_over.ensures.same;
+      broken = c.in_ok-skip.ensures.broken;
       skips = c.in_ok-skip.ensures.skips;
       played = subst (λ (v : Written). Played (events_of_gap (style_at job.style job.limit t.counts) (place_of x) c.args.ending skip) (held v t) new) c.writers.view_is
           (gap_played c.args.ending c.style_at-style.ensures c.at-at.ensures skip c.in_ok-put_ending.ensures.written (rw c.in_ok-tally.ensures.same at c.with_gap.ensures.counted));
@@ -30,17 +33,19 @@ pub returns-in_err-put_ending-clause-halts : goal.returns-in_err-put_ending-clau
 returns-in_err-put_ending-clause-halts g c =
     let t = c.args.tally.now in
     let o = g.D.Write.contents c.writers.inside.out in
+    let l = g.A.Write.contents c.writers.inside.alone in
     let w = g.W.Write.contents c.writers.inside.report in
     let w' = g.W.Write.contents c.put_ending.new.report in
-    on_any _ _ (subst (λ (v : Written). HaltsGap c.args.job c.args.ending c.args.source.now (held v t) (held (record { out = o; report = w' }) t)) c.writers.view_is
-    (line_front _ o w w' t.counts t.kept _ (gap_line c.pass_over.new.self c.in_ok-skip.skip c.in_ok-skip.ensures.skips c.style_at-style.ensures c.at-at.ensures) c.in_err-put_ending.ensures.front))
+    on_any _ _ (subst (λ (v : Written). HaltsGap c.args.job c.args.ending c.args.source.now (held v t) (held (record { out = o; alone = l; report = w' }) t)) c.writers.view_is
+    (line_front _ o l w w' t.counts t.kept _ (gap_line c.pass_over.new.self c.in_ok-skip.skip c.in_ok-skip.ensures.skips c.style_at-style.ensures c.at-at.ensures) c.in_err-put_ending.ensures.front))
 
 pub returns-in_err-tally-clause-halts : goal.returns-in_err-tally-clause-halts
 returns-in_err-tally-clause-halts g c =
     let t = c.args.tally.now in
     let o = g.D.Write.contents c.writers.inside.out in
+    let l = g.A.Write.contents c.writers.inside.alone in
     let w = g.W.Write.contents c.writers.inside.report in
     let w' = g.W.Write.contents c.put_ending.new.report in
-    on_any _ _ (subst (λ (v : Written). HaltsGap c.args.job c.args.ending c.args.source.now (held v t) (held (record { out = o; report = w' }) t)) c.writers.view_is
-    (line_front _ o w w' t.counts t.kept _ (gap_line c.pass_over.new.self c.in_ok-skip.skip c.in_ok-skip.ensures.skips c.style_at-style.ensures c.at-at.ensures)
+    on_any _ _ (subst (λ (v : Written). HaltsGap c.args.job c.args.ending c.args.source.now (held v t) (held (record { out = o; alone = l; report = w' }) t)) c.writers.view_is
+    (line_front _ o l w w' t.counts t.kept _ (gap_line c.pass_over.new.self c.in_ok-skip.skip c.in_ok-skip.ensures.skips c.style_at-style.ensures c.at-at.ensures)
     (front_whole w w' _ c.in_ok-put_ending.ensures.written)))

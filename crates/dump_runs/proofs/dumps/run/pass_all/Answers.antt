@@ -15,7 +15,7 @@ loop-init g c =
       subst IsWork (sym (p.work ∙ b.unworked)) (omega arith, omega arith),
       record {
         front = p.front;
-        has = has_front p.named (p.work ∙ b.unworked) p.has;
+        has = has_front p.named (p.work ∙ b.unworked) (p.same ∙ b.whole) p.has;
         chosen = chosen_front p.front p.is.front_of;
         all = p.is;
       },
@@ -74,7 +74,8 @@ returns-clause-halts g c =
 
 pub returns-in-Err-clause-passed : goal.returns-in-Err-clause-passed
 returns-in-Err-clause-passed g c =
-    if_ok c.stopped.result _ _ (λ s is. stops_before c.at.result.offset s is.1 (ap (λ o. o.offset) c.at.ensures) c.requires.1.unworked (c.in-Err.ensures.fails is.0)) c.stopped.ensures.stops
+    if_ok c.stopped.result _ _ (λ s is. stops_before c.at.result.offset s is.1 (ap (λ o. o.offset) c.at.ensures) c.requires.1.unworked
+    c.requires.1.whole (c.in-Err.ensures.fails is.0)) c.stopped.ensures.stops
 
 pub returns-in-Err-clause-halts : goal.returns-in-Err-clause-halts
 returns-in-Err-clause-halts g c = on_any _ _ halts_first

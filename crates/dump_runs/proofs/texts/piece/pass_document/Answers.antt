@@ -16,7 +16,9 @@ returns g c style name told =
     let t = c.args.tally.now in
     let is = subst (λ (b : List ℕ). Gives (take c.args.len (ahead_of y.window)) b) (sym c.as_bytes-bytes.ensures.bytes) c.requires.5 in
     let counted : c.in_ok-counted.counted ≡ count_said t.counts (length bytes) = search rules in
-    let new = held (record { out = g.D.Write.contents c.put.new.writer; report = g.W.Write.contents c.writers.inside.report }) (record t { counts = c.in_ok-counted.counted }) in
+    let new =
+    held (record { out = g.D.Write.contents c.put.new.writer; alone = g.A.Write.contents c.writers.inside.alone; report = g.W.Write.contents c.writers.inside.report })
+    (record t { counts = c.in_ok-counted.counted }) in
     subst (λ (v : Written). PassesText style name told y (record c.pass.new.self { turn = c.behind_document-cursor.result }) (held v t) new went.Document) c.writers.view_is
     (passes_document style name told y c.args.len bytes (record { fits = c.requires.3; is = c.in_ok-pass.ensures.passed }) (record { may = c.requires.1; brace = c.requires.2; whole = c.requires.4 })
     is (said_played bytes c.in_ok-put.ensures.written counted) c.behind_document-cursor.ensures)
@@ -37,7 +39,7 @@ returns-in_err-put g c style name told =
     let y = c.args.cursor.now in
     let t = c.args.tally.now in
     let is = subst (λ (b : List ℕ). Gives (take c.args.len (ahead_of y.window)) b) (sym c.as_bytes-bytes.ensures.bytes) c.requires.5 in
-    let new = held (record { out = g.D.Write.contents c.put.new.writer; report = g.W.Write.contents c.writers.inside.report }) t in
+    let new = held (record { out = g.D.Write.contents c.put.new.writer; alone = g.A.Write.contents c.writers.inside.alone; report = g.W.Write.contents c.writers.inside.report }) t in
     let e = err_from_is_err_and c.from_residual-in_err-put.result c.from_residual-in_err-put.ensures.1 in
     rw (e.1, e.2) (
       subst (λ (v : Written). HaltsText style name told y (held v t) new) c.writers.view_is

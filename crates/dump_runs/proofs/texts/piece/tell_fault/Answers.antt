@@ -18,7 +18,7 @@ returns-clause-told g c =
     let line = line_of c.args.telling.style c.args.telling.name.now c.args.cursor.now c.args.fault in
     let counted : c.in_ok-counted.counted ≡ count_fault t.counts = search rules in
     let put = subst (Appends w w') (c.deref.ensures.value ∙ c.in_ok-line.ensures.line) c.in_ok-put.ensures.written in
-    let new = held (record { out = g.D.Write.contents c.writers.inside.out; report = w' }) (record t { counts = c.in_ok-counted.counted }) in
+    let new = held (record { out = g.D.Write.contents c.writers.inside.out; alone = g.A.Write.contents c.writers.inside.alone; report = w' }) (record t { counts = c.in_ok-counted.counted }) in
     subst (λ (v : Written). Played (events_of (refused line)) (held v t) new) c.writers.view_is (refused_played line put counted)
 
 pub returns-in_err-line-clause-front : goal.returns-in_err-line-clause-front
@@ -43,5 +43,5 @@ returns-in_err-put-clause-front g c =
     let w' = g.W.Write.contents c.put.new.writer in
     let line = line_of c.args.telling.style c.args.telling.name.now c.args.cursor.now c.args.fault in
     let put = subst (AppendsFront w w') (c.deref.ensures.value ∙ c.in_ok-line.ensures.line) c.in_err-put.ensures.front in
-    let new = held (record { out = g.D.Write.contents c.writers.inside.out; report = w' }) t in
+    let new = held (record { out = g.D.Write.contents c.writers.inside.out; alone = g.A.Write.contents c.writers.inside.alone; report = w' }) t in
     on_any _ _ (subst (λ (v : Written). HaltsSaid (refused line) (held v t) new) c.writers.view_is (refused_front line put))

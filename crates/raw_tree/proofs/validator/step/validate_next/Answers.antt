@@ -5,15 +5,15 @@ use Rattle.raw_tree.proofs.walk.Common.{BreachesHere, KeysSoFar, TellsValue, Val
 use Rattle.raw_tree.specs.declared.validator.breach.Cause.{Cause}
 use Rattle.raw_tree.specs.declared.validator.breach.Cause.TheVariants as cause
 use Rattle.raw_tree.specs.declared.validator.step.Validated.TheVariants as validated
-use Rattle.raw_tree.proofs.walk.Fronts.{stop_of}
+use Rattle.raw_view.proofs.Face.{stop_said}
 use Rattle.raw_tree.proofs.validator.step.validate_next.Goals as goal
 
 validates_stop : (old new : Option (List ℕ)) (e : BorrowedError) (ks k : KeysSoFar) (before after : List (Bor (List ℕ))) (number : ℕ)
     → StepsFront old (Some (Err e)) new → Validates old ks before number new k after (validated.Breach None cause.Stop)
 validates_stop None new e ks k before after number st = tt
 validates_stop (Some s) new e ks k before after number st =
-    let stop = stop_of e.kind (option_copied e.key) s st.0 in
-    λ sort below own h canonical n. (stop.0.fault, stop.0.key, stop.1, refl)
+    let (fault, says, stop) = stop_said e.kind (option_copied e.key) s st.0 in
+    λ sort below own h canonical n. (fault, option_copied e.key, stop, refl)
 
 -- an element with this key is next, and is a breach
 validates_key : (old new : Option (List ℕ)) (e : RawElement) (ks k : KeysSoFar) (before after : List (Bor (List ℕ))) (number : ℕ) (key : Bor (List ℕ)) (why : Cause)
