@@ -133,6 +133,8 @@ try_record() {
     refuses "bin/test passed for one crate"
     record "$work/copy" passed 'bin/test 0 passed, 0 failed, 0 skipped'
     refuses "bin/test had nothing that could pass"
+    record "$work/copy" passed 'bin/test 5 passed, 0 failed, 1 skipped'
+    refuses "nothing says what bin/test skipped"
     record "$work/copy" passed "bin/test 5 passed, 1 failed, 0 skipped
 $well"
     refuses "bin/test has two results"

@@ -6,6 +6,8 @@ cd "$(dirname "$(realpath "$0")")/../crates/$2" || exit 1
 work=$(mktemp -d) || exit 1
 trap 'rm -rf "$work"' EXIT
 if [ "$1" = tests ]; then
+    # (AddressSanitizer's frames are larger than those that the tests of many levels are made for)
+    ulimit -S -s "$(ulimit -H -s)"
     rt try --test --seconds 1000 >"$work/said" 2>&1 </dev/null && grep -q '^test result: ok' "$work/said" && exit
 else
     stored=/dev/null
