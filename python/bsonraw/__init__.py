@@ -212,12 +212,12 @@ def documents(source: Source, *, max_bytes: int = MAX_BYTES, resync: bool = Fals
     that is open for text, raises TypeError at the call.
 
     With resync=True only documents without damage are given, at most 500
-    levels deep, and none of these errors is raised: after damage it goes on
-    where documents do, which is where one without damage of over 8 bytes
-    begins, and the tag and the key of a nested one aren't right in front of it.
+    levels deep, and none of these errors is raised. After damage it goes on at
+    the end, or where one without damage of over 8 bytes begins, unless the tag
+    and the key of a document, an array or an int32 are right before it.
     A damaged document is passed over at its length, if its elements follow one
-    another up to there, or if no such document is inside. What was passed over
-    is what no offset covers.
+    another up to there; or if no such document is inside, and one, or the end,
+    is right after it. What was passed over is what no offset covers.
     A file is read whole for that, and a buffer that isn't bytes is copied.
     """
     if resync:

@@ -323,10 +323,12 @@ impl<'a> Documents<'a> {
         Documents { bytes, reader: bsonraw_reader::default(), work: bsonraw_resync::default(), is_behind: false }
     }
 
-    /// Goes on where documents do after damage: after the document that came last, or where none was. They go on at the end,
-    /// and where one without damage of over 8 bytes begins, within the limits, unless the tag and the key of a nested one are
-    /// right before it. The length of the damaged one is believed if its elements follow one another up to its end, or if
-    /// documents go on at no place inside. Where no document came yet, or all did, nothing is changed.
+    /// Goes on after damage, which is the document that came last, or is where none was: at the end of that document if
+    /// its length is believed, otherwise at the next place where documents go on. They go on at the end, and where one
+    /// without damage of over 8 bytes begins, within the limits, unless the tag and the key of a document, an array or an
+    /// int32 are right before it. The length of a damaged document is believed if its elements follow one another up to
+    /// its end, or if documents go on at no place inside, and right after it. Where no document came yet, or all did,
+    /// nothing is changed.
     ///
     /// ```
     /// use bsonraw::{rawdoc, whole::Documents};
