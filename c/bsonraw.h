@@ -1200,7 +1200,7 @@ struct bsonraw_resync {
 };
 
 /* Goes on after damage, which is the document that the reader is at, or the place of its last fault where it is at none:
- * BSONRAW_OK, and next is where documents go on. They do at the end, and where a document counts: one without damage, of over 8 bytes, and
+ * BSONRAW_OK, and next is where reading goes on. Documents go on at the end, and where one counts: one without damage, of over 8 bytes, and
  * of at most max_bytes bytes and max_depth levels, unless the bytes before it, from the damage on, end with the tag of a document, an array
  * or an int32 and a key with its 0, since it may be nested there, or its length a number. Such a key is UTF-8 of 1 to 64 bytes, none
  * under 32.
@@ -2037,7 +2037,7 @@ int32_t bsonraw_stream_from_file(struct bsonraw_stream *stream, FILE *file);
 BSONRAW_USE int32_t bsonraw_stream_read(struct bsonraw_stream *stream);
 void bsonraw_stream_free(struct bsonraw_stream *stream);
 
-/* Goes on after damage, as bsonraw_reader_resync does in memory: BSONRAW_OK, and the next bsonraw_stream_read is where documents go on, or
+/* Goes on after damage, as bsonraw_reader_resync does in memory: BSONRAW_OK, and the next bsonraw_stream_read is where reading goes on, or
  * at the end. The damage is the document that the last one gave, as where bsonraw_first_fault finds one, or what it returned
  * BSONRAW_NO_DOCUMENT, BSONRAW_TOO_MANY_BYTES or BSONRAW_CUT for. BSONRAW_BAD_OFFSET where there is none: no document was read, or this
  * call went on after it already. BSONRAW_NOT_READ and BSONRAW_NO_MEMORY, after which it may be called once more; any other status of the

@@ -1,4 +1,4 @@
--- Where documents go on behind a damaged one in the caller's bytes b.
+-- Where reading goes on after damage in the caller's bytes b.
 use Rattle.std.specs.Prelude.{◌≡◌, ◌⊎◌, ◌<◌, ◌≤◌, ◌+◌, ◌^◌, ℕ, ℤ, suc, zero, Bool, true, false, not, List, take, drop, length}
 use Rattle.raw_bson.specs.Limits.{Limits}
 use Rattle.raw_resync.specs.Pieces.{IsPiece}
@@ -16,24 +16,24 @@ use Rattle.bsonraw_c.specs.declared.resync.Behind.{Behind}
 use Rattle.bsonraw_c.specs.declared.resync.Onward.{Onward}
 use Rattle.bsonraw_c.specs.declared.resync.Resync.{Resync}
 
--- as many bytes as the document in front of s says, and may have
+-- as many bytes as the document at the front of s says, and may have
 abbrev pub BeginsPiece : (most : ℕ) → List ℕ → ℕ → Type 0
 BeginsPiece most s len = (len ≤ length s) × IsPiece most (take len s)
 
--- No length in front of s is believed: no document has it, or so many bytes aren't there; or its elements don't explain it, and documents go
--- on inside, or not behind it.
+-- No length at the front of s is believed: no document has it, or s has fewer bytes; or its elements don't explain it, and documents go on
+-- inside, or not right after it.
 abbrev pub HasNoLength : Limits → List ℕ → (at : ℕ) → (old new : Work) → Type 0
 HasNoLength limits s at old new =
     (LacksPiece limits.bytes true s × (new ≡ old))
     ⊎ ((len : ℕ) × BeginsPiece limits.bytes s len × IsDisbelieved limits s len × DoubtsLength limits s at len old new)
 
--- The length in front of s is believed, and documents go on behind so many bytes; where not all was looked at, a place was left out.
+-- The length at the front of s, `len`, is believed, so reading goes on after it; where not all was looked at, a place was left out.
 pub record IsBelieved (limits : Limits) (s : List ℕ) (at len : ℕ) (old new : Work) (all : Bool) : Type 0 where
   pub piece : BeginsPiece limits.bytes s len
   pub right : all ≡ true → ¬ IsDisbelieved limits s len
   pub believed : BelievesLength limits s at len old new all
 
--- Documents go on so many bytes behind the first of s, and are found at no place before.
+-- Documents go on `count` bytes after the front of s, and are found to at no place before, but for the front.
 pub record IsFirstPlace (limits : Limits) (s : List ℕ) (at count : ℕ) (old new : Work) (all : Bool) : Type 0 where
   pub some : 0 < count
   pub within : count ≤ length s
@@ -43,7 +43,7 @@ pub record IsFirstPlace (limits : Limits) (s : List ℕ) (at count : ℕ) (old n
   pub passed : PassesOver limits s at 1 count old before all
   pub found : IsFoundAt limits s at count before new
 
--- where documents go on behind the damaged one in front of s, the end of an input from this offset on, and what it costs to find that out
+-- where reading goes on after the damage at the front of s, the end of an input from this offset on, and what it costs to find that out
 abbrev pub IsOnward : Limits → List ℕ → (at : ℕ) → (old new : Work) → (count : ℕ) → (is_believed all : Bool) → Type 0
 IsOnward limits s at old new count true all = IsBelieved limits s at count old new all
 IsOnward limits s at old new count false all = (start : Work) × HasNoLength limits s at old start × IsFirstPlace limits s at count start new all
@@ -65,7 +65,7 @@ damage_of reader = damage_at reader.document_len reader.document_at reader.fault
 abbrev pub work_of : Resync → Work
 work_of resync = record { spent = resync.spent; reach = resync.reach }
 
--- The reader goes on where documents do, and keeps the rest; what was charged is counted, and at most eight times the bytes.
+-- The reader goes on after the damage, and its other fields stay; what was charged is counted, and is at most eight times the bytes.
 pub record GoesOnIn (limits : Limits) (b : List ℕ) (damage : ℕ) (old new : Reader) (before after : Resync) : Type 0 where
   pub count : ℕ
   pub is_believed : Bool
@@ -80,7 +80,7 @@ pub record GoesOnIn (limits : Limits) (b : List ℕ) (damage : ℕ) (old new : R
 abbrev pub Keeps : Reader → Reader → Resync → Resync → Type 0
 Keeps old new before after = (new ≡ old) × (after ≡ before)
 
--- searches in so many bytes can have cost so much, and the reader is at a place in them
+-- searches in b can have cost that, and the reader is at a place in it
 abbrev pub CanGoOn : List ℕ → Reader → Resync → Type 0
 CanGoOn b reader resync = (damage_of reader < length b) × IsBounded (length b) (work_of resync)
 
@@ -95,7 +95,7 @@ Resyncs limits b old new before after code =
 
 -- What the code tells. No public contract cites what follows.
 
--- bytes to be searched: the last of an input, and some, and of so many that they can be counted
+-- bytes to be searched: the last of an input, at least one, and few enough to be counted
 abbrev pub IsInput : Part → Type 0
 IsInput part = (part.is_last ≡ true) × (0 < length part.bytes.now) × (part.at + length part.bytes.now ≤ 2 ^ 60)
 
@@ -106,12 +106,12 @@ abbrev pub FindsFirst : Limits → ℕ → List ℕ → Work → Work → Onward
 FindsFirst limits at s old new onward =
     (onward.is_believed ≡ false) × IsFirstPlace limits s at onward.count old new onward.all × KeepsBound (at + length s) old new
 
--- where the elements of the piece of so many bytes don't explain its length, and the walk over them cost what searches cost before
+-- where the elements of the piece of `len` bytes don't explain its length, and the walk over them cost what searches cost before
 abbrev pub GoesInside : Limits → ℕ → List ℕ → (len : ℕ) → Work → Work → Onward → Type 0
 GoesInside limits at s len old new onward =
     (start : Work) → Walks at s len start old lengths.Unexplained → KeepsBound (at + len) start old → GoesOnward limits at s start new onward
 
--- whether documents go on inside the piece of so many bytes, or not behind it
+-- whether documents go on inside the piece of `len` bytes, or not right after it
 abbrev pub TellsBehind : Limits → ℕ → List ℕ → (len : ℕ) → Work → Work → (elsewhere all : Bool) → Type 0
 TellsBehind limits at s len old new true all = GoesOnElsewhere limits s at len old new
 TellsBehind limits at s len old new false all = GoesOnBehind limits s at len old new all

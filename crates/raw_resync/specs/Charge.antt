@@ -30,7 +30,7 @@ IsOfText x = IsFaultWith (λ fault. fault.fault ≡ Utf8) x
 abbrev pub IsBehindText : (tag : ℕ) → Barrier → Type 0
 IsBehindText tag x = IsOfText x ⊎ (tag ≡ tag_of kind.JavaScriptCodeWithScope)
 
--- the fault is that of a value: the element at the end of the path has a key
+-- a text of a value is read up to the fault, and the element at the end of the path has a key
 abbrev pub IsOfValue : (tag : ℕ) → Barrier → List Step → Type 0
 IsOfValue tag x path = IsBehindText tag x × ((key : List ℕ) × (last_key path ≡ Some key))
 

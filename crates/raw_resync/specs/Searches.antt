@@ -17,7 +17,7 @@ abbrev pub IsBegun : List ℕ → Type 0
 IsBegun b = (kind : ElementType) × (r : List ℕ) × (drop 4 b ≡ tag_of kind ∷ r)
 
 -- A document that counts may begin at this place: a piece of over 8 bytes with an envelope does, a tag follows its length, and the bytes
--- before it don't end as they do before a nested one. No other place is looked into, and nothing is charged for it.
+-- before it don't end as they do before a nested one, or before the number of an int32. No other place is looked into, and nothing is charged for it.
 pub record IsLikely (limits : Limits) (s : List ℕ) (place : ℕ) : Type 0 where
   pub b : List ℕ
   pub rest : List ℕ
@@ -74,11 +74,12 @@ abbrev pub IsOpen : Limits → List ℕ → (at : ℕ) → (old new : Work) → 
 IsOpen limits t at old new true = IsFoundAt limits t at 0 old new
 IsOpen limits t at old new false = IsLeftOut limits t at 0 old × (new ≡ old)
 
--- they aren't, and the place is looked at
+-- they aren't, and the place isn't left out
 abbrev pub IsShut : Limits → List ℕ → (at : ℕ) → (old new : Work) → Type 0
 IsShut limits t at old new = IsPassedAt limits t at 0 old new × ¬ IsLeftOut limits t at 0 old
 
--- documents are found to continue at no place inside the piece of `len` bytes at the front of s, and at the front of what follows it
+-- documents are found to continue at no place inside the piece of `len` bytes at the front of s, and at the front of what follows it, or that
+-- place is left out
 abbrev pub GoesOnBehind : Limits → List ℕ → (at len : ℕ) → (old new : Work) → (all : Bool) → Type 0
 GoesOnBehind limits s at len old new all =
     (there : Work) × (a : Bool) × (b : Bool) × PassesOver limits s at 1 len old there a × IsOpen limits (drop len s) (at + len) there new b × (all ≡ (a && b))
@@ -90,7 +91,7 @@ GoesOnElsewhere limits s at len old new =
     ⊎ ((there : Work) × (all : Bool) × PassesOver limits s at 1 len old there all × IsShut limits (drop len s) (at + len) there new)
 
 -- The length of the damaged document of `len` bytes at the front of s is believed. Its elements explain it; or there isn't enough to know; or
--- they don't, and documents are found to continue behind it.
+-- they don't, and documents are found to continue after it and at no place inside.
 abbrev pub BelievesLength : Limits → List ℕ → (at len : ℕ) → (old new : Work) → (all : Bool) → Type 0
 BelievesLength limits s at len old new all =
     (Walks at s len old new lengths.Explained × (all ≡ true))

@@ -15,7 +15,7 @@ abbrev pub IsPiece : (most : ℕ) → List ℕ → Type 0
 IsPiece most b = pieces.IsPiece most b
 
 -- Why no document is in front of what is left of an input, s: it ends before its length, or before the end that it says; or
--- no document has the length in front. Where a length is wrong, a document is (HasWrongLength).
+-- no document has the length at the front. Where a length is wrong, a document is at the front (HasWrongLength).
 abbrev pub EndsWith : (most : ℕ) → Ending → List ℕ → Type 0
 EndsWith most (ending.CutOff count) s = (length s ≡ count) × (0 < count) × ((count < 4) ⊎ (IsSoundLength most (said_len s) × (count < said_len s)))
 EndsWith most (ending.Unsound len) s = (4 ≤ length s) × ((said_len s < 5) ⊎ (most < said_len s)) × (len ≡ cast_signed w32 (said_len s))

@@ -84,8 +84,8 @@ pub record Sees (limits : Limits) (old new : Option (List ℕ)) (window_old wind
   pub searches : Searches limits old new window_old window_new work_old work_new
   pub is : (s : List ℕ) → Consumes (Some s) old (ahead_of window_old) → TellsSeen limits s window_old.offset p work_old work_new seen.goes_on seen.all
 
--- whether documents don't go on after the piece of this length in front of s, the end of an input from this offset on, which is looked at; they
--- are found to, or the place is left out
+-- Whether the piece of this length at the front of s, the end of an input from this offset on, is alone. It is if documents don't go on right
+-- after it, and that place isn't left out. It isn't if they are found to, or the place is left out.
 abbrev pub TellsBehind : Limits → List ℕ → (at len : ℕ) → (old new : Work) → (alone : Bool) → Type 0
 TellsBehind limits s at len old new true = (¬ GoesOn limits (drop len s) 0) × IsShut limits (drop len s) (at + len) old new
 TellsBehind limits s at len old new false = (all : Bool) × (all ≡ true → GoesOn limits (drop len s) 0) × IsOpen limits (drop len s) (at + len) old new all
@@ -95,7 +95,7 @@ pub record LooksBehind (limits : Limits) (old new : Option (List ℕ)) (window_o
   pub searches : Searches limits old new window_old window_new work_old work_new
   pub is : (s : List ℕ) → Consumes (Some s) old (ahead_of window_old) → TellsBehind limits s window_old.offset len work_old work_new alone
 
--- whether documents go on inside the piece of this length in front of s, the end of an input from this offset on, or not behind it
+-- whether documents go on inside the piece of this length at the front of s, the end of an input from this offset on, or not right after it
 abbrev pub TellsElsewhere : Limits → List ℕ → (at len : ℕ) → (old new : Work) → Bool → Type 0
 TellsElsewhere limits s at len old new true = GoesOnElsewhere limits s at len old new
 TellsElsewhere limits s at len old new false = (all : Bool) × GoesOnBehind limits s at len old new all
