@@ -1,6 +1,6 @@
-//! Input and output of `bsonraw-dump`, byte by byte: how dumps and texts are read, and how the lines are written that say what is found.
+//! Input and output of `bsonraw-dump`: how dumps and texts are read, and how the lines are written that say what is found.
 //!
-//! - `input` reads: a window over a reader (`Window`), the next document by its length (`look_ahead`), the portion that is asked for
+//! - `input` reads: a window on a reader (`Window`), the next document by its length (`look_ahead`), the portion that is asked for
 //!   (`Portion`), where documents go on after damage (`pass_over`), and the text of a document (`Scan`) with its line and column (`Position`).
 //! - `lines` writes: what is found in a document (`find`), in words (`text`) or as an object of JSON (`object`), by `put`.
 //!

@@ -24,7 +24,7 @@ passed_within at len n room h within =
     let size : length (take len (drop at room)) ≡ min len (length (drop at room)) = length-take len (drop at room) in
     omega arith
 
--- one after the other
+-- two reads one after another
 pub looks_on : (a b c : Option (List ℕ)) (x y z : List ℕ) → ReadsAhead a b x y → ReadsAhead b c y z → ReadsAhead a c x z
 looks_on a b c x y z p q =
     let less : length x ≤ length y = p.len in
@@ -40,12 +40,12 @@ pub all_ahead : (s ahead : List ℕ) (r : Option (List ℕ)) → Consumes (Some 
 all_ahead s ahead None read end = absurd read
 all_ahead s ahead (Some rest) read end = read ∙ ap (λ l. ahead ++ l) end ∙ append-nil ahead
 
--- what is ahead is in front of all
+-- what is ahead is at the front of all
 pub front_ahead : (s ahead : List ℕ) (r : Option (List ℕ)) → Consumes (Some s) r ahead → (rest : List ℕ) × (s ≡ ahead ++ rest)
 front_ahead s ahead None read = absurd read
 front_ahead s ahead (Some rest) read = (rest, read)
 
--- what was ahead is in front of what is ahead now
+-- what was ahead is at the front of what is ahead now
 pub front_kept : (x y : List ℕ) → take (length x) y ≡ x → (rest : List ℕ) × (y ≡ x ++ rest)
 front_kept x y kept = (drop (length x) y, sym (take-append-drop (length x) y) ∙ ap (λ l. l ++ drop (length x) y) kept)
 
@@ -53,7 +53,7 @@ pub nil_of_none : (s : List ℕ) → length s ≡ 0 → s ≡ []
 nil_of_none [] none = refl
 nil_of_none (x ∷ xs) none = let some : length (x ∷ xs) ≡ suc (length xs) = refl in absurd (omega arith)
 
--- what is left of the input after these bytes is in front of what is ahead
+-- what holds of what is left after these bytes, for each input, holds of the rest of the known input
 pub input_behind : (bytes x : List ℕ) (r r' : Option (List ℕ)) (P : List ℕ → Type 0) → Consumes r r' (bytes ++ x) → ((s : List ℕ) → Consumes (Some s) r' x → P s)
     → IfSome r (λ s. P (drop (length bytes) s))
 input_behind bytes x None r' P read holds = tt

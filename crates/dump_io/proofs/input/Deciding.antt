@@ -46,7 +46,7 @@ stays_on a b c x y z p q = record {
 pub searches_read : {limits : Limits} (a b : Option (List ℕ)) (x y : Window) (w : Work) → Stays a b x y → IsWork w → Searches limits a b x y w w
 searches_read a b x y w stays work = record { stays = stays; work = work; bounded = λ s read. keeps_same (x.offset + length s) w }
 
--- one after the other
+-- two searches one after another
 pub searches_on : {limits : Limits} (a b c : Option (List ℕ)) (x y z : Window) (u v w : Work) → Searches limits a b x y u v → Searches limits b c y z v w → Searches limits a c x z u w
 searches_on {limits} a b c x y z u v w p q = record {
   stays = stays_on a b c x y z p.stays q.stays;
@@ -65,7 +65,7 @@ module _ {limits : Limits} {r r' : Option (List ℕ)} {x y : Window} {v w : Work
   whole : (s : List ℕ) → Consumes (Some s) r (ahead_of x) → (rest : List ℕ) × (s ≡ ahead_of y ++ rest) × MayFollow last rest
   whole s read = follows s (ahead_of y) r' last (p.stays.looks.is_read (Some s) read) ends
 
-  -- what it costs
+  -- what a look costs
   pub searched : (w' : Work) (end : ℕ) → end ≤ y.offset + length (ahead_of y) → KeepsBound end w w' → IsWork w' → Searches limits r r' x y v w'
   searched w' end within bound work = record {
     stays = p.stays;
@@ -88,7 +88,7 @@ seeks_behind {limits} {b} {last} {at} {q} {v} {w} {told} {found} y base bytes is
     subst (λ t. Seeks limits (drop base (ahead_of y)) last (y.offset + base) q v w t) same
     (subst (λ n. Seeks limits (drop base (ahead_of y)) last n q v w told) is (subst (λ l. Seeks limits l last at q v w told) bytes seeks))
 
--- what the loop over places keeps
+-- the invariant of the loop over places
 pub record IsSought (limits : Limits) (r r' : Option (List ℕ)) (x y : Window) (v w : Work) (p : Search) (from : ℕ) (last all : Bool) : Type 0 where
   pub searches : Searches limits r r' x y v w
   pub ends : last ≡ true → IsAtEnd r'
@@ -112,7 +112,7 @@ sought_none {limits} r x w p is work some within = record {
 abbrev pub left_of : Search → ℕ → Places
 left_of p from = record { from = from; until = p.until }
 
--- a search of them
+-- a search of the places that are left
 module _ {limits : Limits} {r r' : Option (List ℕ)} {x y : Window} {v w w' : Work} {p : Search} {from : ℕ} {last all : Bool} (h : IsSought limits r r' x y v w p from last all) {told : Sought}
     (seeks : Seeks limits (drop p.base (ahead_of y)) last (y.offset + p.base) (left_of p from) w w' told) (work : IsWork w') where
   size : length (drop p.base (ahead_of y)) ≡ length (ahead_of y) - p.base
@@ -136,7 +136,7 @@ module _ {limits : Limits} {r r' : Option (List ℕ)} {x y : Window} {v w w' : W
       → PassesOver limits (drop p.base s) (x.offset + p.base) from place w u more → PassesOver limits (drop p.base s) (x.offset + p.base) p.from place v u (all && more)
   passed place more s read high over = passes_after h.low high (h.over s read) over
 
-  -- it wants more, and more is read
+  -- the search wants more, and more is read
   pub sought_on : {r'' : Option (List ℕ)} {want : ℕ} {there : Bool} (z : Window) (place n : ℕ) (more last' : Bool) → told ≡ sought.Wants place n more
       → SeesAhead r' r'' y z want there → (last' ≡ true → there ≡ false) → IsSought limits r r'' x z v w' p place last' (all && more)
   sought_on {r'' = r''} {want = want} {there = there} z place n more last' is sees ends =
@@ -169,7 +169,7 @@ module _ {limits : Limits} {r r' : Option (List ℕ)} {x y : Window} {v w w' : W
         subst (λ b. TellsSeen limits s x.offset p v w' b seen.all) (sym goes) (subst (λ b. TellsSeen limits s x.offset p v w' true b) (sym both) here);
   }
 
-  -- they go on at none
+  -- documents go on at no place
   pub sees_none : (more : Bool) (seen : Seen) → told ≡ sought.Nowhere more → seen.goes_on ≡ false → seen.all ≡ (all && more) → Sees limits r r' x y v w' p seen
   sees_none more seen is goes both = record {
     searches = sought_here;
@@ -179,7 +179,7 @@ module _ {limits : Limits} {r r' : Option (List ℕ)} {x y : Window} {v w w' : W
         subst (λ b. TellsSeen limits s x.offset p v w' b seen.all) (sym goes) (subst (λ b. TellsSeen limits s x.offset p v w' false b) (sym both) here);
   }
 
--- the places inside a piece, and the one behind it
+-- the places inside a piece, and the one right after it
 abbrev pub inside_of : ℕ → Search
 inside_of len = record { base = 0; from = 1; until = len }
 
@@ -189,7 +189,7 @@ behind_of len = record { base = len; from = 0; until = 1 }
 no_offset : (at : ℕ) → at + 0 ≡ at
 no_offset at = omega arith
 
--- what is seen inside and behind a piece
+-- what is seen inside a piece and right after it
 module _ {limits : Limits} {r r' : Option (List ℕ)} {x y : Window} {v w : Work} {len : ℕ} where
   pub goes_inside : (seen : Seen) → seen.goes_on ≡ true → Sees limits r r' x y v w (inside_of len) seen → GoesElsewhere limits r r' x y v w len true
   goes_inside seen goes sees = record {
@@ -209,7 +209,7 @@ module _ {limits : Limits} {r r' : Option (List ℕ)} {x y : Window} {v w : Work
         );
   }
 
-  -- whether documents go on at the place behind it
+  -- whether documents go on right after it
   module _ (behind : Seen) (sees : Sees limits r r' x y v w (behind_of len) behind) where
     found_there : (s : List ℕ) (all : Bool) → TellsSeen limits s x.offset (behind_of len) v w true all → TellsBehind limits s x.offset len v w false
     found_there s all (place, at, low, high, passed, found) =
@@ -244,7 +244,7 @@ module _ {limits : Limits} {r r' : Option (List ℕ)} {x y : Window} {v w : Work
     pub goes_behind : GoesElsewhere limits r r'' x z v u len alone
     goes_behind = record { searches = searches_on r r' r'' x y z v w u first.searches second.searches; is = λ s read. elsewhere s alone (before s read) (there s read) }
 
--- how many bytes a piece in front has
+-- the length of a piece at the front
 pub piece_len : {most : ℕ} (x : List ℕ) (len : ℕ) → len ≤ length x → IsPiece most (take len x) → (5 ≤ len) × (len ≤ most)
 piece_len {most} x len within piece =
     let size : length (take len x) ≡ len = length-take-le len x within in
@@ -263,7 +263,7 @@ no_end r never = let impossible : ⊥ = cc in absurd impossible
 no_sound : (limits : Limits) (b : List ℕ) → ¬ IsFramed b → ¬ IsSound limits b
 no_sound limits b unframed sound = unframed (sound_framed limits b sound)
 
--- documents go on inside it or not at its end, or only at its end
+-- documents go on inside the piece or not after it; or only after it
 inside : (limits : Limits) (s : List ℕ) (at len : ℕ) (old mid new : Work) (doubted : Bool) → IsPiece limits.bytes (take len s) × (len ≤ length s)
     → Walks at s len old mid lengths.Unexplained → KeepsBound (at + length s) old new → TellsElsewhere limits s at len mid new doubted → IsDoubted limits s at len old new doubted
 inside limits s at len old mid new true (front, few) walks bound how =
@@ -294,7 +294,7 @@ walks_ahead {bytes = bytes} len {v = v} {w = w} {told = told} x at same is bound
   subst (λ f. Walks x.offset (ahead_of x) len v w f) is (subst (λ b. Walks x.offset b len v w told) same (subst (λ n. Walks n bytes len v w told) at walks)),
 )
 
--- what its elements show of all that is left
+-- what the elements of a piece show of all that is left
 shown : (r : Option (List ℕ)) (x : Window) (v w : Work) (len : ℕ) → len ≤ length (ahead_of x) → (told : Length) → Walks x.offset (ahead_of x) len v w told → (s : List ℕ)
     → Consumes (Some s) r (ahead_of x) → Walks x.offset s len v w told
 shown r x v w len within told walks s read = walks_front x.offset len (ahead_of x) s v w told ((front_take s (ahead_of x) r len read within).0) walks
@@ -319,7 +319,7 @@ module _ {limits : Limits} {r : Option (List ℕ)} {x : Window} {v w : Work} {le
     is = λ s read. told_length limits s x.offset len v w false (inr (inl (shown r x v w len within lengths.LeftOut walks s read, refl))) (walked.bounded s read);
   }
 
-  -- what is inside decides
+  -- what is inside the piece and after it decides
   pub doubts_inside : {r' : Option (List ℕ)} {y : Window} {w' : Work} (doubted : Bool) → Walks x.offset (ahead_of x) len v w lengths.Unexplained
       → GoesElsewhere limits r r' x y w w' len doubted → Doubts limits r r' x y v w' len doubted
   doubts_inside {r'} {y} {w'} doubted walks sees =
@@ -343,7 +343,7 @@ breaks_all limits (ending.CutOff count) s x at w r ends behind' read = (ends_all
 breaks_all limits (ending.Unsound len) s x at w r ends behind' read = (ends_all limits.bytes (ending.Unsound len) s x r ends behind' read, refl)
 breaks_all limits (ending.WrongLength len) s x at w r ends behind' read = absurd ends
 
--- a document is in front of the bytes ahead, without damage where bytes may be passed over
+-- a document is at the front of the bytes ahead; it is sound if bytes may be passed over
 pub tells_document : {limits : Limits} (resync : Bool) (r r' : Option (List ℕ)) (x y : Window) (w : Work) (len : ℕ) → IsWork w → (resync ≡ true → IsSound limits (take len (ahead_of y)))
     → TellsNext limits.bytes r r' x y 0 (next.Document len) → TellsPart limits resync r r' x y w w (next.Document len)
 tells_document {limits} resync r r' x y w len work sound t = record {
@@ -372,7 +372,7 @@ tells_other {limits} resync r r' x y w (next.End e) work none t = record {
   is = λ s read. breaks_all limits e s (ahead_of y) x.offset w r' t.is.0 t.is.1 (t.looks.is_read (Some s) read);
 }
 
--- a document is next, and is doubted, or not
+-- a document is next; it is doubted or not
 module _ {limits : Limits} (r r' r'' : Option (List ℕ)) (x y z : Window) (w w' : Work) (len : ℕ) (work : IsWork w) (t : TellsNext limits.bytes r r' x y 0 (next.Document len)) where
   reads : Searches limits r r' x y w w
   reads = searches_read r r' x y w (record { window = t.window; offset = t.offset; looks = t.looks }) work

@@ -19,7 +19,7 @@ slice_range-put_mid a k n xs ys within fits =
     let after = post_of a k xs in
     ap (take ((a + n) - a)) (drop_at (take a xs) (ys ++ after) a (length-take-le a xs within)) ∙ ap (λ m. take m (ys ++ after)) same ∙ take-append-le n ys after fits
 
--- what was read into the room after the front stands after it
+-- what was read into the room after the front is there
 pub filled_more : (a b c : Option (List ℕ)) (buffer new : List ℕ) (at room n : ℕ) → at ≤ length buffer → n ≤ length new → Consumes a b (take at buffer) → Consumes b c (take n new)
     → Consumes a c (take (at + n) (put_mid at room buffer new))
 filled_more a b c buffer new at room n within fits before read =
@@ -27,11 +27,11 @@ filled_more a b c buffer new at room n within fits before read =
     let joined = take_split at (at + n) buffer (put_mid at room buffer new) (omega arith) (take-put_mid_below _ _ _ _ _ (le_refl _) within) in
     subst (Consumes a c) (ap (λ l. take at buffer ++ l) (sym part) ∙ joined) (Consumes-trans a b c _ _ before read)
 
--- where nothing was read, the front stays
+-- if nothing was read, the front stays
 pub filled_same : (a b c : Option (List ℕ)) (buffer new : List ℕ) (at room : ℕ) → at ≤ length buffer → Consumes a b (take at buffer) → Keeps b c → Consumes a c (take at (put_mid at room buffer new))
 filled_same a b c buffer new at room within before kept = subst (Consumes a c) (sym (take-put_mid_below _ _ _ _ _ (le_refl _) within)) (Consumes-kept a b c _ before kept)
 
--- so many bytes were read
+-- `count` bytes were read
 abbrev pub IsDrained : (old new : Option (List ℕ)) → ℕ → Type 0
 IsDrained old new count = (bytes : List ℕ) × Consumes old new bytes × (length bytes ≡ count)
 
@@ -43,7 +43,7 @@ drained_more a b c count n buffer (bytes, read, len) more fits =
 pub drained_kept : (a b c : Option (List ℕ)) (count : ℕ) → IsDrained a b count → Keeps b c → IsDrained a c count
 drained_kept a b c count (bytes, read, len) kept = (bytes, Consumes-kept a b c bytes read kept, len)
 
--- so it is after bytes that are ahead
+-- the same of a rest that begins with bytes ahead
 pub rest_behind : (a c : Option (List ℕ)) (ahead : List ℕ) (rest all : Drained) → ReadsRest a c [] rest → all.count ≡ rest.count + length ahead → all.failure ≡ rest.failure → ReadsRest a c ahead all
 rest_behind a c ahead rest all r sum same = record {
   more = r.more;

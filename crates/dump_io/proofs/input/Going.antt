@@ -15,7 +15,7 @@ use Rattle.dump_io.proofs.input.Ahead.{all_ahead, front_ahead, front_kept, looks
 pub said_front : (x y : List ℕ) → 4 ≤ length x → said_len (x ++ y) ≡ said_len x
 said_front x y four = ap (from_le_bytes w32) (take-append-le 4 x y four)
 
--- a length that is unsound is, whatever is after
+-- a length that is unsound is so whatever follows it
 pub unsound_behind : {most : ℕ} (len : ℤ) (x rest : List ℕ) → EndsWith most (ending.Unsound len) x → EndsWith most (ending.Unsound len) (x ++ rest)
 unsound_behind {most} len x rest (four, unsound, same) =
     let size : length (x ++ rest) ≡ length x + length rest = length-append x rest in
@@ -36,7 +36,7 @@ said_ahead s ahead rest from split there =
     let size : length (drop from ahead) ≡ length ahead - from = length-drop from ahead in
     ap (λ l. said_len (drop from l)) split ∙ ap said_len (drop-append-le from ahead rest (omega arith)) ∙ said_front (drop from ahead) rest (omega arith)
 
--- the piece in front
+-- the piece at the front
 pub front_piece : {most : ℕ} (a : List ℕ) (len : ℕ) → said_len a ≡ len → IsSoundLength most len → len ≤ length a → IsPiece most (take len a)
 front_piece {most} a len said sound within =
     let enough : 5 ≤ len = sound.0 in
@@ -44,13 +44,13 @@ front_piece {most} a len said sound within =
     let says : said_len (take len a) ≡ len = ap (from_le_bytes w32) (take-take 4 len a (omega arith)) ∙ said in
     record { said = says ∙ sym count; sound = subst (IsSoundLength most) (sym count) sound }
 
--- fewer bytes are there than the length in front of them says
+-- fewer bytes are left than the length at their front says
 pub cut_off : {most : ℕ} (a : List ℕ) (len count : ℕ) → length a ≡ count → said_len a ≡ len → IsSoundLength most len → 4 ≤ length a → length a < len → EndsWith most (ending.CutOff count) a
 cut_off {most} a len count size said sound four few =
     let less : count < len = omega arith in
     (size, omega arith, inr (subst (IsSoundLength most) (sym said) sound, subst (λ n. count < n) (sym said) less))
 
--- a sound length is ahead after so many bytes, and it is looked as far as it says
+-- a sound length is ahead after `from` bytes, and the bytes that it says are looked for
 module _ {most : ℕ} {r r' r'' : Option (List ℕ)} {x y z : Window} (from len : ℕ) (there more : Bool) (yes' : there ≡ true) (first : SeesAhead r r' x y (from + 4) there)
     (second : SeesAhead r' r'' y z (from + len) more) (said : said_len (drop from (ahead_of y)) ≡ len) (sound : IsSoundLength most len) where
   says : said_len (drop from (ahead_of z)) ≡ len
@@ -67,7 +67,7 @@ module _ {most : ℕ} {r r' r'' : Option (List ℕ)} {x y z : Window} (from len 
     is = is;
   }
 
-  -- so many bytes are there
+  -- they are all there
   pub tells_document : more ≡ true → TellsNext most r r'' x z from (next.Document len)
   tells_document all =
       let enough : from + len ≤ length (ahead_of z) = second.there all in
@@ -75,7 +75,7 @@ module _ {most : ℕ} {r r' r'' : Option (List ℕ)} {x y z : Window} (from len 
       let within : len ≤ length (drop from (ahead_of z)) = omega arith in
       tells_next (next.Document len) (within, front_piece (drop from (ahead_of z)) len says sound within)
 
-  -- the input ends before
+  -- the input ends before them
   pub tells_cut : (count : ℕ) → more ≡ false → length (ahead_of z) - from ≡ count → TellsNext most r r'' x z from (next.End (ending.CutOff count))
   tells_cut count not left =
       let (few, end) = second.ends not in

@@ -1,4 +1,4 @@
--- What is in front of the documents that are asked for.
+-- What is before the documents that are asked for.
 use Rattle.std.proofs.Common.{◌≡◌, ℕ, suc, ◌+◌, ◌<◌, ◌≤◌, List, [], ◌∷◌, ◌++◌, Option, None, Some, IfSome, Result, Ok, Err, IfErr, add_assoc, add-zero, ap, append-nil, append_assoc, arith, drop, inl, inr, length, length-append, length-take-le, refl, subst, sym, take, take-append-drop, ◌∙◌}
 use Rattle.std.specs.List.{AllByRecursion}
 use Rattle.std.proofs.lemmas.Grind.{flat_map-append}
@@ -19,12 +19,12 @@ use Rattle.dump_io.proofs.input.Ahead.{all_ahead, input_behind}
 use Rattle.dump_io.proofs.input.Going.{ends_all, said_front}
 use Rattle.dump_io.proofs.input.Skipping.{passes_ahead, passes_more, passes_none, read_behind}
 
--- what is so of all bytes
+-- what holds of all bytes holds of the input
 pub some_any : (input : Option (List ℕ)) (P : List ℕ → Type 0) → ((s : List ℕ) → P s) → IfSome input P
 some_any None P all = tt
 some_any (Some s) P all = all s
 
--- no document begins where the bytes end before it, or the length is unsound
+-- no document begins where the bytes end before its end, or where the length is unsound
 begins_none : {most : ℕ} (e : Ending) (s : List ℕ) → EndsWith most e s → BeginsNone most s
 begins_none (ending.CutOff count) s (size, some, inl few) x is (rest, split) =
     let len : length s ≡ length x + length rest = ap length split ∙ length-append x rest in
@@ -41,7 +41,7 @@ begins_none (ending.Unsound n) s (four, inr more, same) x is (rest, split) =
     omega (arith, said, more, is.sound.1)
 begins_none (ending.WrongLength len) s ends x is front = absurd ends
 
--- so it is of all that is left where no document is next
+-- the same of all that is left if no document is next
 none_next : {most : ℕ} (told : Next) (s ahead : List ℕ) (r : Option (List ℕ)) → IsOther told → IsNextPiece most r ahead told → Consumes (Some s) r ahead → BeginsNone most s
 none_next (next.Document len) s ahead r other is read = absurd other
 none_next next.Nothing s ahead r other (nothing, end) read = λ x is front.
@@ -74,7 +74,7 @@ goes_on {r = r} {r' = r'} {r'' = r''} {x = x} {y = y} z goes looks is at = (
   refl,
 )
 
--- so many bytes more are passed
+-- `k` more bytes are passed
 pub goes_past : {r r' : Option (List ℕ)} {x y : Window} (z : Window) (goes : GoesAhead r r' x y) (k : ℕ) → k ≤ length (ahead_of y) → IsWindow z → ahead_of z ≡ drop k (ahead_of y)
     → z.offset ≡ y.offset + k → (on : GoesAhead r r' x z) × (on.count ≡ goes.count + k)
 goes_past {r = r} {r' = r'} {x = x} {y = y} z goes k some is ahead at = (
@@ -144,7 +144,7 @@ nil_front : (x y : List ℕ) → [] ≡ x ++ y → x ≡ []
 nil_front [] y none = refl
 nil_front (n ∷ x) y none = let len : 0 ≡ suc (length (x ++ y)) = ap length none in absurd (omega arith)
 
--- where the input ends after these bytes, nothing was read after them
+-- if the input ends after these bytes, nothing was read after them
 pub ends_within : (r r' r'' : Option (List ℕ)) (bytes more x y : List ℕ) (Less : Type 0) → Consumes r r' (bytes ++ x)
     → ((before : Option (List ℕ)) → Consumes before r' x → Consumes before r'' (more ++ y)) → (Less → (x ≡ []) × IsAtEnd r') → IfSome r (λ s. Less → (s ≡ bytes) × (more ≡ []))
 ends_within None r' r'' bytes more x y Less read on ended = tt
@@ -168,7 +168,7 @@ pub if_some : (r : Option (List ℕ)) (P Q : List ℕ → Type 0) → ((s : List
 if_some None P Q on is = tt
 if_some (Some s) P Q on is = on s is
 
--- bytes were passed, from the first byte on
+-- bytes were passed from the first byte on
 pub bytes_passed : {r r' : Option (List ℕ)} {x y : Window} (p : Portion) (most : ℕ) (goes : GoesAhead r r' x y) → goes.count ≤ p.at → ahead_of x ≡ [] → x.offset ≡ 0
     → (front : List ℕ) × HasPassedFront front r r' y × IsInFront p most r front
 bytes_passed {r = r} p most goes few none start =
@@ -188,7 +188,7 @@ bytes_passed {r = r} p most goes few none start =
     )
 
 module _ {r r' r'' : Option (List ℕ)} {x y z : Window} (p : Portion) (most : ℕ) where
-  -- and documents after them
+  -- documents were passed after them
   abbrev pub in_front_of : (b : PassesBytes p.at r r' x y) (d : PassesDocuments most p.skip r' r'' y z) → ahead_of x ≡ [] → IsInFront p most r (b.0.passes.bytes ++ joined d.documents)
   in_front_of (goes, few, ended) d none =
       let bytes = goes.passes.bytes in
@@ -221,7 +221,7 @@ module _ {r r' r'' : Option (List ℕ)} {x y z : Window} (p : Portion) (most : �
             (read_behind bytes (ahead_of y) (joined d.documents ++ ahead_of z) r r' r'' before d.is_read);
       }
 
-  -- all that is in front
+  -- that is all before the documents that are asked for
   pub all_in_front : (b : PassesBytes p.at r r' x y) (d : PassesDocuments most p.skip r' r'' y z)
       → (length d.documents < p.skip → (told : Next) × IsOther told × IsNextPiece most r'' (ahead_of z) told) → ahead_of x ≡ []
       → HasPassedFront (b.0.passes.bytes ++ joined d.documents) r r'' z → IsAllInFront p most r (b.0.passes.bytes ++ joined d.documents)
@@ -240,7 +240,7 @@ module _ {r r' r'' : Option (List ℕ)} {x y z : Window} (p : Portion) (most : �
             (λ s all less. let (told, other, is) = stops less in none_next told s (ahead_of z) r'' other is all);
       }
 
--- what is so where reading failed
+-- what holds if reading failed
 pub fails_on : {A : Type 0} (r : Result A Failure) (P Q : Type 0) → (P → Q) → IfErr r (λ failure. IsReading failure → P) → IfErr r (λ failure. IsReading failure → Q)
 fails_on (Ok x) P Q on is = tt
 fails_on (Err e) P Q on is = λ reading. on (is reading)

@@ -1,4 +1,4 @@
--- How far the text of a document comes, where more of it is read.
+-- How far the text of a document comes as more of it is read.
 use Rattle.std.proofs.Common.{◌≡◌, ℕ, ◌+◌, ◌-◌, ◌^◌, ◌≤◌, ◌<◌, List, arith, ap, drop, fold, length, sym, subst, take, ◌∙◌}
 use Rattle.std.proofs.lemmas.Grind.{fold-append}
 use Rattle.std.proofs.lemmas.List.{take-take}
@@ -7,7 +7,7 @@ use Rattle.dump_io.specs.declared.input.scan.Scan.{Scan}
 use Rattle.dump_io.specs.declared.input.scan.Scanned.{Scanned}
 use lib.Seq.{take-add}
 
--- so many bytes after others
+-- m bytes are scanned after k others
 scanned_on : (ahead : List ℕ) (k m n : ℕ) → m ≤ n → fold step (scanned (take k ahead)) (take m (take n (drop k ahead))) ≡ scanned (take (k + m) ahead)
 scanned_on ahead k m n less =
     ap (fold step (scanned (take k ahead))) (take-take m n (drop k ahead) less) ∙ sym (fold-append step start (take k ahead) (take m (drop k ahead)))

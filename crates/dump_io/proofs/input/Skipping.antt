@@ -1,4 +1,4 @@
--- Bytes that are passed over, one after the other.
+-- Bytes that are passed over.
 use Rattle.std.proofs.Common.{◌≡◌, ℕ, ◌+◌, ◌-◌, ◌<◌, ◌≤◌, ◌⊎◌, min, List, [], ◌++◌, Option, None, Some, Bool, true, false, ◌&&◌, not, arith, length, take, drop, sym, ap, ◌∙◌, subst, refl, inl, inr, append_assoc, length-append, length-drop, length-take-le, add_assoc}
 use Rattle.std.proofs.lemmas.Bool.{cases_lt}
 use Rattle.std.proofs.lemmas.List.{take-append-drop}
@@ -18,7 +18,7 @@ use Rattle.dump_io.specs.input.Resync.{IsNextPlace, SkipsTo}
 use Rattle.dump_io.specs.declared.input.resync.Skip.{Skip}
 use Rattle.dump_io.specs.declared.input.window.Window.{Window}
 
--- after these bytes more is read ahead
+-- more is read ahead after these bytes
 pub read_behind : (bytes x y : List ℕ) (r r' r'' : Option (List ℕ)) → Consumes r r' (bytes ++ x)
     → ((before : Option (List ℕ)) → Consumes before r' x → Consumes before r'' y) → Consumes r r'' (bytes ++ y)
 read_behind bytes x y None r' r'' read more = tt
@@ -39,7 +39,7 @@ passes_ahead r r' r'' x y z n p looks = record {
   is_read = λ before read. read_behind p.bytes y z before r' r'' (p.is_read before read) looks.is_read;
 }
 
--- so many were passed, and more is read ahead
+-- `n` bytes were passed, and more is read ahead
 pub goes_ahead : (r r' r'' : Option (List ℕ)) (x z w : Window) (n : ℕ) → Consumed r r' (ahead_of x) (ahead_of z) n → z.offset ≡ x.offset + n → Stays r' r'' z w → GoesAhead r r'' x w
 goes_ahead r r' r'' x z w n passes at stays = record {
   window = stays.window;
@@ -69,18 +69,18 @@ left_behind r (Some rest) x y s n p read =
     let len : length p.bytes ≡ n = p.len in
     (behind, omega arith)
 
--- what follows the bytes ahead: nothing, where the input is at its end
+-- what follows the bytes ahead: nothing, if the input is at its end
 pub follows : (s ahead : List ℕ) (r : Option (List ℕ)) (last : Bool) → Consumes (Some s) r ahead → (last ≡ true → IsAtEnd r) → (rest : List ℕ) × (s ≡ ahead ++ rest) × MayFollow last rest
 follows s ahead None last read ends = absurd read
 follows s ahead (Some rest) last read ends = (rest, read, ends)
 
--- what was searched of all that is left: the places from the second on and before one, at no cost that is over the bound
+-- what was searched of all that is left: the places from the second on and before `to`, at a cost within the bound
 pub record IsCovered (limits : Limits) (s : List ℕ) (at : ℕ) (old new : Work) (to : ℕ) (all : Bool) : Type 0 where
   pub over : PassesOver limits s at 1 to old new all
   pub bounded : KeepsBound (at + length s) old new
 
--- What the loop keeps: this number of bytes is passed over, more are ahead, and the places before this one of those were searched. Before it
--- are all bytes since the first, or as many as a key may have.
+-- The invariant of the loop: n bytes are passed over, more are ahead, and of these the places before `from` were searched. Before it are all
+-- bytes since the first, or the 66 that a key with its tag and its 0 may have.
 pub record IsSearched (limits : Limits) (r r' : Option (List ℕ)) (x y : Window) (old new : Work) (from : ℕ) (last all : Bool) : Type 0 where
   pub n : ℕ
   pub window : IsWindow y
@@ -110,7 +110,7 @@ searched_none {limits} r x w is work some = record {
   };
 }
 
--- bytes are passed over up to here
+-- bytes are passed over up to the place `to`
 next_place : {limits : Limits} (s : List ℕ) {at : ℕ} {old mid new : Work} (to : ℕ) {all : Bool} (skip : Skip) → 1 ≤ to → to ≤ length s
     → PassesOver limits s at 1 to old mid all → IsFoundAt limits s at to mid new → KeepsBound (at + length s) old new → skip.count ≡ to → skip.all ≡ all
     → IsNextPlace limits s at old new skip
@@ -152,7 +152,7 @@ module _ {limits : Limits} {r r' : Option (List ℕ)} {x y : Window} {old mid : 
       (rest, split, may, omega (arith, size, within, is.offset))
 
   module _ {new : Work} {told : Sought} (seeks : Seeks limits (ahead_of y) last y.offset q mid new told) where
-    -- what it tells of all that is left
+    -- what the search tells of all that is left
     tells : (s : List ℕ) → Consumes (Some s) r (ahead_of x) → TellsSought limits (drop is.n s) (x.offset + is.n) q mid new told
     tells s read =
         let (rest, split, may, total) = whole s read in
@@ -177,7 +177,7 @@ module _ {limits : Limits} {r r' : Option (List ℕ)} {x y : Window} {old mid : 
           bounded = keeps_on (x.offset + length s) old mid w before.bounded bound;
         }
 
-    -- documents go on at a place, and what is passed before it
+    -- documents go on at a place, and the bytes before it are passed
     next_found : {before : Work} (s : List ℕ) (read : Consumes (Some s) r (ahead_of x)) (place : ℕ) {more : Bool} (skip : Skip) → from ≤ place
         → PassesOver limits (drop is.n s) (x.offset + is.n) q.from place mid before more × IsFoundAt limits (drop is.n s) (x.offset + is.n) place before new
         → is.n + place ≤ length s → (skip.count ≡ is.n + place) × (skip.all ≡ (all && more)) → IsNextPlace limits s x.offset old new skip
@@ -190,7 +190,7 @@ module _ {limits : Limits} {r r' : Option (List ℕ)} {x y : Window} {old mid : 
         let there = found_further limits s x.offset is.n place (place_back is.n from place is.back low) before new found in
         next_place s (is.n + place) skip (omega (arith, is.start, low)) within over there (keeps_on (x.offset + length s) old mid new earlier.bounded bound) count both
 
-  -- it wants more, and more is read
+  -- the search wants more, and more is read
   module _ {r'' : Option (List ℕ)} {z w : Window} {new : Work} {place kept n want : ℕ} {more there : Bool} where
     pub searched_on : Seeks limits (ahead_of y) last y.offset q mid new (sought.Wants place n more) → IsWork new → kept ≡ min place 66
         → ahead_of z ≡ drop (place - kept) (ahead_of y) → z.offset ≡ y.offset + (place - kept) → SeesAhead r' r'' z w want there → (last' : Bool) → (last' ≡ true → there ≡ false)

@@ -1,4 +1,4 @@
--- Of a result in one of its cases.
+-- What holds of a result in one of its cases.
 use Rattle.std.proofs.Common.{IfErr, IfOk, OnOk, Result, Ok, Err}
 use Rattle.dump_io.specs.lines.Failing.{IsReading}
 use Rattle.dump_io.specs.declared.lines.failure.Failure.{Failure}

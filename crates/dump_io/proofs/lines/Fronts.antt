@@ -1,4 +1,4 @@
--- What a writer holds of which a front was written.
+-- What a writer holds after a front of a text was written.
 use Rattle.std.proofs.Common.{◌≡◌, ◌++◌, ℕ, List, [], Option, Result, Ok, Err, OnErr, sym, refl, ap, ◌∙◌, append_assoc, append-nil}
 use Rattle.std.specs.Io.KnownBytes.{Appends}
 use Rattle.std.proofs.KnownBytes.{Appends-nil, Appends-trans}
@@ -16,15 +16,15 @@ pub on_any : {A E : Type 0} (r : Result A E) (P : Type 0) → P → OnErr r P
 on_any (Ok x) P h = tt
 on_any (Err e) P h = h
 
--- nothing is a front
+-- the empty text is a front
 pub front_none : (a : Option (List ℕ)) (text : List ℕ) → AppendsFront a a text
 front_none a text = record { front = []; behind = text; whole = refl; put = Appends-nil a }
 
--- so is the whole
+-- the whole text is a front
 pub front_whole : (a b : Option (List ℕ)) (text : List ℕ) → Appends a b text → AppendsFront a b text
 front_whole a b text put = record { front = text; behind = []; whole = sym (append-nil text); put = put }
 
--- and a front of what comes first
+-- a front of the first part is a front of the whole
 pub front_first : (a b : Option (List ℕ)) (x y : List ℕ) → AppendsFront a b x → AppendsFront a b (x ++ y)
 front_first a b x y h = record {
   front = h.front;
@@ -33,7 +33,7 @@ front_first a b x y h = record {
   put = h.put;
 }
 
--- and that whole, with a front of what is after it
+-- the first part with a front of the second is a front of the whole
 pub front_behind : (a b c : Option (List ℕ)) (x y : List ℕ) → Appends a b x → AppendsFront b c y → AppendsFront a c (x ++ y)
 front_behind a b c x y put h = record {
   front = x ++ h.front;

@@ -6,7 +6,7 @@ use Rattle.raw_tree.specs.Places.{Step}
 use Rattle.raw_tree.specs.declared.walk.place.PathStep.{PathStep}
 use Rattle.dump_io.specs.lines.Find.{key_or, named_path}
 
--- where the last step is put in place of another one of its number, with that one's key, or where there is none this one
+-- the last step is replaced by one of the same number, with its key if it has one, else this key
 pub named_set : (steps : List PathStep) (i : ℕ) (key : Option (List ℕ)) (last new : PathStep) → i + 1 ≡ length steps → last ≡ slice_index_or steps i last
     → new.number ≡ last.number → option_copied new.key ≡ key_or (option_copied last.key) key
     → map step_of (slice_set steps i new) ≡ named_path key (map step_of steps)

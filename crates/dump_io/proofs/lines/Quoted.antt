@@ -4,7 +4,7 @@ use Rattle.std.specs.Str.{chars, chars_after, lead_bits}
 use Rattle.std.proofs.lemmas.Bool.{cond_below}
 use Rattle.dump_io.specs.lines.Quoting.{ArePlain, IsPlain, shown_char, shown_text}
 
--- after a character of ASCII, the others
+-- the characters of a text that begins with one of ASCII
 ascii_first : (x : ℕ) (xs : List ℕ) → x < 128 → chars (x ∷ xs) ≡ x ∷ chars xs
 unfolding chars
 ascii_first x [] lt =

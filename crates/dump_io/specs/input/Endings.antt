@@ -15,7 +15,7 @@ abbrev pub all_text : Bool → List ℕ
 all_text true = []
 all_text false = codes ", not each place checked"
 
--- what comes of bytes that no document begins with, in words
+-- what becomes of the bytes where no document begins, in words
 abbrev pub rest_text : Rest → List ℕ
 rest_text (rest.PassedOver skip) = codes ": " ++ decimal skip.count ++ codes " bytes passed over" ++ all_text skip.all
 rest_text (rest.NotRead count) = codes ": " ++ decimal count ++ codes " bytes not read, --resync goes on"
@@ -25,11 +25,12 @@ abbrev pub all_members : Bool → List Token
 all_members true = []
 all_members false = key (codes "checked") ∷ string (codes "not each place") ∷ []
 
+-- what becomes of these bytes as members of an object
 abbrev pub rest_members : Rest → List Token
 rest_members (rest.PassedOver skip) = key (codes "passed over") ∷ number (decimal skip.count) ∷ all_members skip.all
 rest_members (rest.NotRead count) = key (codes "not read") ∷ number (decimal count) ∷ []
 
--- why no document is in front of what is left, in words
+-- why no document is at the front of what is left, in words
 abbrev pub ending_text : Ending → List ℕ
 ending_text (ending.CutOff count) = codes "cut off: only " ++ decimal count ++ codes " bytes of a document"
 ending_text (ending.Unsound len) = codes "unsound length " ++ signed_decimal len
@@ -41,13 +42,13 @@ ending_members (ending.CutOff count) = key (codes "finding") ∷ string (codes "
 ending_members (ending.Unsound len) = key (codes "finding") ∷ string (codes "unsound length") ∷ key (codes "length") ∷ number (signed_decimal len) ∷ []
 ending_members (ending.WrongLength len) = key (codes "finding") ∷ string (codes "wrong length") ∷ key (codes "length") ∷ number (decimal len) ∷ []
 
--- the line of a place at which no document begins, and what comes of the bytes there
+-- the line of a place at which no document begins, and what becomes of the bytes there
 abbrev pub ending_line : Style → List ℕ → ℕ → Ending → Rest → List ℕ
 ending_line style.Words name offset end left = line name offset (ending_text end ++ rest_text left)
 ending_line style.Json name offset end left = object_line (head_members name offset ++ ending_members end ++ rest_members left)
 ending_line style.Quiet name offset end left = []
 
--- the last line of an input of which this number of bytes are left: why no document is in front of them; none where nothing is left
+-- the last line of an input: why no document is at the front of the `count` bytes left; none where nothing is left
 abbrev pub last_line : Style → List ℕ → ℕ → Option Ending → ℕ → List ℕ
 last_line style name offset None count = []
 last_line style name offset (Some end) count = ending_line style name offset end (rest.NotRead count)

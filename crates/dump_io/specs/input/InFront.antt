@@ -1,4 +1,4 @@
--- What is in front of the documents that are asked for: bytes up to an offset, and a number of documents after it.
+-- What is before the documents that are asked for: bytes up to an offset, and a number of documents after it.
 use Rattle.std.specs.Prelude.{◌≡◌, ◌<◌, ◌≤◌, ◌+◌, ◌++◌, ℕ, List, [], Option, IfSome, drop, length}
 use Rattle.std.specs.List.{AllByRecursion}
 use Rattle.std.specs.Io.KnownBytes.{Consumes, IsAtEnd}
@@ -10,8 +10,8 @@ use Rattle.dump_io.specs.declared.input.window.Next.{Next}
 use Rattle.dump_io.specs.declared.input.window.Next.TheVariants as next
 use Rattle.dump_io.specs.declared.input.window.Window.{Window}
 
--- Bytes in front of the documents that are asked for, in an input of which these bytes are known: bytes up to the offset at most; and after
--- the offset a number of documents at most, at their lengths.
+-- The front of an input: at most the bytes up to the offset that is asked for; and after it at most the number of documents that is asked
+-- for, at their lengths.
 pub record IsInFront (p : Portion) (most : ℕ) (input : Option (List ℕ)) (front : List ℕ) : Type 0 where
   pub bytes : List ℕ
   pub documents : List (List ℕ)
@@ -21,12 +21,12 @@ pub record IsInFront (p : Portion) (most : ℕ) (input : Option (List ℕ)) (fro
   pub pieces : AllByRecursion (IsPiece most) documents
   pub few : length documents ≤ p.skip
 
--- no document begins here, at its length
+-- no document is at the front of s
 abbrev pub BeginsNone : (most : ℕ) → List ℕ → Type 0
 BeginsNone most s = (x : List ℕ) → IsPiece most x → ¬ HasFront s x
 
--- They are all that is in front: the input ends before the offset; or as many documents as are asked for are after it, or as many as there are in front of
--- the first place where none begins.
+-- It is all that is before the documents that are asked for. The input may end before the offset. After the offset come as many documents as
+-- are asked for, or fewer, up to the first place where none begins.
 pub record IsAllInFront (p : Portion) (most : ℕ) (input : Option (List ℕ)) (front : List ℕ) : Type 0 where
   pub front_of : IsInFront p most input front
   pub to_offset : IfSome input (λ s. length front_of.bytes < p.at → s ≡ front)
@@ -34,16 +34,16 @@ pub record IsAllInFront (p : Portion) (most : ℕ) (input : Option (List ℕ)) (
 
 -- What the code tells of what it passes. No contract of a command cites what follows.
 
--- no more bytes than these were passed
+-- at most `most` bytes were passed
 abbrev pub GoesUpTo : (most : ℕ) → (old new : Option (List ℕ)) → (window_old window_new : Window) → Type 0
 GoesUpTo most old new window_old window_new = (goes : GoesAhead old new window_old window_new) × (goes.count ≤ most)
 
--- and if fewer were, the input is at its end
+-- at most `most` bytes were passed; if fewer were, the input is at its end
 abbrev pub PassesBytes : (most : ℕ) → (old new : Option (List ℕ)) → (window_old window_new : Window) → Type 0
 PassesBytes most old new window_old window_new =
     (goes : GoesAhead old new window_old window_new) × (goes.count ≤ most) × (goes.count < most → (ahead_of window_new ≡ []) × IsAtEnd new)
 
--- no more documents than these were passed, at their lengths
+-- at most `count` documents were passed, at their lengths
 pub record PassesDocuments (most count : ℕ) (old new : Option (List ℕ)) (window_old window_new : Window) : Type 0 where
   pub window : IsWindow window_new
   pub documents : List (List ℕ)
@@ -57,7 +57,7 @@ abbrev pub IsOther : Next → Type 0
 IsOther (next.Document len) = ⊥
 IsOther _ = Unit {0}
 
--- and if fewer were, none is next
+-- at most `count` documents were passed; if fewer were, none is next
 abbrev pub PassesAllDocuments : (most count : ℕ) → (old new : Option (List ℕ)) → (window_old window_new : Window) → Type 0
 PassesAllDocuments most count old new window_old window_new =
     (passes : PassesDocuments most count old new window_old window_new)

@@ -3,6 +3,7 @@ use Rattle.std.specs.Prelude.{ℕ}
 use Rattle.dump_io.specs.declared.input.status.Status.{Status}
 use Rattle.dump_io.specs.declared.input.status.Status.TheVariants as status
 
+-- the exit status of each outcome
 abbrev pub code_of : Status → ℕ
 code_of status.Done = 0
 code_of status.Damage = 1

@@ -1,4 +1,4 @@
--- How an input of texts is cut into those of documents: one after the other, or as the items of one array.
+-- How an input is cut into the texts of documents, one after another or as the items of one array.
 use Rattle.std.specs.Prelude.{◌≡◌, ◌⊎◌, ◌+◌, ◌-◌, ◌^◌, ◌≤◌, ◌<◌, ◌==◌, ◌&&◌, ◌||◌, ℕ, List, [], ◌∷◌, ◌++◌, Bool, true, false, Option, None, Some, if◌then◌else◌, fold, length, nat_lt, not, take}
 use Rattle.dump_io.specs.declared.input.position.Position.{Position}
 use Rattle.dump_io.specs.declared.input.scan.Scan.{Scan}
@@ -11,13 +11,15 @@ use Rattle.dump_io.specs.declared.input.scan.Scanned.{Scanned}
 abbrev pub is_space : ℕ → Bool
 is_space b = (b == 32) || (b == 10) || (b == 13) || (b == 9)
 
+-- a brace or a bracket that opens
 abbrev pub begins_level : ℕ → Bool
 begins_level b = (b == 123) || (b == 91)
 
+-- one that closes
 abbrev pub ends_level : ℕ → Bool
 ends_level b = (b == 125) || (b == 93)
 
--- a level begins: at the front, after a colon, a comma or the bracket of an array, and not in too many others
+-- a level begins: at the front, or after a colon, a comma or the bracket of an array, and in fewer than 2,000 others
 abbrev pub opened : ℕ → Bool → Bool → Scan
 opened depth may_begin is_array = if may_begin && nat_lt depth 2000 then scan.Levels (depth + 1) is_array else scan.Torn
 
@@ -50,7 +52,7 @@ step (scan.Escape depth) b = if b == 10 then scan.Torn else scan.Text depth
 step scan.Whole b = scan.Torn
 step scan.Torn b = scan.Torn
 
--- in front of a text
+-- before the first byte of a text
 abbrev pub start : Scan
 start = scan.Levels 0 true
 
@@ -74,7 +76,7 @@ IsOneText t = scanned t ≡ scan.Whole
 abbrev pub HasBrace : List ℕ → Type 0
 HasBrace t = (rest : List ℕ) × (t ≡ 123 ∷ rest)
 
--- What of s is read for the text of a document: up to the first byte after which it can't go on. If there is none, it is all of s, or
+-- What is read of s for the text of a document: up to the first byte after which it can't go on. If there is none, it is all of s, or
 -- 128 MiB.
 pub record IsTextOf (s text : List ℕ) : Type 0 where
   pub rest : List ℕ
@@ -83,11 +85,11 @@ pub record IsTextOf (s text : List ℕ) : Type 0 where
   pub last : ¬ IsOpen (scanned text) → (0 < length text) × IsOpen (scanned (take (length text - 1) text))
   pub all : IsOpen (scanned text) → (rest ≡ []) ⊎ (length text ≡ 2 ^ 27)
 
--- How many bytes of a text that doesn't come to its end are begun: all, or all but the last, after which it can't go on.
+-- How many bytes an unfinished text has: all, or all but the last, after which it can't go on.
 abbrev pub HasBegun : (text : List ℕ) → ℕ → Type 0
 HasBegun text n = (IsOpen (scanned text) → n ≡ length text) × (¬ IsOpen (scanned text) → n ≡ length text - 1)
 
--- what comes of one byte more between the texts of documents: white space; the brackets of one array; a comma after an item
+-- what may come after one byte more between the texts of documents: white space; the brackets of one array; a comma after an item
 abbrev pub turn_behind : Turn → ℕ → Option Turn
 turn_behind turn.First b = if is_space b then Some turn.First else if b == 91 then Some turn.Item else None
 turn_behind turn.Next b = if is_space b then Some turn.Next else None
@@ -172,7 +174,7 @@ abbrev pub HasNoLine : Position → List ℕ → Type 0
 HasNoLine p [] = Unit {0}
 HasNoLine p (b ∷ bs) = (begins_line p b ≡ false) × HasNoLine (position_behind p b) bs
 
--- so far the text comes that is ahead; it could go on but for its last byte
+-- how far the text ahead comes: before the last of these bytes it could go on
 pub record ScansAhead (ahead : List ℕ) (found : Scanned) : Type 0 where
   pub within : found.len ≤ length ahead
   pub most : found.len ≤ 2 ^ 27

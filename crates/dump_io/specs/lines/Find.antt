@@ -31,18 +31,18 @@ pub record Spot : Type 0 where
   pub path : List Step
   pub offset : ℕ
 
--- a key, or where there is none this one
+-- the key, if there is one; else the other
 abbrev pub key_or : Option (List ℕ) → Option (List ℕ) → Option (List ℕ)
 key_or (Some key) other = Some key
 key_or None other = other
 
--- a path whose last step has this key, where it has none of its own
+-- the path; its last step gets this key if it has none
 abbrev pub named_path : Option (List ℕ) → List Step → List Step
 named_path key [] = []
 named_path key (step ∷ []) = record { number = step.number; key = key_or step.key key } ∷ []
 named_path key (step ∷ next ∷ steps) = step ∷ named_path key (next ∷ steps)
 
--- the place of an element that can't be read, and that has this key or none
+-- the place of an element that can't be read; its last step gets this key if it has none
 abbrev pub named_spot : Option (List ℕ) → Spot → Spot
 named_spot key spot = record { path = named_path key spot.path; offset = spot.offset }
 
@@ -52,7 +52,7 @@ pub record Explanation : Type 0 where
   pub number : Option ℕ
   pub left : Option ℕ
 
--- what is told of a document that isn't canonical: a word or two; where, if there is an envelope; and of damage its reason
+-- what is told of a document that isn't canonical: a word or two; where, if there is an envelope; and the reason of damage
 pub record Account : Type 0 where
   pub word : List ℕ
   pub spot : Option Spot
@@ -62,7 +62,7 @@ pub record Account : Type 0 where
 abbrev pub account_at : List ℕ → Spot → Account
 account_at word spot = record { word = word; spot = Some spot; reason = None }
 
--- damage, where it is if that is known, and its reason
+-- damage: where it is, if that is known, and its reason
 abbrev pub account_of_damage : Option Spot → Explanation → Account
 account_of_damage spot why = record { word = codes "damaged"; spot = spot; reason = Some why }
 
@@ -107,6 +107,7 @@ left_of (reason.PastEnd len left) = Some left
 left_of (reason.LengthHeadShort left) = Some left
 left_of _ = None
 
+-- the words of a reason, and its numbers
 abbrev pub reason_explained : Reason → Explanation
 reason_explained why = record { words = reason_text why; number = number_of why; left = left_of why }
 
@@ -127,6 +128,7 @@ numbers_text (Some number) None = codes ": " ++ decimal number
 numbers_text None (Some left) = codes ": " ++ decimal left ++ codes " are left"
 numbers_text (Some number) (Some left) = codes ": " ++ decimal number ++ codes " where " ++ decimal left ++ codes " are left"
 
+-- words and their numbers
 abbrev pub explanation_text : Explanation → List ℕ
 explanation_text why = why.words ++ numbers_text why.number why.left
 
@@ -134,7 +136,7 @@ explanation_text why = why.words ++ numbers_text why.number why.left
 abbrev pub kind_text : ErrorKind → List ℕ
 kind_text k = explanation_text (kind_explained k)
 
--- what is told of what ends the reading of a document at a place; of a fault its reason, and its key where the place has none
+-- What is told where this ends the reading of a document: a word and the place. Of a fault the reason is told, and its key if the place has none.
 abbrev pub SaysBarrier : Barrier → Spot → Account → Type 0
 SaysBarrier too_many_bytes spot told = told ≡ account_at (codes "too long") spot
 SaysBarrier too_deep spot told = told ≡ account_at (codes "too deep") spot
@@ -150,20 +152,20 @@ abbrev pub violation_of : Option Cause → Violation
 violation_of None = violation.too_deep
 violation_of (Some why) = breach_of why
 
--- what is found where this ends the reading: that a level is too deep; else damage
+-- what is found where this ends the reading: a level that is too deep; else damage
 abbrev pub finding_of : Barrier → Finding
 finding_of too_deep = finding.TooDeep
 finding_of _ = finding.Damaged
 
--- this ends the reading of a piece b, with this finding, and so it is told
+-- something ends the reading of the piece b; this is found, and this is told of it
 abbrev pub IsBarred : Limits → List ℕ → Finding → Option Account → Type 0
 IsBarred limits b found told =
     IsEnvelope b × ((x : Barrier) × (spot : Spot) × (account : Account) × FirstBarrierAt limits b x spot.path spot.offset × SaysBarrier x spot account
     × (found ≡ finding_of x) × (told ≡ Some account))
 
--- What is found in a piece b of an input, and what is told of it: nothing where it is canonical; where it is read as a tree
--- within the limits, where it is first not canonical; where something ends its reading, what and where; or why it has no
--- envelope.
+-- What is found in a piece b of an input, and what is told of it. Of a canonical piece nothing is told. Of one that is read as a tree
+-- within the limits: where it is first not canonical. Of one whose reading something ends: what and where. Of one without an
+-- envelope: why.
 abbrev pub Finds : Limits → List ℕ → Finding → Option Account → Type 0
 Finds limits b finding.Canonical told = IsEnvelope b × IsCanonicalWithin limits b × (told ≡ None)
 Finds limits b finding.Breached told =
@@ -173,11 +175,11 @@ Finds limits b finding.Damaged told = IsBarred limits b finding.Damaged told ⊎
 Finds limits b finding.TooDeep told = IsBarred limits b finding.TooDeep told
 Finds limits b finding.Unvalidated told = ⊥
 
--- a document in which this is found isn't known to be read to its end
+-- a document with this finding isn't known to be sound
 abbrev pub MayBeDamaged : Finding → Type 0
 MayBeDamaged found = (found ≡ finding.Damaged) ⊎ (found ≡ finding.TooDeep) ⊎ (found ≡ finding.Unvalidated)
 
--- what a place shows
+-- a place of the code as a spot
 abbrev pub spot_of : Place → Spot
 spot_of place = record { path = steps_of place; offset = place.offset }
 

@@ -10,11 +10,11 @@ pub record Origin : Type 0 where
 abbrev pub origin_at : List ℕ → ℕ → Origin
 origin_at name offset = record { name = name; offset = offset }
 
--- the same of the code
+-- an origin of the code
 abbrev pub origin_of : origin.Origin → Origin
 origin_of place = origin_at place.name.now place.offset
 
--- a document whose form came before, and the first of that form
+-- where a document is whose form came before, and where the first of that form is
 pub record Repeat : Type 0 where
   pub place : Origin
   pub first : Origin

@@ -3,7 +3,7 @@ use Rattle.std.specs.Prelude.{◌≡◌, ◌<◌, ◌/◌, ◌%◌, ℕ, List, [
 use Rattle.std.specs.Char.{digit_char, is_control}
 use Rattle.json.specs.Print.{escape_letter}
 
--- What stands for a character: its short escape, where it has one; of another control character `\u` and four digits; else itself. Control
+-- What stands for a character: its short escape, if it has one; for another control character `\u` and four digits; else itself. Control
 -- characters are those below a space, which JSON escapes too, DEL, and those from U+0080 to U+009F.
 abbrev pub shown_char : ℕ → List ℕ
 shown_char c =
@@ -13,12 +13,13 @@ shown_char c =
 abbrev pub shown_text : List ℕ → List ℕ
 shown_text s = flat_map shown_char (chars s)
 
+-- a text in quotes
 abbrev pub quoted : List ℕ → List ℕ
 quoted s = 34 ∷ (shown_text s ++ 34 ∷ [])
 
 -- What the code tells of bytes. No public contract cites what follows.
 
--- the byte is a character, for which it stands itself
+-- the byte is a character of ASCII that is shown as it is
 abbrev pub IsPlain : ℕ → Type 0
 IsPlain x = (x < 128) × (shown_char x ≡ x ∷ [])
 

@@ -33,6 +33,7 @@ abbrev pub spot_text : Option Spot → List ℕ
 spot_text None = []
 spot_text (Some spot) = codes " at " ++ path_text spot.path ++ codes ", byte " ++ decimal spot.offset
 
+-- a reason after a colon, where there is one
 abbrev pub reason_part : Option Explanation → List ℕ
 reason_part None = []
 reason_part (Some why) = codes ": " ++ explanation_text why
@@ -88,7 +89,7 @@ reason_members (Some why) = key (codes "reason") ∷ string why.words ∷ number
 abbrev pub members_of : Account → List Token
 members_of told = key (codes "finding") ∷ string told.word ∷ spot_members told.spot ++ reason_members told.reason
 
--- the line of a document at this offset, of which this is told; none in quiet
+-- the line that tells this of the document at an offset; none if quiet
 abbrev pub report_line : Style → List ℕ → ℕ → Account → List ℕ
 report_line style.Words name offset told = line name offset (words_of told)
 report_line style.Json name offset told = object_line (head_members name offset ++ members_of told)
@@ -101,13 +102,13 @@ first_text first = codes "repeats " ++ quoted first.name ++ codes ":" ++ decimal
 abbrev pub first_members : Origin → List Token
 first_members first = key (codes "finding") ∷ string (codes "repeat") ∷ key (codes "first file") ∷ string first.name ∷ key (codes "first offset") ∷ number (decimal first.offset) ∷ []
 
--- the line of a document whose form came before; none in quiet
+-- the line of a document whose form came before; none if quiet
 abbrev pub repeat_line : Style → Repeat → List ℕ
 repeat_line style.Words r = line r.place.name r.place.offset (first_text r.first)
 repeat_line style.Json r = object_line (head_members r.place.name r.place.offset ++ first_members r.first)
 repeat_line style.Quiet r = []
 
--- how what is found is reported where this was counted before: no findings but as many as are asked for
+-- how a finding is reported if this number may still be: quietly if none may
 abbrev pub with_left : Style → ℕ → Style
 with_left shown zero = style.Quiet
 with_left shown (suc n) = shown

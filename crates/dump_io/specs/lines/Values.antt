@@ -11,7 +11,7 @@ use Rattle.raw_view.specs.Meaning.{RawValue, kind_of_raw}
 use Rattle.raw_view.specs.Meaning as raw
 use Rattle.dump_io.specs.lines.Quoting.{quoted}
 
--- a text or bytes that are longer aren't shown
+-- texts and bytes longer than this aren't shown
 abbrev pub short : ℕ
 short = 64
 
@@ -19,7 +19,7 @@ short = 64
 abbrev pub size_text : ℕ → List ℕ
 size_text n = codes ", " ++ decimal n ++ codes " bytes"
 
--- how many bytes these are, and what shows them where they are few
+-- the number of these bytes, and what shows them if they are few
 abbrev pub sized_text : List ℕ → List ℕ → List ℕ
 sized_text bytes shown = size_text (length bytes) ++ cond (nat_lt short (length bytes)) [] (codes ": " ++ shown)
 
@@ -27,13 +27,13 @@ abbrev pub boolean_text : Bool → List ℕ
 boolean_text true = codes ": true"
 boolean_text false = codes ": false"
 
--- the number of these bits: NaN, or a text that is read as the number
+-- the double of these bits: NaN, or a text that is read as it
 abbrev pub ShowsDouble : ℕ → List ℕ → Type 0
 ShowsDouble bits text =
     ((0x7ff0_0000_0000_0000 < bits % 0x8000_0000_0000_0000) × (text ≡ codes "NaN"))
     ⊎ ((bits % 0x8000_0000_0000_0000 ≤ 0x7ff0_0000_0000_0000) × (parse_float binary64 text ≡ Some (from_bits binary64 bits)))
 
--- what is after the kind of a value that holds no others; numbers of a timestamp are its seconds and its increment
+-- what is after the kind of a value that holds no others; the numbers of a timestamp are its seconds and its increment
 abbrev pub ShowsLeaf : Leaf → List ℕ → Type 0
 ShowsLeaf (double bits) text = (number : List ℕ) × ShowsDouble bits number × (text ≡ codes ": " ++ number)
 ShowsLeaf (string s) text = text ≡ sized_text s (quoted s)

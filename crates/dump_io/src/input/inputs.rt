@@ -11,7 +11,7 @@ pub trait Inputs {
     /// An input that is open.
     type Input: Read + Drop;
 
-    // The bytes of the input of a name, where they are known. Such an input can be opened.
+    // The bytes of the input of this name, if they are known. Such an input can be opened.
     ghost bytes_of: { Self → List ℕ → Option (List ℕ) } = { λ _ _. None };
 
     /// Opens an input.
@@ -19,6 +19,6 @@ pub trait Inputs {
         ensures bytes { IfOk result (λ input. Self.Input.remaining input ≡ bytes_of self.now name.now) }
         ensures known { OnErr result (bytes_of self.now name.now ≡ None) };
 
-    /// Tells what goes wrong with an input, and after how many bytes, if some were read.
+    /// Tells what goes wrong with an input, and after how many bytes, if any were read.
     fn tell(&self, name: &str, at: Option<u64>, error: &io::Error);
 }

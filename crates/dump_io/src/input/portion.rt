@@ -15,21 +15,21 @@ use std::io::Read;
 pub struct Portion {
     /// those from this offset on
     pub at: u64,
-    /// how many of them are left out at first
+    /// how many of these are left out at first
     pub skip: u64,
-    /// and how many at most; `None`: all
+    /// how many follow at most; `None`: all
     pub take: Option<u64>,
 }
 
 impl Portion {
-    /// Whether this number of documents is all that is asked for.
+    /// Whether `count` documents are all that is asked for.
     pub fn is_enough(self, count: u64) -> bool
         ensures { MatchBool result (self.take ≡ Some count) (self.take ≢ Some count) }
     {
         self.take == Some(count)
     }
 
-    /// Passes over what is in front of the documents that are asked for, where a document has at most `most` bytes.
+    /// Passes over what is before the documents that are asked for. A document has at most `most` bytes.
     pub fn pass_front<R: Read>(
         self,
         most: usize,
@@ -66,7 +66,7 @@ fn pass_bytes<R: Read>(count: u64, reader: &mut R, window: &mut Window) -> Resul
     Ok(())
 }
 
-/// Passes over `count` documents of at most `most` bytes each, at their lengths, or those in front of the first place where none begins.
+/// Passes over `count` documents of at most `most` bytes each, at their lengths, or those before the first place where none begins.
 fn pass_documents<R: Read>(
     count: u64,
     most: usize,

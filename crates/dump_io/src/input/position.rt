@@ -18,7 +18,7 @@ pub struct Position {
 }
 
 impl Position {
-    /// That of the first character.
+    /// The place of the first character.
     pub fn new() -> Position
         ensures { result ≡ first_position }
     {

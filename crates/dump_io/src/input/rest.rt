@@ -13,16 +13,16 @@ use crate::lines::text::{push_number, push_signed, push_words};
 use json::Writer;
 use std::alloc::{AllocError, Global};
 
-/// What comes of bytes that no document begins with.
+/// What becomes of bytes where no document begins.
 #[derive(Clone, Copy)]
 pub enum Rest {
     /// they are passed over
     PassedOver(Skip),
-    /// how many they are up to the end of the input; they aren't read
+    /// they aren't read; this is their number, up to the end of the input
     NotRead(u64),
 }
 
-/// Why no document is in front of what is left, and what comes of that.
+/// Why no document is at the front of what is left, and what becomes of the bytes, in words.
 pub fn ending_words(alloc: Global, ending: Ending, rest: Rest) -> Result<Vec<u8>, AllocError>
     ensures { IfOk result (λ text. text.items ≡ ending_text ending ++ rest_text rest) }
 {
@@ -71,7 +71,7 @@ fn push_rest(text: &mut Vec<u8>, rest: Rest) -> Result<(), AllocError>
     }
 }
 
-/// Whether each place in what is passed over was checked.
+/// Whether each place in what is passed over was checked, in words.
 fn all_words(all: bool) -> &'static str
     ensures { result.now ≡ all_text all }
 {
@@ -81,7 +81,7 @@ fn all_words(all: bool) -> &'static str
     }
 }
 
-/// Puts the members that tell why no document is in front of what is left.
+/// Puts the members that tell why no document is at the front of what is left.
 fn put_ending(object: &mut Writer, ending: Ending) -> Result<(), AllocError>
     ensures { OnOk result (Grows object.old object.new (ending_members ending)) }
 {
@@ -101,7 +101,7 @@ fn put_ending(object: &mut Writer, ending: Ending) -> Result<(), AllocError>
     }
 }
 
-/// Puts the members that tell what comes of the bytes.
+/// Puts the members that tell what becomes of the bytes.
 fn put_rest(object: &mut Writer, rest: Rest) -> Result<(), AllocError>
     ensures { OnOk result (Grows object.old object.new (rest_members rest)) }
 {

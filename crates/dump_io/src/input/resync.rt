@@ -1,4 +1,4 @@
-//! Goes on in an input after bytes that no document begins with, and after lengths that aren't believed.
+//! Goes on in an input after bytes where no document begins, and after lengths that aren't believed.
 #![tactic(auto)]
 
 ghost use Rattle.std.specs.Prelude.{◌≡◌, ◌≤◌, ◌<◌, ◌+◌, IfErr, IfOk, length, take};
@@ -22,11 +22,11 @@ use std::io::Read;
 pub struct Skip {
     /// how many bytes, after which documents go on
     pub count: u64,
-    /// whether each place in them was checked; some aren't where that would cost too much
+    /// whether each place in them was checked; a place isn't if that would cost too much
     pub all: bool,
 }
 
-/// The bytes ahead, after which the input ends or may go on.
+/// The bytes ahead as a part of the input, which ends after them or may go on.
 fn part_of(window: &Window, is_last: bool, limits: Limits) -> Part<'_>
     requires { IsWindow window.now }
     ensures bytes { result.bytes.now ≡ ahead_of window.now }
@@ -84,7 +84,7 @@ pub fn pass_over<R: Read>(
     Err(Failure::Reading(io::Error::from(io::ErrorKind::TimedOut)))
 }
 
-/// Places of the bytes ahead, counted from the one after `base` of them. What is before that one isn't looked at.
+/// Places among the bytes ahead, counted from the byte after the first `base`. These `base` bytes aren't looked at.
 #[derive(Clone, Copy)]
 struct Search {
     base: usize,
@@ -124,7 +124,7 @@ pub fn is_doubted<R: Read>(
     }
 }
 
-/// Whether documents go on after the first of the `len` bytes ahead and before their end, or don't go on behind them.
+/// Whether documents go on inside the first `len` bytes ahead, or don't go on after them.
 fn goes_on_elsewhere<R: Read>(
     alloc: Global,
     reader: &mut R,
@@ -149,7 +149,7 @@ fn goes_on_elsewhere<R: Read>(
     stands_alone(alloc, reader, window, limits, len, work)
 }
 
-/// Whether documents don't go on after the first `len` bytes ahead, where that is looked at.
+/// Whether documents don't go on after the first `len` bytes ahead. If that place is left out, false.
 pub fn stands_alone<R: Read>(
     alloc: Global,
     reader: &mut R,
@@ -171,7 +171,7 @@ pub fn stands_alone<R: Read>(
     Ok(seen.all && !seen.goes_on)
 }
 
-/// The offset in the input of the byte after `base` of those ahead. Fails if it is over its range.
+/// The offset in the input of the byte after the first `base` ahead. Fails if it is over its range.
 fn offset_behind(window: &Window, base: usize) -> Result<u64, Failure>
     ensures { IfOk result (λ at. at ≡ offset_of window.now + base) }
 {

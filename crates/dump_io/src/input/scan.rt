@@ -6,7 +6,7 @@ ghost use Rattle.dump_io.specs.input.Texts.{HasBegun, IsOpen, closed, in_levels,
 ghost use Rattle.dump_io.specs.input.Texts as says;
 ghost use Rattle.dump_io.specs.declared.input.scan.Scan.TheVariants.{Whole};
 
-/// How many levels are in one another at most: more than a document within the limits has, with its wrappers.
+/// The most levels in one another: more than a document within the limits has, with its wrappers.
 pub const DEEPEST: usize = 2000;
 
 /// The most bytes of the text of a document: 128 MiB.
@@ -21,7 +21,7 @@ pub enum Scan {
     Text(usize),
     /// after a backslash there
     Escape(usize),
-    /// at its end, after what ends its first level
+    /// at its end, after the end of its first level
     Whole,
     /// in no text of a document
     Torn,
@@ -37,7 +37,7 @@ pub struct Scanned {
 }
 
 impl Scanned {
-    /// Goes on over the bytes that follow, up to the most of a text.
+    /// Goes on over the bytes that follow, up to the most bytes of a text.
     pub fn on(self, ahead: &[u8]) -> Scanned
         requires { ScansAhead ahead.now self × IsOpen self.scan × (self.len ≤ length ahead.now) × (self.len < 2 ^ 27) }
         ensures scans { ScansAhead ahead.now result }
@@ -53,14 +53,14 @@ impl Scanned {
 }
 
 impl Scanned {
-    /// Whether it is at its end.
+    /// Whether the text is at its end.
     pub fn is_whole(self) -> bool
         ensures { MatchBool result (self.scan ≡ Whole) (¬ (self.scan ≡ Whole)) }
     {
         matches!(self.scan, Scan::Whole)
     }
 
-    /// How many bytes there are before the one after which it can't go on, if there is one.
+    /// The number of bytes, without the last if the text can't go on after it.
     pub fn begun(self) -> usize
         ensures less { result ≤ self.len }
         ensures begun { (text : List ℕ) → self.scan ≡ scanned text → self.len ≡ length text → HasBegun text result }
@@ -75,7 +75,7 @@ impl Scanned {
 }
 
 impl Scan {
-    /// In front of a text.
+    /// Before the first byte of a text.
     pub fn new() -> Scan
         ensures { result ≡ start }
     {
@@ -92,7 +92,7 @@ impl Scan {
         }
     }
 
-    /// How far it has come after one byte more.
+    /// How far a text has come after one byte more.
     fn behind(self, byte: u8) -> Scan
         ensures { result ≡ step self byte }
     {
@@ -167,7 +167,7 @@ fn behind_levels(depth: usize, may_begin: bool, byte: u8) -> Scan
     }
 }
 
-/// How far a text has come where a level begins, an array or not, which may begin there or not.
+/// How far a text has come after the start of a level, which may begin there or not, and is an array or not.
 fn behind_begin(depth: usize, may_begin: bool, is_array: bool) -> Scan
     ensures { result ≡ opened depth may_begin is_array }
 {
@@ -178,7 +178,7 @@ fn behind_begin(depth: usize, may_begin: bool, is_array: bool) -> Scan
     }
 }
 
-/// How far a text has come where a level ends.
+/// How far a text has come after the end of a level.
 fn behind_end(depth: usize) -> Scan
     ensures { result ≡ closed depth }
 {

@@ -1,4 +1,4 @@
-//! What may come between the texts of documents: they are one after the other, or the items of one array.
+//! What may come between the texts of documents, which follow one another or are the items of one array.
 #![tactic(auto)]
 
 ghost use Rattle.std.specs.Prelude.{◌≡◌};
@@ -25,7 +25,7 @@ pub enum Turn {
 }
 
 impl Turn {
-    /// What comes of one byte more between documents; none if it can't be there.
+    /// What may come after one byte more between documents; `None` if the byte can't be there.
     pub fn behind(self, byte: u8) -> Option<Turn>
         ensures { result ≡ turn_behind self byte }
     {
@@ -60,7 +60,7 @@ impl Turn {
         }
     }
 
-    /// What comes after a document.
+    /// What may come after a document.
     pub fn behind_document(self) -> Turn
         ensures { result ≡ turn_behind_document self }
     {
@@ -70,7 +70,7 @@ impl Turn {
         }
     }
 
-    /// What comes after bytes that are passed over.
+    /// What may come after bytes that are passed over.
     pub fn behind_gap(self) -> Turn
         ensures { result ≡ turn_behind_gap self }
     {

@@ -1,4 +1,4 @@
-//! What was read of an input, and isn't passed yet.
+//! What was read of an input but not passed yet.
 #![tactic(auto)]
 
 ghost use Rattle.std.specs.Prelude.{◌≡◌, ◌+◌, ◌≤◌, ◌<◌, ◌^◌, ◌⊎◌, ℕ, List, MatchBool, Option, [], true, drop, length, IfErr, IfOk, OnErr, OnOk};
@@ -13,10 +13,10 @@ use std::alloc::{AllocError, Global};
 use std::io;
 use std::io::{ErrorKind, Read};
 
-/// How many bytes are read at a time, or more.
+/// The least number of bytes that are read at a time.
 const BLOCK: usize = 1 << 18;
 
-/// What was read of an input, and isn't passed yet.
+/// What was read of an input but not passed yet.
 #[derive(Drop)]
 pub struct Window {
     /// room for what is read
@@ -36,12 +36,12 @@ pub enum Next {
     Document(usize),
     /// nothing: the input is at its end
     Nothing,
-    /// bytes that no document begins with
+    /// bytes where no document begins
     End(Ending),
 }
 
 impl Window {
-    /// Nothing was read.
+    /// A window before anything is read.
     pub fn new(alloc: Global) -> Window
         ensures window { IsWindow result }
         ensures nothing { ahead_of result ≡ [] }
@@ -93,7 +93,7 @@ impl Window {
         Ok(())
     }
 
-    /// Reads on until `want` bytes are ahead, or the input ends, and returns whether they are. Most are ahead already.
+    /// Reads on until `want` bytes are ahead or the input ends, and returns whether they are. Mostly they are ahead already.
     #[inline(always)]
     pub fn look<R: Read>(&mut self, reader: &mut R, want: usize) -> Result<bool, Failure>
         requires { IsWindow self.old }
@@ -121,7 +121,7 @@ impl Window {
         }
     }
 
-    /// Reads the rest of the input, of which some bytes are ahead, and counts it.
+    /// Reads the rest of the input and counts its bytes. At least one is ahead.
     pub fn drain<R: Read>(&mut self, reader: &mut R) -> Result<Drained, Failure>
         requires { IsWindow self.old × (0 < length (ahead_of self.old)) }
         ensures drained { IfOk result (ReadsRest (R.remaining reader.old) (R.remaining reader.new) (ahead_of self.old)) }
@@ -192,7 +192,7 @@ fn fill<R: Read>(reader: &mut R, buffer: &mut [u8], front: usize, enough: usize)
     }
 }
 
-/// Of how many bytes the rest of an input is, and the error with which reading failed, if it did.
+/// The number of bytes in the rest of an input, and the error with which reading failed, if it did.
 #[derive(Drop)]
 pub struct Drained {
     /// how many bytes
@@ -201,7 +201,7 @@ pub struct Drained {
     pub failure: Option<io::Error>,
 }
 
-/// Reads the input to its end, over a buffer that isn't empty.
+/// Reads the input to its end through a buffer that isn't empty.
 fn drain<R: Read>(reader: &mut R, buffer: &mut [u8]) -> Result<Drained, Failure>
     requires { 0 < length buffer.old }
     ensures drained { IfOk result (ReadsRest (R.remaining reader.old) (R.remaining reader.new) []) }
@@ -233,7 +233,7 @@ fn drain<R: Read>(reader: &mut R, buffer: &mut [u8]) -> Result<Drained, Failure>
     })
 }
 
-/// Looks what is next in an input after `from` of the bytes ahead, where a document has at most `most` bytes.
+/// Looks what is next in an input after the first `from` bytes ahead. A document has at most `most` bytes.
 pub fn look_ahead<R: Read>(
     reader: &mut R,
     window: &mut Window,
@@ -270,7 +270,7 @@ fn length_at(bytes: &[u8], from: usize) -> u32
     u32::from_le_bytes(*head)
 }
 
-/// What is next where `count` bytes are left, fewer than a length has.
+/// What is next if only `count` bytes are left, fewer than a length has.
 fn too_few(count: usize) -> Next
     requires { count < 4 }
     ensures { (new : Option (List ℕ)) (s : List ℕ) → length s ≡ count → IsAtEnd new → (most : ℕ) → IsNextPiece most new s result }
@@ -282,7 +282,7 @@ fn too_few(count: usize) -> Next
     }
 }
 
-/// Whether a document may have this length, where it has at most `most` bytes.
+/// Whether a document may have this length: from 5 to `most` bytes.
 fn is_sound(len: usize, most: usize) -> bool
     ensures { MatchBool result (IsSoundLength most len) ((len < 5) ⊎ (most < len)) }
 {

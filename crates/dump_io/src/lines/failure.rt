@@ -25,7 +25,7 @@ impl From<AllocError> for Failure {
     }
 }
 
-/// That reading failed, and after how many bytes of an input.
+/// Reading failed, after this number of bytes of an input.
 #[derive(Drop)]
 pub struct ReadFailure {
     /// how many bytes were read

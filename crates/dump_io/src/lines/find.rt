@@ -26,7 +26,7 @@ use std::alloc::{AllocError, Global};
 pub enum Finding {
     /// it is canonical
     Canonical,
-    /// it has no damage, and isn't canonical
+    /// it is sound but not canonical
     Breached,
     /// it is damaged
     Damaged,
@@ -53,9 +53,9 @@ impl Finding {
 pub struct Told<'a> {
     /// what is found, in a word or two
     pub word: &'static str,
-    /// where; `None` where the document has no envelope
+    /// where; `None` if the document has no envelope
     pub place: Option<Place<'a>>,
-    /// why; `None` where it isn't a fault
+    /// why; `None` if it isn't a fault
     pub reason: Option<Why>,
 }
 
@@ -64,11 +64,11 @@ pub struct Told<'a> {
 pub struct Found<'a> {
     /// what is found
     pub finding: Finding,
-    /// what is told of it; `None` where it is canonical
+    /// what is told of it; `None` if it is canonical
     pub told: Option<Told<'a>>,
 }
 
-/// What a document may cost where no limits are given: what a server sends, 16 MiB and 16 KiB, and 500 levels.
+/// The limits if none are given: what a server sends, 16 MiB and 16 KiB, and 500 levels.
 pub fn most_allowed() -> Limits
     ensures { result ≡ usual }
 {
@@ -134,7 +134,7 @@ fn validate(
     }
 }
 
-/// What is found in a document that isn't canonical: what ends its reading; else this violation.
+/// What is found in a document that isn't canonical: what ends its reading, if anything does; else this violation.
 fn not_canonical<'a>(
     alloc: Global,
     limits: Limits,
@@ -198,7 +198,7 @@ fn without_reason<'a>(word: &'static str, place: Place<'a>) -> Told<'a>
     }
 }
 
-/// The place, whose last step has this key where it has none of its own.
+/// The place; its last step gets this key if it has none.
 fn named<'a>(place: Place<'a>, key: Option<&'a str>) -> Place<'a>
     ensures { spot_of result ≡ named_spot (option_copied key.entry) (spot_of place.entry) }
 {
@@ -209,7 +209,7 @@ fn named<'a>(place: Place<'a>, key: Option<&'a str>) -> Place<'a>
     place
 }
 
-/// The key, or where there is none the other one.
+/// The key, if there is one; else the other.
 fn key_or<'a>(key: Option<&'a str>, other: Option<&'a str>) -> Option<&'a str>
     ensures { option_copied result ≡ says.key_or (option_copied key.entry) (option_copied other.entry) }
 {

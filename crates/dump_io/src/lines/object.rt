@@ -147,7 +147,7 @@ fn put_why(object: &mut Writer, why: Why) -> Result<(), AllocError>
     put_some(object, "left", why.left)
 }
 
-/// Puts a member that is a number, where there is one.
+/// Puts a member that is a number, if there is one.
 pub fn put_some(object: &mut Writer, name: &str, value: Option<u64>) -> Result<(), AllocError>
     ensures { OnOk result (Grows object.old object.new (number_member name.now value)) }
 {
@@ -157,7 +157,7 @@ pub fn put_some(object: &mut Writer, name: &str, value: Option<u64>) -> Result<(
     }
 }
 
-/// An object that is begun, with the name of an input and an offset in it.
+/// An object that is begun with the name of an input and an offset in it.
 pub fn begin_at(alloc: Global, name: &str, offset: u64) -> Result<Writer, AllocError>
     ensures { IfOk result (λ object. (object.before ≡ [])
         × (object.tokens ≡ begin_object ∷ head_members name.now offset)) }
@@ -168,7 +168,7 @@ pub fn begin_at(alloc: Global, name: &str, offset: u64) -> Result<Writer, AllocE
     Ok(object)
 }
 
-/// The line of a document of which this is told.
+/// The line that tells this of a document.
 pub fn told_object(
     alloc: Global,
     name: &str,

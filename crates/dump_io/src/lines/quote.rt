@@ -17,7 +17,7 @@ pub fn quotation(alloc: Global, words: &str) -> Result<Vec<u8>, AllocError>
     Ok(text)
 }
 
-/// After the text, another one in quotes.
+/// Appends to the text another one, in quotes.
 pub fn push_quoted(text: &mut Vec<u8>, words: &str) -> Result<(), AllocError>
     ensures { OnOk result (text.new.items ≡ text.old.items ++ quoted words.now) }
 {
@@ -27,7 +27,7 @@ pub fn push_quoted(text: &mut Vec<u8>, words: &str) -> Result<(), AllocError>
     Ok(())
 }
 
-/// After the text, what is in the quotes, in one part where nothing is escaped.
+/// Appends to the text what is in the quotes: in one piece if nothing is escaped.
 fn push_shown(text: &mut Vec<u8>, words: &str) -> Result<(), AllocError>
     ensures { OnOk result (text.new.items ≡ text.old.items ++ shown_text words.now) }
 {
@@ -48,7 +48,7 @@ fn are_plain(bytes: &[u8]) -> bool
     true
 }
 
-/// Whether the byte is a character that isn't escaped.
+/// Whether the byte is a character of ASCII that isn't escaped.
 fn is_plain(byte: u8) -> bool
     ensures { IsTrue result → IsPlain byte }
 {

@@ -12,7 +12,7 @@ use raw_view::{ErrorKind, Reason};
 pub struct Why {
     /// the reason in words
     pub words: &'static str,
-    /// the tag or the byte at fault, the length, or how many bytes a value has; `None` where the words say all
+    /// the tag or the byte at fault, the length, or how many bytes a value has; `None` if the words say all
     pub number: Option<u64>,
     /// how many bytes are left for the value
     pub left: Option<u64>,

@@ -18,17 +18,17 @@ use itoa::Buffer;
 use raw_tree::{PathStep, Place};
 use std::alloc::{AllocError, Global};
 
-/// How many steps are shown of each end of a path that has more than twice as many.
+/// The number of steps that are shown at each end of a path with more than twice that number.
 const SHOWN: usize = 10;
 
-/// After the text, a word or more.
+/// Appends words to the text.
 pub fn push_words(text: &mut Vec<u8>, words: &str) -> Result<(), AllocError>
     ensures { OnOk result (text.new.items ≡ text.old.items ++ words.now) }
 {
     text.extend_from_slice(words.as_bytes())
 }
 
-/// After the text, a number with a sign, in decimal.
+/// Appends a number with a sign to the text, in decimal.
 pub fn push_signed(text: &mut Vec<u8>, number: i64) -> Result<(), AllocError>
     ensures { OnOk result (text.new.items ≡ text.old.items ++ signed_decimal number) }
 {
@@ -36,7 +36,7 @@ pub fn push_signed(text: &mut Vec<u8>, number: i64) -> Result<(), AllocError>
     text.extend_from_slice(digits.format(number).as_bytes())
 }
 
-/// After the text, a number in decimal.
+/// Appends a number to the text, in decimal.
 pub fn push_number(text: &mut Vec<u8>, number: u64) -> Result<(), AllocError>
     ensures { OnOk result (text.new.items ≡ text.old.items ++ decimal number) }
 {
@@ -56,7 +56,7 @@ fn push_step(text: &mut Vec<u8>, step: &PathStep<'_>) -> Result<(), AllocError>
     Ok(())
 }
 
-/// After the text, the steps of a path; of a long one those at its ends.
+/// Appends the steps of a path to the text; of a long path those at its ends.
 fn push_path(text: &mut Vec<u8>, path: &[PathStep<'_>]) -> Result<(), AllocError>
     ensures { OnOk result (text.new.items ≡ text.old.items ++ path_text (map step_of path.now)) }
 {
@@ -78,7 +78,7 @@ fn push_steps(text: &mut Vec<u8>, path: &[PathStep<'_>]) -> Result<(), AllocErro
     Ok(())
 }
 
-/// After the text, a place.
+/// Appends a place to the text.
 fn push_place(text: &mut Vec<u8>, place: &Place<'_>) -> Result<(), AllocError>
     ensures { OnOk result
         (text.new.items ≡ text.old.items ++ spot_text (Some (spot_of place.now))) }
@@ -89,7 +89,7 @@ fn push_place(text: &mut Vec<u8>, place: &Place<'_>) -> Result<(), AllocError>
     push_number(text, place.offset as u64)
 }
 
-/// After the text, why a document is damaged, with its numbers.
+/// Appends to the text why a document is damaged, with its numbers.
 pub fn push_why(text: &mut Vec<u8>, why: Why) -> Result<(), AllocError>
     ensures { OnOk result (text.new.items ≡ text.old.items ++ explanation_text (explanation_of why)) }
 {
@@ -135,7 +135,7 @@ fn words_of(alloc: Global, told: &Told<'_>) -> Result<Vec<u8>, AllocError>
     Ok(text)
 }
 
-/// The line of a document of which this is told.
+/// The line that tells this of a document.
 pub fn told_line(
     alloc: Global,
     name: &str,
@@ -185,7 +185,7 @@ pub fn line_of(alloc: Global, name: &str, offset: u64, words: &[u8]) -> Result<V
     Ok(text)
 }
 
-/// How many bytes a document has, and then what is told of it.
+/// The number of bytes of a document, and then what is told of it.
 pub fn sized(alloc: Global, len: usize, told: &Option<Told<'_>>) -> Result<Vec<u8>, AllocError>
     ensures { (b : List ℕ) → length b ≡ len → IfOk result
         (λ text. text.items ≡ head_text b (option_map account_of told.now)) }

@@ -20,7 +20,7 @@ use raw_view::{
 };
 use std::alloc::{AllocError, Global};
 
-/// How long a text or bytes may be that are shown.
+/// Texts and bytes longer than this aren't shown.
 const SHORT: usize = 64;
 
 /// Appends a value to the text: the name of its kind, and what shows it.

@@ -10,8 +10,7 @@ use crate::lines::failure::Failure;
 use bson_to_json::put_all;
 use std::io::Write;
 
-/// Writes these bytes, as `write_all` does: what it leaves after an error is a front of them. Most commands write none of most
-/// documents.
+/// Writes these bytes, as `write_all` does: after an error, a front of them is written. Most commands write nothing for most documents.
 #[inline(always)]
 pub fn put<W: Write>(writer: &mut W, bytes: &[u8]) -> Result<(), Failure>
     ensures written { OnOk result (Appends (W.contents writer.old) (W.contents writer.new) bytes.now) }

@@ -2,7 +2,7 @@ use Rattle.std.proofs.Common.{◌≡◌, ◌≤◌, List, ℕ, Option, length, t
 use Rattle.std.specs.Io.KnownBytes.{Consumes}
 use Rattle.dump_io.proofs.input.window.fill.Given as goal
 
--- as far as here the buffer is filled
+-- the buffer is filled up to `len`
 abbrev pub invariant-loop : goal.invariant-loop
 invariant-loop g l = record {
   len : length l.buffer ≡ length l.initial.buffer;
