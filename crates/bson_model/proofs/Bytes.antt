@@ -21,7 +21,7 @@ AreBytes-from_elements (b ∷ bytes) h (suc i) = AreBytes-from_elements bytes (�
 pub AreBytes-nil : AreBytes []
 AreBytes-nil i = omega arith
 
--- one more byte in front
+-- one more byte at the front
 pub AreBytes-cons : (x : ℕ) (xs : List ℕ) → x < 256 → AreBytes xs → AreBytes (x ∷ xs)
 AreBytes-cons x xs l h zero = l
 AreBytes-cons x xs l h (suc i) = h i
@@ -43,7 +43,7 @@ AreBytes-take (suc n) (b ∷ bs) h (suc i) = AreBytes-take n bs (λ j. h (suc j)
 pub AreBytes-front : (front back : List ℕ) → AreBytes (front ++ back) → AreBytes front
 AreBytes-front front back h = subst AreBytes (take_at front back (length front) refl) (AreBytes-take (length front) (front ++ back) h)
 
--- and the back
+-- the back of two parts
 pub AreBytes-back : (front back : List ℕ) → AreBytes (front ++ back) → AreBytes back
 AreBytes-back [] back h = h
 AreBytes-back (x ∷ front) back h = AreBytes-back front back (λ i. h (suc i))

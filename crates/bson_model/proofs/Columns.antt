@@ -1,4 +1,4 @@
--- Pairs made of keys and of values beside them, inserted one after the other.
+-- Pairs made of keys and of values beside them, inserted one after another.
 use Rattle.std.proofs.Common.{◌≡◌, ℕ, zero, suc, ◌+◌, ◌<◌, ◌≤◌, List, [], ◌∷◌, ◌++◌, length, map, fold, take, drop, false, Some, slice_get, slice_index_or, refl, ap, sym, ◌∙◌, add-one, arith, Bor, String, Global}
 use Rattle.std.specs.List.{zip, list_any}
 use Rattle.std.specs.String.{string_bytes}

@@ -1,4 +1,4 @@
--- What is kept of pairs that are inserted one after the other.
+-- What is kept of pairs that are inserted one after another.
 use Rattle.std.proofs.Common.{◌≡◌, ℕ, Bool, true, false, not, cond, ◌||◌, List, [], ◌∷◌, ◌++◌, map, filter, reverse, fold, Option, Some, option_map, refl, ap, sym, ◌∙◌, append_assoc}
 use Rattle.std.specs.List.{AllByRecursion, IsDistinct, filter_map, list_any}
 use Rattle.std.specs.Str.{bytes_eq}
@@ -191,7 +191,7 @@ keep-built ps =
     ∙ ap (λ ks. look_up (λ k. value_at k (built [] (reverse ps))) ks) (sym (keys_of-built (reverse ps)))
     ∙ look_up-same (built [] (reverse ps)) (distinct_built (reverse ps))
 
--- pairs that are inserted one after the other are kept like that
+-- pairs that are inserted one after another are kept like that
 pub fold-keep : {T : Type 0} (ps : List (Key × T)) → fold (λ qs p. with_pair p.0 p.1 qs) [] ps ≡ keep ps
 fold-keep ps = fold-built [] ps ∙ sym (keep-built ps)
 

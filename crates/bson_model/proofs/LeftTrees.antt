@@ -70,7 +70,7 @@ less-last (u ∷ us) t = omega (arith, sizes-append us (t ∷ []), size-members 
 pub less-inside : (ts : List Tree) (t : Tree) → ts ≡ members t → load ts < load (t ∷ [])
 less-inside ts t e = rw e (omega (arith, load-members t))
 
--- where others wait in the place of the first, less is left
+-- if others wait in the place of the first, less is left
 pub less-outside : (u : Tree) (us : List Tree) (v : Tree) (vs : List Tree) (t : Tree) → members t ≡ v ∷ vs → load (array (trees (u ∷ us)) ∷ vs ++ v ∷ []) < load ((u ∷ us) ++ t ∷ [])
 less-outside u us v vs t e =
     let waiting : load_of (array (trees (u ∷ us))) ≡ 1 + load (u ∷ us) = ap (λ n. 1 + n) (load-items (trees (u ∷ us)) ∙ ap load (items_in-trees (u ∷ us))) in
@@ -93,7 +93,7 @@ less-cut new next old h t = omega (arith, load-cut new next old h, less-last (ma
 pub is_less-inside : (new : List Bson) (next : Option Bson) (values : List Bson) → IsCutFrom new next values → IsLess new next [] values
 is_less-inside new next values h t m = omega (arith, load-cut new next values h, less-inside (map tree_of values) t (sym m))
 
--- the same, where the value is the next one
+-- the same, if the value is the next one
 pub less-next : (new : List Bson) (next : Option Bson) (old : List Bson) (value : Bson) → load (left new next) < load (map tree_of old ++ tree_of value ∷ [])
     → load (left new next) < load (left old (Some value))
 less-next new next old value h = rw (map-append tree_of old (value ∷ [])) h

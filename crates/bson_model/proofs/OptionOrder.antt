@@ -90,7 +90,7 @@ NulFree-encodes [] h = All-nil (λ b. b ≢ 0)
 NulFree-encodes (c ∷ cs) h =
     All-append (λ b. b ≢ 0) (encode c) (encodes cs) (NulFree-encode c (All-head (λ c. c ≢ 0) c cs h)) (NulFree-encodes cs (All-tail (λ c. c ≢ 0) c cs h))
 
--- it holds no 0 where the options hold none
+-- it holds no 0 if the options hold none
 pub NulFree-sorted_options : (options : List ℕ) → IsUtf8 options → NulFree options → NulFree (sorted_options options)
 NulFree-sorted_options options text h =
     let cs = chars options in

@@ -18,12 +18,12 @@ module _ {X : Type 0} (kind : X → ℕ) where
   later (Fs ∷ Fss) n make k (inl u) = let at = k.0 u in omega arith
   later (Fs ∷ Fss) n make k (inr c) = let at = later Fss (suc n) (λ d. make (inr d)) k.1 c in omega arith
 
-  -- within each variant the test decides it, for the values that are small
+  -- within each variant the test decides equality, for the values that are small
   abbrev pub AllDecide : (Fss : List (List Field)) → Each Bool Fss → (Choice Fss → X) → (Choice Fss → Type 0) → Type 0
   AllDecide [] each make Small = Unit {0}
   AllDecide (Fs ∷ Fss) each make Small = ((u v : Values Fs) → Small (inl u) → Decides (each.0 u v) (make (inl u) ≡ make (inl v))) × AllDecide Fss each.1 (λ c. make (inr c)) (λ c. Small (inr c))
 
-  -- then so does the test of all
+  -- then the test of all variants decides it
   pub decided : (Fss : List (List Field)) (n : ℕ) (each : Each Bool Fss) (make : Choice Fss → X) (Small : Choice Fss → Type 0) → Kinds Fss n make
       → AllDecide Fss each make Small → (c d : Choice Fss) → Small c → Decides (by false false Fss each c d) (make c ≡ make d)
   decided [] n each make Small k s c d small = absurd c

@@ -192,8 +192,8 @@ impl Document {
         }
     }
 
-    /// The document of these keys and values, where a repeated key has its first place and its last value. Keys or
-    /// values in excess are left out. The only error is out of memory, never if there are no keys.
+    /// The document of these keys and values. A repeated key has its first place and its last value. Keys or values
+    /// in excess are left out. The only error is out of memory, never if there are no keys.
     /// ```
     /// let mut values = Vec::new(alloc);
     /// values.push(Bson::Int32(1))?;
