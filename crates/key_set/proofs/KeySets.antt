@@ -51,7 +51,7 @@ last_behind (x ∷ y ∷ refs) last key e b =
     let next : suc (suc (length refs)) - 1 ≡ suc (suc (length refs) - 1) = omega arith in
     last_behind (y ∷ refs) last key (rw next at e) b
 
--- distinct references that are inserted one after the other are each put last
+-- distinct references that are inserted one after another are each put last
 pub each_inserted : (refs : List (Bor (List ℕ))) (i : ℕ) (d : Bor (List ℕ)) (after : List (List ℕ)) (place : Option ℕ) → i < length refs
     → IsDistinct bytes_eq (texts refs) → InsertsKey (texts (take i refs)) (get_or refs i d).now place after → after ≡ texts (take (i + 1) refs)
 each_inserted refs i d after place l distinct put =
