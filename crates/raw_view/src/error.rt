@@ -166,7 +166,7 @@ impl Error {
         Error::new(ErrorKind::MalformedValue { reason })
     }
 
-    /// Out of memory; without a key.
+    /// Out of memory, without a key.
     #[cold]
     #[inline(never)]
     pub fn out_of_memory() -> Error

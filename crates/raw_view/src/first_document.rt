@@ -19,7 +19,7 @@ pub enum NoDocument {
     TooShort,
     /// The length at the front is less than five, or more than the number of bytes.
     LengthIncorrect,
-    /// The length at the front is this and fits, but the last byte of that many isn't 0.
+    /// The length at the front is this and fits, but the last of these bytes isn't 0.
     NotTerminated(usize),
 }
 

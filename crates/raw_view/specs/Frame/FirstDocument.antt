@@ -21,7 +21,7 @@ pub record BeginsWithLength (s : List ℕ) (len : ℕ) : Type 0 where
   pub within : len ≤ length s
 
 -- the first reason why no document is at the front: too few bytes; no such length at the front; or such a length, but
--- the last byte of that many isn't 0
+-- the last of these bytes isn't 0
 abbrev pub RefusesFirst : List ℕ → NoDocument → Type 0
 RefusesFirst s no.TooShort = length s < 5
 RefusesFirst s no.LengthIncorrect = (5 ≤ length s) × ((len : ℕ) → ¬ BeginsWithLength s len)

@@ -6,8 +6,8 @@ use Rattle.raw_view.specs.Frame.Number.{IsLe32}
 use Rattle.raw_view.specs.declared.error.Reason.{Reason}
 use Rattle.raw_view.specs.declared.error.Reason.TheVariants as reason
 
--- a string: the length is negative; it is 0; fewer bytes than the four of the length and that many are left; the last
--- of them isn't 0
+-- a string: the length is negative; it is 0; fewer bytes are left than the four of the length and those that it
+-- declares; the last of these isn't 0
 abbrev pub string_row : ℕ → ℤ → Reason
 string_row left (negsuc _) = reason.NegativeLength
 string_row left (pos declared) =
@@ -23,7 +23,7 @@ document_row left (pos declared) =
     else if nat_lt left declared then reason.PastEnd declared left
     else reason.NestedNotTerminated
 
--- a binary: the length is negative; fewer bytes than the four of the length, the subtype and that many are left
+-- a binary: the length is negative; fewer bytes are left than the four of the length, the subtype and those declared
 abbrev pub binary_row : ℕ → ℤ → Reason
 binary_row left (negsuc _) = reason.NegativeLength
 binary_row left (pos declared) = reason.PastEnd (declared + 5) left

@@ -112,7 +112,7 @@ fn plain_len(bytes: &[u8]) -> usize
     }
 }
 
-/// The same text at the front of fewer than sixteen bytes, by comparisons that overlap.
+/// The same for fewer than sixteen bytes, by comparisons that overlap.
 #[inline(always)]
 fn split_last_text(bytes: &[u8]) -> Option<(&str, &[u8])>
     requires short { length bytes.now < LANES }
