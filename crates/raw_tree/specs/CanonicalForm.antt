@@ -26,7 +26,7 @@ ComesBack sort t = IsProper t → encoded_len t ≤ max_length → IsEnvelope (e
 abbrev pub DocumentsComeBack : Type 0
 DocumentsComeBack = (es : Entries) → ComesBack as_document (document es)
 
--- and of the tree of every list
+-- this holds of the tree of every list
 abbrev pub ListsComeBack : Type 0
 ListsComeBack = (ts : Trees) → ComesBack as_array (array ts)
 

@@ -45,8 +45,8 @@ struct Payload<'a> {
     start: usize,
 }
 
-/// Appends the beginning of the payload of a container, for all of which there is room. Its lengths aren't
-/// set yet.
+/// Appends the beginning of the payload of a container to `out`, which has room for the whole payload. Its
+/// lengths aren't set yet.
 #[inline(always)]
 fn put_opening(out: &mut Vec<u8>, container: Container<'_>)
     requires room { vec_len out.old + encoded_len (tree_of_container container) ≤ vec_capacity out.old }
@@ -66,7 +66,7 @@ fn put_opening(out: &mut Vec<u8>, container: Container<'_>)
 }
 
 impl<'a> Payload<'a> {
-    /// Appends the beginning of the payload of a container, for which there is room.
+    /// Appends the beginning of the payload of a container to `out`, which has room for the whole payload.
     #[tactic(auto, using(std::proofs::lemmas::Grind::common_steps, crate::proofs::writer::WrittenMembers::begins))]
     #[inline(always)]
     fn start(out: &mut Vec<u8>, container: Container<'a>) -> Payload<'a>

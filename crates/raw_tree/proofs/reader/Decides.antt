@@ -61,7 +61,7 @@ pub record HasOutcome (depth : ℕ) (sort : Sort) (b : List ℕ) (least : ℕ) :
   pub small : 2 * n + 4 ≤ length b
   pub is : IsOutcome depth sort b x n
 
--- and after fewer
+-- an outcome after at least m frames is one after at least k, which is less
 at_least : {depth : ℕ} {sort : Sort} {b : List ℕ} {m : ℕ} (k : ℕ) → k ≤ m → HasOutcome depth sort b m → HasOutcome depth sort b k
 at_least k l h = record { x = h.x; n = h.n; more = omega (arith, l, h.more); small = h.small; is = h.is }
 
@@ -100,7 +100,7 @@ pub record Stands (inside : ℕ) (s : List ℕ) (v : RawValue) (r : List ℕ) (t
   pub counts : HasInside (HasFrameCountUpTo inside) (value v) m
   pub small : 2 * m + length r + 2 ≤ length s
 
--- this holds of a value with nested bytes
+-- a value with nested bytes stands for a tree
 pub nested_stands : {inside : ℕ} {s : List ℕ} {f : Frame} {v : RawValue} {r : List ℕ} (at : IsAhead s f v r) (sort : Sort) (d : List ℕ) (t : Tree) (m : ℕ) → HoldsAs v sort d
     → StandsFor (ReadsUpTo inside) v t → HasFrameCountUpTo inside d m → 2 * m + 4 ≤ length d → Stands inside s v r t m
 nested_stands {inside} {s} {f} {v} {r} at sort d t m holds stands count small = record {
@@ -109,7 +109,7 @@ nested_stands {inside} {s} {f} {v} {r} at sort d t m holds stands count small = 
   small = omega (arith, small, nested_beside s f r v d at.frame at.means (holds_bytes v sort d holds));
 }
 
--- and of one without
+-- a value without nested bytes stands for a tree
 pub single_stands : {inside : ℕ} {s : List ℕ} {f : Frame} {v : RawValue} {r : List ℕ} (at : IsAhead s f v r) (t : Tree) → IsSingle v → StandsFor ReadsAs v t → Stands inside s v r t 0
 single_stands {inside} {s} {f} {v} {r} at t single stands =
     let none = none_inside inside v t single stands in
@@ -125,7 +125,7 @@ module _ {inside n : ℕ} {b s : List ℕ} {pairs : List (List ℕ × Tree)} (is
       let walk = LeadsTo-walk (drop 4 b) is.frames s Done is.leads final in
       ((pairs, (is.frames, walk, is.each), refl), (is.frames, Done, walk, is.counts), counts_to 0 n 0 (over (no_frame_at_final s final) refl) (omega arith))
 
-  -- or it fails there
+  -- or the walk fails there
   fails : (key : Option (List ℕ)) (fault : KeyedFault) → FailsAt s key fault → FirstFaultWithin (suc inside) b (fault_of fault)
   fails key fault at = (record { number = length is.frames; key = key } ∷ [], length b - length s, (is.frames, s, is.leads, (pairs, is.each), inl (key, at, refl, omega (arith, is.small))))
 
@@ -214,7 +214,7 @@ come_to (suc depth) sort b env =
     let none = none_passed depth b env in
     along depth (come_to depth) sort none.walk.0 none.walk.1 none none.walk.2
 
--- and so after passed frames and one more frame
+-- after passed frames and one more frame, too
 module _ (sort : Sort) {inside n : ℕ} {b s : List ℕ} {pairs : List (List ℕ × Tree)} (is : Passed inside b s pairs n) where
   pub outcome_from : HasOutcome (suc inside) sort b n
   outcome_from = along inside (come_to inside) sort is.walk.0 is.walk.1 is is.walk.2

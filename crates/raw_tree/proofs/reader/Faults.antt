@@ -20,7 +20,7 @@ read_passed (suc n) sort b t (pairs, (frames, walk, each), same) = (frames, walk
 held_read : (N : Sort → List ℕ → Tree → Type 0) (v : RawValue) (t : Tree) (sort : Sort) (d : List ℕ) → StandsFor N v t → HoldsAs v sort d → (u : Tree) × N sort d u
 held_read N v t sort d h holds = grind arith
 
--- faults at a front
+-- no fault is at the final 0
 
 fails_over : (s : List ℕ) (key : Option (List ℕ)) (fault : KeyedFault) → s ≡ 0 ∷ [] → ¬ FailsAt s key fault
 fails_over s None fault e stop = no_stop_at_final s fault.fault fault.key e stop
@@ -34,7 +34,7 @@ fails_same s (Some key) (Some other) a c (f, r, at, m, key_is) (g, q, there, n, 
     let same = (one_frame s g f q r there at).0 in
     (rw (key_is, other_is, same) refl, one_fault_of f c a (rw same at n) m)
 
--- none is at a frame that means a value
+-- no fault is at a frame that means a value
 not_fails : (s : List ℕ) (f : Frame) (r : List ℕ) (v : RawValue) → IsFrame s f r → Means f (value v) → (key : Option (List ℕ)) (fault : KeyedFault) → ¬ FailsAt s key fault
 not_fails s f r v at means None fault h = no_frame_at_stop s fault.fault fault.key h f r at
 not_fails s f r v at means (Some key) fault (g, q, there, m, key_is) = value_nor_fault f v fault means (rw ((one_frame s g f q r there at).0) at m)
@@ -62,12 +62,12 @@ barriers_unique = record {
 
 -- barriers
 
--- they don't depend on the sort
+-- barriers don't depend on the sort
 any_sort : (n : ℕ) (sort other : Sort) (b : List ℕ) (x : Barrier) (path : List Step) (offset : ℕ) → IsFirst barriers n sort b x path offset → IsFirst barriers n other b x path offset
 any_sort zero sort other b x path offset h = h
 any_sort (suc n) sort other b x path offset h = h
 
--- the nested bytes of a frame at the front have one
+-- the nested bytes of a frame at the front have a barrier
 pub bars_inside : (n : ℕ) (b : List ℕ) (frames : List Frame) (v : RawValue) (d : List ℕ) (x : Barrier) (steps : List Step) (inside offset : ℕ) {s : List ℕ} {f : Frame} {r : List ℕ}
     → IsFrame s f r × Means f (value v) × Holds v d → IsFirst barriers n as_document d x steps inside → IsOffsetOf b s (d ++ r) steps inside offset
     → IsFront barriers n as_document frames b s x (record { number = length frames; key = Some f.key } ∷ steps) offset
@@ -79,7 +79,7 @@ bars_inside n b frames v d x steps inside offset {s} {f} {r} (frame, means, hold
 pub apart_within : (n : ℕ) (sort : Sort) (b : List ℕ) (t : Tree) (x : Barrier) → ReadsUpTo n sort b t → FirstFaultWithin n b x → ⊥
 apart_within n sort b t x h (path, offset, bars) = apart barriers_unique n sort b x path offset (any_sort n as_document sort b x path offset bars) (read_passed n sort b t h)
 
--- bytes with a level that is too deep are at least as many as the allowed levels
+-- a level that is too deep needs at least as many bytes as levels are allowed
 pub deep_long : (n : ℕ) (b : List ℕ) → FirstFaultWithin n b too_deep → n ≤ length b
 deep_long n b (path, offset, h) = first.deep_long barriers (λ sort ps s key bad. bad) n as_document b path offset h
 
@@ -126,7 +126,7 @@ one_first_fault_of_value v x y h k = one_first_fault h.0 x y h.2 (rw (one_nested
 
 -- after frames that stand for trees
 
--- one with a fault isn't passed
+-- a frame with a fault isn't passed
 pub front_blocks : (fs : List Frame) (s : List ℕ) (g : Frame) (q : List ℕ) (fault : KeyedFault) → IsFrame s g q → FirstFaultOfFrame g fault → IsBlocked (AreRead ReadsAs) fs s
 front_blocks fs s g q fault there (inl means) f r more at passed = fails_block ReadsAs fs s (Some g.key) fault (g, q, there, means, refl) f r more at passed
 front_blocks fs s g q fault there (inr (w, means, bad)) f r more at (pairs, each) =

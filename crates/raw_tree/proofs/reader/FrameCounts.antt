@@ -101,7 +101,7 @@ one_frame_count b env =
 
 -- up to the first fault
 
--- where a count ends no frame is passed
+-- no frame is passed where a count ends
 front_counted : (N : List ℕ → ℕ → Type 0) (fs : List Frame) (r : List ℕ) (n : ℕ) → CountsFront N r n → IsBlocked (AreRead ReadsAs) fs r
 front_counted N fs r n (over none is) g p more there passed = none g p there
 front_counted N fs r n (at_fault f q m fault inside at means first h is) g p more there passed = front_blocks fs r f q fault at first g p more there passed

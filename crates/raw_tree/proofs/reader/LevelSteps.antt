@@ -137,7 +137,7 @@ module _ {depth n : ℕ} {u : Nested} {ws : List Waiting} {level : Level} (are :
     at_end : are.reading.rest ≡ 0 ∷ []
     at_end = rw are.reading.left at sees
 
-    -- in the outermost level
+    -- the outermost level ends
     pub finished : (result : Result Contents Error) → ws ≡ [] → IfOk result (Finishes level.holder level.draft) → IfErr result IsOutOfMemory → TellsReading depth u result n
     finished (Err e) none fin memory = ran_out e memory
     finished (Ok c) none fin memory =
@@ -146,7 +146,7 @@ module _ {depth n : ℕ} {u : Nested} {ws : List Waiting} {level : Level} (are :
         let levels : suc are.inside ≡ depth = omega (arith, are.levels, ap length none) in
         rw (← levels) (level_finished is (rw is.left at sees) c fin)
 
-    -- or in an inner one, and the level that waits for it continues
+    -- or an inner level ends, and the level that waits for it continues
     pub popped : {less : List Waiting} (w on : Waiting) → ws ≡ less ++ w ∷ [] → PutsLevel level w on → AreReading depth u less on.level n
     popped {less} w on e (t, drafts, more) =
         let (outer, waits, linked) = rw (e, reverse-append less (w ∷ [])) at are.waiting in
@@ -169,7 +169,7 @@ module _ {depth n : ℕ} {u : Nested} {ws : List Waiting} {level : Level} (are :
     ran_out_behind e memory =
         memory_told depth u e memory (told None (n + 1) (are.reading.here + 1, omega (arith, are.reading.total), outcome_behind sort are.reading.passed f front.0 front.1.frame))
 
-    -- it holds no nested bytes, and is appended
+    -- the value holds no nested bytes, and is appended
     pub put_whole : (on : Level) → IsSingle v → PutsValue v (with_left level new) f.key on → AreReading depth u ws on (n + 1)
     put_whole on single (t, stands, more) =
         let put = level_put {left = level.elements} (with_left level new) on are.reading v t 0 front (single_stands front.1 t single stands) more (omega arith) in
@@ -211,15 +211,15 @@ no_more n (w ∷ ws) new l e f = absurd (omega (arith, l, ap length e, ap length
 
 -- what is left
 
--- in the waiting levels, and how many these are
+-- what is left in the waiting levels, and the number of these levels
 abbrev pub left_in : List Waiting → ℕ
 left_in ws = sum_by (λ w. left_of w.level.elements + 1) ws
 
--- an element takes some
+-- an element takes some bytes
 pub step_smaller : {s : List ℕ} {f : Frame} (v : RawValue) (old new : Option (List ℕ)) (n : ℕ) → old ≡ Some s → Front s f v new → left_of new + n < left_of old + n
 step_smaller {s} {f} v old new n left front = rw (left, front.2) (omega (arith, IsFrame-shorter s f front.0 front.1.frame))
 
--- and more than its nested bytes, so less remains when its level begins to wait
+-- it takes more than its nested bytes, so less remains when its level begins to wait
 pub inward_smaller : {s : List ℕ} {f : Frame} (old inner : Level) (ws more : List Waiting) (w : Waiting) (v : Nested) → old.elements ≡ Some s → Front s f (held_value v) w.level.elements
     → more ≡ ws ++ w ∷ [] → IsUnread v inner → left_of inner.elements + left_in more < left_of old.elements + left_in ws
 inward_smaller {s} {f} old inner ws more w v left front e unread =
@@ -228,7 +228,7 @@ inward_smaller {s} {f} old inner ws more w v left front e unread =
     let beside = nested_beside s f front.0 (held_value v) d front.1.frame front.1.means (held_holds v.holder d) in
     rw (unread.0, e, left) (omega (arith, push, ap left_of front.2, length-drop 4 d, beside))
 
--- and when a waiting level continues
+-- less remains when a waiting level continues
 pub outward_smaller : (n : ℕ) (ws less : List Waiting) (w : Waiting) → ws ≡ less ++ w ∷ [] → left_of w.level.elements + left_in less < n + left_in ws
 outward_smaller n ws less w e =
     rw e (omega (arith, sum_by_push (λ (x : Waiting). left_of x.level.elements + 1) less w))

@@ -76,7 +76,7 @@ module _ (holds : OfParts)
   InPairs-with_pair k t [] a h b = (a, h, tt)
   InPairs-with_pair k t (p ∷ ps) a h b = grind (arith, InPairs-with_pair k t ps a h)
 
-  -- with more pairs, inserted one after the other
+  -- with more pairs, inserted one after another
   InPairs-fold : (qs ps : List (List ℕ × Tree)) → InPairs qs → InPairs ps → InPairs (fold (λ rs p. with_pair p.0 p.1 rs) qs ps)
   InPairs-fold qs [] a h = a
   InPairs-fold qs (p ∷ ps) a h = InPairs-fold (with_pair p.0 p.1 qs) ps (InPairs-with_pair p.0 p.1 qs h.0 h.1 a) h.2

@@ -58,7 +58,7 @@ BreachesFrame sort keys f why = BreachesKeys sort keys f.key why ⊎ (AreKeysCan
 one_of_frame : (sort : Sort) (keys : List (List ℕ)) (f : Frame) (why other : Cause) → BreachesFrame sort keys f why → BreachesFrame sort keys f other → other ≡ why
 one_of_frame sort keys f why other h g = grind (arith, key_nor_breach, one_meaning, one_itself, one_of_keys)
 
--- none whose key is canonical and whose value is none by itself
+-- a frame whose key is canonical and whose value is no breach by itself doesn't breach
 frame_nor_breach : (sort : Sort) (keys : List (List ℕ)) (f : Frame) (v : RawValue) (why : Cause) → AreKeysCanonical sort (keys ++ f.key ∷ []) → Means f (value v) → ¬ BreachesItself (value v) why
     → ¬ BreachesFrame sort keys f why
 frame_nor_breach sort keys f v why more means none (inl bad) = key_nor_breach sort keys f.key why more bad

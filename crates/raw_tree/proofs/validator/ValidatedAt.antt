@@ -1,4 +1,4 @@
--- What the loop of a validation preserves, and what follows where it ends.
+-- What the loop of a validation preserves, and what follows at its end.
 use Rattle.std.proofs.Common.{◌≡◌, ◌∙◌, ◌≤◌, ◌<◌, ◌+◌, ◌-◌, ◌++◌, ◌∷◌, [], inl, ℕ, suc, List, Bool, Bor, Option, Some, length, arith, ap, refl, sym, subst}
 use Rattle.raw_tree.proofs.Common.{AreKeysCanonical, Cause, Frame, HoldsAs, IsCanonicalUpTo, RawElement, RawValue, as_document, bytes_of, frame_of, keys_of_frames, length-map, texts}
 use Rattle.raw_tree.proofs.walk.Common.{AreOpenKeys, BeginsAt, Enters, FirstViolationTo, GoesOn, HasKeysSoFar, IsAt, IsWithin, KeysSoFar, Leaves, LeavesOpenKeys, Level, RawDocument, Step, TellsValidated, Validated, Validates}
@@ -43,7 +43,7 @@ module _ {document : RawDocument} {depth : ℕ} {walk : Walk} {level : Level} {o
       rw (← is.depth_is, at.number_is) (front_outward at (violations_outward (bytes_of document) x) step (λ here begins.
       (at.frames, at.rest, at.reaches, (at.knows.keys_canonical, at.knows.canonical), front here begins)))
 
-  -- it continues like this, further on
+  -- the walk continues like this, further on
   abbrev pub GoesFurther : Walk → Level → List KeysSoFar → List (Bor (List ℕ)) → KeysSoFar → Type 0
   GoesFurther new to outer listed k = IsValidatedAt document depth new to outer listed k × (length (bytes_of document) - to.offset < length (bytes_of document) - level.offset)
 
@@ -103,7 +103,7 @@ module _ {document : RawDocument} {depth : ℕ} {walk : Walk} {level : Level} {o
           let (v, next, holds, has, more) = inside_next in
           omega (arith, next_ends is.at next, inside_within.1, ap (λ (l : Level). l.offset) enters.level_is)
 
-      -- or is too deep
+      -- or the level in it is too deep
       pub validated_deep : walk.most_waiting ≤ length walk.waiting.items
           → FirstViolationTo depth as_document (bytes_of document) too_deep (at_path is.at ++ record { number = level.number; key = Some (frame_of e).key } ∷ []) level.offset
       validated_deep full =
@@ -113,7 +113,7 @@ module _ {document : RawDocument} {depth : ℕ} {walk : Walk} {level : Level} {o
           front_violates too_deep (Some (frame_of e).key) (λ here begins. violates_inside l.inside l.here.bytes l.here.known.sort is.at.frames v (array_sort is_array)
           (bytes_of inner) here (next.frame, next.means, holds) more (too_deep, [], 0, deep) begins)
 
-    -- it is a breach
+    -- the element is a breach
     pub validated_breach : (key : Option (Bor (List ℕ))) (why : Cause) → x ≡ validated.Breach key why
         → FirstViolationTo depth as_document (bytes_of document) (breach_of why) (at_path is.at ++ record { number = level.number; key = option_copied key } ∷ []) level.offset
     validated_breach key why x_is = front_violates (breach_of why) (option_copied key) (λ here begins. inl (option_copied key, (why, refl, rw x_is at is_told.tells), refl, begins))

@@ -45,13 +45,13 @@ pub record IsKept (inside : ℕ) (w : Wait Keyed) (i : Span Keyed) : Type 0 wher
   pub keys_canonical : AreKeysCanonical w.level.known.sort (keys_of_frames w.frames ++ w.f.key ∷ [])
   pub canonical : AreFramesCanonical (IsCanonicalUpTo inside) w.frames
 
--- none is passed
+-- no frame is passed
 pub none_validated : {outer : List KeysSoFar} {listed : List (Bor (List ℕ))} {k : KeysSoFar} (inside : ℕ) (i : Span Keyed) → outer ≡ i.known.outer → HasKeysSoFar k listed i.known.sort i.known.below []
     → IsValidated outer listed k inside i []
 none_validated inside i outer_is has = record { outer_is = outer_is; keys = has; keys_canonical = no_keys i.known.sort; canonical = tt }
 
 module _ {outer : List KeysSoFar} {listed : List (Bor (List ℕ))} {k : KeysSoFar} {inside : ℕ} {i : Span Keyed} {frames : List Frame} (is : IsValidated outer listed k inside i frames) where
-  -- one more is passed
+  -- one more frame is passed
   pub validated_more : {after : List (Bor (List ℕ))} {ks : KeysSoFar} (f : Frame) (v : RawValue) → Means f (value v) → IsSingleWith (λ A. A) v
       → HasKeysSoFar ks after i.known.sort i.known.below (keys_of_frames frames ++ f.key ∷ []) → AreKeysCanonical i.known.sort (keys_of_frames frames ++ f.key ∷ [])
       → IsValidated outer after ks inside i (frames ++ f ∷ [])
@@ -62,7 +62,7 @@ module _ {outer : List KeysSoFar} {listed : List (Bor (List ℕ))} {k : KeysSoFa
     canonical = frames_more (IsCanonicalUpTo inside) frames f v is.canonical means (single_canonical (IsCanonicalUpTo inside) v single);
   }
 
-  -- all of the level are passed
+  -- all frames of the level are passed
   pub all_validated : {s : List ℕ} → LeadsTo (drop 4 i.bytes) frames s → s ≡ 0 ∷ [] → IsCanonicalUpTo (suc inside) i.known.sort i.bytes
   all_validated {s} l final = (frames, LeadsTo-walk (drop 4 i.bytes) frames s Done l final, is.keys_canonical, is.canonical)
 

@@ -44,20 +44,20 @@ deep_told : (most : ℕ) (b : List ℕ) (walk : Walk) (from : Level) (path : Lis
 deep_told most b walk from path e bars (error.Barrier answer) (full, at) = told_at most b path _ from.offset kind.TooDeep too_deep refl (bars full) (error.Barrier answer) at
 deep_told most b walk from path e bars error.OutOfMemory at = (tt, tt)
 
--- it is within the document, and no more levels wait than are allowed
+-- the walk is within the document, and no more levels wait than are allowed
 pub come_within : {document : RawDocument} {most : ℕ} {walk : Walk} {level : Level} {seen : List Visit} → HasCome document most walk level seen
     → (level.offset ≤ length (bytes_of document)) × (length walk.waiting.items ≤ most)
 come_within is = (omega (arith, (at_within is.at).0), (at_within is.at).1)
 
 module _ {document : RawDocument} {most : ℕ} {walk : Walk} {level : Level} {seen : List Visit} (is : HasCome document most walk level seen) where
-  -- its visits are the first of all visits
+  -- the visits so far are the first of all visits
   pub come_front : (vs : List Visit) → HasVisits (suc most) 0 (bytes_of document) vs → (rest : List Visit) × (vs ≡ seen ++ rest)
   come_front vs has =
       let l = is.at.levels in
       seen_front (whole_span [] document) seen l.inside (suc most) l.waits l.here (omega (arith, l.many)) l.held
       (λ us own. let (rest, behind, same) = seen_there is.at.rest us is.at.knows is.at.reaches own in (rest, same)) vs has
 
-  -- it is nearer to the document's end
+  -- the walk is nearer to the document's end
   pub comes_nearer : {new : Walk} {to : Level} (x : Visit) → ComesTo document most level seen new to x → length (bytes_of document) - to.offset < length (bytes_of document) - level.offset
   comes_nearer x come = omega (arith, come.further, come.within)
 
@@ -121,7 +121,7 @@ module _ {document : RawDocument} {most : ℕ} {walk : Walk} {level : Level} {se
             omega (arith, ap length enters.stored, length-append walk.waiting.items (stored_level level ∷ [])),
           )
 
-      -- it is too deep
+      -- the level is too deep
       pub told_deep : (answer : WalkError) → ((path : List Step) → StoreSteps (bytes_of walk.document) walk.waiting.items path → IsTooDeep walk level path e answer)
           → TellsError most (bytes_of document) answer × IsThere level.offset answer
       told_deep answer ends = deep_told most (bytes_of document) walk level (at_path is.at) e (λ full.

@@ -13,7 +13,7 @@ use Rattle.raw_tree.proofs.walk.OneEnd.{IsBlocked, passed_once, passed_whole}
 pub held_some : (v : RawValue) (d : List ℕ) → Holds v d → (sort : Sort) × HoldsAs v sort d
 held_some v d h = grind arith
 
--- in one way
+-- it is held in one way
 one_held : (v : RawValue) (s t : Sort) (d e : List ℕ) → HoldsAs v s d → HoldsAs v t e → (t ≡ s) × (e ≡ d)
 one_held v s t d e h g = grind arith
 
@@ -68,8 +68,8 @@ module _ {X : Type 0} (sought : Sought X) where
       let deep = deeper more n m few held_as d x steps inside other nested in
       (ps, s, leads, more n m few sort ps before, inr (none, (f, q, v, held_as, d, steps, inside, frame, means, holds, deep, path_is, there)))
 
--- What makes places unique. One thing at most is at a front, and none at the final 0. Frames aren't passed if they have one at their front, or if their
--- nested bytes aren't passed.
+-- What makes places unique. At most one thing is at a front, and none at the final 0. Frames aren't passed if they have one at their front,
+-- or if their nested bytes aren't passed.
 pub record IsUnique {X : Type 0} (sought : Sought X) : Type 0 where
   pub over : (sort : Sort) (ps : List Frame) (s : List ℕ) (key : Option (List ℕ)) (x : X) → s ≡ 0 ∷ [] → ¬ sought.is_at sort ps s key x
   pub one : (sort : Sort) (ps : List Frame) (s : List ℕ) (key other : Option (List ℕ)) (x y : X) → sought.is_at sort ps s key x → sought.is_at sort ps s other y → (other ≡ key) × (y ≡ x)

@@ -170,7 +170,7 @@ module _ {K : Type 0} {Behind : ℕ → Wait K → Span K → Type 0} {Fact : �
       knows = knows;
     })
 
-    -- it waits for the level in its value
+    -- the level waits for the one in the element's value
     module _ (inner : RawDocument) (holds : Holds v (bytes_of inner)) where
       pub inside_fits : length (bytes_of inner) ≤ size_of (frame_of e)
       inside_fits = omega (arith, nested_beside at.rest (frame_of e) is.r v (bytes_of inner) is.frame is.means holds, frame_size at.rest (frame_of e) is.r is.frame)
@@ -265,14 +265,14 @@ module _ {K : Type 0} {Behind : ℕ → Wait K → Span K → Type 0} {Fact : �
           knows = knows w held;
         })
 
-    -- which is further on
+    -- the resumed level is further on
     pub resumed_further : {new : Walk} {to : Level} → Leaves walk level.offset new to → (to.offset ≡ level.offset + 1) × (0 < to.number)
     resumed_further {new} leaves =
         let goes = at_goes_on new.waiting.items leaves.w leaves.stored in
         let there = leaves.level_is goes.bytes goes.lies in
         (ap (λ (l : Level). l.offset) there, omega (arith, ap (λ (l : Level). l.number) there))
 
-  -- if no level waits, it is the document
+  -- if no level waits, the level is the document
   pub at_outside : walk.waiting.items ≡ [] → (at.levels.here ≡ whole_span known document) × (at.levels.inside ≡ most)
   at_outside none =
       let few : length at.levels.waits ≡ 0 = omega (arith, as_many at.levels.waits, ap length at.levels.stored, ap length none) in

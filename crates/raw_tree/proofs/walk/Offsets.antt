@@ -121,7 +121,7 @@ stored_there b (w ∷ ws) (step ∷ path) (suc n) other h few =
     let there = stored_there b ws path n other h.1 (omega (arith, few)) in
     (there.0, there.1, ap (λ (steps : List Step). step ∷ steps) there.2)
 
--- its element is in the document
+-- the element of a stored level is in the document
 pub stored_within : (b : List ℕ) (w : Waiting) (step : Step) → StoresStep b w step → (4 ≤ w.element) × (w.element ≤ length b)
 stored_within b w step is =
     (is.first, omega (arith, frame_size (drop w.element b) is.frame is.rest is.at, length-drop w.element b))
@@ -129,7 +129,7 @@ stored_within b w step is =
 pub stored_step : {b : List ℕ} {w : Waiting} {step : Step} (is : StoresStep b w step) (key : List ℕ) → key ≡ is.frame.key → record { number = w.number; key = Some key } ≡ step
 stored_step {w = w} is key same = (λ i. record { number = w.number; key = Some (same i) }) ∙ sym is.step_is
 
--- the steps at which they wait
+-- the steps at which stored levels wait
 pub steps_more : (steps more : List PathStep) (step : PathStep) (path : List Step) (n : ℕ) (last : Step) → map step_of steps ≡ take n path
     → more ≡ steps ++ step ∷ [] → step_of step ≡ last → take (suc n) path ≡ take n path ++ last ∷ [] → map step_of more ≡ take (n + 1) path
 steps_more steps more step path n last h e same next =

@@ -8,7 +8,7 @@ use Rattle.raw_tree.proofs.walk.Offsets.{left_there, placed, whole_lies}
 pub first_behind : (b : List ℕ) → 5 ≤ length b → IsBehind b 0 4
 first_behind b enough = record { frames = []; s = drop 4 b; reaches = refl; number_is = refl; begins = omega (arith, length-drop 4 b, enough) }
 
--- and nothing is before it
+-- nothing is before the first element
 pub first_begins : (depth : ℕ) (b : List ℕ) → 5 ≤ length b → HasNoneBefore depth b 0 4
 first_begins depth b enough inside e = record {
   frames = [];

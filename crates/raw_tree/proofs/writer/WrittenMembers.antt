@@ -76,7 +76,7 @@ abbrev pub left_with : Begun → Entries → Begun
 left_with x left = record { tree = x.tree; start = x.start; left = left }
 
 module _ {t : Tree} {levels : List Begun} {level : Begun} {out : List ℕ} (is : IsWriting t (level ∷ levels) out) where
-  -- none remains: the level is ended
+  -- no member remains: the level is ended
   pub writing_ends : level.left ≡ no_entry → IsWriting t levels (ended level.tree level.start (out ++ 0 ∷ []))
   writing_ends none = record { makes = rw none at is.makes.1 }
 
@@ -85,11 +85,11 @@ module _ {t : Tree} {levels : List Begun} {level : Begun} {out : List ℕ} (is :
     passed : complete level out ≡ complete (left_with level left) (out ++ element_of (kind_of_tree m) key (tree_payload m))
     passed = rw (step, append_assoc out (element_of (kind_of_tree m) key (tree_payload m)) (entries_bytes left ++ 0 ∷ [])) (simp append_assoc)
 
-    -- and written
+    -- the member is written
     pub writing_leaf : IsWriting t (left_with level left ∷ levels) (out ++ element_of (kind_of_tree m) key (tree_payload m))
     writing_leaf = record { makes = (omega (arith, is.makes.0, length-append out (element_of (kind_of_tree m) key (tree_payload m))), rw passed at is.makes.1) }
 
-    -- or waits for its own members
+    -- or it waits for its own members
     pub writing_inside : (head : List ℕ) → HoldsTrees m → head ≡ out ++ tagged (tag_of (kind_of_tree m)) key []
         → IsWriting t (begun_at m (length head) ∷ left_with level left ∷ levels) (head ++ opening m)
     writing_inside head holds h =

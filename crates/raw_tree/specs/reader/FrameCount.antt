@@ -59,7 +59,7 @@ HasFramesUntilFault b n = (levels : ℕ) × HasFramesUntilUpTo levels b n
 abbrev pub AllHaveOneFrameCount : Type 0
 AllHaveOneFrameCount = (b : List ℕ) → IsEnvelope b → (n : ℕ) × HasFrameCount b n × (n ≤ (length b - 4) / 2) × ((other : ℕ) → HasFrameCount b other → other ≡ n)
 
--- and exactly one number of frames up to the first fault
+-- all bytes with an envelope have exactly one number of frames up to the first fault
 abbrev pub AllAreCountedOneWay : Type 0
 AllAreCountedOneWay = (b : List ℕ) → IsEnvelope b → (n : ℕ) × HasFramesUntilFault b n × ((other : ℕ) → HasFramesUntilFault b other → other ≡ n)
 

@@ -73,7 +73,7 @@ IsOneMore old key t new =
 abbrev pub PutsValue : RawValue → Level → List ℕ → Level → Type 0
 PutsValue v old key new = (t : Tree) × StandsFor ReadsAs v t × IsOneMore old key t new
 
--- the tree is that of a value whose bytes are read as this content, with as many levels
+-- the tree is that of a value whose bytes are read as this content, with the same number of levels
 abbrev pub ClosesAs : Contents → Bson → Type 0
 ClosesAs c t = (levels : ℕ) (d : List ℕ) → ReadsUpTo levels (sort_of (holder_of c)) d (tree_of_contents c) → StandsFor (ReadsUpTo levels) (holding (holder_of c) d) (tree_of t)
 
@@ -95,7 +95,7 @@ PutsLevel inner old new = (t : Bson) × DraftsTree inner.holder inner.draft t ×
 abbrev pub AreRead : Holder → List ℕ → Contents → Type 0
 AreRead h b c = (holder_of c ≡ h) × ReadsAs (sort_of h) b (tree_of_contents c)
 
--- and have at most this many levels
+-- the held bytes are read as this content, and have at most this many levels
 abbrev pub AreReadUpTo : ℕ → Holder → List ℕ → Contents → Type 0
 AreReadUpTo levels h b c = (holder_of c ≡ h) × ReadsUpTo levels (sort_of h) b (tree_of_contents c)
 

@@ -38,7 +38,7 @@ HasKeysSoFar (kept.Distinct set) listed sort below own = (sort ≡ as_document) 
 abbrev pub AreOpenKeys : KeysSoFar → List (Bor (List ℕ)) → Type 0
 AreOpenKeys k listed = (sort : Sort) × (below : List (List ℕ)) × (own : List (List ℕ)) × HasKeysSoFar k listed sort below own × AreKeysCanonical sort own
 
--- the key is after these from now on, and they are canonical; or it is a breach
+-- the key is added after these keys, and all are canonical; or it is a breach
 abbrev pub TellsOpenKey : Sort → List (List ℕ) → List (List ℕ) → List ℕ → KeysSoFar → List (Bor (List ℕ)) → Option Cause → Type 0
 TellsOpenKey sort below own key k listed None = HasKeysSoFar k listed sort below (own ++ key ∷ []) × AreKeysCanonical sort (own ++ key ∷ [])
 TellsOpenKey sort below own key k listed (Some why) = BreachesKeys sort own key why

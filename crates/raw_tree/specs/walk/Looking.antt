@@ -13,7 +13,7 @@ use Rattle.raw_tree.specs.walk.First.{BeginsAt}
 use Rattle.raw_tree.specs.declared.walk.level.Next.{Next}
 use Rattle.raw_tree.specs.declared.walk.level.Next.TheVariants as seen
 
--- how many bytes a frame takes: a tag, its key with a 0, and its payload
+-- the number of bytes of a frame: its tag, its key with a 0, and its payload
 abbrev pub size_of : Frame → ℕ
 size_of f = length f.key + length f.payload + 2
 
@@ -59,6 +59,6 @@ pub record AreReadBefore (inside : ℕ) (b : List ℕ) (number offset : ℕ) : T
   pub number_is : number ≡ length frames
   pub begins : BeginsAt b s offset
 
--- the same, where a document may have this many levels in all
+-- the same, where a document may have `depth` levels in all
 abbrev pub HasNoneBefore : ℕ → List ℕ → (number offset : ℕ) → Type 0
 HasNoneBefore depth b number offset = (inside : ℕ) → suc inside ≡ depth → AreReadBefore inside b number offset

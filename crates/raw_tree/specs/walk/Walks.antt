@@ -260,7 +260,7 @@ pub record Leaves (old : Walk) (offset : ℕ) (new : Walk) (to : Level) : Type 0
   pub stored : old.waiting.items ≡ new.waiting.items ++ w ∷ []
   pub level_is : (d : List ℕ) → LiesAt (bytes_of old.document) w.start d → to ≡ resumed_level w d (offset + 1)
 
--- the same; or no level waits
+-- at the final 0 the walk returns to the outer level; or no level waits
 abbrev pub LeavesOrEnds : Walk → (offset : ℕ) → Walk → (to : Level) → Bool → Type 0
 LeavesOrEnds old offset new to true = Leaves old offset new to
 LeavesOrEnds old offset new to false = old.waiting.items ≡ []

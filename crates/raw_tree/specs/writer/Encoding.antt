@@ -75,7 +75,7 @@ RefusesTree t _ = ⊥
 abbrev pub IsEncoded : Tree → List ℕ → Type 0
 IsEncoded t bytes = IsNulFree t × (encoded_len t ≤ max_length) × (bytes ≡ encoding t)
 
--- otherwise why there is none, without a key
+-- the error says why there is no encoding, without a key
 abbrev pub IsRefused : Tree → Error → Type 0
 IsRefused t e = RefusesTree t e.kind × (key_of e ≡ None)
 

@@ -13,7 +13,7 @@ use key_set::KeySet;
 use raw_view::Result;
 use std::alloc::Global;
 
-/// The keys of a level whose elements are validated one after the other.
+/// The keys of a level whose elements are validated one after another.
 #[derive(Drop)]
 pub(crate) enum KeysSoFar<'a> {
     /// the keys of an array: its elements are numbered, so the list has no entry for them
