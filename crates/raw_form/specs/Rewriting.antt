@@ -70,7 +70,7 @@ abbrev pub IsRest : Option (List ℕ) → List (List ℕ × Tree) → Type 0
 IsRest None pairs = ⊥
 IsRest (Some s) pairs = ReadsRest ReadsAs s pairs
 
--- the next frames, as many as this, are written as they are
+-- the next n frames are written as they are
 abbrev pub AreLeftOwn : ℕ → Option (List ℕ) → Type 0
 AreLeftOwn n None = Unit {0}
 AreLeftOwn n (Some s) = AreNextOwn n s
@@ -96,14 +96,14 @@ numbered_key (Some n) key = decimal n
 abbrev pub member_key : Member → List ℕ
 member_key m = numbered_key m.number (frame_of m.element).key
 
--- no member is left; or this is the first and the others are left, and if it is marked so, it is written as it is
+-- no member is left; or this is the first, and the others are left; if it is marked as known, it is written as it is
 abbrev pub TakesNext : Entries → Option Member → Keys → Option (List ℕ) → Type 0
 TakesNext ms None k left = ms ≡ no_entry
 TakesNext ms (Some m) k left =
     (t : Tree) × (rest : Entries) × (ms ≡ entry_then (member_key m) t rest) × FrameStandsFor (frame_of m.element) t × IsLeft k left rest
     × (IsTrue m.is_known → IsOwnForm (frame_of m.element))
 
--- the member is written as this tree, and as it is if it is marked so
+-- the member is written as this tree; if it is marked as known, it is written as it is
 abbrev pub IsMemberOf : Member → Tree → Type 0
 IsMemberOf m t = FrameStandsFor (frame_of m.element) t × (IsTrue m.is_known → IsOwnForm (frame_of m.element))
 

@@ -32,15 +32,15 @@ IsWrittenAs k p t = (tree_payload t ≡ p) × (kind_of_tree t ≡ k)
 abbrev pub IsOwnForm : Frame → Type 0
 IsOwnForm f = (t : Tree) → FrameStandsFor f t → IsWrittenAs f.kind f.payload t
 
--- this holds of the next frames, as many as n
+-- the next n frames are written as they are
 abbrev pub AreNextOwn : ℕ → List ℕ → Type 0
 AreNextOwn n s = (frames : List Frame) (q : List ℕ) (f : Frame) (r : List ℕ) → LeadsTo s frames q → IsFrame q f r → length frames < n → IsOwnForm f
 
--- this holds of the frames of the outermost level of the document d that begin before this offset
+-- the frames of the outermost level of the document d that begin before this offset are written as they are
 abbrev pub AreOwnBefore : ℕ → List ℕ → Type 0
 AreOwnBefore known d = (frames : List Frame) (s : List ℕ) (f : Frame) (r : List ℕ) → LeadsTo (drop 4 d) frames s → IsFrame s f r → length d < known + length s → IsOwnForm f
 
--- this holds of what is before the start in the document d
+-- the frames before the start in the document d are written as they are
 pub record IsOwnUpTo (d : List ℕ) (start : Start) : Type 0 where
   pub next : AreNextOwn start.number (drop 4 d)
   pub before : AreOwnBefore start.offset d
@@ -52,7 +52,7 @@ TellsStart depth b (Some start) = HasNoneBefore depth b start.number start.offse
 
 -- a document with repeated keys
 
--- at this place of the document's bytes there is a frame of its outermost level with this key, which stands for this tree
+-- a frame of the outermost level is at this place of the document; it has this key and stands for this tree
 pub record IsFrameAt (d : List ℕ) (place : ℕ) (key : List ℕ) (t : Tree) : Type 0 where
   pub passed : List Frame
   pub f : Frame
@@ -64,13 +64,13 @@ pub record IsFrameAt (d : List ℕ) (place : ℕ) (key : List ℕ) (t : Tree) : 
   pub least : 4 ≤ place
   pub within : place ≤ length d
 
--- at these places there are frames that stand for the pairs, in this order
+-- frames at these places stand for the pairs, in this order
 abbrev pub AreFramesAt : List ℕ → List ℕ → List (List ℕ × Tree) → Type 0
 AreFramesAt d [] [] = Unit {0}
 AreFramesAt d (place ∷ places) (p ∷ pairs) = IsFrameAt d place p.0 p.1 × AreFramesAt d places pairs
 AreFramesAt d _ _ = ⊥
 
--- no key is repeated among the pairs of the document; or at these places are those that its tree keeps
+-- no key is repeated among the pairs of the document; or the pairs that its tree keeps are at these places
 abbrev pub HasLastPlaces : Option (List ℕ) → List ℕ → List (List ℕ × Tree) → Type 0
 HasLastPlaces None d pairs = IsDistinct bytes_eq (keys_of pairs)
 HasLastPlaces (Some places) d pairs = AreFramesAt d places (keep pairs)
@@ -81,7 +81,7 @@ IsLeftAt last ms =
     (pairs : List (List ℕ × Tree)) × AreFramesAt (bytes_of last.document) (drop last.passed last.places.items) pairs × (ms ≡ entries pairs)
     × AreOwnBefore last.known (bytes_of last.document)
 
--- no member is left; or the element is that of the first and the others are left, and if it is marked so, it is written as it is
+-- no member is left; or the element is that of the first, and the others are left; if it is marked as known, it is written as it is
 abbrev pub TakesMember : Entries → Option (RawElement × Bool) → LastPlaces → Type 0
 TakesMember ms None last = ms ≡ no_entry
 TakesMember ms (Some (e, is_known)) last =

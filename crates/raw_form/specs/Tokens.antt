@@ -56,7 +56,7 @@ abbrev pub HasTokens : ℕ → ℕ → ℕ → List ℕ → List Token → Type 
 HasTokens zero depth start b ts = ⊥
 HasTokens (suc n) depth start b ts = (frames : List Frame) × IsWalk (drop 4 b) frames Done × AreTokens (HasTokens n (suc depth)) depth (start + 4) frames ts
 
--- What is returned for the document b: the number of its tokens, of which as many as fit are at the front of the room; or its first barrier
+-- What is returned for the document b: the number of its tokens, of which those that fit are at the front of the room; or its first barrier
 -- with its place. Memory is requested only if there are few enough bytes and a level may be entered.
 abbrev pub Flattens : Limits → List ℕ → List Token → List Token → Result ℕ FlattenError → Type 0
 Flattens limits b before after (Ok count) =

@@ -19,7 +19,7 @@ use raw_tree::{payload_len, put_element, put_head, put_string, put_unset, set_le
 use raw_view::{ElementType, Error, Holder, RawBsonRef, RawElement, RawRegexRef, Reason, Result};
 use std::alloc::Global;
 
-/// Makes room for `added` more bytes, if a document may have as many in all.
+/// Makes room for `added` more bytes. Fails if a document can't have that many in all.
 #[inline(always)]
 fn make_room(out: &mut Vec<u8>, added: usize) -> Result<()>
     ensures items { out.new.items ≡ out.old.items }

@@ -15,7 +15,7 @@ use Rattle.key_set.proofs.Face.{first_at, position_is}
 use Rattle.raw_form.specs.Staying.{AreFramesAt, IsFrameAt, IsLeftAt, TakesMember}
 use Rattle.raw_form.proofs.rewritten.Members.{pair_over, pair_taken}
 
--- These pairs were passed, and this holds of them; those of the rest follow.
+-- These pairs were passed, and P holds of them; those of the rest follow.
 pub record HasPassed (P : List (List ℕ × Tree) → Type 0) (left : Option (List ℕ)) (pairs : List (List ℕ × Tree)) : Type 0 where
   pub passed : List (List ℕ × Tree)
   pub rest : List (List ℕ × Tree)

@@ -1,4 +1,4 @@
--- What the loop of rewriting preserves, and what follows where it ends.
+-- What the loop of rewriting preserves, and what follows at its end.
 use Rattle.std.proofs.Common.{Result, Ok, Err, IfErr, IsErrAnd, IsTrue, ◌⊎◌, ◌≡◌, ◌∙◌, ◌≤◌, ◌+◌, ◌++◌, ◌∷◌, [], inl, inr, ℕ, List, Option, None, Some, length, arith, ap, refl, sym, length-append, reverse}
 use Rattle.std.proofs.lemmas.List.{reverse-append}
 use Rattle.bson_model.specs.Tree.{no_entry}
@@ -131,13 +131,13 @@ module _ {b : List ℕ} {ws : List Rewritten} {out : List ℕ} {new : Rewritten}
       let len : entries_len is.here.left ≡ (2 + length (member_key m) + encoded_len next.0) + entries_len next.1 = rw next.2 refl in
       omega (arith, room is, len)
 
-  -- it is written as a whole
+  -- the member is written as a whole
   pub rewriting_put : {held : Option RawLevel} → ((h : RawLevel) → held ≡ Some h → ⊥) → (more : List ℕ) → PutsMember m next.0 held out more → IsRewriting b ws new more
   rewriting_put {held = (Some h)} none more put = absurd (none h refl)
   rewriting_put {held = None} none more e =
       record { tree = is.tree; read = is.read; outer = is.outer; here = left_with is.here next.1; waits = is.waits; begun = passed_on; writing = rw e (writing_leaf is.writing next.2) }
 
-  -- or it holds a level
+  -- or the member holds a level
   module _ (h : RawLevel) (means : Means (frame_of m.element) (value (held_value h))) {head : List ℕ} (head_is : head ≡ out ++ tagged (tag_of (kind_of_raw (held_value h))) (member_key m) []) where
     pub stands : StandsFor ReadsAs (held_value h) next.0
     stands = value_stands m next.0 of_tree (held_value h) means

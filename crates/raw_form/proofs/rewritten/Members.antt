@@ -62,7 +62,7 @@ known_to n d start passed s reaches canonical number begins = record {
   before = λ frames q f p leads at less. own_before n (drop 4 d) passed s frames reaches canonical leads at (inr (omega (arith, less, begins)));
 }
 
--- none is before the first element
+-- no frame is before the first element
 pub known_to_first : (d : List ℕ) (start : Start) → 5 ≤ length d → start.number ≡ 0 → start.offset ≡ 4 → IsOwnUpTo d start
 known_to_first d start enough number offset = known_to 0 d start [] (drop 4 d) refl tt number (omega (arith, enough, offset, length-drop 4 d))
 
