@@ -14,7 +14,7 @@ use Rattle.raw_resync.proofs.Begun.{sound_begun}
 use Rattle.raw_resync.proofs.Fronts.{same_front}
 use Rattle.raw_resync.proofs.Passing.{both_true}
 
--- documents continue where that is found
+-- documents continue at a place where that is found
 pub found_goes_on : (limits : Limits) (s : List ℕ) (at place : ℕ) (old new : Work) → IsFoundAt limits s at place old new → GoesOn limits s place
 found_goes_on limits s at place old new (inl (none, same)) = inl none
 found_goes_on limits s at place old new (inr (p, room, n, (sound, size), same)) = inr (record { b = p.b; rest = p.rest; split = p.split; sound = sound; long = p.long; alone = p.alone })
@@ -48,7 +48,7 @@ passed_stops limits s at place old new (within, inr (inr (p, room, n, (damaged, 
     let one : p.b ≡ e.b = (same_front limits.bytes (drop place s) p.b p.rest e.b e.rest p.piece p.split e.sound.piece e.split).0 in
     damaged (subst (IsSound limits) (sym one) e.sound)
 
--- nor at any of places that are passed, where none is left out
+-- they continue at none of the places that are passed, if none is left out
 pub passes_stop_all : {limits : Limits} {s : List ℕ} {at from to : ℕ} {old new : Work} → PassesOver limits s at from to old new true → (place : ℕ) → from ≤ place → place < to → ¬ GoesOn limits s place
 passes_stop_all {limits} {s} {at} p place low high = passed_stops limits s at place (p.work place) (p.work (suc place)) (p.each place low high) (p.whole refl place low high)
 
@@ -90,7 +90,7 @@ doubts_disbelieved limits s at len old new (mid, (room, unframed, n, walked, sam
 doubts_disbelieved limits s at len old new (mid, (room, unframed, n, walked, same), inr (there, all, over, (passed, looked))) =
     (unframed, inr (passed_stops limits (drop len s) (at + len) 0 there new passed looked))
 
--- one that is, where no place is left out
+-- a length that is believed, if no place is left out
 pub believes_explained : (limits : Limits) (s : List ℕ) (at len : ℕ) (old new : Work) → BelievesLength limits s at len old new true → ¬ IsDisbelieved limits s len
 believes_explained limits s at len old new (inl ((room, framed, n, walked, same), is)) = λ (unframed, other). unframed framed
 believes_explained limits s at len old new (inr (inl (left, is))) = λ not. let impossible : ⊥ = cc in impossible

@@ -27,7 +27,7 @@ pub record HasWalked (b : List ℕ) (left : Option (List ℕ)) (offset : ℕ) : 
 pub walked_none : (b : List ℕ) (left : Option (List ℕ)) → IsEnvelope b → left ≡ Some (drop 4 b) → HasWalked b left 4
 walked_none b left is same = record { frames = []; leads = refl; left_is = same; within = omega (arith, is.enough) }
 
--- one more is passed
+-- one more element is passed
 module _ {b : List ℕ} {left : Option (List ℕ)} {offset : ℕ} (w : HasWalked b left offset) (new : Option (List ℕ)) where
   pub takes_next : (e : RawElement) → TakesFrame left (Some e) new → (r : List ℕ) × IsFrame (drop offset b) (frame_of e) r × (new ≡ Some r)
   takes_next e takes = subst (λ l. TakesFrame l (Some e) new) w.left_is takes
@@ -53,7 +53,7 @@ module _ {b : List ℕ} {left : Option (List ℕ)} {offset : ℕ} (w : HasWalked
         within = omega (arith, within, far);
       }
 
-  -- none follows
+  -- no element follows
   pub walked_all : IsEnvelope b → TakesFrame left None new → IsWalked b offset
   walked_all envelope none = inr (envelope, w.frames, w.leads, subst (λ l. TakesFrame l None new) w.left_is none, w.within)
 
@@ -93,7 +93,7 @@ unframed b n envelope (inr (there, fs, leads, none, within)) short (whole, (gs, 
     let size : length (drop n b) ≡ length b - n = length-drop n b in
     short (omega (arith, one, size, within))
 
--- whether the walk ends there
+-- whether the walk ends at the last byte
 pub walked_on : (b : List ℕ) (n : ℕ) (r : Bool) → IsEnvelope b → IsWalked b n → (r ≡ true → n + 1 ≡ length b) → (r ≡ false → ¬ (n + 1 ≡ length b)) → MatchBool r (IsFramed b) (¬ IsFramed b)
 walked_on b n true envelope walked is isnt = framed b n envelope walked (is refl)
 walked_on b n false envelope walked is isnt = unframed b n envelope walked (isnt refl)

@@ -2,7 +2,7 @@
 
 -- what is charged stays within its bound
 pub use Rattle.raw_resync.proofs.Costing.{keeps_same, keeps_on, keeps_before}
--- passed places, one after the other
+-- passed places, one after another
 pub use Rattle.raw_resync.proofs.Passing.{and_false, and_true, passes_none, passes_after}
 pub use Rattle.raw_resync.proofs.Joining.{found_further, passes_further}
 -- what searches show

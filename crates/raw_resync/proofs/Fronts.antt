@@ -71,7 +71,7 @@ no_tag most t rest b more (x, r, is, none) piece (kind, other, begins) split =
     let first : x ≡ tag_of kind = cc in
     none kind first
 
--- where no piece is at the front of t, t isn't empty
+-- if no piece is at the front of t, t isn't empty
 pub lacking_some : (most : ℕ) (last : Bool) (t : List ℕ) → LacksPiece most last t → 0 < length t
 lacking_some most last t (inl (is, some, short)) = some
 lacking_some most last t (inr (four, which)) = omega arith
@@ -98,7 +98,7 @@ told_some most bytes last place within (inr (longer, (x, r, is, none))) =
     let size : length (drop place bytes) ≡ length bytes - place = length-drop place bytes in
     omega arith
 
--- nor where none is found
+-- where no piece is found, no document may count
 pub none_behind : (limits : Limits) (last : Bool) (place : ℕ) (bytes rest : List ℕ) → place ≤ length bytes → TellsFront limits.bytes bytes last place front.NoPiece
     → MayFollow last rest → ¬ IsLikely limits (bytes ++ rest) place
 none_behind limits last place bytes rest within (inl lacks) may there = lacks_behind limits last place bytes rest within lacks may there

@@ -22,7 +22,7 @@ key_further a t e = record {
   plain = e.plain;
 }
 
--- so do the last 66 of them
+-- if bytes end in a key, their last 66 do
 key_nearer : (a t : List ℕ) → 66 ≤ length t → EndsInKey (a ++ t) → EndsInKey t
 key_nearer a t enough e =
     let last : List ℕ = e.tag ∷ (e.key ++ 0 ∷ []) in
@@ -41,7 +41,7 @@ key_nearer a t enough e =
       plain = e.plain;
     }
 
--- a document that may count does after fewer bytes, too
+-- a document that may count may also count after fewer bytes
 likely_nearer : (limits : Limits) (n place : ℕ) (s : List ℕ) → IsLikely limits s (n + place) → IsLikely limits (drop n s) place
 likely_nearer limits n place s p = record {
   b = p.b;
@@ -54,7 +54,7 @@ likely_nearer limits n place s p = record {
   alone = λ key. p.alone (subst EndsInKey (sym (take-add n place s)) (key_further (take n s) (take place (drop n s)) key));
 }
 
--- and after more, where the bytes before the place have room for a key
+-- and after more bytes, if those before the place have room for a key
 alone_further : (limits : Limits) (n place : ℕ) (s : List ℕ) → (n ≡ 0) ⊎ (66 ≤ place) → (p : IsLikely limits (drop n s) place) → ¬ EndsInKey (take (n + place) s)
 alone_further limits n place s (inl none) p key =
     let same : n + place ≡ place = omega (arith, none) in

@@ -25,7 +25,7 @@ plain_more text start some here plain k low high = elim (cases_lt k start) [
   | inr behind ↦ plain k behind high
 ]
 
--- where the tag and the key are in the text
+-- where in the text the tag and the key are
 module _ (text : List ℕ) (e : EndsInKey (text ++ 0 ∷ [])) where
   text_is : text ≡ e.front ++ e.tag ∷ e.key
   text_is = (split_text text 0 e).0
@@ -69,7 +69,7 @@ module _ (text : List ℕ) (e : EndsInKey (text ++ 0 ∷ [])) where
         absurd (omega (arith, high, tag_here, tag_low))
   ]
 
-  -- and it is the last control character
+  -- the tag is the last control character
   tag_at : (start : ℕ) → 0 < start → start ≤ length text → IsPlainFrom text start → get_or text (start - 1) 0 < 32 → length e.front ≡ start - 1
   tag_at start some within plain low =
       let before : length e.front < start = tag_before start plain in

@@ -56,7 +56,7 @@ pub record IsPieceIn (limits : Limits) (bytes : List ℕ) (place len : ℕ) : Ty
   pub within : place + len ≤ length bytes
   pub is : IsPiece limits.bytes (take len (drop place bytes))
 
--- and may be a document that counts
+-- the piece may be a document that counts
 pub record MayCount (bytes : List ℕ) (place len : ℕ) : Type 0 where
   pub long : 8 < len
   pub envelope : IsEnvelope (take len (drop place bytes))
@@ -104,7 +104,7 @@ module _ {limits : Limits} {bytes : List ℕ} {place len : ℕ} (p : IsPieceIn l
   }
 
 module _ {limits : Limits} {bytes : List ℕ} {place len : ℕ} (p : IsPieceIn limits bytes place len) (last : Bool) (at : ℕ) where
-  -- it can't count
+  -- the piece can't count
   pub cannot_count : (w : Work) → ¬ MayCount bytes place len → Checks limits bytes last at place w w check.Stops
   cannot_count w none = stops_at limits bytes last at place w (some p) (λ rest may q. none (only_counts p rest q))
 
@@ -121,11 +121,11 @@ module _ {limits : Limits} {bytes : List ℕ} {place len : ℕ} (p : IsPieceIn l
         let (room, n, probed, same) = subst (λ e. ProbesOrLeaves limits (take len (drop place bytes)) e old new (Some is)) end_of probes in
         (likely p rest c, room, n, probed, same)
 
-    -- it isn't left out where there is enough for it
+    -- the piece isn't left out if there is enough for it
     has_room : (rest : List ℕ) → HasRoom old (length (take len (drop place bytes))) (at + (place + length (take len (drop place bytes)))) → ¬ IsLeftOut limits (bytes ++ rest) at place old
     has_room rest room (q, none) = none (subst (λ b. HasRoom old (length b) (at + (place + length b))) (sym (only p rest q)) room)
 
-    -- it is probed
+    -- the piece is probed
     pub is_probed : (probed : Option Bool) → ProbesOrLeaves limits (take len (drop place bytes)) (at + (place + len)) old new probed
         → Checks limits bytes last at place old new (check_of probed)
     unfolding likely

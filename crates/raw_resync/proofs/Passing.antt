@@ -1,4 +1,4 @@
--- Passed places, one after the other.
+-- Passed places, one after another.
 use Rattle.std.proofs.Common.{◌≡◌, ℕ, suc, ◌+◌, ◌<◌, ◌≤◌, ◌⊎◌, List, [], ◌++◌, Bool, true, false, ◌&&◌, arith, cond, length, ltb, sym, ap, ◌∙◌, subst, refl, inl, inr, length-append}
 use Rattle.std.proofs.Math.Nat.{eq-or-lt_of_le}
 use Rattle.std.proofs.lemmas.Bool.{cases_lt, cond_above, cond_below}

@@ -64,7 +64,7 @@ lacks_zeros {hay} bytes place end count within is few zeros j low high =
     let four : 4 ≤ length (drop j bytes) = omega (arith, size, within, low, high, few, len) in
     inr (four, inl (small_said (drop j bytes) four (at 0 (omega arith)) (at 1 (omega arith)) (at 2 (omega arith)) (at 3 (omega arith))))
 
--- no piece is before the one place, nor from there on before the other
+-- no piece is from `place` on before `next`, nor from there on before `end`
 pub lacks_on : {most : ℕ} {last : Bool} {bytes : List ℕ} (place next end : ℕ) → LacksPieces most last bytes place next → ((j : ℕ) → next ≤ j → j < end → LacksPiece most last (drop j bytes))
     → LacksPieces most last bytes place end
 lacks_on place next end p q j low high = elim (cases_lt j next) [

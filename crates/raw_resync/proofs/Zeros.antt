@@ -14,7 +14,7 @@ free_below bs zero l h = NulFree-nil
 free_below bs (suc i) l h =
     subst (λ n. NulFree (take n bs)) (add-one i) (All-more (λ b. b ≢ 0) bs i 0 (omega arith) (free_below bs i (omega arith) (λ k b. h k (omega arith))) (h i (omega arith)))
 
--- it finds one
+-- the search finds a 0
 pub found_zero : (bs : List ℕ) (at : ℕ) → IsFirstByte (is_byte 0) bs (Some at) → IsBehindZero bs (drop (at + 1) bs)
 found_zero bs at (none, passes) =
     let nul : get_or bs at 0 ≡ 0 = eqb-true _ _ passes in

@@ -1,5 +1,5 @@
--- What it costs to find out whether a piece of an input is an undamaged document, by the walk of its elements, and whether its elements
--- follow one another up to its end; and how much there is for it.
+-- What it costs to find out whether a piece of an input is an undamaged document, and whether its elements follow one another up to its
+-- end; and how much may be spent on it.
 use Rattle.std.specs.Prelude.{◌≡◌, ◌≢◌, ◌⊎◌, ◌≤◌, ◌<◌, ◌+◌, ◌*◌, ℕ, List, Bool, true, false, drop, length, max, min, Some}
 use Rattle.bson_model.specs.Bytes.{NulFree}
 use Rattle.raw_view.specs.Frame.Envelope.{IsEnvelope}
@@ -22,7 +22,7 @@ IsBehindZero s r = (x : List ℕ) × NulFree x × (s ≡ c_string x r)
 abbrev pub HasOneZeroAtMost : List ℕ → Type 0
 HasOneZeroAtMost s = NulFree s ⊎ ((r : List ℕ) × IsBehindZero s r × NulFree r)
 
--- a text isn't UTF-8
+-- the barrier is a text that isn't UTF-8
 abbrev pub IsOfText : Barrier → Type 0
 IsOfText x = IsFaultWith (λ fault. fault.fault ≡ Utf8) x
 
@@ -68,8 +68,8 @@ abbrev pub IsWalked : List ℕ → ℕ → Type 0
 IsWalked b n =
     ((¬ IsEnvelope b) × (n ≡ 0)) ⊎ (IsEnvelope b × (fs : List Frame) × LeadsTo (drop 4 b) fs (drop n b) × HasNoFrame (drop n b) × (n ≤ length b))
 
--- there is enough for a look at `len` bytes that end at this offset of an input: with them fewer than eight times the bytes before the
--- furthest end of a look are charged
+-- `len` bytes that end at this offset of an input may be looked at: with them fewer than eight times the bytes before the furthest end of a
+-- look are charged
 abbrev pub HasRoom : Work → (len end : ℕ) → Type 0
 HasRoom work len end = work.spent + len < 8 * max work.reach end
 

@@ -10,7 +10,7 @@ said_len s = from_le_bytes w32 (take 4 s)
 abbrev pub IsSoundLength : (most : ℕ) → ℕ → Type 0
 IsSoundLength most len = (5 ≤ len) × (len ≤ most)
 
--- these bytes are as many as their length says, and a document may have as many
+-- these bytes have the length that they say, and a document may have it
 pub record IsPiece (most : ℕ) (b : List ℕ) : Type 0 where
   pub said : said_len b ≡ length b
   pub sound : IsSoundLength most (length b)

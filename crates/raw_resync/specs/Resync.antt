@@ -25,7 +25,7 @@ abbrev pub IsBeforeLength : (tag : ℕ) → Type 0
 IsBeforeLength tag = (tag ≡ tag_of kind.EmbeddedDocument) ⊎ (tag ≡ tag_of kind.Array) ⊎ (tag ≡ tag_of kind.Int32)
 
 -- s ends as bytes do before the length of a nested document, or before a number that only looks like the length of what follows: with the
--- tag of a document, an array or an int32, a key, and the 0 after it. The key is UTF-8 of 1 to 64 bytes, and none of them is under 32.
+-- tag of a document, an array or an int32, a key, and a 0. The key is UTF-8 of 1 to 64 bytes, and none of them is under 32.
 pub record EndsInKey (s : List ℕ) : Type 0 where
   pub front : List ℕ
   pub tag : ℕ
@@ -37,9 +37,9 @@ pub record EndsInKey (s : List ℕ) : Type 0 where
   pub text : IsUtf8 key
   pub plain : All (λ c. 32 ≤ c) key
 
--- A document that counts begins j bytes after the front of s: it is undamaged, within the limits, and has over 8 bytes, and those bytes
--- of s before it don't say that it is inside of another. They say so where they end in the key of a document or an array, or in that of an int32, whose number
--- may look like the length of what follows.
+-- A document that counts begins j bytes after the front of s: it is undamaged, within the limits, and has over 8 bytes, and the bytes of s
+-- before it don't say that it is inside another. They say so if they end in the key of a document or an array, or in that of an int32,
+-- whose number may look like the length of what follows.
 pub record IsEvidence (limits : Limits) (s : List ℕ) (j : ℕ) : Type 0 where
   pub b : List ℕ
   pub rest : List ℕ

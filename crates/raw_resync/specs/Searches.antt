@@ -1,4 +1,4 @@
--- How an input is searched for documents that count: which places are looked at, which are left out, and what that costs. s is the end of
+-- How an input is searched for documents that count: which places are looked at, which are left out, and what that costs. s is the rest of
 -- the input, from the offset `at` on; places are counted from the front of s.
 use Rattle.std.specs.Prelude.{◌≡◌, ◌⊎◌, ◌<◌, ◌≤◌, ◌+◌, ℕ, suc, List, [], ◌∷◌, ◌++◌, Bool, true, false, ◌&&◌, drop, length, take}
 use Rattle.raw_view.specs.Frame.Envelope.{IsEnvelope}
@@ -17,7 +17,7 @@ abbrev pub IsBegun : List ℕ → Type 0
 IsBegun b = (kind : ElementType) × (r : List ℕ) × (drop 4 b ≡ tag_of kind ∷ r)
 
 -- A document that counts may begin at this place: a piece of over 8 bytes with an envelope does, a tag follows its length, and the bytes
--- before it don't end as they do before a nested one, or before the number of an int32. No other place is looked into, and nothing is charged for it.
+-- before it don't end as they do before a nested one, or before the number of an int32. No other place is looked into or charged.
 pub record IsLikely (limits : Limits) (s : List ℕ) (place : ℕ) : Type 0 where
   pub b : List ℕ
   pub rest : List ℕ
@@ -41,14 +41,14 @@ LooksInto limits s at place old new is =
 abbrev pub IsFoundAt : Limits → List ℕ → (at place : ℕ) → (old new : Work) → Type 0
 IsFoundAt limits s at place old new = ((drop place s ≡ []) × (new ≡ old)) ⊎ LooksInto limits s at place old new true
 
--- they aren't: no document that counts may begin there; or it is left out; or a look shows that it is damaged
+-- they aren't: no document that counts may begin at this place; or the place is left out; or a look shows damage
 abbrev pub IsPassedAt : Limits → List ℕ → (at place : ℕ) → (old new : Work) → Type 0
 IsPassedAt limits s at place old new =
     (place < length s)
     × (((¬ IsLikely limits s place) × (new ≡ old)) ⊎ (IsLeftOut limits s at place old × (new ≡ old)) ⊎ LooksInto limits s at place old new false)
 
--- The places from `from` on and before `to` are passed one after the other, each once. `work` says what searches cost before each place,
--- `all` whether none is left out.
+-- The places from `from` on and before `to` are passed one after another. `work` says what searches cost before each place, `all` whether
+-- none is left out.
 pub record PassesOver (limits : Limits) (s : List ℕ) (at from to : ℕ) (old new : Work) (all : Bool) : Type 0 where
   pub work : ℕ → Work
   pub start : work from ≡ old
@@ -57,8 +57,8 @@ pub record PassesOver (limits : Limits) (s : List ℕ) (at from to : ℕ) (old n
   pub whole : all ≡ true → (place : ℕ) → from ≤ place → place < to → ¬ IsLeftOut limits s at place (work place)
   pub some : all ≡ false → (place : ℕ) × (from ≤ place) × (place < to) × IsLeftOut limits s at place (work place)
 
--- The elements of the piece of `len` bytes at the front of s are walked, which shows whether they follow one another up to its end, and is
--- charged; or there isn't enough for it.
+-- The elements of the piece of `len` bytes at the front of s are walked and charged, which shows whether they follow one another up to its
+-- end; or there isn't enough for it.
 abbrev pub Walks : (at : ℕ) → List ℕ → (len : ℕ) → (old new : Work) → Length → Type 0
 Walks at s len old new lengths.Explained = HasRoom old len (at + len) × IsFramed (take len s) × (n : ℕ) × IsWalked (take len s) n × (new ≡ charged old n (at + len))
 Walks at s len old new lengths.Unexplained = HasRoom old len (at + len) × (¬ IsFramed (take len s)) × (n : ℕ) × IsWalked (take len s) n × (new ≡ charged old n (at + len))
@@ -69,22 +69,22 @@ abbrev pub IsFoundInside : Limits → List ℕ → (at len : ℕ) → (old new :
 IsFoundInside limits s at len old new place all =
     (there : Work) × (0 < place) × (place < len) × PassesOver limits s at 1 place old there all × IsFoundAt limits s at place there new
 
--- they are found to continue at the front of t, the end of an input from this offset on, which is looked at; or that place is left out
+-- they are found to continue at the front of t, the rest of an input from this offset on; or that place is left out
 abbrev pub IsOpen : Limits → List ℕ → (at : ℕ) → (old new : Work) → (all : Bool) → Type 0
 IsOpen limits t at old new true = IsFoundAt limits t at 0 old new
 IsOpen limits t at old new false = IsLeftOut limits t at 0 old × (new ≡ old)
 
--- they aren't, and the place isn't left out
+-- they aren't found to continue there, and the place isn't left out
 abbrev pub IsShut : Limits → List ℕ → (at : ℕ) → (old new : Work) → Type 0
 IsShut limits t at old new = IsPassedAt limits t at 0 old new × ¬ IsLeftOut limits t at 0 old
 
--- documents are found to continue at no place inside the piece of `len` bytes at the front of s, and at the front of what follows it, or that
--- place is left out
+-- documents are found to continue at no place inside the piece of `len` bytes at the front of s, but right after it, or that place is left
+-- out; `all` says that no place is
 abbrev pub GoesOnBehind : Limits → List ℕ → (at len : ℕ) → (old new : Work) → (all : Bool) → Type 0
 GoesOnBehind limits s at len old new all =
     (there : Work) × (a : Bool) × (b : Bool) × PassesOver limits s at 1 len old there a × IsOpen limits (drop len s) (at + len) there new b × (all ≡ (a && b))
 
--- documents are found to continue inside the piece, or not at the front of what follows it
+-- documents are found to continue inside the piece, or not right after it
 abbrev pub GoesOnElsewhere : Limits → List ℕ → (at len : ℕ) → (old new : Work) → Type 0
 GoesOnElsewhere limits s at len old new =
     ((place : ℕ) × (all : Bool) × IsFoundInside limits s at len old new place all)
@@ -98,6 +98,6 @@ BelievesLength limits s at len old new all =
     ⊎ (Walks at s len old new lengths.LeftOut × (all ≡ false))
     ⊎ ((mid : Work) × Walks at s len old mid lengths.Unexplained × GoesOnBehind limits s at len mid new all)
 
--- It isn't. Its elements don't explain it, and documents are found to continue elsewhere.
+-- The length isn't believed: its elements don't explain it, and documents are found to continue elsewhere.
 abbrev pub DoubtsLength : Limits → List ℕ → (at len : ℕ) → (old new : Work) → Type 0
 DoubtsLength limits s at len old new = (mid : Work) × Walks at s len old mid lengths.Unexplained × GoesOnElsewhere limits s at len mid new

@@ -32,8 +32,7 @@ fn behind_zero(bytes: &[u8]) -> Option<&[u8]>
 }
 
 /// The number of bytes of a document that are looked at from its first fault on: the tag and the key of the
-/// element at fault; also its payload, if a text in it is read up to the fault, and the texts of a regular
-/// expression.
+/// element at fault, its payload if a text in it is read up to the fault, and the texts of a regular expression.
 pub(crate) fn looked_at(document: RawDocument<'_>, barrier: &Barrier<'_>) -> usize
     requires { barrier.now.place.offset ≤ length (bytes_of document) }
     ensures looks { (x : within.Barrier) → IsBarrier barrier.now.kind x

@@ -93,7 +93,7 @@ fn lacks_tag(rest: &[u8]) -> bool
     }
 }
 
-/// A document that counts has more bytes.
+/// A document that counts has more bytes than this.
 const SMALL: usize = 8;
 
 /// Whether documents continue at `place`.
@@ -162,8 +162,7 @@ fn begins_with_tag(piece: &[u8]) -> bool
     }
 }
 
-/// Whether the last byte is 0. For most places this is the only byte far away that is looked at, so this makes no
-/// error.
+/// Whether the last byte is 0. For most places this is the only byte far away that is looked at, so no error value is made of it.
 #[inline(always)]
 fn ends_with_zero(piece: &[u8]) -> bool
     ensures { result ≡ false → ¬ IsEnvelope piece.now }

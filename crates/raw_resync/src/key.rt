@@ -14,16 +14,16 @@ const ARRAY: u8 = 4;
 
 const INT32: u8 = 16;
 
-/// Control characters are less.
+/// Control characters are less than this.
 const SPACE: u8 = 32;
 
 /// The greatest number of bytes of a key that is looked for.
 const LONGEST_KEY: usize = 64;
 
-/// How many bytes a key has at most with its tag and its 0.
+/// The greatest number of bytes of a key with its tag and its 0.
 pub const BEFORE_PLACE: usize = LONGEST_KEY + 2;
 
-/// Whether the tag of a document, an array or an int32, a key and its 0 are the last bytes.
+/// Whether the last bytes are the tag of a document, an array or an int32, a key and its 0.
 pub(crate) fn ends_in_key(bytes: &[u8]) -> bool
     ensures { MatchBool result (EndsInKey bytes.now) (¬ EndsInKey bytes.now) }
 {
@@ -43,7 +43,7 @@ pub(crate) fn ends_in_key(bytes: &[u8]) -> bool
     false
 }
 
-/// Whether this is the tag of a document, an array or an int32, and what follows it is a key, which isn't empty.
+/// Whether this is the tag of a document, an array or an int32, and what follows it is a key that isn't empty.
 fn is_key_after(tag: u8, key: &[u8]) -> bool
     ensures { MatchBool result (IsKeyAfter tag key.now) (¬ IsKeyAfter tag key.now) }
 {

@@ -68,7 +68,7 @@ fn walk(piece: &[u8]) -> Walked
     }
 }
 
-/// How many bytes of a document are before the first place where no element follows.
+/// The number of bytes of a document before the first place where no element follows.
 fn walked_len(document: RawDocument<'_>) -> usize
     ensures walked { IsWalked (bytes_of document.entry) result }
     ensures within { result ≤ length (bytes_of document.entry) }

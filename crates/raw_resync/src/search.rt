@@ -67,7 +67,7 @@ pub fn seek(
 /// From this length on, the last byte of a length is at least 2.
 const TOO_LONG: usize = 1 << 25;
 
-/// The next place, or a later one: no document has the length at any of the places between.
+/// The next place or a later one: at no place between is a length that a document may have.
 fn next_place(part: Part<'_>, place: usize, until: usize) -> usize
     requires { (place < length part.bytes.now) × (place < until) }
     ensures next { place < result }
@@ -86,7 +86,7 @@ fn next_place(part: Part<'_>, place: usize, until: usize) -> usize
     }
 }
 
-/// The place after lengths of 0, where the bytes before `end` have only these from `place` on; else `place`.
+/// The first place from `place` on whose length isn't 0 by the bytes before `end`.
 fn behind_zeros(part: Part<'_>, place: usize, end: usize) -> usize
     requires { (place + 3 < end) × (end ≤ length part.bytes.now) }
     ensures from { place ≤ result }
