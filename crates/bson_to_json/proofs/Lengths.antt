@@ -62,7 +62,7 @@ coefficient_small n = grind (arith, nat_tests)
 small_exponent : (q : ℕ) → ¬ (q / 4096 % 4 ≡ 3) → q % 16384 < 12288
 small_exponent q h = omega (arith, h)
 
--- and one after two bits that are both 1
+-- an exponent after two bits that are both 1
 behind_ones : (q : ℕ) → q / 16384 % 4 ≡ 3 → ¬ (q / 2048 % 32 ≡ 31) → ¬ (q / 2048 % 32 ≡ 30) → q % 16384 < 12288
 behind_ones q ones nan infinite = omega (arith, ones, nan, infinite)
 

@@ -2,11 +2,11 @@
 use Rattle.std.proofs.Common.{◌≡◌, ◌++◌, ◌+◌, ℕ, List, Option, Result, OnOk, replicate, subst, sym, take, drop, ap, ◌∙◌, ◌-◌, append_assoc, length, length-drop, take-append-drop}
 use Rattle.bson_to_json.proofs.Common.{Appends, Appends-kept, Appends-trans, Keeps, on_ok_weaker, replicate-append-replicate, take-length}
 
--- two pieces one after the other are the whole
+-- two pieces one after another are the whole
 pub whole_put : (a b c : Option (List ℕ)) (x y z : List ℕ) → Appends a b x → Appends b c y → x ++ y ≡ z → Appends a c z
 whole_put a b c x y z first second e = subst (Appends a c) e (Appends-trans a b c x y first second)
 
--- and also if the second may fail
+-- the same if the second may fail
 pub last_put : {A E : Type 0} (r : Result A E) (a b c : Option (List ℕ)) (x y z : List ℕ) → Appends a b x → x ++ y ≡ z → OnOk r (Appends b c y) → OnOk r (Appends a c z)
 last_put r a b c x y z first e second = on_ok_weaker r (λ (put : Appends b c y). whole_put a b c x y z first put e) second
 

@@ -1,4 +1,4 @@
--- Short texts: what is appended one after the other.
+-- Short texts: what is appended one after another.
 use Rattle.std.proofs.Common.{◌≡◌, ◌≤◌, ◌+◌, ◌-◌, ℕ, List, [], ◌++◌, length, take, replicate, codes, ap, sym, ◌∙◌, append_assoc, arith}
 use Rattle.bson_to_json.proofs.Common.{length-append, nat_tests, plain_text}
 use lib.Seq.{take-append_seam}

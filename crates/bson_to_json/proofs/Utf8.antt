@@ -15,7 +15,7 @@ pub record Text : Type 0 where
   pub bytes : List ℕ
   pub utf8 : IsUtf8 bytes
 
--- texts one after the other
+-- texts one after another
 abbrev pub joined : Text → List Text → List ℕ
 joined t [] = t.bytes
 joined t (u ∷ us) = t.bytes ++ joined u us

@@ -62,7 +62,7 @@ module _ (style : Style) (depth : ℕ) (Nested : Sort → List ℕ → List ℕ 
   IsValueJson (raw.array d) text = Nested as_array d text
   IsValueJson (raw.scoped code d) text = (scope : List ℕ) × Nested as_document d scope × (text ≡ before_scope code ++ (scope ++ codes "}"))
 
-  -- these frames have this text one after the other, followed by the closing bracket; the flag says whether they are all
+  -- these frames have this text one after another, followed by the closing bracket; `first` says whether they are all
   abbrev pub AreMembersJson : Sort → Bool → List Frame → List ℕ → Type 0
   AreMembersJson sort first [] text = text ≡ end_text style.layout depth sort first
   AreMembersJson sort first (f ∷ fs) text =

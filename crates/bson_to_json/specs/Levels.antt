@@ -68,7 +68,7 @@ error_of walk.OutOfMemory = print.Failure failure.OutOfMemory
 abbrev pub head_of : Style → (first : Bool) → List Sort → Sort → List ℕ → List ℕ
 head_of style first os o key = head_text style.layout (length os + 1) (level_sort o) first key
 
--- and after the last member
+-- what is written after the last member
 abbrev pub end_of : Style → (first : Bool) → List Sort → Sort → List ℕ
 end_of style first os o = end_text style.layout (length os) (level_sort o) first ++ after o
 
