@@ -18,7 +18,7 @@ use Rattle.raw_bson.proofs.HeldFrames.{HaveNoShortScope-last, HoldsFrames-elemen
 use Rattle.raw_bson.proofs.Lengths.{RefusesLength-bound, length-appended_bytes, length_left, length_left-step}
 use Rattle.raw_bson.proofs.LoopSteps.{HasRead-more, HasRead-stop}
 
--- what it has read, and what that became, which the copy holds
+-- what the loop has read, and what that became, which the copy holds
 pub record HasCopied (Gives : Frame → List Frame → Type 0) (b copy : List ℕ) (left : Option (List ℕ)) : Type 0 where
   pub frames : List Frame
   pub given : List Frame
@@ -60,7 +60,7 @@ module _ {Gives : Frame → List Frame → Type 0} {b : List ℕ} where
       holds = subst (λ g. HaveNoShortScope g → HoldsFrames copy g) (sym (append-nil h.given)) h.holds;
     }
 
-    -- it was appended as it is
+    -- an element was appended as it is
     pub HasCopied-element : {left : List ℕ} → HasCopied Gives b copy old → StepsElement old (Some out) new → out ≡ Ok e → Gives (frame_of e) (frame_of e ∷ [])
         → (¬ IsShortScope (frame_of e) → KeepsWalk copy (frame_of e) left) → HasCopied Gives b left new
     HasCopied-element {left = left} h st was gives walk = record {
@@ -73,7 +73,7 @@ module _ {Gives : Frame → List Frame → Type 0} {b : List ℕ} where
           HoldsFrames-element copy h.given (frame_of e) left (h.holds long.0) long.1 (walk long.1);
     }
 
-    -- a value was appended in its place
+    -- a value was appended in the place of an element
     pub HasCopied-value : {left key : List ℕ} {v : RawValue} → HasCopied Gives b copy old → StepsElement old (Some out) new → out ≡ Ok e
         → Gives (frame_of e) (value_frame key v ∷ []) → AddsValue copy key v left → HasCopied Gives b left new
     HasCopied-value {key = key} {v = v} h st was gives adds = record {
@@ -144,7 +144,7 @@ module _ {X : Type 0} where
           let refused = subst (λ k. RefusesAppend copy k v bad.kind) same (subst (λ y. RefusesAppend copy key y bad.kind) is appends.0) in
           ends_at (inl (inr (v, gives, refused))) left
 
-      -- what would replace it can't be computed
+      -- what would replace an element can't be computed
       pub EndsCopy-inside : Inside (frame_of e) bad → IsErrAnd x (λ y. y ≡ bad) → IfErr x (EndsCopy Gives Inside b)
       EndsCopy-inside why left = ends_at (inr why) left
 
@@ -165,14 +165,14 @@ module _ {b : List ℕ} where
     pub IsNoLonger-skip : IsNoLonger b copy old → StepsElement old (Some out) new → out ≡ Ok e → IsNoLonger b copy new
     IsNoLonger-skip h st was = record { room = omega (arith, length_left-step old new st was, h.room); enough = h.enough }
 
-    -- it was appended
+    -- an element was appended
     pub IsNoLonger-element : {left : List ℕ} → IsNoLonger b copy old → StepsElement old (Some out) new → out ≡ Ok e → AppendsFrame copy (frame_of e) (Ok tt) left
         → IsNoLonger b left new
     IsNoLonger-element h st was appends =
         let more = ap length appends.1 ∙ length-appended_bytes copy (frame_of e) h.enough in
         record { room = omega (arith, more, length_left-step old new st was, h.room); enough = omega (arith, more, h.enough) }
 
-  -- it wasn't
+  -- an element wasn't appended
   pub IsNoLonger-refused : {copy : List ℕ} {old : Option (List ℕ)} (new : Option (List ℕ)) {out : Result RawElement Error} {e : RawElement} (left : List ℕ) (bad : Error)
       → IsEnvelope b → IsNoLonger b copy old → StepsElement old (Some out) new → out ≡ Ok e → AppendsFrame copy (frame_of e) (Err bad) left → RefusesElement b bad
   IsNoLonger-refused {copy = copy} {old = old} new {e = e} left bad envelope h st was appends =

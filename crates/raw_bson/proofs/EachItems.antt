@@ -178,7 +178,7 @@ module _ {P : List ℕ → RawValue → Type 0} {b : List ℕ} where
       let told = told_pair_fault e next.0 (subst (λ (x : Result (Bor (List ℕ) × RawBsonRef) Error). TellsItem x next.0) was next.3) in
       (told.0, comes_to_fault h next.0 next.1 told.0 are next.2 told.1, told.2)
 
-  -- the same where values of an array are read, under some keys
+  -- the same if values of an array are read, under some keys
   pub HasReadEach-value : {old new : Option (List ℕ)} {out : Result RawBsonRef Error} {v : RawBsonRef} → HasReadEach P b old
       → StepsItems TellsValue old (Some out) new → out ≡ Ok v → ((key : List ℕ) → P key (value_of v)) → HasReadEach P b new
   HasReadEach-value {old = old} {new = new} {v = v} h st was holds =
@@ -222,7 +222,7 @@ module _ {E : Type 0} {wrap : Error → E} {Answers : List ℕ → RawValue → 
       → HasTried wrap Answers b new
   HasTried-more {p = p} h st was answers ok = record { read = HasReadEach-pair h.read st was (subst (Answers p.0.now (value_of p.1)) ok answers) }
 
-  -- it returned an error, with which the loop ends
+  -- the call returned an error, with which the loop ends
   pub HasTried-error : {old : Option (List ℕ)} (new : Option (List ℕ)) {all : List Item} {out : Result (Bor (List ℕ) × RawBsonRef) Error}
       {p : Bor (List ℕ) × RawBsonRef} {r : Result (Unit {0}) E} {e : E} (x : Result (Unit {0}) E) → HasTried wrap Answers b old
       → StepsItems TellsItem old (Some out) new → out ≡ Ok p → AreItems b all → Answers p.0.now (value_of p.1) r → r ≡ Err e → IsErrAnd x (λ y. y ≡ e)
@@ -251,12 +251,12 @@ pub record HasSought {E : Type 0} (wrap : Error → E) (P : List ℕ → RawValu
   pub read : HasReadEach (λ key v. ¬ P key v) b left
 
 module _ {E : Type 0} {wrap : Error → E} {P : List ℕ → RawValue → Type 0} {b : List ℕ} where
-  -- one more isn't what is sought
+  -- one more item isn't what is sought
   pub HasSought-more : {old new : Option (List ℕ)} {out : Result RawBsonRef Error} {v : RawBsonRef} → HasSought wrap P b old
       → StepsItems TellsValue old (Some out) new → out ≡ Ok v → ((key : List ℕ) → ¬ P key (value_of v)) → HasSought wrap P b new
   HasSought-more h st was other = record { read = HasReadEach-value h.read st was other }
 
-  -- one is
+  -- one item is what is sought
   pub HasSought-found : {old : Option (List ℕ)} (new : Option (List ℕ)) {all : List Item} {out : Result RawBsonRef Error} {v : RawBsonRef}
       → HasSought wrap P b old → StepsItems TellsValue old (Some out) new → out ≡ Ok v → AreItems b all → ((key : List ℕ) → P key (value_of v))
       → SeeksOne wrap P b (Ok true)

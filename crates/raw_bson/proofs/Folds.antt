@@ -68,7 +68,7 @@ module _ {S E : Type 0} {wrap : Error → E} {Answers : S → List ℕ → RawVa
   comes_in_fault {s = s} h item after fault are same (inl k) = inl (k.0, subst (λ x. ComesIn Answers start b x s) k.1 (comes_in h item after are same))
   comes_in_fault {s = s} h item after fault are same (inr k) = inr (subst (λ x. ComesIn Answers start b x s) k (comes_in h item after are same))
 
-  -- it returned an error, with which the loop ends
+  -- the call returned an error, with which the loop ends
   pub HasFolded-error : {old : Option (List ℕ)} (new : Option (List ℕ)) {all : List Item} {out : Result (Bor (List ℕ) × RawBsonRef) Error}
       {p : Bor (List ℕ) × RawBsonRef} {s : S} {r : Result S E} {e : E} (x : Result S E) → HasFolded wrap Answers start b s old
       → StepsItems TellsItem old (Some out) new → out ≡ Ok p → AreItems b all → Answers s p.0.now (value_of p.1) r → r ≡ Err e → IsErrAnd x (λ y. y ≡ e)

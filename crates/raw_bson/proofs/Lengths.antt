@@ -13,7 +13,7 @@ use Rattle.raw_view.specs.declared.error.ErrorKind.TheVariants as kind
 use Rattle.raw_view.specs.declared.error.Reason.TheVariants as reason
 use Rattle.raw_bson.specs.Append.{RefusesLength, appended_bytes, frame_bytes}
 
--- how many bytes are left to read
+-- the number of bytes left to read
 abbrev pub length_left : Option (List ℕ) → ℕ
 length_left None = 0
 length_left (Some r) = length r

@@ -5,7 +5,7 @@ use Rattle.raw_view.specs.Errors.{IsOutOfMemory, IsSameError, key_of}
 use Rattle.raw_bson.specs.declared.any_error.AnyError.{AnyError}
 use Rattle.raw_bson.specs.declared.any_error.AnyError.TheVariants as any
 
--- the key that it carries
+-- the key that an error carries
 abbrev pub any_key : AnyError → Option (List ℕ)
 any_key (any.Raw e) = key_of e
 any_key (any.Access e) = Some (key_asked e)

@@ -31,7 +31,7 @@ module _ {S E : Type 0} (wrap : Error → E) (Answers : S → List ℕ → RawVa
       ⊎ ((s : S) × (fault : KeyedFault) × (((key : List ℕ) × ComesIn Answers start b (entry key (faulty fault)) s) ⊎ ComesIn Answers start b (stopped fault) s)
       × WrapsFault wrap fault e)
 
--- the bytes of these documents, one after the other
+-- the bytes of these documents, one after another
 abbrev pub joined : List (List ℕ) → List ℕ
 joined [] = []
 joined (d ∷ ds) = d ++ joined ds
