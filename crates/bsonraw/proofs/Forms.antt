@@ -46,7 +46,7 @@ reading_kind_text (kind.MalformedValue r) h = reading_text r (h r refl)
 reading_kind_text (kind.Utf8EncodingError x) h = refl
 reading_kind_text kind.OutOfMemory h = refl
 
--- so does an error that says a fault
+-- an error that says a fault says no limit
 fault_says_no_limit : (e : Error) (fault : Fault) (key : Option (List ℕ)) → TellsFault e fault key → limit_text e.kind ≡ None
 fault_says_no_limit e fault None h = reading_kind_text e.kind h.0.1
 fault_says_no_limit e fault (Some key) h = elim h as (λ _. limit_text e.kind ≡ None) [
@@ -54,7 +54,7 @@ fault_says_no_limit e fault (Some key) h = elim h as (λ _. limit_text e.kind �
   | inr a ↦ ap limit_text a.kind_is
 ]
 
--- an error that says a barrier has its line, where it has one of a limit
+-- an error that says a barrier has the line of the barrier, if it has the line of a limit
 limit_of_barrier : (e : Error) (x : Barrier) (line : List ℕ) → SaysBarrier e x → limit_text e.kind ≡ Some line → line ≡ barrier_line x
 limit_of_barrier e too_many_bytes line says is = let same : Some (codes "refused 6\n") ≡ Some line = sym (ap limit_text says.0) ∙ is in cc
 limit_of_barrier e too_deep line says is = let same : Some (codes "refused 7\n") ≡ Some line = sym (ap limit_text says.0) ∙ is in cc
@@ -68,7 +68,7 @@ limit_form b e line (inr long) is =
     let text : line ≡ codes "refused 5\n" = cc in
     inr (inl (long.0, long.1, long.2.0, refl, text))
 
--- and so where a result is at hand
+-- the bytes that were written of the tree are the document's form
 
 pub written_forms : (b : List ℕ) (t : Tree) (result : Result (List ℕ) Error) → ReadsWithin form_limits b t → IfOk result (IsEncoded t) → IfOk result (HasForm b)
 written_forms b t (Ok form) read is = (t, read, is.1, is.2)

@@ -1,4 +1,4 @@
--- The lines of frames, one after the other.
+-- The lines of frames, one after another.
 use Rattle.std.proofs.Common.{◌≡◌, List, [], ◌∷◌, ◌++◌, ap, sym, ◌∙◌, append_assoc, append-nil}
 use Rattle.raw_bson.specs.Frame.{Frame}
 use Rattle.bsonraw.specs.Print.{frame_line, frame_lines}

@@ -57,7 +57,7 @@ abbrev pub end_line : End → List ℕ
 end_line Done = codes "end\n"
 end_line (Stopped fault key) = codes "fault " ++ fault_text fault ++ codes " " ++ fault_key_text key ++ codes "\n"
 
--- 0 where the walk comes to its end, 1 where it stops
+-- 0 if the walk comes to its end, 1 if it stops
 abbrev pub end_status : End → ℕ
 end_status Done = 0
 end_status (Stopped fault key) = 1
@@ -101,8 +101,8 @@ barrier_line too_many_bytes = codes "refused 6\n"
 barrier_line too_deep = codes "refused 7\n"
 barrier_line (fault_of fault) = end_line (Stopped fault.fault fault.key)
 
--- The canonical form of a document: the encoding of its tree in hex, or that this would be too long; or, where it has
--- no tree within the limits, its first barrier.
+-- The canonical form of a document: the encoding of its tree in hex, or that this would be too long; or its first
+-- barrier, if it has no tree within the limits.
 abbrev pub PrintsForm : List ℕ → ℕ → List ℕ → Type 0
 PrintsForm b status output =
     ((t : Tree) × ReadsWithin form_limits b t × (encoded_len t ≤ max_length) × (status ≡ 0) × (output ≡ encode_lower (encoding t) ++ codes "\n"))
@@ -129,16 +129,16 @@ PrintsDocument command.List b status output = PrintsWalk b status output
 PrintsDocument command.Canon b status output = PrintsForm b status output
 PrintsDocument command.Check b status output = PrintsBreach b status output
 
--- of bytes: of a document, or why they are none
+-- what a command prints of bytes: of a document, or why they are none
 abbrev pub PrintsBytes : Command → List ℕ → ℕ → List ℕ → Type 0
 PrintsBytes c b status output = (IsEnvelope b × PrintsDocument c b status output) ⊎ PrintsRefusal b status output
 
--- of decoded hex text
+-- what a command prints of decoded hex text
 abbrev pub PrintsDecoded : Command → Result (List ℕ) FromHexError → ℕ → List ℕ → Type 0
 PrintsDecoded c (Ok b) status output = PrintsBytes c b status output
 PrintsDecoded c (Err e) status output = (status ≡ 2) × (output ≡ codes "bad hex\n")
 
--- of a text
+-- what a command prints of a text
 abbrev pub PrintsText : Command → List ℕ → ℕ → List ℕ → Type 0
 PrintsText c text status output = PrintsDecoded c (decode_of (digits_of text)) status output
 

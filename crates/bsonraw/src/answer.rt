@@ -15,7 +15,7 @@ use raw_bson::{ErrorKind, RawDocument, Reason};
 use std::alloc::{AllocError, Global};
 
 /// What the program prints of a text for a command's name, and its exit status: what the command prints, or how the
-/// program is used. Where memory runs out, status 4 and nothing.
+/// program is used. If memory runs out, it is nothing, with status 4.
 pub fn answer(alloc: Global, command: &str, text: &[u8]) -> (u8, Vec<u8>)
     ensures { Prints command.now text.now result.0 result.1.items
         ⊎ LacksMemory result.0 result.1.items }

@@ -14,7 +14,7 @@ use raw_bson::{
 };
 use std::alloc::{AllocError, Global};
 
-/// What a document may cost whose canonical form is asked for.
+/// The limits of a document whose canonical form is asked for.
 fn limits() -> Limits
     ensures { result ≡ form_limits }
 {
@@ -35,7 +35,7 @@ pub fn canon_document(alloc: Global, document: RawDocument<'_>) -> Result<Printe
     }
 }
 
-/// The canonical form of a document that keeps to the limits.
+/// The canonical form of a document within the limits.
 fn canonical_form(alloc: Global, document: RawDocument<'_>) -> raw_bson::Result<RawDocumentBuf>
     ensures form { IfOk result (HasForm (bytes_of document.entry)) }
     ensures refused { IfErr result (LacksForm (bytes_of document.entry)) }

@@ -1,7 +1,7 @@
 ghost use Rattle.std.specs.Prelude.{◌≡◌, IfSome, IfNone};
 ghost use Rattle.bsonraw.specs.Print.{IsCommand, name_of};
 
-/// What is printed where the arguments are no command.
+/// What is printed if the arguments are no command.
 pub const USAGE: &str = "usage: bsonraw list|canon|check\n";
 
 /// What the program can be asked for.

@@ -8,8 +8,7 @@ use crate::key::key_digits;
 use raw_bson::{Error, ErrorKind};
 use std::alloc::{AllocError, Global};
 
-/// The line of a fault: kind and key. An error that says out of memory leaves none for
-/// the output.
+/// Appends the line of a fault: kind and key. Fails if the error is out of memory, or memory runs out.
 pub fn push_fault(alloc: Global, output: &mut String, error: &Error) -> Result<(), AllocError>
     ensures line { (fault : Fault) (key : Option (List ℕ)) → TellsFault error.now fault key →
         OnOk result

@@ -22,8 +22,8 @@ use std::io::ErrorKind;
 use std::process::ExitCode;
 use std::{env, io};
 
-/// Takes the command as its one argument. Other numbers of arguments, and one that isn't UTF-8, are run as the empty
-/// text, which is no command.
+/// Takes the command as its one argument. Any other number of arguments, or an argument that isn't UTF-8, is run as
+/// the empty text, which is no command.
 fn main(rt: HostRuntime) -> ExitCode {
     let command = match env::args(&rt) {
         Ok(mut args) => {

@@ -17,7 +17,7 @@ pub fn run<R: Read, W: Write>(alloc: Global, command: &str, reader: &mut R, writ
         Answers command.now (R.remaining reader.old) (R.remaining reader.new)
         (W.contents writer.old) (W.contents writer.new) result }
 
-    // Without memory for the output nothing is written, nor anything before all was read.
+    // Without memory for the output nothing is written. Nothing is written before all is read.
     ensures no_memory { result ≡ 4 → Keeps (W.contents writer.old) (W.contents writer.new) }
     ensures read_first { IsCommand command.now →
         Keeps (W.contents writer.old) (W.contents writer.new) ⊎ IsAtEnd (R.remaining reader.new) }
@@ -50,7 +50,7 @@ fn answered<R: Read, W: Write>(alloc: Global, command: &str, reader: &mut R, wri
     written(writer, &output, status)
 }
 
-/// Writes the output. The status is the output's own, or 5 where writing failed.
+/// Writes the output. The status is the output's own, or 5 if writing failed.
 fn written<W: Write>(writer: &mut W, output: &[u8], status: u8) -> u8
     ensures { result ≢ 5 → (result ≡ status)
         × Appends (W.contents writer.old) (W.contents writer.new) output.now }

@@ -1,4 +1,4 @@
-//! What the program prints: worked documents, damaged ones beside a slow lister, and runs whose memory, reads or writes fail.
+//! What the program prints: worked documents, damaged ones compared with a slow lister, and runs whose memory, reads or writes fail.
 
 mod damage;
 mod documents;
@@ -25,12 +25,12 @@ fn is_answer(alloc: Global, command: &str, text: &str, status: u8, output: &str)
     is_right
 }
 
-/// Ends the test if this isn't right of a command on a text.
+/// Ends the test, and names the command and the text, if this isn't right.
 fn require(rt: &impl Abort, is_right: bool, command: &str, text: &str) {
     assert!(*rt; is_right, "{command} {text}");
 }
 
-/// Each row has to be what the command prints.
+/// The command has to print what each row says.
 fn require_rows(rt: &impl Abort, alloc: Global, command: &str, rows: &[Row]) {
     for (text, status, output) in rows {
         let is_right = is_answer(alloc, command, text, *status, output);

@@ -1,5 +1,5 @@
-//! Documents that are cut off, and documents with a bit flipped: `list` beside the slow lister, `canon` beside itself, and `check` beside
-//! `canon`. All are far within the limits of `canon`, so that it refuses none of them for a limit.
+//! Documents that are cut off, and documents with a bit flipped: `list` is compared with the slow lister, `canon` with itself, and `check`
+//! with `canon`. All are far within the limits of `canon`, so that it refuses none of them for a limit.
 
 use super::documents::{DOCUMENTS, bytes_of};
 use super::lister::{Listing, listing_of, refusal_of};
@@ -21,7 +21,7 @@ fn is_unchanged(alloc: Global, text: &str) -> bool {
     is_right
 }
 
-/// Whether this is the output of `canon`, of a document whose walk is sound or not: a form, which is its own form, or a fault.
+/// Whether this may be the output of `canon` for a document whose walk is sound or not: a form, which is its own form, or a fault.
 fn is_form_or_fault(alloc: Global, is_sound: bool, status: u8, output: &[u8]) -> bool {
     match (status, output) {
         (0, [form @ .., b'\n']) => is_sound && is_form(alloc, form),
@@ -37,7 +37,7 @@ fn is_form(alloc: Global, form: &[u8]) -> bool {
     }
 }
 
-/// Whether `canon` prints either. A document has a form only where its walk ends at its final 0.
+/// Whether `canon` prints a form or a fault. A document has a form only if its walk ends at its final 0.
 fn is_canonized(alloc: Global, text: &str, is_sound: bool) -> bool {
     let (status, output) = answer(alloc, "canon", text.as_bytes());
     let is_right = is_form_or_fault(alloc, is_sound, status, &output);
@@ -45,7 +45,7 @@ fn is_canonized(alloc: Global, text: &str, is_sound: bool) -> bool {
     is_right
 }
 
-/// Whether `check` calls a document canonical exactly where `canon` prints it as it is, and says its breach elsewhere.
+/// Whether `check` calls a document canonical if and only if `canon` prints it as it is, and otherwise says its breach.
 fn is_checked(alloc: Global, text: &str) -> bool {
     let (status, output) = answer(alloc, "check", text.as_bytes());
     let is_right = if is_unchanged(alloc, text) {
@@ -57,7 +57,7 @@ fn is_checked(alloc: Global, text: &str) -> bool {
     is_right
 }
 
-/// Whether all three commands print a refusal; else `list` what the slow lister does, and the others what goes with it.
+/// Whether all three commands print this refusal; if there is none, whether `list` prints what the slow lister does, and the others agree.
 fn is_answered(alloc: Global, text: &str, refusal: Option<&str>, listing: &Listing) -> bool {
     match refusal {
         Some(line) => {
@@ -73,7 +73,7 @@ fn is_answered(alloc: Global, text: &str, refusal: Option<&str>, listing: &Listi
     }
 }
 
-/// Whether they do of these bytes.
+/// Whether the commands print of these bytes what they have to.
 fn is_right(alloc: Global, bytes: &[u8]) -> bool {
     match (hex::encode(alloc, bytes), listing_of(alloc, bytes)) {
         (Ok(text), Ok(listing)) => is_answered(alloc, &text, refusal_of(bytes), &listing),
@@ -97,8 +97,8 @@ impl Counts {
         self.refused = self.refused.wrapping_add(refused);
     }
 
-    /// The same of the first 5 bytes and more, with their number in the header and a final 0. The longest come first, as that changes no
-    /// byte of a shorter one.
+    /// Compares the first 5 bytes and more, with their number in the header and a final 0. The longest come first: so no byte of a shorter one
+    /// is changed.
     fn compare_cut(&mut self, rt: &impl Abort, alloc: Global, bytes: &mut [u8]) {
         for len in (5..=bytes.len()).rev() {
             if let Some(cut) = bytes.get_mut(..len) {
@@ -108,7 +108,7 @@ impl Counts {
         }
     }
 
-    /// The same of the bytes with each of their bits flipped.
+    /// Compares the bytes with each of their bits flipped.
     fn compare_flipped(&mut self, rt: &impl Abort, alloc: Global, bytes: &mut [u8]) {
         for place in 0..bytes.len() {
             for bit in BITS {
@@ -140,7 +140,7 @@ fn flip(bytes: &mut [u8], place: usize, bit: u8) {
     }
 }
 
-/// What the documents have together: 25 of them have 355 bytes.
+/// The bytes of all 25 documents together.
 const BYTES: usize = 355;
 
 /// A document of n bytes is cut off in n - 4 ways, and never refused.

@@ -77,14 +77,14 @@ pub(super) const KEY_NOT_UTF8: &str = "07 00 00 00 0A FF 00";
 /// A regular expression whose pattern is the byte FF.
 pub(super) const PATTERN_NOT_UTF8: &str = "0A 00 00 00 0B 61 00 FF 00 00";
 
-/// A text that claims six bytes where one is left.
+/// A text that claims six bytes when one is left.
 pub(super) const TRUNCATED_STRING: &str = "0C 00 00 00 02 61 00 06 00 00 00 00";
 
 /// `true` under the key `bool`, and a million under the key `i32`.
 pub(super) const BOOL_AND_INT32: &str =
     "15 00 00 00 08 62 6F 6F 6C 00 01 10 69 33 32 00 40 42 0F 00 00";
 
-/// What is cut and flipped.
+/// The documents that are cut off or have a bit flipped.
 pub(super) const DOCUMENTS: &[&str] = &[
     EMPTY,
     GREETING,

@@ -7,7 +7,7 @@ use std::process::Abort;
 /// What holds the next level.
 #[derive(Clone, Copy)]
 struct Level {
-    /// how many bytes the level has beside those of the next one
+    /// the number of bytes of the level besides those of the next one
     size: u32,
     /// the digits of the tag and the key
     element: &'static str,
@@ -45,14 +45,14 @@ fn push_head(alloc: Global, text: &mut String, level: Level, len: u32) -> Result
     push_number(alloc, text, len)?;
     text.push_str(level.element)?;
     if level.is_scope {
-        // a code with scope begins with its length, which a level has beside 7 bytes
+        // a code with scope begins with its length, 7 less than that of its level
         push_number(alloc, text, len.saturating_sub(7))?;
         text.push_str("0100000000")?;
     }
     Ok(())
 }
 
-/// The text of this many levels: the innermost is empty, and each other holds the next alone.
+/// The text of this many levels: the innermost is empty, and each other level holds the next one alone.
 fn levels(alloc: Global, level: Level, count: u32) -> Result<String, AllocError> {
     let mut text = String::new(alloc);
     for inside in (1..count).rev() {
@@ -67,7 +67,7 @@ fn levels(alloc: Global, level: Level, count: u32) -> Result<String, AllocError>
     Ok(text)
 }
 
-/// Whether a text of this many bytes begins with these digits, and a command prints this of it.
+/// Whether a text has this many bytes, begins with these digits, and a command prints this of it.
 fn is_answered(
     alloc: Global,
     command: &str,
@@ -123,7 +123,7 @@ fn push_null(
     write!(listing, "0a {key} 0\nend\n")
 }
 
-/// Whether `list` prints that.
+/// Whether `list` prints it.
 fn is_null_listed(alloc: Global, letters: usize) -> bool {
     let mut text = String::new(alloc);
     let mut listing = String::new(alloc);

@@ -39,7 +39,7 @@ pub(super) fn refusal_of(bytes: &[u8]) -> Option<&'static str> {
 fn walk(alloc: Global, elements: &[u8]) -> Result<Listing, AllocError> {
     let mut output = String::new(alloc);
     let mut left = elements;
-    // each frame has a byte at least
+    // each frame has at least one byte
     for _ in 0..elements.len() {
         let Some(frame) = first_frame(left) else {
             break;
@@ -127,7 +127,7 @@ fn cut_payload(tag: u8, after: &[u8], len: usize) -> Option<(&[u8], &[u8])> {
     has_shape(tag, payload, after).then_some((payload, rest))
 }
 
-/// What a payload looks like.
+/// The shape of a payload.
 #[derive(Clone, Copy)]
 enum Shape {
     /// this many bytes
@@ -146,7 +146,7 @@ enum Shape {
     CodeWithScope,
 }
 
-/// What the payloads of this tag look like, if it is the tag of a kind.
+/// The shape of payloads with this tag, if it is the tag of a kind.
 fn shape_of(tag: u8) -> Option<Shape> {
     Some(match tag {
         0x06 | 0x0A | 0x7F | 0xFF => Shape::Bytes(0),
@@ -193,7 +193,7 @@ fn begins_with_number(bytes: &[u8], number: usize) -> bool {
     }
 }
 
-/// Whether the payload is the length of a text with its 0, and these.
+/// Whether the payload is the length of a text with its 0, the text and the 0.
 fn is_text(payload: &[u8]) -> bool {
     match payload {
         [_, _, _, _, text @ ..] => {
@@ -235,7 +235,7 @@ enum End<'a> {
     Utf8(Option<&'a [u8]>),
 }
 
-/// How a walk ends where these bytes, which have no first frame, are left of a document.
+/// How a walk ends if these bytes, which have no first frame, are left of a document.
 fn end_of(left: &[u8]) -> End<'_> {
     if left == [0].as_slice() {
         return End::Sound;
@@ -243,7 +243,7 @@ fn end_of(left: &[u8]) -> End<'_> {
     let Some((tag, text)) = left.split_first() else {
         return End::Malformed(None);
     };
-    // a document ends in a 0, so that one follows
+    // a document ends in a 0, so one follows
     let Some((key, after)) = split_at_nul(text) else {
         return End::Malformed(None);
     };
@@ -256,7 +256,7 @@ fn end_of(left: &[u8]) -> End<'_> {
     }
 }
 
-/// Whether a pattern that has its 0 isn't UTF-8, or it is and options that have their 0 aren't.
+/// Whether a pattern with its 0 isn't UTF-8, or it is and the options with their 0 aren't.
 fn has_text_not_utf8(after: &[u8]) -> bool {
     let Some((pattern, after)) = split_at_nul(after) else {
         return false;

@@ -37,7 +37,8 @@ fn an_answer_or_out_of_memory(rt: HostRuntime) {
     }
 }
 
-/// Whether a run ends as the row says; or with status 4, or 5 for what is read, and writes nothing. The writer takes no memory.
+/// Whether a run ends as the row says; or it ends with status 4, or 5 if memory for reading ran out, and writes nothing. The writer takes no
+/// memory.
 fn is_run_or_nothing(alloc: Global, (command, text, status, output): Row) -> bool {
     let mut reader = text.as_bytes();
     let mut room = [0; 64];

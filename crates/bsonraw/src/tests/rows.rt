@@ -1,11 +1,11 @@
-//! Worked documents, and what each command prints of them: the lines are those of the format and of the program's description, typed by hand.
+//! Worked documents, and what each command prints of them. The lines were typed by hand from the format and the program's description.
 
 use super::documents::*;
 use super::{Row, USAGE_LINE, is_answer, require, require_rows};
 use std::alloc::Global;
 use std::process::Abort;
 
-/// Texts that are no document, whatever is asked of it.
+/// Texts that spell no document, whatever the command.
 const REFUSED: &[Row] = &[
     ("", 1, "refused 1\n"),
     ("05 00 00 00", 1, "refused 1\n"),
@@ -46,7 +46,7 @@ const LISTINGS: &[Row] = &[
     (SCOPE_WITH_A_WRONG_HEADER, 0, "0f 63 15\nend\n"),
     (KEY_NOT_UTF8, 1, "fault utf8 none\n"),
     (PATTERN_NOT_UTF8, 1, "fault utf8 61\n"),
-    // a regular expression with no 0, one and two after its key
+    // a regular expression with no 0, one 0 and two after its key
     ("07 00 00 00 0B 72 00", 1, "fault malformed 72\n"),
     ("08 00 00 00 0B 72 00 00", 1, "fault malformed 72\n"),
     (
@@ -60,7 +60,7 @@ const LISTINGS: &[Row] = &[
         1,
         "02 6869 11\nfault malformed none\n",
     ),
-    // codes with scope that declare up to four bytes, before the end and before another byte
+    // codes with scope that declare up to four bytes, at the end and before another byte
     (
         "0B 00 00 00 0F 61 00 00 00 00 00",
         1,
@@ -97,7 +97,7 @@ const LISTINGS: &[Row] = &[
     ),
 ];
 
-/// What it prints of the first 6 to 18 bytes of the greeting, with their number in the header and a final 0.
+/// What `list` prints of the first 6 to 18 bytes of the greeting, with their number in the header and a final 0.
 const CUT_GREETINGS: &[Row] = &[
     ("06 00 00 00 02 00", 1, "fault malformed -\n"),
     ("07 00 00 00 02 68 00", 1, "fault malformed 68\n"),

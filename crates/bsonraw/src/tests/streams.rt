@@ -73,7 +73,7 @@ impl Write for SlowWriter {
     }
 }
 
-/// Whether a command that may read and write so often ends with this status, takes this many bytes of the greeting, and writes this.
+/// Whether a command with this many reads and writes ends with this status, takes this many bytes of the greeting, and writes this.
 fn is_run(
     alloc: Global,
     command: &str,
