@@ -45,7 +45,7 @@ map-append : (ps qs : List (List ℕ × Token)) → map (λ p. p.1) (ps ++ qs) �
 map-append [] qs = refl
 map-append (p ∷ ps) qs = ap (λ (x : List Token). p.1 ∷ x) (map-append ps qs)
 
--- two texts one after the other
+-- two texts one after another
 pub both : (c : Bool) (text others : List ℕ) (ts us : List Token) → IsSpaced c text ts → IsSpaced (then_value c ts) others us → IsSpaced c (text ++ others) (ts ++ us)
 both c text others ts us h k = record {
   spaced = h.spaced ++ k.spaced;

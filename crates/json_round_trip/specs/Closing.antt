@@ -39,8 +39,8 @@ IsWithin limits b = (t : Tree) × ReadsWithin limits b t
 abbrev pub IsReadWithin : List ℕ → List ℕ → Type 0
 IsReadWithin text b = (limits : Limits) (r : JsonReason) → IsWithin limits b → IsCause limits text r → r ≡ reason.OutOfMemory
 
--- if so, each text of it in the canonical format writes b alone, and within any limits that b is within (`IsReadWithin`) the text is
--- read unless memory runs out
+-- If the document b is canonical and its tree comes back, each text of it in the canonical format writes b alone. Unless memory runs out,
+-- the text is read within any limits that b is within (`IsReadWithin`).
 abbrev pub ClosesCircle : List ℕ → Type 0
 ClosesCircle b = IsReturning b → (layout : Layout) (text : List ℕ) → IsJson (canonical_in layout) b text → SaysAlone text b × IsReadWithin text b
 
@@ -48,7 +48,7 @@ ClosesCircle b = IsReturning b → (layout : Layout) (text : List ℕ) → IsJso
 abbrev pub IsReadAgain : List ℕ → Layout → List ℕ → Type 0
 IsReadAgain b layout bytes = (text : List ℕ) × IsJson (canonical_in layout) b text × IsWritten text bytes
 
--- why there are none: b isn't printed, or its text isn't read
+-- why no bytes are returned: b isn't printed, or its text isn't read
 abbrev pub TellsRoundTripError : Limits → List ℕ → Layout → RoundTripError → Type 0
 TellsRoundTripError limits b layout (round.Print error) = TellsJsonError limits b error
 TellsRoundTripError limits b layout (round.Read error) = (text : List ℕ) × IsJson (canonical_in layout) b text × IsCause limits text error.reason
