@@ -14,7 +14,7 @@ fn is_number_said(alloc: Global, bytes: Result<&[u8], NoMemory>, text: &str) -> 
     let_go!(made = number(alloc, bytes); is_said(alloc, &made, text))
 }
 
-/// Whether each has its own.
+/// Whether each error has its own text.
 fn are_said(alloc: Global) -> bool {
     let short = "malformed value: \"document too short\"";
     let missing = "error at key: \"a\": value not present";

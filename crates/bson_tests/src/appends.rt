@@ -23,7 +23,7 @@ fn are_appended(alloc: Global, document: &mut RawDocumentBuf) -> bool {
     are_right && document.as_bytes() == ALL_KINDS
 }
 
-/// Whether that holds of a document, if there is memory for it.
+/// The same of a document, if there is memory for it.
 fn are_made(alloc: Global, made: &mut Result<RawDocumentBuf>) -> bool {
     match made {
         Ok(document) => are_appended(alloc, document),

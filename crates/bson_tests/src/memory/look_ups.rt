@@ -38,7 +38,7 @@ fn is_look_up_out_of_memory(alloc: Global, answer: &Result<Option<RawBsonRef<'_>
     }
 }
 
-/// Whether this item is.
+/// Whether this item is out of memory.
 fn is_item_out_of_memory(alloc: Global, item: &Option<Result<(&str, RawBsonRef<'_>)>>) -> bool {
     match item {
         Some(Err(error)) => Checks::refusable(alloc).is_out_of_memory(error),
@@ -46,7 +46,7 @@ fn is_item_out_of_memory(alloc: Global, item: &Option<Result<(&str, RawBsonRef<'
     }
 }
 
-/// Whether the first item is, and nothing follows it.
+/// Whether the first item is out of memory, and nothing follows it.
 fn is_out_of_memory_alone(alloc: Global, document: RawDocument<'_>) -> bool {
     let mut iter = document.iter(alloc);
     let is_first = let_go!(made = iter.next(); is_item_out_of_memory(alloc, &made));

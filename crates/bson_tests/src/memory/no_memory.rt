@@ -27,7 +27,7 @@ fn has_each_value(alloc: Global, document: RawDocument<'_>) -> bool {
         && is_got(document.get_i64(alloc, "r"))
 }
 
-/// Whether each getter of arrays has one at its index in the array of the same bytes.
+/// Whether each getter of arrays has a value at its index in the array of the same bytes.
 fn has_each_item(alloc: Global, array: RawArray<'_>) -> bool {
     is_got(array.get_f64(alloc, 0))
         && is_got(array.get_str(alloc, 1))
@@ -49,7 +49,7 @@ fn are_found(alloc: Global, greeting: RawDocument<'_>, mixed: RawDocument<'_>) -
         && mixed.get_i32(alloc, "i32").ok() == Some(1000000)
 }
 
-/// Whether they have one after a fault: a boolean of the byte 2, and a text that isn't UTF-8.
+/// Whether typed getters have a value after a fault: a boolean of the byte 2, and a text that isn't UTF-8.
 fn are_found_after(alloc: Global, faulty: RawArray<'_>, text: RawArray<'_>) -> bool {
     faulty.get_i32(alloc, 1).ok() == Some(7) && text.get_i32(alloc, 1).ok() == Some(7)
 }
@@ -59,7 +59,7 @@ fn is_next_framed(elements: &mut RawIter<'_>, kind: ElementType, key: &str, len:
     let_go!(made = elements.next(); is_framed(&made, kind, key, len))
 }
 
-/// Whether the item is.
+/// Whether the item is such an element.
 fn is_framed(
     item: &Option<Result<RawElement<'_>>>,
     kind: ElementType,
@@ -74,7 +74,7 @@ fn is_framed(
     }
 }
 
-/// Whether the item is the stop where no byte is left.
+/// Whether the item is the stop at which no byte is left.
 fn is_overflow(item: &Option<Result<RawElement<'_>>>) -> bool {
     match item {
         Some(Err(error)) => is_fault(error, &OVERFLOWED),
@@ -82,7 +82,7 @@ fn is_overflow(item: &Option<Result<RawElement<'_>>>) -> bool {
     }
 }
 
-/// Whether the elements of the empty document, the greeting and the swallowed terminator are framed, and then the stop of that one.
+/// Whether the elements of the empty document, of the greeting and of the swallowed terminator are framed, and then the stop of the last.
 fn are_framed(
     mut empty: RawIter<'_>,
     mut greeting: RawIter<'_>,

@@ -34,7 +34,7 @@ fn insert(alloc: Global, document: &mut Document, pair: (&str, i32)) -> Result<b
     Ok(let_go!(old = document.insert(key, Bson::Int32(pair.1))?; old.is_none()))
 }
 
-/// Whether it was put there.
+/// Whether the pair was put last.
 fn is_inserted(alloc: Global, document: &mut Document, pair: (&str, i32)) -> bool {
     let_go!(made = insert(alloc, document, pair); matches!(made, Ok(true)))
 }
@@ -62,7 +62,8 @@ fn is_replaced(alloc: Global, document: &mut Document) -> bool {
     let_go!(made = insert(alloc, document, ("a", 19)); matches!(made, Ok(false)))
 }
 
-/// Whether it does, at once or, where a request was refused and the old value stayed, when it is inserted again; and keeps its place.
+/// Whether the first key takes a new value and keeps its place. If a request was refused, the old value stays, and the key takes the new
+/// value when it is inserted again.
 fn is_kept(alloc: Global, document: &mut Document) -> bool {
     let is_right = is_replaced(alloc, document)
         || (is_under(document, ("a", 1)) && is_replaced(alloc, document));

@@ -5,7 +5,7 @@ use raw_bson::{RawBson, RawBsonRef, RawDocumentBuf, Result};
 use std::alloc::Global;
 use std::process::Abort;
 
-// `bin/test` also counts the requests for memory of these.
+// `bin/test` also counts the requests for memory of these tests.
 
 /// What is in the document of three int32.
 const NUMBERS: &[(&str, i32)] = &[("a", -1), ("b", 123), ("c", 0)];
@@ -50,7 +50,7 @@ fn are_appended(document: &mut RawDocumentBuf) -> bool {
     are_right && document.as_bytes() == THREE_INT32
 }
 
-/// Whether they are appended to the empty document if there is room for them.
+/// Whether the numbers are appended to the empty document if there is room for them.
 fn are_numbers_appended(room: Vec<u8>) -> bool {
     match empty_in(room) {
         Ok(mut document) => are_appended(&mut document),
@@ -58,7 +58,7 @@ fn are_numbers_appended(room: Vec<u8>) -> bool {
     }
 }
 
-/// One request for the room, and none for what is appended where there is room.
+/// One request for the room, and none for what is appended, since there is room.
 #[test]
 fn an_append_with_room_asks_for_nothing(rt: HostRuntime) {
     if let Ok(room) = Vec::with_capacity(rt.alloc(), THREE_INT32.len()) {

@@ -1,4 +1,4 @@
-//! Documents that are printed where memory runs out.
+//! Documents that are printed while memory runs out.
 
 use bson_to_json::{
     Format, Layout, Measured, Style, ToJsonError, WriteJsonError, measured_json, to_json,
@@ -59,7 +59,7 @@ fn is_written(alloc: Global, document: RawDocument<'_>) -> bool {
     }
 }
 
-/// Whether each call does so for the document of these bytes.
+/// Whether each call does so with the document of these bytes.
 fn is_told(alloc: Global, bytes: &[u8]) -> bool {
     match RawDocument::from_bytes(bytes) {
         Ok(document) => {

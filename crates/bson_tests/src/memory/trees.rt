@@ -31,7 +31,7 @@ pub(crate) const OTHER_SPELLING: &[u8] = b"\x3D\0\0\0\
 \x0Fc\0\x0F\0\0\0\x02\0\0\0g\0\x05\0\0\0\0\
 \0";
 
-/// Its bytes and levels.
+/// The bytes and levels of that document.
 const LIMITS: Limits = Limits {
     bytes: 61,
     depth: 2,
@@ -75,7 +75,7 @@ fn is_buffer_read(checks: Checks, answer: &Result<RawDocumentBuf>) -> bool {
     }
 }
 
-/// The tree of a buffer that is taken.
+/// The tree of a buffer that is consumed.
 fn taken(alloc: Global) -> Result<Document> {
     document_of(alloc, OTHER_SPELLING)?.into_document()
 }
@@ -96,7 +96,7 @@ pub(crate) fn is_view_read(checks: Checks, view: RawDocument<'_>) -> bool {
         && is_counted(checks, view)
 }
 
-/// Whether buffers with these bytes have them, whether read or taken.
+/// Whether buffers with these bytes have these parts, both if they are read and if they are consumed.
 pub(crate) fn are_buffers_read(checks: Checks) -> bool {
     let_go!(made = document_of(checks.alloc, OTHER_SPELLING); is_buffer_read(checks, &made))
         && let_go!(made = taken(checks.alloc); is_tree(checks, &made))
@@ -127,7 +127,7 @@ fn is_tree_written(checks: Checks, answer: &Result<Document>) -> bool {
     }
 }
 
-/// Whether each call that writes the parts does.
+/// The same of each call that writes the parts.
 pub(crate) fn are_parts_written(checks: Checks) -> bool {
     let_go!(made = canonical_bytes(checks.alloc, OTHER_SPELLING); checks.is_list(&made, PARTS))
         && let_go!(made = tree_of(checks.alloc, PARTS); is_tree_written(checks, &made))
@@ -265,7 +265,7 @@ fn are_form(checks: Checks, made: &std::result::Result<Vec<u8>, AllocError>) -> 
     }
 }
 
-/// Whether `levels` levels around the innermost are.
+/// The same of `levels` levels around the innermost.
 pub(crate) fn are_levels_form(checks: Checks, levels: usize) -> bool {
     let_go!(
         made = nested(checks.alloc, &[UNDER_THE_EMPTY_KEY], levels, EMPTY);

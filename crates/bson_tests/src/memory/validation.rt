@@ -174,7 +174,7 @@ fn is_form(checks: Checks, bytes: &[u8]) -> bool {
     let_go!(made = canonical_within(checks.alloc, bytes, limits); checks.is_list(&made, MIXED_FORM))
 }
 
-/// Whether both do.
+/// Whether both documents have their form.
 pub(crate) fn are_forms(checks: Checks) -> bool {
     is_form(checks, MIXED) && is_form(checks, MIXED_FORM)
 }

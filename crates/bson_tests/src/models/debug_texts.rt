@@ -68,7 +68,7 @@ fn values_have_debug_texts(rt: HostRuntime) {
     }
 }
 
-/// Arrays, and the texts of their copies, with how many items these have.
+/// Arrays, and the texts of their copies, which have the number of items.
 const ARRAYS: &[(&[u8], &str)] = &[
     (EMPTY, "RawArrayBuf { data: \"0500000000\", len: 0 }"),
     // a null and a stop

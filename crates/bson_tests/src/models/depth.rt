@@ -30,7 +30,7 @@ fn are_equal(tree: &raw_bson::Result<Document>, other: &raw_bson::Result<Documen
     }
 }
 
-/// Whether two trees of these bytes are.
+/// Whether two trees of these bytes were made, and are equal.
 fn are_levels_equal(alloc: Global, bytes: &[u8]) -> bool {
     let_go!(
         tree = tree_of(alloc, bytes);

@@ -5,7 +5,7 @@ use std::process::Abort;
 
 // A recursion down a tree in a crate above `bson_model`: its lemmas say that what a value holds is smaller than it.
 
-/// How many values without others in them the value holds, at any depth.
+/// The number of values that hold no others in this value, at any depth.
 #[cycle(count)]
 fn leaves_of_value(value: &Bson) -> u64 {
     match value {

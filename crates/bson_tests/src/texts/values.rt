@@ -157,7 +157,7 @@ fn out_of_memory_is_printed(rt: HostRuntime) {
     assert!(rt; is_out_of_memory_printed(rt.alloc()));
 }
 
-/// Getters of an int32 that find none.
+/// Getters of an int32 that find no int32.
 const ACCESSES: &[Row] = &[
     (
         BOOL_AND_INT32,
@@ -208,7 +208,7 @@ fn access_errors_are_printed(rt: HostRuntime) {
     }
 }
 
-/// Whether that of an array at this index has an error of this text.
+/// Whether the getter of an int32 of an array at this index has an error of this text.
 fn is_index_said(alloc: Global, array: RawArray<'_>, index: usize, text: &str) -> bool {
     let_go!(made = array.get_i32(alloc, index); is_said(alloc, &made, text))
 }

@@ -39,7 +39,7 @@ fn come_back(alloc: Global, bytes: &[u8]) -> bool {
     let_go!(made = tree_of(alloc, bytes); is_million_read(alloc, &made, bytes))
 }
 
-/// Whether a million levels of these kinds do.
+/// Whether a million levels of these kinds come back, and are dropped.
 fn are_read(rt: &impl Abort, alloc: Global, kinds: &[Level]) -> bool {
     let_go!(made = million(rt, alloc, kinds); come_back(alloc, &made))
 }
@@ -108,7 +108,7 @@ fn is_pushed_and_read(alloc: Global, array: &mut RawArrayBuf, bytes: &[u8]) -> b
         )
 }
 
-/// Whether an array takes and returns them.
+/// Whether an array takes a thousand such documents and returns them.
 fn are_deep_documents_read(
     alloc: Global,
     made: &mut Result<RawArrayBuf, Error>,
@@ -175,7 +175,7 @@ fn owned_levels(alloc: Global, bytes: &[u8]) -> Result<RawBson, Error> {
     Ok(RawBson::from(document_of(alloc, bytes)?))
 }
 
-/// Whether the value of the document of these bytes is so.
+/// The same of the value of the document of these bytes.
 fn is_owned_value(alloc: Global, bytes: &[u8]) -> bool {
     let_go!(made = owned_levels(alloc, bytes); is_value(alloc, &made, bytes))
 }
