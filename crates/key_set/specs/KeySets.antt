@@ -32,7 +32,7 @@ IsBehindLast (first ∷ next ∷ keys) key = IsBehindLast (next ∷ keys) key
 abbrev pub HasListed : ℕ → List (Bor (List ℕ)) → List (List ℕ) → List (List ℕ) → Type 0
 HasListed first listed below own = IsDistinct bytes_eq own × (first ≡ length below) × (texts listed ≡ below ++ own)
 
--- a document has its own keys, each once; those of the outer levels are before them in the list
+-- a document's own keys, each once, are in the list after those of the outer levels, or in an index
 abbrev pub HasKeys : KeySet → List (Bor (List ℕ)) → List (List ℕ) → List (List ℕ) → Type 0
 HasKeys (keys.Ascending first) listed below own = IsDistinct bytes_eq own × (first ≡ length below) × (texts listed ≡ below ++ own) × AreAscending own
 HasKeys (keys.Listed first filter) listed below own = IsDistinct bytes_eq own × (first ≡ length below) × (texts listed ≡ below ++ own) × AreInFilter filter own
