@@ -29,7 +29,7 @@ use Rattle.raw_tree.specs.declared.validator.within.Found.{Found}
 use Rattle.raw_tree.specs.declared.walk.WalkError.{WalkError}
 use Rattle.raw_tree.specs.declared.walk.WalkError.TheVariants as error
 
--- a level of this sort has its own keys so far; those of the outer levels are before them in the list
+-- a level of this sort has these own keys so far; the list begins with the keys of the outer levels
 abbrev pub HasKeysSoFar : KeysSoFar → List (Bor (List ℕ)) → Sort → List (List ℕ) → List (List ℕ) → Type 0
 HasKeysSoFar kept.Numbers listed sort below own = (sort ≡ as_array) × (texts listed ≡ below)
 HasKeysSoFar (kept.Distinct set) listed sort below own = (sort ≡ as_document) × HasKeys set listed below own

@@ -84,7 +84,7 @@ opening (array ts) = unset
 opening (document es) = unset
 opening (code_with_scope code es) = unset ++ string_payload code ++ unset
 
--- how many bytes these are
+-- the number of these bytes
 abbrev pub opening_len : Tree → ℕ
 opening_len (leaf l) = 0
 opening_len (array ts) = 4
