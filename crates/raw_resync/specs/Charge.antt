@@ -43,7 +43,7 @@ LooksAtRegex s n =
 
 -- n bytes of s are looked at, where s is the rest of a document from its first fault x on, which is at this path. If no key ends, these are
 -- all bytes. Otherwise they are the tag and the key with its 0 of the element at the front; also the texts of a regular expression; and
--- also the payload if a text of the value is read up to its fault, which is at most 16 bytes more than its length says.
+-- also the payload, taken as 16 bytes more than its length says or as all that is left, if a text of the value is read up to its fault.
 abbrev pub LooksAt : Barrier → List Step → List ℕ → ℕ → Type 0
 LooksAt x path s n =
     (((key : List ℕ) → ¬ HasKey s key) × (n ≡ length s))

@@ -34,7 +34,8 @@ abbrev pub ProbesOrLeaves : Limits → List ℕ → ℕ → (old new : Work) →
 ProbesOrLeaves limits b end old new None = (¬ HasRoom old (length b) end) × (new ≡ old)
 ProbesOrLeaves limits b end old new (Some is) = HasRoom old (length b) end × (n : ℕ) × IsProbed limits b is n × (new ≡ charged old n end)
 
--- no piece is at the front of t: t is the end of the input and shorter than its length says; or no document has this length
+-- no piece is at the front of t: t is the end of the input, and has fewer than four bytes or fewer than its length says; or no document may
+-- have its length
 abbrev pub LacksPiece : ℕ → Bool → List ℕ → Type 0
 LacksPiece most is_last t =
     ((is_last ≡ true) × (0 < length t) × ((length t < 4) ⊎ (length t < said_len t))) ⊎ ((4 ≤ length t) × ((said_len t < 5) ⊎ (most < said_len t)))
@@ -59,14 +60,14 @@ TellsFront most bytes is_last place (front.Piece len) = (place + len ≤ length 
 abbrev pub Wants : Limits → List ℕ → Bool → ℕ → ℕ → Type 0
 Wants limits bytes is_last place n = (is_last ≡ false) × (length bytes < n) × (n ≤ place + limits.bytes + 4)
 
--- what is found at a place of s, the end of an input
+-- what is found at a place of s, the rest of an input
 abbrev pub TellsCheck : Limits → List ℕ → (at place : ℕ) → (old new : Work) → Check → Type 0
 TellsCheck limits s at place old new check.GoesOn = IsFoundAt limits s at place old new
 TellsCheck limits s at place old new check.Stops = IsPassedAt limits s at place old new × ¬ IsLeftOut limits s at place old
 TellsCheck limits s at place old new check.LeftOut = IsPassedAt limits s at place old new × IsLeftOut limits s at place old
 TellsCheck limits s at place old new (check.Wants n) = new ≡ old
 
--- which bytes there are where that is found
+-- which bytes have to be there if that is found
 abbrev pub IsCheckedIn : Limits → List ℕ → Bool → ℕ → Check → Type 0
 IsCheckedIn limits bytes is_last place check.GoesOn = Unit {0}
 IsCheckedIn limits bytes is_last place check.Stops = place < length bytes
@@ -83,14 +84,14 @@ pub record Checks (limits : Limits) (bytes : List ℕ) (is_last : Bool) (at plac
   pub here : IsCheckedIn limits bytes is_last place told
   pub tells : (rest : List ℕ) → MayFollow is_last rest → TellsCheck limits (bytes ++ rest) at place old new told
 
--- what a search finds in s, the end of an input
+-- what a search finds in s, the rest of an input
 abbrev pub TellsSought : Limits → List ℕ → (at : ℕ) → Places → (old new : Work) → Sought → Type 0
 TellsSought limits s at p old new (sought.Found place all) =
     (p.from ≤ place) × (place < p.until) × (mid : Work) × PassesOver limits s at p.from place old mid all × IsFoundAt limits s at place mid new
 TellsSought limits s at p old new (sought.Nowhere all) = PassesOver limits s at p.from p.until old new all
 TellsSought limits s at p old new (sought.Wants place n all) = (p.from ≤ place) × (place < p.until) × PassesOver limits s at p.from place old new all
 
--- which bytes there are where that is found
+-- which bytes have to be there if that is found
 abbrev pub IsSoughtIn : Limits → List ℕ → Bool → Places → Sought → Type 0
 IsSoughtIn limits bytes is_last p (sought.Found place all) = place ≤ length bytes
 IsSoughtIn limits bytes is_last p (sought.Nowhere all) = p.until ≤ length bytes
@@ -102,7 +103,7 @@ pub record Seeks (limits : Limits) (bytes : List ℕ) (is_last : Bool) (at : ℕ
   pub here : IsSoughtIn limits bytes is_last p told
   pub tells : (rest : List ℕ) → MayFollow is_last rest → TellsSought limits (bytes ++ rest) at p old new told
 
--- the tag of an element whose payload begins with a length, or what may look like one, and a key, which isn't empty
+-- the tag of an element whose payload begins with a length, or what may look like one, and a key: UTF-8, and not empty
 abbrev pub IsKeyAfter : (tag : ℕ) → List ℕ → Type 0
 IsKeyAfter tag key = IsBeforeLength tag × (0 < length key) × IsUtf8 key
 

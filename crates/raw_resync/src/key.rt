@@ -43,7 +43,7 @@ pub(crate) fn ends_in_key(bytes: &[u8]) -> bool
     false
 }
 
-/// Whether this is the tag of a document, an array or an int32, and what follows it is a key that isn't empty.
+/// Whether this is the tag of a document, an array or an int32, and what follows it is a key: UTF-8, and not empty.
 fn is_key_after(tag: u8, key: &[u8]) -> bool
     ensures { MatchBool result (IsKeyAfter tag key.now) (¬ IsKeyAfter tag key.now) }
 {
