@@ -49,7 +49,7 @@ abbrev pub end_text : Layout → ℕ → Sort → Bool → List ℕ
 end_text layout depth sort true = closing sort ∷ []
 end_text layout depth sort false = line layout depth ++ (closing sort ∷ [])
 
--- what is around the scope of a code
+-- what is before the scope of a code
 abbrev pub before_scope : List ℕ → List ℕ
 before_scope code = codes "{\"$code\":" ++ (quoted code ++ codes ",\"$scope\":")
 

@@ -46,7 +46,7 @@ opening_text (raw.document d) = codes "{"
 opening_text (raw.array d) = codes "["
 opening_text (raw.scoped code d) = before_scope code ++ codes "{"
 
--- a value that holds no others has this text
+-- the text of a value that holds no others; of any other it is empty
 abbrev pub IsSingleJson : Format → RawValue → List ℕ → Type 0
 IsSingleJson format (raw.single l) text = IsLeafJson format l text
 IsSingleJson format _ text = text ≡ []
