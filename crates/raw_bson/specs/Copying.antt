@@ -9,7 +9,7 @@ use Rattle.raw_view.specs.declared.error.ErrorKind.TheVariants as kind
 use Rattle.raw_view.specs.declared.error.Reason.TheVariants as reason
 use Rattle.raw_bson.specs.Append.{HaveNoShortScope, HoldsFrames, RefusesAppend, RefusesLength, appended_bytes, value_frame}
 
--- the copies of these frames are those; `Gives` says what one frame becomes
+-- these frames become those; `Gives` says what one frame becomes
 abbrev pub GiveFrames : (Frame → List Frame → Type 0) → List Frame → List Frame → Type 0
 GiveFrames Gives [] given = given ≡ []
 GiveFrames Gives (f ∷ fs) given = (one : List Frame) × (more : List Frame) × Gives f one × GiveFrames Gives fs more × (given ≡ one ++ more)
@@ -26,8 +26,8 @@ pub record IsCopy (Gives : Frame → List Frame → Type 0) (b a : List ℕ) : T
 abbrev pub TellsStop : List ℕ → Error → Type 0
 TellsStop b e = (frames : List Frame) × (fault : Fault) × (key : Option (List ℕ)) × IsWalk (drop 4 b) frames (Stopped fault key) × TellsFault e fault key
 
--- Why no more elements of b are appended to a copy that leaves elements out: memory ran out; or b has the greatest length, and an element
--- contains its final 0.
+-- Why no more elements of b are appended to a copy that leaves elements out: memory ran out; or the copy would be too long, since b has the
+-- greatest length, and an element contains its final 0.
 abbrev pub RefusesElement : List ℕ → Error → Type 0
 RefusesElement b e = IsOutOfMemory e ⊎ ((e.kind ≡ kind.MalformedValue reason.TooLong) × (length b ≡ max_length))
 
