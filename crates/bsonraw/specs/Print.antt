@@ -40,6 +40,7 @@ abbrev pub fault_key_text : Option (List ℕ) → List ℕ
 fault_key_text None = codes "none"
 fault_key_text (Some key) = key_hex key
 
+-- the kind of a fault
 abbrev pub fault_text : Fault → List ℕ
 fault_text (Malformed _) = codes "malformed"
 fault_text Utf8 = codes "utf8"
@@ -48,6 +49,7 @@ fault_text Utf8 = codes "utf8"
 abbrev pub frame_line : Frame → List ℕ
 frame_line f = encode_lower (tag_of f.kind ∷ []) ++ codes " " ++ key_hex f.key ++ codes " " ++ decimal (length f.payload) ++ codes "\n"
 
+-- the lines of frames, in order
 abbrev pub frame_lines : List Frame → List ℕ
 frame_lines [] = []
 frame_lines (f ∷ fs) = frame_line f ++ frame_lines fs
