@@ -35,7 +35,7 @@ IsReturning b = IsCanonical b × ((t : Tree) × Reads b t × DocumentComesBack t
 abbrev pub IsWithin : Limits → List ℕ → Type 0
 IsWithin limits b = (t : Tree) × ReadsWithin limits b t
 
--- within limits that the document b is within, this text isn't read only for lack of memory
+-- within limits that the document b is within, the only reason why this text isn't read is that memory ran out
 abbrev pub IsReadWithin : List ℕ → List ℕ → Type 0
 IsReadWithin text b = (limits : Limits) (r : JsonReason) → IsWithin limits b → IsCause limits text r → r ≡ reason.OutOfMemory
 

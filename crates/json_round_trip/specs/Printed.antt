@@ -26,6 +26,6 @@ pub record IsReturningLeaf (l : Leaf) : Type 0 where
   pub subtype_proper : IsLeafSubtypeProper l
   pub comes_back : LeafComesBack l
 
--- every text of the leaf in the canonical format is that of a JSON value
+-- if the leaf comes back, every text of it in the canonical format is that of a JSON value
 abbrev pub LeafIsPrinted : Leaf → Type 0
 LeafIsPrinted l = IsReturningLeaf l → (text : List ℕ) → IsLeafJson Canonical l text → (j : Json) × IsPrintedAs l text j
