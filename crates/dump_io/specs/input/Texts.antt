@@ -98,6 +98,7 @@ turn_behind turn.More b = if is_space b then Some turn.More else None
 turn_behind turn.Comma b = if is_space b then Some turn.Comma else if b == 44 then Some turn.More else if b == 93 then Some turn.Last else None
 turn_behind turn.Last b = if is_space b then Some turn.Last else None
 
+-- one byte more, unless an earlier one couldn't be there
 abbrev pub turn_step : Option Turn → ℕ → Option Turn
 turn_step None b = None
 turn_step (Some t) b = turn_behind t b

@@ -14,7 +14,7 @@ origin_at name offset = record { name = name; offset = offset }
 abbrev pub origin_of : origin.Origin → Origin
 origin_of place = origin_at place.name.now place.offset
 
--- where a document is whose form came before, and where the first of that form is
+-- a document whose form came before: where it is, and where the first of that form is
 pub record Repeat : Type 0 where
   pub place : Origin
   pub first : Origin

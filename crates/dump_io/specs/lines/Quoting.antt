@@ -10,6 +10,7 @@ shown_char c =
     cond (nat_lt 0 (escape_letter c)) (92 ∷ escape_letter c ∷ [])
     (cond (is_control c) (codes "\\u00" ++ digit_char (c / 16) ∷ digit_char (c % 16) ∷ []) (encode_utf8 c))
 
+-- what stands for the characters of a text
 abbrev pub shown_text : List ℕ → List ℕ
 shown_text s = flat_map shown_char (chars s)
 
@@ -23,5 +24,6 @@ quoted s = 34 ∷ (shown_text s ++ 34 ∷ [])
 abbrev pub IsPlain : ℕ → Type 0
 IsPlain x = (x < 128) × (shown_char x ≡ x ∷ [])
 
+-- each of these bytes is so
 abbrev pub ArePlain : List ℕ → Type 0
 ArePlain bytes = (i : ℕ) → i < length bytes → IsPlain (get_or bytes i 0)

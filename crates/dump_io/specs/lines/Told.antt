@@ -54,6 +54,7 @@ head_members name offset = key (codes "file") ∷ string name ∷ key (codes "of
 abbrev pub number_token : Step → Token
 number_token step = number (decimal step.number)
 
+-- a text, or null where there is none
 abbrev pub text_or_null : Option (List ℕ) → Token
 text_or_null None = null
 text_or_null (Some text) = string text
@@ -95,10 +96,11 @@ report_line style.Words name offset told = line name offset (words_of told)
 report_line style.Json name offset told = object_line (head_members name offset ++ members_of told)
 report_line style.Quiet name offset told = []
 
--- the first document of a form, in words and as members of an object
+-- the first document of a form, in words
 abbrev pub first_text : Origin → List ℕ
 first_text first = codes "repeats " ++ quoted first.name ++ codes ":" ++ decimal first.offset
 
+-- the same as members of an object
 abbrev pub first_members : Origin → List Token
 first_members first = key (codes "finding") ∷ string (codes "repeat") ∷ key (codes "first file") ∷ string first.name ∷ key (codes "first offset") ∷ number (decimal first.offset) ∷ []
 
@@ -108,7 +110,7 @@ repeat_line style.Words r = line r.place.name r.place.offset (first_text r.first
 repeat_line style.Json r = object_line (head_members r.place.name r.place.offset ++ first_members r.first)
 repeat_line style.Quiet r = []
 
--- how a finding is reported if this number may still be: quietly if none may
+-- how a finding is reported if this number of findings may still be: not at all if none may
 abbrev pub with_left : Style → ℕ → Style
 with_left shown zero = style.Quiet
 with_left shown (suc n) = shown

@@ -27,7 +27,7 @@ abbrev pub boolean_text : Bool → List ℕ
 boolean_text true = codes ": true"
 boolean_text false = codes ": false"
 
--- the double of these bits: NaN, or a text that is read as it
+-- the double with these bits: NaN, or a text that is read as this double
 abbrev pub ShowsDouble : ℕ → List ℕ → Type 0
 ShowsDouble bits text =
     ((0x7ff0_0000_0000_0000 < bits % 0x8000_0000_0000_0000) × (text ≡ codes "NaN"))
