@@ -6,7 +6,7 @@ use Rattle.raw_bson.specs.Error.{Error}
 use Rattle.raw_bson.specs.Reading.{Reads}
 use Rattle.raw_bson.specs.Tree.{Tree}
 
--- Both bytes are documents without a fault, whose trees are the same or not; or the first of them that has no canonical form has this error.
+-- Both are documents without a fault, and this is whether their trees are the same; or this is the error of the first without a canonical form.
 abbrev pub Compares : List ℕ → List ℕ → Result Bool Error → Type 0
 Compares a b (Ok same) = (t : Tree) × (u : Tree) × Reads a t × Reads b u × (IsTrue same ↔ (t ≡ u))
 Compares a b (Err e) = RefusesForm a e ⊎ ((form : List ℕ) × IsCanonicalForm a form × RefusesForm b e)

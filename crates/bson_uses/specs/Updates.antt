@@ -35,7 +35,7 @@ RefusesInside [] v f e = ⊥
 RefusesInside (key ∷ keys) v f e =
     (f.key ≡ key) × (inside : List ℕ) × Means f (value (document inside)) × EndsCopy (Sets keys v) (RefusesInside keys v) inside e
 
--- why there is no document b in which v is set under these keys
+-- why no copy of the document b is made in which v is set under these keys
 abbrev pub RefusesSet : List (List ℕ) → RawValue → List ℕ → Error → Type 0
 RefusesSet path v b e = EndsCopy (Sets path v) (RefusesInside path v) b e
 

@@ -9,6 +9,7 @@ use Rattle.raw_bson.specs.Frame.{Frame}
 abbrev pub LeavesOut : List ℕ → Frame → List Frame → Type 0
 LeavesOut key f given = given ≡ cond (bytes_eq f.key key) [] (f ∷ [])
 
--- the walk of b stops, and the error says how; or it is out of memory; or b has the greatest length, and an element contains its final 0
+-- The walk of b stops, and the error says how. Or memory ran out. Or the copy would be too long, since b has the greatest length, and an
+-- element contains its final 0.
 abbrev pub RefusesCopy : List ℕ → Error → Type 0
 RefusesCopy b e = TellsStop b e ⊎ RefusesElement b e
