@@ -25,7 +25,7 @@ pub record OfParts : Type 1 where
   -- of the keys of each document and each scope, in order
   pub of_keys : List (List ℕ) → Type 0
 
--- it holds of each part: of a tree, of each tree of a list, and of each key and tree of a list of pairs
+-- `holds` is met by each part: of a tree, of each tree of a list, and of each key and tree of a list of pairs
 module _ (holds : OfParts) where
   abbrev mutual
     -- of each part of a tree
