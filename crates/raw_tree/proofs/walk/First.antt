@@ -48,7 +48,7 @@ module _ {X : Type 0} (sought : Sought X) where
   first_bound (suc n) sort b x path offset (ps, s, leads, before, inr (none, (f, q, v, held_as, d, steps, inside, frame, means, holds, nested, path_is, there))) =
       offset_bound b s d q steps inside offset (first_bound n held_as d x steps inside nested) there
 
-  -- bytes with a level that is too deep are at least as many as the allowed levels
+  -- a level that is too deep needs at least as many bytes as levels are allowed
   pub deep_long : ((sort : Sort) (ps : List Frame) (s : List ℕ) (key : Option (List ℕ)) → ¬ sought.is_at sort ps s key sought.deep)
       → (n : ℕ) (sort : Sort) (b : List ℕ) (path : List Step) (offset : ℕ) → IsFirst sought n sort b sought.deep path offset → n ≤ length b
   deep_long never zero sort b path offset h = omega arith
@@ -78,7 +78,7 @@ pub record IsUnique {X : Type 0} (sought : Sought X) : Type 0 where
       → Means f (value v) → HoldsAs v held_as d → IsPassed sought n held_as d
 
 module _ {X : Type 0} {sought : Sought X} (is : IsUnique sought) where
-  -- bytes in which it is aren't passed
+  -- bytes in which something is first aren't passed
   abbrev AreApart : ℕ → Type 0
   AreApart n = (sort : Sort) (b : List ℕ) (x : X) (path : List Step) (offset : ℕ) → IsFirst sought n sort b x path offset → IsPassed sought n sort b → ⊥
 
@@ -99,7 +99,7 @@ module _ {X : Type 0} {sought : Sought X} (is : IsUnique sought) where
       let end = passed_whole (sought.passes n sort) (drop 4 b) frames ps s walk all leads before (front_blocks n (apart n) sort ps b s x path offset front) in
       front_over n sort ps b s x path offset end front
 
-  -- two that are first are one, at one place
+  -- only one thing is first, at one place
   abbrev AreOne : ℕ → Type 0
   AreOne n = (sort : Sort) (b : List ℕ) (x y : X) (path other : List Step) (offset at : ℕ) → IsFirst sought n sort b x path offset → IsFirst sought n sort b y other at
       → (y ≡ x) × (other ≡ path) × (at ≡ offset)
