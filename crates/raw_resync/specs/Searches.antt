@@ -41,7 +41,7 @@ LooksInto limits s at place old new is =
 abbrev pub IsFoundAt : Limits → List ℕ → (at place : ℕ) → (old new : Work) → Type 0
 IsFoundAt limits s at place old new = ((drop place s ≡ []) × (new ≡ old)) ⊎ LooksInto limits s at place old new true
 
--- they aren't: no document that counts may begin at this place; or the place is left out; or a look shows damage
+-- documents aren't found to continue at this place: none that counts may begin there; or it is left out; or a look shows damage
 abbrev pub IsPassedAt : Limits → List ℕ → (at place : ℕ) → (old new : Work) → Type 0
 IsPassedAt limits s at place old new =
     (place < length s)
@@ -69,12 +69,12 @@ abbrev pub IsFoundInside : Limits → List ℕ → (at len : ℕ) → (old new :
 IsFoundInside limits s at len old new place all =
     (there : Work) × (0 < place) × (place < len) × PassesOver limits s at 1 place old there all × IsFoundAt limits s at place there new
 
--- they are found to continue at the front of t, the rest of an input from this offset on; or that place is left out
+-- documents are found to continue at the front of t, the rest of an input from this offset on; or that place is left out
 abbrev pub IsOpen : Limits → List ℕ → (at : ℕ) → (old new : Work) → (all : Bool) → Type 0
 IsOpen limits t at old new true = IsFoundAt limits t at 0 old new
 IsOpen limits t at old new false = IsLeftOut limits t at 0 old × (new ≡ old)
 
--- they aren't found to continue there, and the place isn't left out
+-- documents aren't found to continue at the front of t, and that place isn't left out
 abbrev pub IsShut : Limits → List ℕ → (at : ℕ) → (old new : Work) → Type 0
 IsShut limits t at old new = IsPassedAt limits t at 0 old new × ¬ IsLeftOut limits t at 0 old
 

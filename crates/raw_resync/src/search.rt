@@ -67,7 +67,7 @@ pub fn seek(
 /// From this length on, the last byte of a length is at least 2.
 const TOO_LONG: usize = 1 << 25;
 
-/// The next place or a later one: at no place between is a length that a document may have.
+/// The next place or a later one: no place between has a length that a document may have.
 fn next_place(part: Part<'_>, place: usize, until: usize) -> usize
     requires { (place < length part.bytes.now) × (place < until) }
     ensures next { place < result }
