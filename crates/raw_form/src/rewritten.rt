@@ -30,7 +30,7 @@ use std::alloc::Global;
 pub(crate) enum Keys<'a> {
     /// those of an array: all of them, under the numbers from this one on
     Numbers(usize),
-    /// those of a document without repeated keys: all of them; this number of the next ones are known to be
+    /// those of a document without repeated keys: all of them; the next ones up to this number are known to be
     /// canonical
     Distinct(usize),
     /// those of a document with repeated keys: for each key the last, in the place of the first
