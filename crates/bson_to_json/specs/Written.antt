@@ -4,14 +4,14 @@ use Rattle.std.specs.Io.KnownBytes.{Appends}
 use Rattle.bson_to_json.specs.Json.{IsJson}
 use Rattle.bson_to_json.specs.declared.style.Style.{Style}
 
--- its known bytes have grown by a prefix of the text
+-- the writer's known bytes have grown by a prefix of the text
 pub record AppendsFront (old new : Option (List ℕ)) (text : List ℕ) : Type 0 where
   pub front : List ℕ
   pub behind : List ℕ
   pub whole : text ≡ front ++ behind
   pub put : Appends old new front
 
--- they have grown by a prefix of a text of the document b
+-- the writer's known bytes have grown by a prefix of a text of the document b
 abbrev pub WroteFront : Style → List ℕ → Option (List ℕ) → Option (List ℕ) → Type 0
 WroteFront style b old new = (text : List ℕ) × IsJson style b text × AppendsFront old new text
 
