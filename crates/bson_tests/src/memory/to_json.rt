@@ -1,4 +1,4 @@
-//! Documents that are printed while memory runs out.
+//! Documents that are printed with memory that may run out.
 
 use bson_to_json::{
     Format, Layout, Measured, Style, ToJsonError, WriteJsonError, measured_json, to_json,
