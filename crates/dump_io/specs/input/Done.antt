@@ -7,7 +7,7 @@ pub record CutInput : Type 0 where
   pub name : List ℕ
   pub goes_on : Bool
 
--- the same of the code
+-- such an input of the code
 abbrev pub cut_of : Cut → CutInput
 cut_of cut = record { name = cut.name.now; goes_on = cut.goes_on }
 

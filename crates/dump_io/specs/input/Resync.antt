@@ -79,7 +79,7 @@ TellsSeen limits s at p old new true all =
     × IsFoundAt limits (drop p.base s) (at + p.base) place before new
 TellsSeen limits s at p old new false all = PassesOver limits (drop p.base s) (at + p.base) p.from p.until old new all
 
--- so it is of all that was to be read
+-- this holds of all that was to be read
 pub record Sees (limits : Limits) (old new : Option (List ℕ)) (window_old window_new : Window) (work_old work_new : Work) (p : Search) (seen : Seen) : Type 0 where
   pub searches : Searches limits old new window_old window_new work_old work_new
   pub is : (s : List ℕ) → Consumes (Some s) old (ahead_of window_old) → TellsSeen limits s window_old.offset p work_old work_new seen.goes_on seen.all
@@ -90,7 +90,7 @@ abbrev pub TellsBehind : Limits → List ℕ → (at len : ℕ) → (old new : W
 TellsBehind limits s at len old new true = (¬ GoesOn limits (drop len s) 0) × IsShut limits (drop len s) (at + len) old new
 TellsBehind limits s at len old new false = (all : Bool) × (all ≡ true → GoesOn limits (drop len s) 0) × IsOpen limits (drop len s) (at + len) old new all
 
--- so it is of all that was to be read
+-- this holds of all that was to be read
 pub record LooksBehind (limits : Limits) (old new : Option (List ℕ)) (window_old window_new : Window) (work_old work_new : Work) (len : ℕ) (alone : Bool) : Type 0 where
   pub searches : Searches limits old new window_old window_new work_old work_new
   pub is : (s : List ℕ) → Consumes (Some s) old (ahead_of window_old) → TellsBehind limits s window_old.offset len work_old work_new alone
@@ -100,7 +100,7 @@ abbrev pub TellsElsewhere : Limits → List ℕ → (at len : ℕ) → (old new 
 TellsElsewhere limits s at len old new true = GoesOnElsewhere limits s at len old new
 TellsElsewhere limits s at len old new false = (all : Bool) × GoesOnBehind limits s at len old new all
 
--- so it is of all that was to be read
+-- this holds of all that was to be read
 pub record GoesElsewhere (limits : Limits) (old new : Option (List ℕ)) (window_old window_new : Window) (work_old work_new : Work) (len : ℕ) (elsewhere : Bool) : Type 0 where
   pub searches : Searches limits old new window_old window_new work_old work_new
   pub is : (s : List ℕ) → Consumes (Some s) old (ahead_of window_old) → TellsElsewhere limits s window_old.offset len work_old work_new elsewhere
@@ -110,7 +110,7 @@ abbrev pub IsDoubted : Limits → List ℕ → (at len : ℕ) → (old new : Wor
 IsDoubted limits s at len old new true = HasWrongLength limits s at len old new
 IsDoubted limits s at len old new false = IsBelieved limits s at len old new
 
--- so it is of all that was to be read
+-- this holds of all that was to be read
 pub record Doubts (limits : Limits) (old new : Option (List ℕ)) (window_old window_new : Window) (work_old work_new : Work) (len : ℕ) (doubted : Bool) : Type 0 where
   pub searches : Searches limits old new window_old window_new work_old work_new
   pub is : (s : List ℕ) → Consumes (Some s) old (ahead_of window_old) → IsDoubted limits s window_old.offset len work_old work_new doubted

@@ -72,7 +72,7 @@ IsOpen scan.Torn = ⊥
 abbrev pub IsOneText : List ℕ → Type 0
 IsOneText t = scanned t ≡ scan.Whole
 
--- it begins with a brace
+-- the text begins with a brace
 abbrev pub HasBrace : List ℕ → Type 0
 HasBrace t = (rest : List ℕ) × (t ≡ 123 ∷ rest)
 

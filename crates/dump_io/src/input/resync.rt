@@ -84,7 +84,7 @@ pub fn pass_over<R: Read>(
     Err(Failure::Reading(io::Error::from(io::ErrorKind::TimedOut)))
 }
 
-/// Places among the bytes ahead, counted from the byte after the first `base`. These `base` bytes aren't looked at.
+/// Places among the bytes ahead, counted from the end of the first `base` bytes. These aren't looked at.
 #[derive(Clone, Copy)]
 struct Search {
     base: usize,
