@@ -15,6 +15,6 @@ most = record { bytes = 1048576; depth = 100 }
 abbrev pub IsTaken : List ℕ → Tree → Type 0
 IsTaken b t = IsEnvelope b × ReadsWithin most b t
 
--- they are no document, and the error says the first reason; or it says the first barrier, or out of memory
+-- the bytes are no document, and the error says the first reason; or it says the first barrier, or out of memory
 abbrev pub IsTurnedAway : List ℕ → Error → Type 0
 IsTurnedAway b e = TellsRefusal b e ⊎ (IsEnvelope b × TellsFirstBarrier most b e)
