@@ -1612,6 +1612,75 @@ BSONRAW_USE BSONRAW_INLINE int32_t bsonraw_checked_date_time_to_text(int64_t mil
 #define bsonraw_date_time_to_text bsonraw_checked_date_time_to_text
 #endif
 
+/* ---- faults and places as text ---------------------------------------------------------------------------------------
+ *
+ * Proved.
+ * As snprintf each call puts as much of its text as there is room for, and a 0 after it, and returns how many bytes the text has without
+ * that 0. NULL for a room is no room, for bytes or a path none, and for an error or a report no fault.
+ */
+
+/* What is wrong by an error, with its numbers, as "a value is longer than what is left: 4157 where 62 are left"; 150 bytes are always
+ * enough. */
+size_t bsonraw_fault_text(const struct bsonraw_error *error, char *BSONRAW_RESTRICT text, size_t room);
+
+/* What is wrong with a text of JSON, as "expected a value", and of a wrapper what it has to be, as "this is not {"$oid": 24 hex digits}": of
+ * a report of bsonraw_from_json with BSONRAW_FAULT. 100 bytes are always enough.
+ *
+ *     uint8_t document[64];
+ *     struct bsonraw_json_report r;
+ *     char why[100];
+ *     if (BSONRAW_FROM_JSON("{\"id\": {\"$oid\": \"12\"}}", document, &r) == BSONRAW_FAULT) {
+ *         bsonraw_json_fault_text(&r, why, sizeof why);
+ *         printf("line %lu, column %lu: %s\n", r.line, r.column, why);
+ *     }
+ */
+size_t bsonraw_json_fault_text(const struct bsonraw_json_report *report, char *BSONRAW_RESTRICT text, size_t room);
+
+/* The path of a report as a text, as bsonraw-dump prints it: for each level a slash, the number, and where there is a key a colon and
+ * the key in quotes, as in JSON, with all control characters escaped: /1:"authors"/0:"0". Of more than 20 levels the first ten and the last
+ * ten are there, with /.. between. Of no document the text is empty. A path that leads nowhere ends where it does.
+ *
+ *     struct bsonraw_report r;
+ *     uint64_t path[16];
+ *     char text[256], why[150];
+ *     if (bsonraw_first_fault(bytes, len, 1 << 20, 16, &r, path, 16) == BSONRAW_FAULT) {
+ *         bsonraw_path_text(bytes, len, path, r.path_len, text, sizeof text);
+ *         bsonraw_fault_text(&r.error, why, sizeof why);
+ *         printf("at %s, byte %lu: %s\n", text, r.error.offset, why);
+ *     }
+ */
+size_t bsonraw_path_text(const uint8_t *bytes, size_t len, const uint64_t *path, size_t path_len, char *BSONRAW_RESTRICT text, size_t room);
+
+BSONRAW_LOCAL char *bsonraw_some_text(char *text) {
+    static char none[1];
+    return text ? text : none;
+}
+
+#ifndef BSONRAW_UNCHECKED
+BSONRAW_WRITES(2, 3)
+BSONRAW_INLINE size_t bsonraw_checked_fault_text(const struct bsonraw_error *error, char *BSONRAW_RESTRICT text, size_t room) {
+    static const struct bsonraw_error none = {0, 0, 0, 0, 0};
+    return bsonraw_fault_text(error ? error : &none, bsonraw_some_text(text), BSONRAW_LACKS(text, room) ? 0 : room);
+}
+#define bsonraw_fault_text bsonraw_checked_fault_text
+
+BSONRAW_WRITES(2, 3)
+BSONRAW_INLINE size_t bsonraw_checked_json_fault_text(const struct bsonraw_json_report *report, char *BSONRAW_RESTRICT text, size_t room) {
+    static const struct bsonraw_json_report none = {0, 0, 0, 0, 0, 0};
+    return bsonraw_json_fault_text(report ? report : &none, bsonraw_some_text(text), BSONRAW_LACKS(text, room) ? 0 : room);
+}
+#define bsonraw_json_fault_text bsonraw_checked_json_fault_text
+
+BSONRAW_READS(1, 2) BSONRAW_READS(3, 4) BSONRAW_WRITES(5, 6)
+BSONRAW_INLINE size_t bsonraw_checked_path_text(const uint8_t *bytes, size_t len, const uint64_t *path, size_t path_len,
+                                                char *BSONRAW_RESTRICT text, size_t room) {
+    static const uint64_t none[1] = {0};
+    return bsonraw_path_text(bsonraw_some_bytes(bytes), BSONRAW_LACKS(bytes, len) ? 0 : len, path ? path : none,
+                             BSONRAW_LACKS(path, path_len) ? 0 : path_len, bsonraw_some_text(text), BSONRAW_LACKS(text, room) ? 0 : room);
+}
+#define bsonraw_path_text bsonraw_checked_path_text
+#endif
+
 /* ---- daily use -------------------------------------------------------------------------------------------------------
  *
  * What follows is written in C over the calls above, and tested, not proved; elements of the usual kinds with ASCII keys and texts are
@@ -1637,41 +1706,6 @@ const char *bsonraw_tag_text(uint32_t tag);
 
 /* What is wrong by an error: the text of its reason, or that a text isn't UTF-8. */
 const char *bsonraw_error_text(const struct bsonraw_error *error);
-
-/* The same with its numbers, as "a value is longer than what is left: 4157 where 62 are left". As snprintf it puts as much as there is
- * room for, and a 0 after it, and returns how many bytes the text has without that 0; 150 are always enough. */
-size_t bsonraw_fault_text(const struct bsonraw_error *error, char *BSONRAW_RESTRICT text, size_t room) BSONRAW_WRITES(2, 3);
-
-/* What is wrong with a text of JSON, as "expected a value", and of a wrapper what it has to be, as "this is not {"$oid": 24 hex digits}": of
- * a report of bsonraw_from_json with BSONRAW_FAULT. As snprintf it puts as much as there is room for, and a 0 after it, and returns how
- * many bytes the text has without that 0; 100 are always enough.
- *
- *     uint8_t document[64];
- *     struct bsonraw_json_report r;
- *     char why[100];
- *     if (BSONRAW_FROM_JSON("{\"id\": {\"$oid\": \"12\"}}", document, &r) == BSONRAW_FAULT) {
- *         bsonraw_json_fault_text(&r, why, sizeof why);
- *         printf("line %lu, column %lu: %s\n", r.line, r.column, why);
- *     }
- */
-size_t bsonraw_json_fault_text(const struct bsonraw_json_report *report, char *BSONRAW_RESTRICT text, size_t room) BSONRAW_WRITES(2, 3);
-
-/* The path of a report as a text, as bsonraw-dump prints it: for each level a slash, the number, and where there is a key a colon and
- * the key in quotes, as in JSON, with all control characters escaped: /1:"authors"/0:"0". Of more than 20 levels the first ten and the last
- * ten are there, with /.. between. As snprintf it puts as much as there is room for, and a 0 after it, and returns
- * how many bytes the text has without that 0; of no document it returns 0.
- *
- *     struct bsonraw_report r;
- *     uint64_t path[16];
- *     char text[256], why[150];
- *     if (bsonraw_first_fault(bytes, len, 1 << 20, 16, &r, path, 16) == BSONRAW_FAULT) {
- *         bsonraw_path_text(bytes, len, path, r.path_len, text, sizeof text);
- *         bsonraw_fault_text(&r.error, why, sizeof why);
- *         printf("at %s, byte %lu: %s\n", text, r.error.offset, why);
- *     }
- */
-size_t bsonraw_path_text(const uint8_t *bytes, size_t len, const uint64_t *path, size_t path_len, char *BSONRAW_RESTRICT text, size_t room)
-                         BSONRAW_READS(1, 2) BSONRAW_READS(3, 4) BSONRAW_WRITES(5, 6);
 
 /* The element at a path, and its value where it is of the kind that is asked for: BSONRAW_OK; BSONRAW_NO_DOCUMENT, BSONRAW_NONE,
  * BSONRAW_FAULT and BSONRAW_OTHER_KIND as the calls of a cursor. What is written is then 0, and a pointer NULL. Pointers are into the
@@ -2072,17 +2106,6 @@ BSONRAW_USE int32_t bsonraw_reader_is_cut(const struct bsonraw_reader *reader, c
         return bsonraw_##name arguments; \
     }
 
-BSONRAW_TOUCHING(size_t, fault_text, (const struct bsonraw_error *error, char *BSONRAW_RESTRICT text, size_t room),
-                 BSONRAW_LACKS(text, room), (error, text, room))
-#define bsonraw_fault_text bsonraw_touching_fault_text
-BSONRAW_TOUCHING(size_t, json_fault_text, (const struct bsonraw_json_report *report, char *BSONRAW_RESTRICT text, size_t room),
-                 BSONRAW_LACKS(text, room), (report, text, room))
-#define bsonraw_json_fault_text bsonraw_touching_json_fault_text
-BSONRAW_TOUCHING(size_t, path_text, (const uint8_t *bytes, size_t len, const uint64_t *path, size_t path_len, char *BSONRAW_RESTRICT text,
-                  size_t room),
-                 BSONRAW_LACKS(bytes, len) + BSONRAW_LACKS(path, path_len) + BSONRAW_LACKS(text, room),
-                 (bytes, len, path, path_len, text, room))
-#define bsonraw_path_text bsonraw_touching_path_text
 BSONRAW_TOUCHING(BSONRAW_USE int32_t, get, (const uint8_t *bytes, size_t len, const char *path, struct bsonraw_iter *iter),
                  BSONRAW_LACKS(bytes, len), (bytes, len, path, iter))
 #define bsonraw_get bsonraw_touching_get

@@ -55,143 +55,12 @@ const char *bsonraw_error_text(const struct bsonraw_error *error) {
     return error->kind == BSONRAW_NOT_UTF8 ? "a text isn't UTF-8" : bsonraw_reason_text(error->reason);
 }
 
-/* A text that is put into a room as far as it fits; len is that of all of it. */
-struct out {
-    char *text;
-    size_t room, len;
-};
-
-static void put(struct out *out, char byte) {
-    if (out->room > 0 && out->len < out->room - 1) out->text[out->len] = byte;
-    out->len++;
-}
-
-static void put_number(struct out *out, uint64_t number) {
-    char digits[20];
-    size_t count = 0;
-    do digits[count++] = (char)('0' + number % 10);
-    while ((number /= 10) > 0);
-    while (count > 0) put(out, digits[--count]);
-}
-
-/* A control character as JSON escapes it. */
-static void put_escape(struct out *out, unsigned code) {
-    static const char hex[] = "0123456789abcdef", names[] = "btn\0fr";
-    put(out, '\\');
-    if (code >= 8 && code <= 13 && code != 11) {
-        put(out, names[code - 8]);
-        return;
-    }
-    put(out, 'u'), put(out, '0'), put(out, '0');
-    put(out, hex[code >> 4]), put(out, hex[code & 15]);
-}
-
-/* A key, which is UTF-8, in quotes, as JSON has it; control characters from U+007F to U+009F are escaped, too, so that a terminal obeys
- * none. */
-static void put_key(struct out *out, const uint8_t *key, size_t len) {
-    size_t at;
-    put(out, '"');
-    for (at = 0; at < len; at++) {
-        uint8_t byte = key[at];
-        if (byte == '"' || byte == '\\') put(out, '\\'), put(out, (char)byte);
-        else if (byte < 32 || byte == 127) put_escape(out, byte);
-        else if (byte == 0xc2 && at + 1 < len && key[at + 1] < 0xa0) put_escape(out, key[++at]);
-        else put(out, (char)byte);
-    }
-    put(out, '"');
-}
-
-static void put_words(struct out *out, const char *words) {
-    while (*words != 0) put(out, *words++);
-}
-
-/* Puts the 0 that ends the text, and returns how many bytes are before it. */
-static size_t end(const struct out *out) {
-    if (out->room > 0) out->text[out->len < out->room ? out->len : out->room - 1] = 0;
-    return out->len;
-}
-
-/* Why a text of JSON isn't read, by its reason. */
-static const char *json_reason_text(uint32_t reason) {
-    static const char *const texts[] = {
-        "no fault", "the text ends too early", "a byte order mark in front of the text", "expected a document",
-        "expected a key in quotes", "expected a colon", "expected a comma or the end of the object or array", "expected a value",
-        "text after the document", "not a number of JSON", "an integer of more than 64 bits", "a number beyond the greatest double",
-        "a control character that is not escaped", "not an escape of JSON", "half a surrogate pair",
-        "U+0000 in a key, a pattern or options", "no value of its wrapper", "a decimal that no Decimal128 is exactly", "not UTF-8",
-    };
-    return reason < sizeof texts / sizeof *texts ? texts[reason] : "no fault";
-}
-
-/* What the value of a wrapper has to be; NULL for none. */
-static const char *wrapper_text(uint32_t wrapper) {
-    static const char *const texts[] = {
-        "{\"$oid\": 24 hex digits}", "{\"$numberInt\": a 32-bit integer as a string}", "{\"$numberLong\": a 64-bit integer as a string}",
-        "{\"$numberDouble\": a double as a string}", "{\"$numberDecimal\": a decimal as a string}",
-        "{\"$binary\": {\"base64\": a string, \"subType\": hex digits}}", "{\"$uuid\": hex digits with hyphens}",
-        "{\"$date\": an ISO 8601 time or {\"$numberLong\": milliseconds}}",
-        "{\"$regularExpression\": {\"pattern\": a string, \"options\": a string}}",
-        "{\"$timestamp\": {\"t\": seconds, \"i\": increment}}", "{\"$code\": a string} or with \"$scope\": a document",
-        "{\"$code\": a string} or with \"$scope\": a document", "{\"$dbPointer\": {\"$ref\": a string, \"$id\": an object id}}",
-        "{\"$symbol\": a string}", "{\"$undefined\": true}", "{\"$minKey\": 1}", "{\"$maxKey\": 1}",
-    };
-    return wrapper > 0 && wrapper <= sizeof texts / sizeof *texts ? texts[wrapper - 1] : NULL;
-}
-
-size_t bsonraw_json_fault_text(const struct bsonraw_json_report *report, char *text, size_t room) {
-    struct out out = {text, text == NULL ? 0 : room, 0};
-    uint32_t reason = report == NULL ? 0 : report->json_reason;
-    const char *wanted = reason == BSONRAW_JSON_MALFORMED ? wrapper_text(report->wrapper) : NULL;
-    put_words(&out, wanted == NULL ? json_reason_text(reason) : "this is not ");
-    if (wanted != NULL) put_words(&out, wanted);
-    return end(&out);
-}
-
-size_t bsonraw_fault_text(const struct bsonraw_error *error, char *text, size_t room) {
-    struct out out = {text, text == NULL ? 0 : room, 0};
-    uint32_t reason = error != NULL && error->kind == BSONRAW_MALFORMED ? error->reason : 0;
-    int has_both = reason == BSONRAW_STRING_PAST_END || reason == BSONRAW_PAST_END;
-    int has_number = has_both || reason == BSONRAW_INVALID_TAG || reason == BSONRAW_DOCUMENT_TOO_SMALL || reason == BSONRAW_BAD_BOOLEAN;
-    int has_left = has_both || reason == BSONRAW_STRING_HEAD_SHORT || reason == BSONRAW_LENGTH_HEAD_SHORT;
-    put_words(&out, bsonraw_error_text(error));
-    if (has_number || has_left) put_words(&out, ": ");
-    if (has_number) put_number(&out, error->number);
-    if (has_both) put_words(&out, " where ");
-    if (has_left) put_number(&out, error->left), put_words(&out, " are left");
-    return end(&out);
-}
-
 /* Sets a cursor before the first element of what the element has inside: a document, an array, or a scope. */
 static int32_t go_into(const struct bsonraw_iter *iter, const uint8_t *bytes, size_t len, struct bsonraw_iter *inside) {
     struct bsonraw_value value;
     if (iter->tag != BSONRAW_TAG_JAVASCRIPT_WITH_SCOPE) return bsonraw_iter_recurse(iter, bytes, len, inside);
     if (bsonraw_iter_value(iter, bytes, len, &value) != BSONRAW_OK) return BSONRAW_FAULT;
     return bsonraw_iter_init_at(inside, bytes, len, value.more_at, value.more_len);
-}
-
-#define SHOWN 10u /* levels of each end of a path that has more than twice as many */
-
-size_t bsonraw_path_text(const uint8_t *bytes, size_t len, const uint64_t *path, size_t path_len, char *text, size_t room) {
-    struct out out = {text, text == NULL ? 0 : room, 0};
-    struct bsonraw_iter it;
-    int32_t status = bsonraw_iter_init(&it, bsonraw_some_bytes(bytes), bytes == NULL ? 0 : len);
-    size_t level;
-    for (level = 0; level < path_len && path != NULL && status == BSONRAW_OK; level++) {
-        uint64_t number;
-        if (level > 0) {
-            struct bsonraw_iter outer = it;
-            if (go_into(&outer, bytes, len, &it) != BSONRAW_OK) break;
-        }
-        for (number = 0; number <= path[level] && status == BSONRAW_OK; number++) status = bsonraw_iter_next(&it, bytes, len);
-        if (level >= SHOWN && level + SHOWN < path_len) {
-            if (level == SHOWN) put_words(&out, "/..");
-            continue;
-        }
-        put(&out, '/');
-        put_number(&out, path[level]);
-        if (it.key_at < len) put(&out, ':'), put_key(&out, bytes + it.key_at, it.key_len);
-    }
-    return end(&out);
 }
 
 /* ---- by path ---- */
@@ -294,10 +163,10 @@ static void end_field(struct bsonraw_field *field, int32_t status) {
 
 /* Whether the step is the decimal of this number. */
 static int is_number(const char *step, uint32_t len, uint64_t number) {
-    char digits[20];
-    struct out out = {digits, sizeof digits, 0};
-    put_number(&out, number);
-    return out.len == len && memcmp(digits, step, len) == 0;
+    do
+        if (len == 0 || step[--len] != (char)('0' + number % 10)) return 0;
+    while ((number /= 10) > 0);
+    return len == 0;
 }
 
 /* The cursor at an entry. */
@@ -918,6 +787,12 @@ int32_t bsonraw_json_write(const uint8_t *bytes, size_t len, size_t max_bytes, s
     if (j.status == BSONRAW_OK) report->count = j.count;
     return j.status;
 }
+
+/* A text that is put into a room, and how long it is so far. */
+struct out {
+    char *text;
+    size_t room, len;
+};
 
 /* How many of these bytes, which are the front of a text, are whole characters. */
 static size_t whole_characters(const char *text, size_t len) {

@@ -325,6 +325,19 @@ static void look_at_refused(void) {
 
 #define EMPTY (const uint8_t *)"\5\0\0\0", 5
 
+/* A text of no bytes, or of no path, is empty; and none is put into no room. */
+static void look_at_null_in_texts(void) {
+    const uint64_t path[1] = {0};
+    char text[8] = "#######";
+    expect(bsonraw_path_text(NULL, 0, path, 1, text, sizeof text) == 0 && text[0] == 0, "no bytes", "a path");
+    expect(bsonraw_path_text(NULL, 5, path, 1, NULL, 0) == 0 && bsonraw_path_text(NULL, 5, path, 1, NULL, 1) == 0, "no bytes", "a path");
+    expect(bsonraw_path_text(EMPTY, NULL, 0, NULL, 0) == 0 && bsonraw_path_text(EMPTY, NULL, 1, text, 0) == 0, "no path", "a path");
+    expect(bsonraw_path_text(EMPTY, path, 1, text, sizeof text) == 2 && strcmp(text, "/0") == 0, "a path", text);
+    expect(bsonraw_path_text(EMPTY, path, 1, NULL, 3) == 2, "a path in no room", "another length");
+    expect(bsonraw_fault_text(NULL, text, 4) == 8 && strcmp(text, "no ") == 0, "no fault", text);
+    expect(bsonraw_fault_text(NULL, NULL, 4) == 8 && bsonraw_json_fault_text(NULL, NULL, 4) == 8, "no fault", "another length");
+}
+
 static void look_at_null(void) {
     struct bsonraw_iter it, child;
     struct bsonraw_entry entries[1];
@@ -477,6 +490,7 @@ int main(void) {
     look_at_forged();
     look_at_refused();
     look_at_null();
+    look_at_null_in_texts();
     look_at_null_in_builders();
     look_at_places();
     return result("slips");

@@ -294,6 +294,30 @@ int32_t bsonraw_flatten(const uint8_t *bytes, size_t len, size_t max_bytes, size
 #undef bsonraw_decimal128_from_text
 #undef bsonraw_date_time_from_text
 
+size_t right_fault_text(const struct bsonraw_error *error, char *text, size_t room);
+size_t right_json_fault_text(const struct bsonraw_json_report *report, char *text, size_t room);
+size_t right_path_text(const uint8_t *bytes, size_t len, const uint64_t *path, size_t path_len, char *text, size_t room);
+
+/* 49: the numbers of a fault change places. */
+size_t bsonraw_fault_text(const struct bsonraw_error *error, char *text, size_t room) {
+    struct bsonraw_error other = *error;
+    if (MISTAKE == 49) other.number = error->left, other.left = error->number;
+    return right_fault_text(&other, text, room);
+}
+
+/* 50: of a text that is cut no more than what is there is counted. */
+size_t bsonraw_json_fault_text(const struct bsonraw_json_report *report, char *text, size_t room) {
+    size_t count = right_json_fault_text(report, text, room);
+    return MISTAKE == 50 && count > room ? room : count;
+}
+
+/* 51: the text has no 0 after it. */
+size_t bsonraw_path_text(const uint8_t *bytes, size_t len, const uint64_t *path, size_t path_len, char *text, size_t room) {
+    size_t count = right_path_text(bytes, len, path, path_len, text, room);
+    if (MISTAKE == 51 && room > 0) text[count < room ? count : room - 1] = '0';
+    return count;
+}
+
 int32_t right_oid_to_hex(const uint8_t *id, char *hex);
 int32_t right_oid_from_hex(const uint8_t *hex, size_t hex_len, uint8_t *id);
 uint32_t right_oid_time(const uint8_t *id);

@@ -6,11 +6,13 @@ mod Filling
 mod Finding
 mod Iterating
 mod Parts
+mod PathTexts
 mod Forming
 mod Placing
 pub mod Putting
 mod Reporting
 mod Resyncing
 mod Stepping
+mod TextRooms
 mod TimeTexts
 mod Valuing

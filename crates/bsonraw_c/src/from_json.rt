@@ -145,7 +145,7 @@ impl JsonReport {
 }
 
 /// The number of the reason that bytes aren't UTF-8.
-const NOT_UTF8: u32 = 18;
+pub const NOT_UTF8: u32 = 18;
 
 /// The status of a reason.
 fn status_of(reason: JsonReason) -> Status

@@ -37,7 +37,7 @@ fn is_of_size(iter: &Iter, tag: u32, payload: &[u8]) -> bool
 }
 
 /// Puts these items from this place on.
-fn put_from(bytes: &mut [u8], at: usize, part: &[u8])
+pub fn put_from(bytes: &mut [u8], at: usize, part: &[u8])
     requires { at + length part.now ≤ length bytes.now }
     ensures { bytes.new ≡ overwritten bytes.old at part.now }
 {

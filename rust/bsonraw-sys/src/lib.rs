@@ -421,4 +421,9 @@ functions! {
     fn bsonraw_decimal128_from_text(text: *const u8, text_len: usize, decimal: *mut u8) -> i32;
     fn bsonraw_date_time_to_text(millis: i64, text: *mut c_char) -> i32;
     fn bsonraw_date_time_from_text(text: *const u8, text_len: usize, millis: *mut i64) -> i32;
+    fn bsonraw_fault_text(error: *const bsonraw_error, text: *mut c_char, room: usize) -> usize;
+    fn bsonraw_json_fault_text(report: *const bsonraw_json_report, text: *mut c_char, room: usize) -> usize;
+    fn bsonraw_path_text(
+        bytes: *const u8, len: usize, path: *const u64, path_len: usize, text: *mut c_char, room: usize
+    ) -> usize;
 }
