@@ -16,7 +16,7 @@ use Rattle.raw_view.proofs.Face.{declared_shape}
 use Rattle.bsonraw_c.specs.Build.{AreParts, AreRead, IsCText, IsElement, IsNested, binary_of, elements, laid_out, layout_of}
 use Rattle.bsonraw_c.specs.declared.build.Builder.{Builder}
 
--- a bound, from that its contrary is false
+-- a bound holds where its contrary is false
 pub cases_le : (n m : ℕ) → (m < n → ⊥) → n ≤ m
 cases_le n m far = elim (cases_lt m n) [ inl less ↦ absurd (far less) | inr most ↦ most ]
 
@@ -127,7 +127,7 @@ copy_read f s r key frame text long q = record {
   payload_is = shape_before f.kind f.payload r q (λ scoped. cases_le 4 (length f.payload) (λ short. long (scoped, short))) frame.payload_is;
 }
 
--- and so are elements, one behind the other
+-- and so are elements, one after another
 pub elements_read : (fs : List Frame) → AreRead fs → IsWalk (elements fs ++ 0 ∷ []) fs Done
 elements_read [] read = refl
 elements_read (f ∷ fs) read =

@@ -14,7 +14,7 @@ use Rattle.bsonraw_c.specs.declared.codes.Status.TheVariants as status
 use Rattle.bsonraw_c.specs.declared.iter.Iter.{Iter}
 use Rattle.bsonraw_c.proofs.Iterating.{faulted, few, goes_on, placed, short}
 
--- The iterator has gone over so many frames, from s on, up to this offset, where rest is left; the step is no number of them.
+-- The iterator has gone over `index` frames from s on, up to this offset, where rest is left. The step is no number of them.
 pub record HasCounted (b step : List ℕ) (it : Iter) (next index : ℕ) (left : Option (List ℕ)) : Type 0 where
   pub d : List ℕ
   pub s : List ℕ

@@ -75,7 +75,7 @@ module _ {b d : List ℕ} {at len offset : ℕ} (stands : StandsAt b at len d) (
   pub ends_within : (f : Frame) (r : List ℕ) → IsFrame (drop (offset - at) d) f r → offset + (2 + (length f.key + length f.payload)) ≤ at + len
   ends_within f r frame = omega (arith, begun, stands.len_is, frame_within d (offset - at) f r private_within frame)
 
-  -- and behind it is left what is left behind the frame
+  -- and after it is left what is left after the frame
   pub left_in : (f : Frame) (r : List ℕ) (next : ℕ) → IsFrame (drop (offset - at) d) f r → next ≡ offset + (2 + (length f.key + length f.payload)) → drop (next - at) d ≡ r
   left_in f r next frame is = left_behind d (offset - at) (next - at) f r private_within frame (omega (arith, is, begun))
 
@@ -132,7 +132,7 @@ module _ (b d s : List ℕ) (it : Iter) (g : GoesThrough b it d s) where
   pub few : (f : Frame) (r : List ℕ) → IsFrame s f r → it.next + (2 + (length f.key + length f.payload)) < 2 ^ 32
   few f r frame = omega (arith, g.small, ends f r frame)
 
-  -- behind it is left what is left
+  -- after it is left what is left
   pub goes_on : (f : Frame) (r : List ℕ) (next : ℕ) → IsFrame s f r → next ≡ it.next + (2 + (length f.key + length f.payload)) → GoesThrough b (record it { next = next }) d r
   goes_on f r next frame is = record {
     small = g.small;
@@ -165,7 +165,7 @@ same_front p q r t n e = (
   sym (drop_at p r (length q) n) ∙ ap (drop (length q)) e ∙ drop_at q t (length q) refl,
 )
 
--- what so many bytes at an offset are, is one list alone
+-- the `len` bytes at an offset are one list alone
 pub stands_same : (b d e : List ℕ) (at len : ℕ) → StandsAt b at len d → StandsAt b at len e → d ≡ e
 stands_same b d e at len s t =
     let seam : s.before ++ (d ++ s.behind) ≡ t.before ++ (e ++ t.behind) = sym s.whole ∙ t.whole in

@@ -19,7 +19,7 @@ use Rattle.bsonraw_c.specs.declared.answers.FaultCode.{FaultCode}
 spread : (b : List ℕ) (offset : ℕ) (front back : List ℕ) → drop offset b ≡ front ++ back → b ≡ (take offset b ++ front) ++ back
 spread b offset front back e = sym (take-append-drop offset b) ∙ ap (λ x. take offset b ++ x) e ∙ sym (append_assoc (take offset b) front back)
 
--- bytes that stand at the offset behind others
+-- bytes that stand at the offset after others
 pub stands_behind : (b : List ℕ) (offset place len : ℕ) (front bytes back : List ℕ) → offset ≤ length b → drop offset b ≡ front ++ (bytes ++ back)
     → place ≡ offset + length front → len ≡ length bytes → StandsAt b place len bytes
 stands_behind b offset place len front bytes back within e place_is len_is = record {
@@ -42,7 +42,7 @@ frame_within b offset f r within stands = omega (arith, within, length-drop offs
 pub few_bytes : (b : List ℕ) → IsEnvelope b → length b ≤ max_length
 few_bytes b env = omega (arith, env.header.fits.sfits)
 
--- what is left behind the frame
+-- what is left after the frame
 pub left_behind : (b : List ℕ) (offset next : ℕ) (f : Frame) (r : List ℕ) → offset ≤ length b → IsFrame (drop offset b) f r → next ≡ offset + (2 + (length f.key + length f.payload)) → drop next b ≡ r
 left_behind b offset next f r within stands is =
     let front : List ℕ = tag_of f.kind ∷ (f.key ++ 0 ∷ f.payload) in

@@ -1,4 +1,4 @@
--- Bytes that are put into the room one behind the other.
+-- Bytes that are put into the room one after another.
 use Rattle.std.proofs.Common.{◌≡◌, ◌≤◌, ◌+◌, ◌-◌, ℕ, List, ◌++◌, length, take, drop, ap, sym, ◌∙◌, refl, arith, append_assoc, length-append}
 use Rattle.std.proofs.lemmas.List.{take_at, drop_at, drop-drop, length-take-le, length-drop}
 use borrow.Rule.Slice.PartMut.{put_mid}
@@ -32,7 +32,7 @@ take-put_bytes offset end bytes room e h =
     let n : length front ≡ end = omega (arith, e, length-append (take offset room) bytes, length-take-le offset room (omega arith)) in
     ap (λ (x : List ℕ). take end x) (sym (append_assoc (take offset room) bytes (drop (offset + length bytes) room))) ∙ take_at front (drop (offset + length bytes) room) end n
 
--- and what is behind them
+-- and what comes after them
 pub drop-put_bytes : (offset end : ℕ) (bytes room : List ℕ) → offset + length bytes ≤ end → offset + length bytes ≤ length room → drop end (put_bytes offset bytes room) ≡ drop end room
 unfolding put_bytes
 drop-put_bytes offset end bytes room e h =
@@ -52,7 +52,7 @@ pub opened : (offset : ℕ) (bytes room : List ℕ) → put_bytes offset bytes r
 unfolding put_bytes
 opened offset bytes room = refl
 
--- bytes behind bytes
+-- bytes after bytes
 pub put_more : (offset next : ℕ) (x y room : List ℕ) → next ≡ offset + length x → offset + (length x + length y) ≤ length room
     → put_bytes next y (put_bytes offset x room) ≡ put_bytes offset (x ++ y) room
 put_more offset next x y room e h =

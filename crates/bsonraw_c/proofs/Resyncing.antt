@@ -1,4 +1,4 @@
--- Where documents go on behind a damaged one, by searches in what is left of an input.
+-- Where documents go on after a damaged one, by searches in what is left of an input.
 use Rattle.std.proofs.Common.{◌≡◌, ℕ, suc, ◌+◌, ◌-◌, ◌<◌, ◌≤◌, List, [], Bool, true, false, ◌&&◌, arith, length, take, drop, sym, ◌∙◌, subst, refl, inl, inr, append-nil, length-drop}
 use Rattle.raw_bson.specs.Limits.{Limits}
 use Rattle.raw_resync.specs.Resync.{IsDisbelieved, IsFramed}
@@ -17,7 +17,7 @@ use Rattle.bsonraw_c.specs.declared.resync.Behind.{Behind}
 use Rattle.bsonraw_c.specs.declared.resync.Onward.{Onward}
 use Rattle.bsonraw_c.specs.declared.resync.Resync.{Resync}
 
--- what is told of the last bytes of an input, behind which nothing is
+-- what is told of the last bytes of an input, after which nothing comes
 sought_told : {limits : Limits} {b : List ℕ} {last : Bool} {at : ℕ} {p : Places} {old new : Work} {told : Sought} → Seeks limits b last at p old new told
     → TellsSought limits b at p old new told
 sought_told {limits} {b} {last} {at} {p} {old} {new} {told} q = subst (λ s. TellsSought limits s at p old new told) (append-nil b) (q.tells [] (λ is. refl))
@@ -92,7 +92,7 @@ module _ (limits : Limits) (at : ℕ) (s : List ℕ) (last : Bool) where
         → LooksAtEnd limits at s len mid new all behind → LooksBehind limits at s len old new behind
     inside_passed old mid new {all} behind q is = let (told, bound) = is old (sought_told q) in (told, keeps_on (at + length s) old mid new q.bounded bound)
 
-    -- what is found behind it
+    -- what is found right after it
     rest_bound : (old new : Work) → KeepsBound (at + len + length (drop len s)) old new → KeepsBound (at + length s) old new
     rest_bound old new bound =
         let within : len ≤ length s = piece.0 in
@@ -112,12 +112,12 @@ module _ (limits : Limits) (at : ℕ) (s : List ℕ) (last : Bool) where
     passed_at_end old new all true q inside over = (inr (old, all, over, one_looked (sought_told q)), rest_bound old new q.bounded)
     passed_at_end old new all false q inside over = ((old, all, false, over, one_left (sought_told q), and_false all), rest_bound old new q.bounded)
 
--- where the elements of a piece in front don't explain its length
+-- where the elements of a piece at the front don't explain its length
 module _ (limits : Limits) (at : ℕ) (s : List ℕ) (len : ℕ) (piece : BeginsPiece limits.bytes s len) where
   within_all : (old new : Work) → KeepsBound (at + len) old new → KeepsBound (at + length s) old new
   within_all old new bound = let within : len ≤ length s = piece.0 in keeps_before (at + len) (at + length s) old new (omega (arith, within)) bound
 
-  -- documents go on behind it
+  -- documents go on right after it
   pub behind_piece : (start old new : Work) (all : Bool) → Walks at s len start old lengths.Unexplained × KeepsBound (at + len) start old
       → GoesOnBehind limits s at len old new all × KeepsBound (at + length s) old new → GoesOnward limits at s start new (record { count = len; is_believed = true; all = all })
   behind_piece start old new all (walks, bound) (goes, more) =

@@ -59,7 +59,7 @@ more_steps : (separator : ℕ) (path step rest : List ℕ) → path ≡ step ++ 
 more_steps separator path step rest is none [] has = absurd has
 more_steps separator path step rest is none (t ∷ ss) has = (rest, is, none, has)
 
--- a step that others are behind
+-- a step that others come after
 pub record IsBefore (separator : ℕ) (path step rest : List ℕ) : Type 0 where
   pub is : path ≡ step ++ separator ∷ rest
   pub none : HasNone separator step

@@ -87,7 +87,7 @@ module _ {before text room : List ℕ} {count : ℕ} (few : length room ≤ most
     count_is = omega (arith, is, h.count_is, length-append text part);
   }
 
-  -- what is behind a 0 after the text, or in the last place
+  -- what comes after a 0 after the text, or in the last place
   behind_end : (m : ℕ) → m ≡ min (length text) (length before - 1) + 1 → 0 < length before → (length text < length before) ⊎ (length before ≤ length text)
       → drop m room ≡ drop m before
   behind_end m is some (inl fits) =

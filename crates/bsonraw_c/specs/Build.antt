@@ -20,7 +20,7 @@ use Rattle.bsonraw_c.specs.declared.codes.Status.{Status}
 use Rattle.bsonraw_c.specs.declared.codes.Status.TheVariants as status
 use Rattle.bsonraw_c.specs.declared.iter.Iter.{Iter}
 
--- elements, one behind the other
+-- the bytes of these elements, one after another
 abbrev pub elements : List Frame → List ℕ
 elements [] = []
 elements (f ∷ fs) = frame_bytes f ++ elements fs
@@ -38,7 +38,7 @@ pub record HoldsElements (b : Builder) (room front : List ℕ) (fs : List Frame)
   pub count : b.count ≡ length fs
   pub taken : take b.len room ≡ front ++ elements fs
 
--- what the payload of each kind is made of: bytes as they are, as many; a boolean; a text; a document; bytes and a subtype; a
+-- what the payload of each kind is made of: this many bytes, as they are; a boolean; a text; a document; bytes and a subtype; a
 -- pattern and options; a namespace and an identifier; a code and its scope
 abbrev pub layout_of : ElementType → Layout
 layout_of kind.Double = layout.Fixed 8
@@ -91,7 +91,7 @@ RefusesParts layout.Pointer one two s =
 RefusesParts layout.Scoped one two s =
     ((¬ IsUtf8 one) × (s ≡ status.Fault)) ⊎ (IsUtf8 one × (¬ IsEnvelope two) × (s ≡ status.NoDocument))
 
--- elements that are read as what they are, one behind the other
+-- each of these elements is read as what it is
 abbrev pub AreRead : List Frame → Type 0
 AreRead [] = Unit {0}
 AreRead (f ∷ fs) = StandsAnywhere f × AreRead fs
@@ -122,7 +122,7 @@ key_in b key = cond (is_of_array b) (decimal b.count) key
 abbrev pub TakesMore : Builder → Type 0
 TakesMore b = (b.status ≡ pos 0) ⊎ (b.status ≡ pos 8)
 
--- the level's length has its four bytes: so it is of a builder that a call has begun
+-- the level has four bytes for its length, as each builder that a call has begun
 abbrev pub IsBegun : Builder → Type 0
 IsBegun b = b.begins + 4 ≤ b.len
 
@@ -157,22 +157,22 @@ Refuses s old new before after = (after ≡ before) × (new ≡ record old { sta
 abbrev pub Sticks : Builder → Builder → List ℕ → List ℕ → Type 0
 Sticks old new before after = (¬ TakesMore old) × (after ≡ before) × (new ≡ old)
 
--- the builder takes none: so it was before; or it isn't begun
+-- the builder takes none: it took no more before; or it isn't begun
 abbrev pub Declines : Builder → Builder → List ℕ → List ℕ → Type 0
 Declines old new before after =
     Sticks old new before after
     ⊎ (TakesMore old × (old.len < old.begins + 4) × Refuses status.BadOffset old new before after)
 
--- the builder with one element more, of so many bytes
+-- the builder with one element more, of `size` bytes
 abbrev pub grown : Builder → ℕ → Builder
 grown b size = record b { len = b.len + size; count = b.count + 1 }
 
--- with so many bytes more, the final 0 of the level would be past the greatest length of a document; or no more elements are
+-- with `size` bytes more, the final 0 of the level would be past the greatest length of a document; or no more elements are
 -- counted
 abbrev pub IsTooLong : Builder → ℕ → Type 0
 IsTooLong b size = (max_length ≤ b.len + size) ⊎ (max_length ≤ b.count)
 
--- What becomes of an element: it is too long; or it is counted, where the room is too small; or it is in the room, behind what
+-- What becomes of an element: it is too long; or it is counted, where the room is too small; or it is in the room, after what
 -- was there.
 abbrev pub Adds : Frame → Builder → Builder → List ℕ → List ℕ → Type 0
 Adds f old new before after =
@@ -194,7 +194,7 @@ HoldsMore IsIt old new before after =
     (front : List ℕ) (fs : List Frame) → HoldsElements old before front fs → new.status ≡ pos 0
     → (f : Frame) × IsIt f × HoldsElements new after front (fs ++ f ∷ [])
 
--- an element of which the payload is a level's length, which isn't known yet
+-- an element whose payload is a level's length, which isn't known yet
 abbrev pub head_of : ElementType → List ℕ → Frame
 head_of k key = record { kind = k; key = key; payload = 0 ∷ 0 ∷ 0 ∷ 0 ∷ [] }
 
@@ -262,8 +262,8 @@ EndsLevel level old new before after =
 abbrev pub level_of : ElementType → List ℕ → List Frame → Frame
 level_of k key inner = record { kind = k; key = key; payload = framed (elements inner) }
 
--- Where the builder held elements, the level was begun in it and now holds elements, too, and nothing is refused, then the
--- builder holds one element more: the document of the level's, which is read as that wherever it is.
+-- Where the builder held elements, the level was begun in it and now holds elements, too, and nothing is refused, the builder
+-- holds one element more: the document of the level's elements, which is read as that wherever it is.
 abbrev pub HoldsEnded : Builder → Builder → Builder → List ℕ → List ℕ → Type 0
 HoldsEnded level old new before after =
     (room front key : List ℕ) (k : ElementType) (fs inner : List Frame) → HoldsElements old room front fs
@@ -276,7 +276,7 @@ HoldsEnded level old new before after =
 abbrev pub IsOpenIn : Builder → Builder → Type 0
 IsOpenIn level b = (pos 0 ≤ℤ level.status) × (level.begins < level.len) × (0 < level.begins) × ((b.status +ℤ pos level.begins) ≡ pos 0)
 
--- The builder as it was before a level was begun in it. The calls of the header add 256 to its tag where the room was too small by then.
+-- The builder as it was before a level was begun in it. The calls of the header add 256 to its tag, where the room was too small by then.
 abbrev pub before_level : Builder → Builder
 before_level b = cond (nat_le 256 b.tag) (record b { tag = b.tag - 256; status = pos 8 }) (record b { status = pos 0 })
 
@@ -286,8 +286,8 @@ RefusesMisuse old new =
     (((old.status ≤ℤ pos 0) ⊎ (old.status ≡ pos 8)) × (new ≡ record old { status = pos (status_code status.Misuse) }))
     ⊎ ((pos 0 <ℤ old.status) × (old.status ≢ pos 8) × (new ≡ old))
 
--- What it leaves to take a level back: the builder is what it was before the level, but that it takes over what the level was refused; and
--- the level is ended. Or the level isn't open in the builder.
+-- What taking a level back leaves: the builder is as before the level, but takes over what the level was refused; and the level is
+-- ended. Or the level isn't open in the builder.
 abbrev pub CancelsLevel : (level_old level_new old new : Builder) → Type 0
 CancelsLevel level_old level_new old new =
     (IsOpenIn level_old old × TakesMore level_old × (new ≡ before_level old) × (level_new ≡ record level_old { begins = level_old.len }))

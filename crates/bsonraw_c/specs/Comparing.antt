@@ -32,7 +32,7 @@ error_status (kind.MalformedValue reason.TooLong) = status.TooLong
 error_status kind.OutOfMemory = status.NoMemory
 error_status _ = status.Fault
 
--- b has no form, for which this is the status: b is no document; or there is an error of making the form
+-- b has no form, and this status says why: b is no document; or its form couldn't be made
 abbrev pub LacksForm : List ℕ → Status → Type 0
 LacksForm b s =
     ((r : Reason) × Refuses b r × (s ≡ status.NoDocument))

@@ -1,4 +1,4 @@
--- Documents that are one behind the other in the caller's bytes b.
+-- Documents that are one after another in the caller's bytes b.
 use Rattle.std.specs.Prelude.{◌≡◌, ◌⊎◌, ◌<◌, ◌≤◌, ◌+◌, ℕ, ℤ, List, length, drop, ◌++◌}
 use Rattle.raw_bson.specs.Envelope.{IsEnvelope}
 use Rattle.raw_bson.specs.ErrorKind.TheVariants as kind
@@ -18,7 +18,7 @@ reason_of_none no.TooShort = reason.TooShort
 reason_of_none no.LengthIncorrect = reason.LengthIncorrect
 reason_of_none (no.NotTerminated _) = reason.NotTerminated
 
--- where the next document may begin, behind one that is damaged: behind the length that it says, where that is sound; else
+-- where the next document may begin after a damaged one at this offset: after the length that it says, where that is sound; else
 -- nothing says where, and it is the end of the bytes
 abbrev pub place_behind : ℕ → ℕ → NoDocument → ℕ
 place_behind end offset (no.NotTerminated len) = offset + len
@@ -29,7 +29,7 @@ place_behind end offset no.LengthIncorrect = end
 abbrev pub HasNone : List ℕ → Reader → Type 0
 HasNone b reader = (reader.document_at ≡ length b) × (reader.document_len ≡ 0)
 
--- the document d is at this offset of b, the reader has it, and the next one begins behind it
+-- the document d is at this offset of b, the reader has it, and the next one begins after it
 pub record IsAtDocument (b d : List ℕ) (offset : ℕ) (reader : Reader) : Type 0 where
   pub behind : List ℕ
   pub there : drop offset b ≡ d ++ behind

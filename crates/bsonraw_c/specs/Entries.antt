@@ -23,7 +23,7 @@ AreEntries b offset [] (e ∷ es) end = ⊥
 AreEntries b offset (f ∷ fs) [] end = ⊥
 AreEntries b offset (f ∷ fs) (e ∷ es) end = IsEntry b offset f e × AreEntries b (e.payload_at + e.payload_len) fs es end
 
--- the iterator has gone over these frames of s, t is left, and what they are is in front of the room
+-- the iterator has gone over these frames of s, t is left, and their entries are at the front of the room
 pub record GoesOver (b s t : List ℕ) (fs : List Frame) (old new : Iter) (before after : List Entry) (count : ℕ) : Type 0 where
   pub d : List ℕ
   pub entries : List Entry
@@ -43,14 +43,14 @@ GoesFrom b s old new before after count code =
     ⊎ ((count < length before) × StopsAtEnd b t new.next new × Returns status.Nothing code)
     ⊎ ((count < length before) × StopsAtFault b t new.next new × Returns status.Fault code))
 
--- of an iterator with any fields
+-- the same of an iterator with any fields
 abbrev pub FillsEntries : List ℕ → Iter → Iter → List Entry → List Entry → ℕ → ℤ → Type 0
 FillsEntries b old new before after count code =
     IsKept old new code
     × (((d s : List ℕ) × GoesThrough b old d s × GoesFrom b s old new before after count code)
     ⊎ (StaysAstray b old new code × (count ≡ 0) × (after ≡ before)))
 
--- as it is worked out
+-- the entry as it is worked out
 pub record IsEntryWorkedOut (offset : ℕ) (f : Frame) (e : Entry) : Type 0 where
   pub tag : e.tag ≡ tag_of f.kind
   pub key_at : e.key_at ≡ offset + 1

@@ -7,7 +7,7 @@ use Rattle.bsonraw_c.specs.Codes.{reason_code}
 use Rattle.bsonraw_c.specs.TextRooms.{PutsFront}
 use Rattle.bsonraw_c.specs.declared.answers.FaultCode.{FaultCode}
 
--- what a number says: the reason of which it is the number, if that is one that reading has; else none
+-- the reason whose number this is, if reading has it; else none
 abbrev pub NamesReason : ℕ → Option Reason → Type 0
 NamesReason number (Some r) = IsReadingReason r × (reason_code r ≡ number)
 NamesReason number None = (r : Reason) → IsReadingReason r → reason_code r ≢ number

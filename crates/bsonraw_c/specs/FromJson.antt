@@ -98,13 +98,13 @@ abbrev pub IsAtPlace : List ℕ → JsonReport → Type 0
 IsAtPlace text report =
     (report.line ≡ line_feeds (take report.offset text) + 1) × ((line : List ℕ) × IsLastLine (take report.offset text) line × (report.column ≡ characters line + 1))
 
--- The document is in the room; or the room is too small for it, and as it was. How many bytes the document has is counted.
+-- The document is in the room; or the room is too small for it, and as it was. The document's bytes are counted.
 pub record PutsDocument (document before after : List ℕ) (report : JsonReport) (s : Status) : Type 0 where
   pub filled : FillsRoom document before after
   pub report_is : report ≡ record no_place { count = length document }
   pub status_is : Fits (length document) (length before) s
 
--- The text says a document, which keeps to the limits, and its bytes are put.
+-- The text writes a document within the limits, and its bytes are put.
 pub record PutsWritten (limits : Limits) (text before after : List ℕ) (report : JsonReport) (s : Status) : Type 0 where
   pub document : List ℕ
   pub is_written : IsWritten text document
@@ -135,7 +135,7 @@ pub record ReportsNoText (bytes before after : List ℕ) (report : JsonReport) (
   pub status_is : Returns status.Fault code
   pub room_is : after ≡ before
 
--- of any bytes
+-- the same of any bytes
 abbrev pub ReadsText : Limits → List ℕ → List ℕ → List ℕ → JsonReport → ℤ → Type 0
 ReadsText limits bytes before after report code =
     (IsUtf8 bytes × (s : Status) × ReadsIn limits bytes before after report s × Returns s code) ⊎ ReportsNoText bytes before after report code

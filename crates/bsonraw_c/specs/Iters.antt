@@ -28,8 +28,8 @@ HasNoElement end it = (it.tag ≡ 0) × (it.key_at ≡ end) × (it.key_len ≡ 0
 abbrev pub HasSameDocument : Iter → Iter → Type 0
 HasSameDocument one other = (other.document_at ≡ one.document_at) × (other.document_len ≡ one.document_len)
 
--- The iterator is at this frame, whose tag is at this offset of b: the key and a 0 are behind the tag, then comes the
--- payload, and then the next element.
+-- The iterator is at this frame, whose tag is at this offset of b: after the tag come the key and a 0, then the payload, and then
+-- the next element.
 pub record IsAtFrame (b : List ℕ) (offset : ℕ) (f : Frame) (it : Iter) : Type 0 where
   pub tag : it.tag ≡ tag_of f.kind
   pub key : StandsAt b it.key_at it.key_len f.key
@@ -96,8 +96,8 @@ Moves b old new code =
     × (((d s : List ℕ) × GoesThrough b old d s × StopsAt IsAny b s old.next new code)
     ⊎ StaysAstray b old new code)
 
--- The iterator goes on from s over frames that have another key, behind which t is left at this offset, and stops at the
--- frame there, which has the key; or where the walk ends, or stops.
+-- The iterator goes on from s over frames that have another key, after which t is left at this offset. It stops at the frame
+-- there, which has the key; or where the walk ends, or stops.
 abbrev pub FindsFrom : List ℕ → List ℕ → List ℕ → Iter → Iter → ℤ → Type 0
 FindsFrom b key s old new code =
     (d t : List ℕ) × (offset : ℕ) × (passed : List Frame) × GoesThrough b (record old { next = offset }) d t
@@ -123,19 +123,19 @@ pub record Begins (b : List ℕ) (offset len : ℕ) (it : Iter) : Type 0 where
 abbrev pub IsShut : List ℕ → Iter → Type 0
 IsShut b it = (it.document_at ≡ 0) × (it.document_len ≡ 0) × (it.next ≡ 0) × HasNoElement (place_of_none b) it
 
--- what is returned as an iterator is set to the document that all bytes are; or why they are none
+-- what setting an iterator to the document that all bytes are returns; or why they are none
 abbrev pub BeginsWhole : List ℕ → Iter → ℤ → Type 0
 BeginsWhole b it code =
     (IsEnvelope b × Begins b 0 (length b) it × Returns status.Done code)
     ⊎ ((r : Reason) × Refuses b r × IsShut b it × SaysKind (kind.MalformedValue r) it.fault.why × (it.fault.offset ≡ 0) × Returns status.NoDocument code)
 
--- what is returned as an iterator is set to the first element with a key of the document that all bytes are
+-- what setting an iterator to the first element with a key returns, of the document that all bytes are
 abbrev pub BeginsAndFinds : List ℕ → List ℕ → Iter → ℤ → Type 0
 BeginsAndFinds b key it code = (first : Iter) × (begun : ℤ) × BeginsWhole b first begun
     × ((Returns status.Done begun × FindsOn b key first it code) ⊎ ((¬ Returns status.Done begun) × (it ≡ first) × (code ≡ begun)))
 
--- And to the document that so many bytes from this offset on are. So many aren't there, or their end isn't below 2 ^ 32; or
--- they are, and are a document, or none.
+-- The same of the document that the `len` bytes from this offset on are. These are a document; or they are none; or they aren't
+-- there, or don't end below 2 ^ 32.
 abbrev pub BeginsAt : List ℕ → ℕ → ℕ → Iter → ℤ → Type 0
 BeginsAt b offset len it code =
     ((offset + len < 2 ^ 32) × (d : List ℕ) × StandsAt b offset len d × IsEnvelope d × Begins b offset len it × Returns status.Done code)
@@ -149,7 +149,7 @@ Descends b old it code =
     (((old.tag ≡ 3) ⊎ (old.tag ≡ 4)) × BeginsAt b old.payload_at old.payload_len it code)
     ⊎ ((old.tag ≢ 3) × (old.tag ≢ 4) × IsShut b it × IsNoFault it.fault.why × (it.fault.offset ≡ 0) × Returns status.OtherKind code)
 
--- as it is worked out
+-- the iterator as it is worked out
 pub record IsWorkedOut (offset : ℕ) (f : Frame) (it : Iter) : Type 0 where
   pub tag : it.tag ≡ tag_of f.kind
   pub key_at : it.key_at ≡ offset + 1
@@ -162,7 +162,7 @@ abbrev pub IsKeyAt : ℕ → ℕ → Option (List ℕ) → Iter → Type 0
 IsKeyAt end offset None it = HasNoElement end it
 IsKeyAt end offset (Some key) it = (it.tag ≡ 0) × (it.key_at ≡ offset + 1) × (it.key_len ≡ length key) × (it.payload_at ≡ end) × (it.payload_len ≡ 0)
 
--- a key behind a tag at this offset ends below 2 ^ 32, if there is one
+-- a key after a tag at this offset ends below 2 ^ 32, if there is one
 abbrev pub IsShortKey : ℕ → Option (List ℕ) → Type 0
 IsShortKey offset None = Unit {0}
 IsShortKey offset (Some key) = offset + (1 + length key) < 2 ^ 32

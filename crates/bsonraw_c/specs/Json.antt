@@ -29,8 +29,8 @@ layout_of (suc n) = Indented
 abbrev pub style_of : ℕ → ℕ → Style
 style_of canonical indented = record { format = format_of canonical; layout = layout_of indented }
 
--- The text with a 0 behind it is in the room; or the room is too small for both, and as it was. How many bytes the text has
--- without the 0 is counted.
+-- The text with a 0 after it is in the room; or the room is too small for both, and as it was. The text's bytes without the 0 are
+-- counted.
 pub record PutsJson (end : ℕ) (text before after : List ℕ) (report : Report) (s : Status) : Type 0 where
   pub filled : FillsRoom (text ++ (0 ∷ [])) before after
   pub report_is : report ≡ record (no_report end) { count = length text }
@@ -45,15 +45,15 @@ pub record HasJson (style : Style) (limits : Limits) (b before after room path :
   pub puts : PutsJson (length b) text before after report s
   pub path_is : path ≡ room
 
--- What is returned of the text of the document b: that it is in the room, or the room is too small for it. Else the document
--- has a first barrier, or memory ran out, and the room is as it was.
+-- What is returned of the text of the document b: that it is in the room, or that the room is too small for it. Else the
+-- document has a first barrier, or memory ran out; and the room is as it was.
 abbrev pub JsonIn : Style → Limits → List ℕ → List ℕ → List ℕ → List ℕ → List ℕ → Report → Status → Type 0
 JsonIn style limits b before after room path report s =
     HasJson style limits b before after room path report s
     ⊎ (ReportsBarrier limits b room path report s × (after ≡ before))
     ⊎ (RunsOut limits b room path report s × (after ≡ before))
 
--- of any bytes
+-- the same of any bytes
 abbrev pub JsonBytes : Style → Limits → List ℕ → List ℕ → List ℕ → List ℕ → List ℕ → Report → ℤ → Type 0
 JsonBytes style limits b before after room path report code =
     (IsEnvelope b × (s : Status) × JsonIn style limits b before after room path report s × Returns s code)

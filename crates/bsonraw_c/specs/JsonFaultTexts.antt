@@ -8,7 +8,7 @@ use Rattle.bsonraw_c.specs.FromJson.{reason_number, wrapper_number}
 use Rattle.bsonraw_c.specs.TextRooms.{PutsFront}
 use Rattle.bsonraw_c.specs.declared.from_json.JsonReport.{JsonReport}
 
--- the number is that of the wrapper which a reason names, if it names one
+-- the number is that of the wrapper that a reason names, if it names one
 abbrev pub NamesWrapperOf : JsonReason → ℕ → Type 0
 NamesWrapperOf (reason.Malformed w) number = wrapper_number w ≡ number
 NamesWrapperOf _ number = Unit {0}
@@ -36,6 +36,6 @@ PutsJsonFault report before after count = (text : List ℕ) × IsJsonFaultText r
 
 -- What the code tells of numbers. No public contract cites what follows.
 
--- the number is that of no reason which has words of its own
+-- the number is that of no reason with words of its own
 abbrev pub IsNoJsonReason : JsonReport → Type 0
 IsNoJsonReason report = (report.reason ≡ 0) ⊎ (18 ≤ report.reason)

@@ -13,7 +13,7 @@ overwritten b at bytes = take at b ++ (bytes ++ drop (length bytes) (drop at b))
 abbrev pub IsOfSize : Iter → ℕ → List ℕ → Type 0
 IsOfSize it tag payload = (it.tag ≡ tag) × (it.payload_len ≡ length payload)
 
--- The element at the path has this tag and as many bytes, and these are there now; or it is another one; or there is none.
+-- The element at the path has this tag and a payload as long as the new one, which is there now; or it is another one; or there is none.
 abbrev pub Overwrites : List ℕ → List ℕ → ℕ → ℕ → List ℕ → List ℕ → ℤ → Type 0
 Overwrites b path separator tag payload after code =
     (it : Iter) × (found : ℤ) × BeginsAndFindsPath b path separator it found

@@ -51,7 +51,7 @@ step_text step = codes "/" ++ decimal step.number ++ key_suffix step.key
 abbrev pub points : ℕ → List ℕ
 points len = cond (nat_lt 10 len) (codes "/..") []
 
--- the steps that so many numbers lead over; of more than 20 the first ten and the last ten, with two points between
+-- the steps that `total` numbers lead over; of more than 20 the first ten and the last ten, with two points between
 abbrev pub path_text : ℕ → List Step → List ℕ
 path_text total steps =
     cond (nat_lt 20 total) (flat_map step_text (take 10 steps) ++ points (length steps) ++ flat_map step_text (drop (total - 10) steps)) (flat_map step_text steps)
@@ -67,7 +67,7 @@ PutsPath b path before after count = (text : List ℕ) × IsPathText b path text
 
 -- What the code tells of a step. No public contract cites what follows.
 
--- what a step adds to the text of a path of so many numbers, after so many steps
+-- what the step after `index` others adds to the text of a path of `total` numbers
 abbrev pub piece : ℕ → ℕ → Step → List ℕ
 piece total index step =
     cond (nat_lt index 10) (step_text step) (cond (nat_lt index (total - 10)) (cond (nat_eq index 10) (codes "/..") []) (step_text step))

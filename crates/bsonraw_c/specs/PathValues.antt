@@ -9,7 +9,7 @@ use Rattle.bsonraw_c.specs.declared.fault.Fault.{Fault}
 use Rattle.bsonraw_c.specs.declared.iter.Iter.{Iter}
 use Rattle.bsonraw_c.specs.declared.value.Value.{Value}
 
--- what is returned as an iterator is set to the element at a path of the document that all bytes are; or why they are none
+-- what setting an iterator to the element at a path returns, of the document that all bytes are; or why they are none
 abbrev pub BeginsAndFindsPath : List ℕ → List ℕ → ℕ → Iter → ℤ → Type 0
 BeginsAndFindsPath b path separator it code = (first : Iter) × (begun : ℤ) × BeginsWhole b first begun
     × ((Returns status.Done begun × FindsPathOf b path separator first it code) ⊎ ((¬ Returns status.Done begun) × (it ≡ first) × (code ≡ begun)))

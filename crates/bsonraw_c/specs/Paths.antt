@@ -15,14 +15,13 @@ use Rattle.bsonraw_c.specs.declared.iter.Iter.{Iter}
 abbrev pub HasNone : ℕ → List ℕ → Type 0
 HasNone byte bytes = All (λ b. b ≢ byte) bytes
 
--- the path has these steps: one, and there is no separator; or a first one, a separator, and the others behind it
+-- the path has these steps: one, and there is no separator; or a first one, a separator, and the others after it
 abbrev pub HasSteps : ℕ → List ℕ → List (List ℕ) → Type 0
 HasSteps separator path [] = ⊥
 HasSteps separator path (s ∷ []) = (path ≡ s) × HasNone separator s
 HasSteps separator path (s ∷ t ∷ ss) = (rest : List ℕ) × (path ≡ s ++ separator ∷ rest) × HasNone separator s × HasSteps separator rest (t ∷ ss)
 
--- A level: where its document is; what is left of that from an offset on; whether it is an array; and the last fault that was
--- met before.
+-- A level: where its document is; what is left of that from an offset on; whether it is an array; and the last fault before.
 pub record Level : Type 0 where
   pub document_at : ℕ
   pub document_len : ℕ
@@ -55,7 +54,7 @@ abbrev pub AreNoStep : Bool → List ℕ → List Frame → Type 0
 AreNoStep false step passed = HasNoKey step passed
 AreNoStep true step passed = (n : ℕ) → n < length passed → decimal n ≢ step
 
--- and behind them this one is: it has this key, or this number
+-- and after them comes this one: it has this key, or this number
 abbrev pub IsStep : Bool → List ℕ → List Frame → Frame → Type 0
 IsStep false step passed f = f.key ≡ step
 IsStep true step passed f = decimal (length passed) ≡ step
@@ -71,8 +70,8 @@ abbrev pub StepMisses : Level → List ℕ → ℕ → End → Type 0
 StepMisses l step offset end =
     (frames : List Frame) × IsWalk l.left frames end × AreNoStep l.in_array step frames × (offset ≡ l.offset + length (elements frames))
 
--- Where a path goes: to an element; or to none, and the level of the step that finds none ends so; or to an element with no
--- level in it, though more steps are left.
+-- Where a path goes: to an element; or to none, as the level of the step that finds none ends; or to an element without a level,
+-- though more steps are left.
 pub data Goal : Type 0 where
   found : Frame → Goal
   missed : End → Goal
@@ -118,10 +117,10 @@ FindsPathOf b path separator old new code =
     × SaysGoal b last offset goal new code)
     ⊎ FindsAstray b old new code
 
--- as one step is worked out
+-- one step as it is worked out
 
--- the iterator goes on from s over so many frames, and stops at the frame behind them, whose number is the step; or where
--- the walk ends, or stops, before it
+-- the iterator goes on from s over frames, and stops at the frame after them, whose number is the step; or where the walk ends,
+-- or stops, before it
 abbrev pub FindsNumberFrom : List ℕ → List ℕ → List ℕ → Iter → Iter → ℤ → Type 0
 FindsNumberFrom b step s old new code =
     (d t : List ℕ) × (offset : ℕ) × (passed : List Frame) × GoesThrough b (record old { next = offset }) d t

@@ -20,7 +20,7 @@ use Rattle.bsonraw_c.specs.declared.report.Report.{Report}
 abbrev pub no_report : ℕ → Report
 no_report end = record { count = 0; path_len = 0; cause = 0; has_key = 0; key_at = end; key_len = 0; fault = no_fault }
 
--- where this key of an element at this offset is, behind the tag; without a key the end of the bytes
+-- where this key of an element at this offset is, after the tag; without a key the end of the bytes
 abbrev pub IsKeyOf : ℕ → ℕ → Option (List ℕ) → Report → Type 0
 IsKeyOf end offset None report = (report.has_key ≡ 0) × (report.key_at ≡ end) × (report.key_len ≡ 0)
 IsKeyOf end offset (Some key) report = (report.has_key ≡ 1) × (report.key_at ≡ offset + 1) × (report.key_len ≡ length key)
@@ -32,7 +32,7 @@ pub record HasPlace (end offset path_len : ℕ) (key : Option (List ℕ)) (repor
   pub key_is : IsKeyOf end offset key report
   pub count_is : report.count ≡ 0
 
--- the numbers of the steps are in front of the room, as many as it has room for
+-- the numbers of the steps are at the front of the room, as many as it has room for
 abbrev pub HasNumbers : List Step → List ℕ → List ℕ → Type 0
 HasNumbers steps room path = path ≡ filled_from 0 room (map (λ step. step.number) steps)
 
@@ -42,7 +42,7 @@ pub record EndsWith (ending : Status) (b room path : List ℕ) (report : Report)
   pub path_is : path ≡ room
   pub status_is : s ≡ ending
 
--- There is room for so many things; or not, and the room is too small.
+-- The room has place for `count` things; or it is too small.
 abbrev pub Fits : ℕ → ℕ → Status → Type 0
 Fits count room s = ((count ≤ room) × (s ≡ status.Done)) ⊎ ((room < count) × (s ≡ status.SmallBuffer))
 
@@ -110,7 +110,7 @@ pub record HasNoBarrier (limits : Limits) (b room path : List ℕ) (report : Rep
 abbrev pub FaultsIn : Limits → List ℕ → List ℕ → List ℕ → Report → Status → Type 0
 FaultsIn limits b room path report s = HasNoBarrier limits b room path report s ⊎ ReportsBarrier limits b room path report s ⊎ RunsOut limits b room path report s
 
--- of any bytes
+-- the same of any bytes
 abbrev pub FaultsBytes : Limits → List ℕ → List ℕ → List ℕ → Report → ℤ → Type 0
 FaultsBytes limits b room path report code =
     (IsEnvelope b × (s : Status) × FaultsIn limits b room path report s × Returns s code) ⊎ ReportsRefusal b room path report code

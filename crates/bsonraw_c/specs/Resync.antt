@@ -33,7 +33,7 @@ pub record IsBelieved (limits : Limits) (s : List ℕ) (at len : ℕ) (old new :
   pub right : all ≡ true → ¬ IsDisbelieved limits s len
   pub believed : BelievesLength limits s at len old new all
 
--- Documents go on `count` bytes after the front of s, and are found to at no place before, but for the front.
+-- Documents go on `count` bytes after the front of s, and aren't found to go on at a place between.
 pub record IsFirstPlace (limits : Limits) (s : List ℕ) (at count : ℕ) (old new : Work) (all : Bool) : Type 0 where
   pub some : 0 < count
   pub within : count ≤ length s

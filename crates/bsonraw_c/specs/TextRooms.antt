@@ -7,8 +7,8 @@ use Rattle.bsonraw_c.specs.Texts.{HasText}
 abbrev pub most : ℕ
 most = 18446744073709551615
 
--- As much of a text as there is place for before the last byte of the room is in front of it, with a 0 after it, and then comes what
--- stood there. A room of no bytes has nothing.
+-- As much of a text as fits before the last byte of the room is at its front, with a 0 after it, and then comes what stood there. A
+-- room of no bytes has nothing.
 abbrev pub HasFront : List ℕ → List ℕ → List ℕ → Type 0
 HasFront text before after = ((0 < length before) × HasText (take (length before - 1) text) before after) ⊎ ((before ≡ []) × (after ≡ []))
 
@@ -18,7 +18,7 @@ PutsFront text before after count = HasFront text before after × (count ≡ min
 
 -- What the code tells of a text that it is putting. No public contract cites what follows.
 
--- as much of this text as fits is in front of the room, and then comes what stood there before; how many bytes the text has is counted
+-- as much of this text as fits is at the front of the room, and then comes what stood there before; the text's bytes are counted
 pub record HoldsText (before text room : List ℕ) (count : ℕ) : Type 0 where
   pub room_is : room ≡ take (length before) text ++ drop (length text) before
   pub count_is : count ≡ min (length text) most

@@ -12,8 +12,7 @@ use Rattle.bsonraw_c.specs.Reports.{Fits, ReportsBarrier, ReportsRefusal, no_rep
 use Rattle.bsonraw_c.specs.declared.codes.Status.{Status}
 use Rattle.bsonraw_c.specs.declared.report.Report.{Report}
 
--- The document b has tokens within the limits: they are in front of the room; or it has room for as many of them as it has
--- places.
+-- The document b has tokens within the limits. They are at the front of the room, or as many of them as it has places for.
 pub record ReportsTokens (limits : Limits) (b : List ℕ) (before after : List Token) (room path : List ℕ) (report : Report) (s : Status) : Type 0 where
   pub tokens : List Token
   pub tree : Tree
@@ -29,7 +28,7 @@ abbrev pub FlattensIn : Limits → List ℕ → List Token → List Token → Li
 FlattensIn limits b before after room path report s =
     ReportsTokens limits b before after room path report s ⊎ ReportsBarrier limits b room path report s ⊎ RunsOut limits b room path report s
 
--- of any bytes
+-- the same of any bytes
 abbrev pub FlattensBytes : Limits → List ℕ → List Token → List Token → List ℕ → List ℕ → Report → ℤ → Type 0
 FlattensBytes limits b before after room path report code =
     (IsEnvelope b × (s : Status) × FlattensIn limits b before after room path report s × Returns s code)

@@ -25,7 +25,7 @@ no_value end tag = record { tag = tag; subtype = 0; integer = pos 0; bits = 0; t
 abbrev pub HasPart : List ℕ → Value → ℕ → List ℕ → Value → Type 0
 HasPart b none at text x = StandsAt b at (length text) text × (x ≡ record none { text_at = at; text_len = length text })
 
--- and but for two
+-- the same but for two
 abbrev pub HasParts : List ℕ → Value → ℕ → List ℕ → ℕ → List ℕ → Value → Type 0
 HasParts b none at text behind more x =
     StandsAt b at (length text) text × StandsAt b behind (length more) more
@@ -36,7 +36,7 @@ HasParts b none at text behind more x =
 abbrev pub binary_head : ℕ → ℕ
 binary_head byte = cond (nat_eq byte 2) 9 5
 
--- x says this value, whose payload begins at this offset of b: four bytes before a text are its length, and a 0 is behind it
+-- x says this value, whose payload begins at this offset of b: four bytes before a text are its length, and a 0 is after it
 abbrev pub SaysParts : List ℕ → ℕ → RawValue → Value → Value → Type 0
 SaysParts b at (single (double bits)) none x = x ≡ record none { bits = bits }
 SaysParts b at (single (string text)) none x = HasPart b none (at + 4) text x
@@ -75,7 +75,7 @@ pub record IsOn (b : List ℕ) (it : Iter) (f : Frame) : Type 0 where
   pub there : GoesThrough b (record it { next = it.key_at - 1 }) d s
   pub stands : IsFrame s f r
 
--- where the payload of this frame begins, which the iterator is on: behind the key and its 0
+-- where the payload of this frame begins, which the iterator is on: after the key and its 0
 abbrev pub payload_begins : Iter → Frame → ℕ
 payload_begins it f = it.key_at + (length f.key + 1)
 

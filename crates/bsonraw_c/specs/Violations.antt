@@ -43,7 +43,7 @@ ValidatesIn limits b room path report s =
     ⊎ ReportsViolation limits b room path report s
     ⊎ RunsOut limits b room path report s
 
--- of any bytes
+-- the same of any bytes
 abbrev pub ValidatesBytes : Limits → List ℕ → List ℕ → List ℕ → Report → ℤ → Type 0
 ValidatesBytes limits b room path report code =
     (IsEnvelope b × (s : Status) × ValidatesIn limits b room path report s × Returns s code) ⊎ ReportsRefusal b room path report code

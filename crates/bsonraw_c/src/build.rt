@@ -53,7 +53,7 @@ pub extern "C" fn bsonraw_builder_begin(builder: &mut Builder, room: &[u8]) -> i
     builder.status
 }
 
-/// EndsLevel a document, which is then at the front of the room.
+/// Ends a document, which is then at the front of the room.
 #[unsafe(no_mangle)]
 pub extern "C" fn bsonraw_builder_end(builder: &mut Builder, room: &mut [u8]) -> i32
     ensures closes { ClosesLevel builder.old builder.new room.old room.new }
@@ -106,8 +106,8 @@ pub extern "C" fn bsonraw_append_iter(
     builder.status
 }
 
-/// Begins a document or an array in the level that the builder has. The new builder has it; the other one is to be used again
-/// once that is ended.
+/// Begins a document or an array in the level that the builder has. The new builder has it; the old one may be used again after
+/// it is ended.
 #[unsafe(no_mangle)]
 pub extern "C" fn bsonraw_append_begin(
     builder: &Builder,
@@ -128,7 +128,7 @@ pub extern "C" fn bsonraw_append_begin(
     level.status
 }
 
-/// EndsLevel a document or an array, which is then an element of the level that the builder has.
+/// Ends a document or an array, which is then an element of the level that the builder has.
 #[unsafe(no_mangle)]
 pub extern "C" fn bsonraw_append_end(builder: &mut Builder, room: &mut [u8], level: &Builder) -> i32
     ensures ends { EndsLevel level.now builder.old builder.new room.old room.new }
@@ -217,7 +217,7 @@ impl Builder {
         }
     }
 
-    /// How many bytes are taken with an element of so many more; or none, where the level couldn't be ended then.
+    /// How many bytes are taken with `size` more; none, where the level couldn't be ended then or has the most elements.
     #[inline(always)]
     fn len_with(&self, size: usize) -> Option<u32>
         ensures fits { IfSome result (λ len. (len ≡ self.now.len + size) × ¬ IsTooLong self.now size) }
@@ -347,7 +347,7 @@ impl Builder {
         }
     }
 
-    /// EndsLevel a level, and takes it as an element.
+    /// Ends a level, and takes it as an element.
     #[inline(always)]
     fn end(&mut self, room: &mut [u8], level: &Builder)
         requires { TakesMore self.old }

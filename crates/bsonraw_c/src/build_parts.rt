@@ -18,7 +18,7 @@ use raw_bson::{ElementType, RawDocument, RawElement};
 /// What the payload of a kind is made of.
 #[derive(Clone, Copy)]
 pub enum Layout {
-    /// so many bytes, as they are
+    /// this many bytes, as they are
     Fixed(usize),
     /// a byte that is 0 or 1
     Flag,
@@ -218,7 +218,7 @@ impl<'a> Parts<'a> {
         }
     }
 
-    /// How many bytes the payload has; or the greatest number, where they are more.
+    /// How many bytes the payload has, at most the greatest number.
     #[inline(always)]
     pub fn len(&self) -> usize
         ensures { result ≡ min (length (payload_of_parts self.now)) (2 ^ 64 - 1) }

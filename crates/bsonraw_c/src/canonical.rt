@@ -12,8 +12,8 @@ use raw_bson::{ErrorKind, Limits, RawDocument, Reason};
 use raw_form::{canonical_within, validate_within};
 use std::alloc::Global;
 
-/// Puts the canonical form of a document that keeps to the limits into the caller's room, and reports how many bytes it has;
-/// where it doesn't fit, nothing is put. Else it reports why there is none, and where.
+/// Puts the canonical form of a document within the limits into the caller's room, and reports how many bytes it has. Puts
+/// nothing where it doesn't fit. Reports why and where, if there is no form.
 #[unsafe(no_mangle)]
 pub extern "C" fn bsonraw_canonical(
     alloc: Global,
@@ -40,8 +40,8 @@ pub extern "C" fn bsonraw_canonical(
     }
 }
 
-/// Puts the canonical form of this document into the room. Where it has none, and no barrier either, memory ran out. The length of
-/// the form of a canonical document takes no memory for that.
+/// Puts the canonical form of this document into the room. Where it has none, and no barrier either, memory ran out. A
+/// canonical document that doesn't fit the room takes no memory for its form.
 fn form_in(
     alloc: Global,
     document: RawDocument<'_>,
@@ -88,7 +88,7 @@ fn is_too_long(kind: &ErrorKind) -> bool
     }
 }
 
-/// Puts the form of a document of so many bytes into the room.
+/// Puts the form of a document of `end` bytes into the room.
 fn put_form(end: usize, form: &[u8], room: &mut [u8], report: &mut Report) -> Status
     ensures { PutsForm end form.now room.old room.new report.new result }
 {

@@ -12,7 +12,7 @@ use raw_bson::ErrorKind;
 pub struct Fault {
     /// its kind, and the reason with its numbers
     pub why: FaultCode,
-    /// where the element begins that is at fault, or the stop; of bytes that are no document, where they begin
+    /// where the element at fault begins, or the stop; of bytes that are no document, where they begin
     pub offset: u64,
 }
 

@@ -11,7 +11,7 @@ use crate::fault::Fault;
 use crate::text_room::{end_text, put_number, put_words};
 use raw_bson::Reason;
 
-/// Puts the text of a fault into the room, as far as it fits, with a 0 after it. How many bytes the text has.
+/// Puts the text of a fault into the room, as far as it fits, with a 0 after it. Returns how many bytes the text has.
 #[unsafe(no_mangle)]
 pub extern "C" fn bsonraw_fault_text(fault: &Fault, text: &mut [u8]) -> usize
     ensures { PutsFault fault.now.why text.old text.new result }
@@ -21,7 +21,7 @@ pub extern "C" fn bsonraw_fault_text(fault: &Fault, text: &mut [u8]) -> usize
     count
 }
 
-/// Puts the text of a fault. How many bytes it has.
+/// Puts the text of a fault. Returns how many bytes it has.
 fn put_fault(room: &mut [u8], told: FaultCode) -> usize
     ensures { (text : List ℕ) × IsFaultText told text × Grows text room.old 0 room.new result }
 {

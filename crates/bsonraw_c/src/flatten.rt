@@ -9,8 +9,8 @@ use raw_bson::{Limits, RawDocument};
 use raw_form::{FlattenError, Token, flatten_within};
 use std::alloc::Global;
 
-/// Puts the elements of all levels of a document that keeps to the limits into the caller's room as tokens, depth first in
-/// byte order, as many as there is room for; or reports the first barrier, and where it is.
+/// Puts the elements of all levels of a document within the limits into the caller's room as tokens, depth first in byte order,
+/// as many as there is room for; or reports the first barrier, and where it is.
 #[unsafe(no_mangle)]
 pub extern "C" fn bsonraw_flatten(
     alloc: Global,

@@ -39,8 +39,8 @@ pub struct JsonReport {
     pub wrapper: u32,
 }
 
-/// Puts the document that a text of Extended JSON writes into the caller's room, and reports how many bytes it has; where it doesn't
-/// fit, nothing is put. Else it reports why there is none, and where in the text.
+/// Puts the document that a text of Extended JSON writes into the caller's room, and reports how many bytes it has. Puts nothing
+/// where it doesn't fit. Reports why and where in the text, if there is no document.
 #[unsafe(no_mangle)]
 pub extern "C" fn bsonraw_from_json(
     alloc: Global,
@@ -66,7 +66,7 @@ pub extern "C" fn bsonraw_from_json(
     }
 }
 
-/// Puts the document that this text writes into the room. Else it reports why there is none, and where in the text.
+/// Puts the document that this text writes into the room; or reports why there is none, and where in the text.
 fn document_in(
     alloc: Global,
     text: &str,
@@ -98,7 +98,7 @@ fn put_document(document: &[u8], room: &mut [u8], report: &mut JsonReport) -> St
 }
 
 impl JsonReport {
-    /// A document of so many bytes.
+    /// A document of `count` bytes.
     fn counted(count: usize) -> JsonReport
         ensures { result ≡ record no_place { count = count } }
     {

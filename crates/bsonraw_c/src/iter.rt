@@ -45,7 +45,7 @@ pub fn end_of(bytes: &[u8]) -> u32
     bytes.len().min(u32::MAX as usize) as u32
 }
 
-/// The document that so many of the bytes from this offset on are.
+/// The document that the `len` bytes from this offset on are.
 #[inline(always)]
 fn document_at(bytes: &[u8], offset: u32, len: u32) -> Option<RawDocument<'_>>
     ensures stands { IfSome result (λ document. StandsAt bytes.now offset len (bytes_of document)) }

@@ -13,8 +13,8 @@ use bson_to_json::{Format, Layout, Measured, Style, measured_json};
 use raw_bson::{Limits, RawDocument};
 use std::alloc::Global;
 
-/// Puts a document that keeps to the limits into the caller's room as Extended JSON, with a 0 behind it, and reports how many
-/// bytes the text has without that 0; where both don't fit, nothing is put. Else it reports why there is none, and where.
+/// Puts a document within the limits into the caller's room as Extended JSON, with a 0 after it, and reports how many bytes the
+/// text has without that 0. Puts nothing where both don't fit. Reports why and where, if there is no text.
 #[unsafe(no_mangle)]
 pub extern "C" fn bsonraw_json(
     alloc: Global,
@@ -65,7 +65,7 @@ fn style_of(canonical: u32, indented: u32) -> Style
 }
 
 /// Puts the text of this document into the room. Where it has none, and no barrier either, memory ran out. Of a text that is
-/// longer than the room no more than fits is kept meanwhile.
+/// longer than the room, no more than fits is kept meanwhile.
 fn json_in(
     alloc: Global,
     document: RawDocument<'_>,
@@ -96,7 +96,7 @@ fn json_in(
     }
 }
 
-/// Puts a text of so many bytes and the 0 behind it into the room, of a document of so many bytes.
+/// Puts a text of `count` bytes and the 0 after it into the room, of a document of `end` bytes.
 fn put_text(end: usize, count: usize, ended: &[u8], room: &mut [u8], report: &mut Report) -> Status
     ensures filled { FillsRoom ended.now room.old room.new }
     ensures report { report.new ≡ record (no_report end) { count = count } }

@@ -9,8 +9,8 @@ use crate::from_json::{JsonReport, NOT_UTF8};
 use crate::text_room::{end_text, put_words};
 use bson_from_json::{JsonReason, Wrapper};
 
-/// Puts the text of what is wrong with a text of JSON into the room, as far as it fits, with a 0 after it. How many bytes the
-/// text has.
+/// Puts the text of what is wrong with a text of JSON into the room, as far as it fits, with a 0 after it. Returns how
+/// many bytes the text has.
 #[unsafe(no_mangle)]
 pub extern "C" fn bsonraw_json_fault_text(report: &JsonReport, text: &mut [u8]) -> usize
     ensures { PutsJsonFault report.now text.old text.new result }

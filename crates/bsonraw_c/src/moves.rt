@@ -23,7 +23,7 @@ pub extern "C" fn bsonraw_iter_init(iter: &mut Iter, bytes: &[u8]) -> i32
     }
 }
 
-/// Begins before the first element of the document that so many of the bytes from this offset on are.
+/// Begins before the first element of the document that the `len` bytes from this offset on are.
 #[unsafe(no_mangle)]
 pub extern "C" fn bsonraw_iter_init_at(iter: &mut Iter, bytes: &[u8], offset: u32, len: u32) -> i32
     ensures { BeginsAt bytes.now offset len iter.new result }

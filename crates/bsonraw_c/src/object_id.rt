@@ -22,11 +22,11 @@ pub struct ObjectId {
 pub struct HexText {
     /// two for each byte
     pub digits: [u8; 24],
-    /// the 0 behind them
+    /// the 0 after them
     pub end: u8,
 }
 
-/// Puts the bytes of an ObjectId into the room as hex digits in lower case, with a 0 behind them.
+/// Puts the bytes of an ObjectId into the room as hex digits in lower case, with a 0 after them.
 #[unsafe(no_mangle)]
 pub extern "C" fn bsonraw_oid_to_hex(id: &ObjectId, hex: &mut HexText) -> i32
     ensures digits { hex.new.digits ≡ encode_lower id.now.bytes }

@@ -7,7 +7,7 @@ use crate::codes::Status;
 use crate::iter::Iter;
 use crate::path_values::bsonraw_iter_init_find_descendant;
 
-/// Overwrites the payload of the element at a path, if the element has this tag and a payload of as many bytes.
+/// Overwrites the payload of the element at a path, if the element has this tag and the new payload's length.
 #[unsafe(no_mangle)]
 pub extern "C" fn bsonraw_overwrite(
     bytes: &mut [u8],

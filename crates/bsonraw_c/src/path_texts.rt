@@ -16,7 +16,7 @@ use crate::view::document_of;
 use raw_bson::{RawDocument, RawElement};
 use raw_form::PathStep;
 
-/// How many steps are shown of each end of a path that has more than twice as many.
+/// How many steps of each end are shown of a path of more than twice as many.
 const SHOWN: usize = 10;
 
 /// A step of a path, and the level inside what it leads to.
@@ -26,7 +26,7 @@ struct Reached<'a> {
     inside: Option<RawDocument<'a>>,
 }
 
-/// Puts the text of a path into the room, as far as it fits, with a 0 after it. How many bytes the text has.
+/// Puts the text of a path into the room, as far as it fits, with a 0 after it. Returns how many bytes the text has.
 #[unsafe(no_mangle)]
 pub extern "C" fn bsonraw_path_text(bytes: &[u8], path: &[usize], text: &mut [u8]) -> usize
     ensures { PutsPath bytes.now path.now text.old text.new result }
@@ -36,7 +36,7 @@ pub extern "C" fn bsonraw_path_text(bytes: &[u8], path: &[usize], text: &mut [u8
     count
 }
 
-/// Puts the text of a path in these bytes. How many bytes it has.
+/// Puts the text of a path in these bytes. Returns how many bytes it has.
 fn put_path(room: &mut [u8], bytes: &[u8], path: &[usize]) -> usize
     ensures { (text : List ℕ) × IsPathText bytes.now path.now text × Grows text room.old 0 room.new result }
 {
@@ -46,7 +46,7 @@ fn put_path(room: &mut [u8], bytes: &[u8], path: &[usize]) -> usize
     }
 }
 
-/// Puts the steps of a path in this document. How many bytes their text has.
+/// Puts the steps of a path in this document. Returns how many bytes their text has.
 fn put_steps(room: &mut [u8], document: RawDocument<'_>, path: &[usize]) -> usize
     ensures { (steps : List Step) × AreSteps (Some (bytes_of document.entry)) path.now steps
         × Grows (path_text (length path.now) steps) room.old 0 room.new result }
@@ -108,8 +108,8 @@ fn inside_of<'a>(element: RawElement<'a>) -> Option<RawDocument<'a>>
     }
 }
 
-/// Puts a step of a path of so many numbers, with so many steps before it, if it is one of the first ten or of the last ten;
-/// two points for all others.
+/// Puts the step after `index` others of a path of `total` numbers, if it is one of the first ten or of the last ten; two points
+/// for all others.
 fn put_shown(room: &mut [u8], count: usize, total: usize, index: usize, step: PathStep<'_>) -> usize
     ensures { Grows (piece total index (step_of step.entry)) room.old count room.new result }
 {

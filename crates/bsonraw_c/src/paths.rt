@@ -48,7 +48,7 @@ fn find_step(iter: &mut Iter, bytes: &[u8], in_array: bool, step: &[u8]) -> i32
     bsonraw_iter_find(iter, bytes, step)
 }
 
-/// The first step of a path, and what is behind its separator.
+/// The first step of a path, and what comes after its separator.
 fn first_step(path: &[u8], separator: u8) -> (&[u8], Option<&[u8]>)
     ensures none { HasNone separator result.0.now }
     ensures last { IfNone result.1 (path.now ≡ result.0.now) }
@@ -63,7 +63,7 @@ fn first_step(path: &[u8], separator: u8) -> (&[u8], Option<&[u8]>)
     (path, None)
 }
 
-/// Goes on to the element of an array whose number this is, counted from the next one on.
+/// Goes on to the element of an array with this number, counted from the next one on.
 fn find_number(iter: &mut Iter, bytes: &[u8], number: &[u8]) -> i32
     ensures { FindsNumber bytes.now number.now iter.old iter.new result }
 {

@@ -6,7 +6,7 @@ use crate::codes::Status;
 use crate::fault::Fault;
 use raw_bson::{NoDocument, RawDocument, Reason};
 
-/// A document among others that are one behind the other, and where the next one begins.
+/// A document of several, one after another, and where the next one begins.
 #[repr(C)]
 #[derive(Clone, Copy)]
 pub struct Reader {
@@ -20,7 +20,7 @@ pub struct Reader {
     pub fault: Fault,
 }
 
-/// Goes on to the next document of bytes that hold documents one behind the other.
+/// Goes on to the next document of bytes that hold documents one after another.
 #[unsafe(no_mangle)]
 pub extern "C" fn bsonraw_reader_read(reader: &mut Reader, bytes: &[u8]) -> i32
     ensures { ReadsNext bytes.now reader.old reader.new result }
@@ -66,7 +66,7 @@ impl Reader {
     }
 }
 
-/// Where the next document may begin, behind one at this offset that is damaged; bytes of this length have it.
+/// Where the next document may begin after the damaged one at this offset of `end` bytes.
 fn behind_damage(end: usize, offset: usize, why: NoDocument) -> usize
     requires { IsWithin end offset why }
     ensures { result ≡ place_behind end offset why }

@@ -35,7 +35,7 @@ pub struct Report {
 }
 
 impl Report {
-    /// Nothing, of so many bytes.
+    /// Nothing, of `end` bytes.
     pub fn none(end: usize) -> Report
         ensures { result ≡ no_report end }
     {
@@ -74,7 +74,7 @@ impl Report {
         }
     }
 
-    /// The place of an element or a stop that begins at this offset, with its key if it has one, and a path of so many steps.
+    /// The place of an element or a stop that begins at this offset, with its key if it has one, and a path of `path_len` steps.
     pub fn placed(
         end: usize,
         offset: usize,
@@ -105,7 +105,7 @@ impl Report {
     }
 
     /// This place, with its key if it has one, and what is wrong there. As many numbers of its path as there is room for are
-    /// put to the front of the room.
+    /// put at the front of the room.
     pub fn at(
         end: usize,
         place: &Place<'_>,

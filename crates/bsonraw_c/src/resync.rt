@@ -23,10 +23,10 @@ pub struct Resync {
     pub left_out: u32,
 }
 
-/// A buffer has at most so many bytes, so that eight times as many can be counted.
+/// The most bytes of a buffer, so that eight times as many can be counted.
 const MOST_BYTES: usize = 1 << 60;
 
-/// Says where documents go on behind the damaged one that a reader is at, or where it found none.
+/// Has a reader go on where documents do, after the damaged one that it is at, or after where it found none.
 #[unsafe(no_mangle)]
 pub extern "C" fn bsonraw_reader_resync(
     alloc: Global,
@@ -80,7 +80,7 @@ impl Reader {
 }
 
 impl Resync {
-    /// Whether searches in these bytes can have cost so much.
+    /// Whether searches in these bytes can have cost this.
     fn is_of(&self, bytes: &[u8]) -> bool
         ensures { IsTrue result ↔ IsBounded (length bytes.now) (work_of self.now) }
     {
@@ -111,10 +111,10 @@ impl Resync {
     }
 }
 
-/// Where documents go on behind a damaged one.
+/// Where documents go on after a damaged one.
 #[derive(Clone, Copy)]
 pub struct Onward {
-    /// so many bytes behind its first
+    /// how many bytes after its first
     pub count: usize,
     /// whether that is where its length ends
     pub is_believed: bool,
@@ -122,7 +122,7 @@ pub struct Onward {
     pub all: bool,
 }
 
-/// Where documents go on behind the damaged one in front of these bytes, the last of the input.
+/// Where documents go on after the damaged one at the front of these bytes, the last of the input.
 fn go_on(alloc: Global, part: Part<'_>, work: &mut Work) -> Result<Onward, AllocError>
     requires { IsInput part × IsWork work.old }
     ensures work { IsWork work.new }
@@ -134,7 +134,7 @@ fn go_on(alloc: Global, part: Part<'_>, work: &mut Work) -> Result<Onward, Alloc
     }
 }
 
-/// The first place behind the first byte where documents go on.
+/// The first place after the first byte where documents go on.
 fn first_place(alloc: Global, part: Part<'_>, work: &mut Work) -> Result<Onward, AllocError>
     requires { IsInput part × IsWork work.old }
     ensures work { IsWork work.new }
@@ -155,7 +155,7 @@ fn first_place(alloc: Global, part: Part<'_>, work: &mut Work) -> Result<Onward,
     }
 }
 
-/// Where documents go on behind a damaged one of so many bytes: behind it where its elements explain its length.
+/// Where documents go on after a damaged one of `len` bytes: right after it, where its elements explain its length.
 fn behind_piece(
     alloc: Global,
     part: Part<'_>,
@@ -181,8 +181,8 @@ fn behind_piece(
     }
 }
 
-/// Where documents go on, where the damaged one of so many bytes doesn't explain its length: behind it if they go on there and not inside;
-/// else at the first place.
+/// Where documents go on, where the elements of the damaged one of `len` bytes don't explain its length: right after it, if they go on
+/// there and not inside; else at the first place.
 fn inside_or_behind(
     alloc: Global,
     part: Part<'_>,
@@ -207,13 +207,13 @@ fn inside_or_behind(
 /// Where documents go on around a piece.
 #[derive(Clone, Copy)]
 pub struct Behind {
-    /// whether they go on inside it, or not behind it
+    /// whether they go on inside it, or not right after it
     pub elsewhere: bool,
-    /// whether each place inside was looked at, and the one behind
+    /// whether each place inside was looked at, and the one right after it
     pub all: bool,
 }
 
-/// Whether documents go on inside the piece of so many bytes, or not behind it.
+/// Whether documents go on inside the piece of `len` bytes, or not right after it.
 fn look_behind(
     alloc: Global,
     part: Part<'_>,
@@ -270,7 +270,7 @@ fn look_at_end(
     }
 }
 
-/// How many bytes a document in front of these says it has, where it may have so many and they are there.
+/// How many bytes the document at the front of these says it has, where it may have them and they are there.
 fn len_in_front(part: Part<'_>) -> Option<usize>
     requires { IsInput part }
     ensures found { IfSome result (BeginsPiece part.entry.limits.bytes part.entry.bytes.now) }

@@ -2,8 +2,8 @@ ghost use Rattle.std.specs.Prelude.{IsTrue, ◌↔◌, ◌≤◌, ◌<◌, ◌+�
 ghost use Rattle.bsonraw_c.specs.Forms.{FillsRoom};
 ghost use Rattle.bsonraw_c.specs.Places.{StandsAt};
 
-/// Puts these items at the front of the caller's room and leaves what is behind them; where they don't fit, it leaves
-/// all of it. Whether they fit.
+/// Puts these items at the front of the caller's room and leaves the rest of it as it was; puts nothing where they don't fit.
+/// Returns whether they fit.
 pub fn put<T: Copy>(room: &mut [T], items: &[T]) -> bool
     ensures fits { IsTrue result ↔ (length items.now ≤ length room.old) }
     ensures filled { FillsRoom items.now room.old room.new }
@@ -16,7 +16,7 @@ pub fn put<T: Copy>(room: &mut [T], items: &[T]) -> bool
     true
 }
 
-/// So many of the bytes from this offset on; or none, where there are fewer.
+/// The `len` bytes from this offset on; or none, where there are fewer.
 #[inline(always)]
 pub fn part(bytes: &[u8], offset: usize, len: usize) -> Option<&[u8]>
     ensures stands { IfSome result (λ part. StandsAt bytes.now offset len part.now) }

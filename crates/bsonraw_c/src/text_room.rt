@@ -6,7 +6,7 @@ ghost use Rattle.bsonraw_c.specs.TextRooms.{Ends, Grows, laid};
 use crate::overwriting::put_from;
 use itoa::Buffer;
 
-/// Puts a part of a text after the bytes of the text that are counted, as far as it fits. How many are counted then.
+/// Puts a part of a text after its first `count` bytes, as far as it fits. Returns how many bytes the text has then.
 pub fn put_part(room: &mut [u8], count: usize, part: &[u8]) -> usize
     ensures { Grows part.now room.old count room.new result }
 {
@@ -29,7 +29,7 @@ pub fn put_number(room: &mut [u8], count: usize, number: usize) -> usize
     put_part(room, count, digits.format(number).as_bytes())
 }
 
-/// Puts a 0 after a text of so many bytes, or in the last place.
+/// Puts a 0 after a text of `count` bytes, or in the last place.
 pub fn end_text(room: &mut [u8], count: usize)
     ensures { Ends room.old count room.new }
 {

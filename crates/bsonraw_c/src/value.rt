@@ -13,7 +13,7 @@ use crate::fault::Fault;
 use crate::iter::{Iter, end_of};
 use raw_bson::{RawBsonRef, RawElement};
 
-/// A value. What its kind doesn't have is 0, and of a part that it doesn't have the offset is the end of the bytes.
+/// A value. What its kind doesn't have is 0; the offset of a part that it doesn't have is the end of the bytes.
 #[repr(C)]
 #[derive(Clone, Copy)]
 pub struct Value {
