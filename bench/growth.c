@@ -85,7 +85,7 @@ OP op_flatten(void) { put_tokens(); }
 
 static size_t most_deep = ALL;
 
-/* Too deep is what a document may be that a limit is given for. */
+/* Whether a call went well. A document may be too deep where a limit is given. */
 static int is_well(int32_t status) {
     return status == BSONRAW_OK || (status == BSONRAW_TOO_DEEP && most_deep < ALL);
 }

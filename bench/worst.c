@@ -1,6 +1,6 @@
 /* Writes the documents that cost the most of those known, to standard output.
  *
- * usage: worst random SIZE LEAST     up to SIZE bytes, of nulls under the shortest keys of at least this many bytes, in an order by chance
+ * usage: worst random SIZE LEAST     up to SIZE bytes, of nulls under the shortest keys of at least this many bytes, in random order
  *        worst sorted SIZE LEAST     the same, after ten pairs of keys, of which each shares a mark: the keys are then put in order
  *        worst late SIZE LEAST       the same, before 180 keys that begin in eight places of the last table: all are put in order then
  *        worst levels COUNT          16 MiB of levels of this many keys in one another, the keys descending
@@ -90,7 +90,7 @@ static void put_pairs(void) {
     if (found < PAIRS) exit(1);
 }
 
-/* Nulls under the shortest keys of at least this many bytes, in an order by chance, and how many. The last one has four bytes, as the first
+/* Nulls under the shortest keys of at least this many bytes, in random order; returns how many. The last one has four bytes, as the first
  * of a pair. */
 static size_t put_random(size_t least) {
     uint32_t *numbers = malloc(SIZE), first = least < 4 ? 0 : FOURS, count = 0, i;

@@ -30,7 +30,7 @@ extern "C" {
 
 #define BSONRAW_VERSION 20000 /* what bsonraw_version returns: 2.0.0 */
 
-/* How a call ended. Which of these a call returns, and in which order it looks for them, is said where it is declared. */
+/* How a call ended. The declaration of a call says which of these it returns, and in which order it looks for them. */
 enum bsonraw_status {
     BSONRAW_OK = 0,             /* what was asked for is there */
     BSONRAW_NONE = 1,           /* no more elements, or documents; no element with the key */
@@ -512,7 +512,7 @@ BSONRAW_USE int32_t bsonraw_iter_value(const struct bsonraw_iter *iter, const ui
 BSONRAW_USE int32_t bsonraw_value_at(const uint8_t *bytes, size_t len, const uint8_t *path, size_t path_len, uint8_t separator,
                                      const uint32_t *tags, size_t count, struct bsonraw_value *value);
 
-/* Overwrites the payload of the element at a path, if the element has this tag and a payload of as many bytes; else BSONRAW_OTHER_KIND, or
+/* Overwrites the payload of the element at a path, if the element has this tag and a payload of this length; else BSONRAW_OTHER_KIND, or
  * what bsonraw_iter_init_find_descendant returns, and nothing is written. What the payload means isn't looked at.
  *
  *     static const uint8_t year[] = {91, 7, 0, 0};
@@ -649,7 +649,7 @@ BSONRAW_USE BSONRAW_INLINE int32_t bsonraw_iter_timestamp(const struct bsonraw_i
     return status;
 }
 
-/* An int32 or an int64, but no double: where it isn't whole is for the caller to see. */
+/* An int32 or an int64, but no double: the caller has to see whether that is whole. */
 BSONRAW_READS(2, 3)
 BSONRAW_USE BSONRAW_INLINE int32_t bsonraw_iter_as_int64(const struct bsonraw_iter *iter, const uint8_t *bytes, size_t len,
                                                          int64_t *number) {
@@ -794,7 +794,7 @@ BSONRAW_USE BSONRAW_INLINE int32_t bsonraw_iter_regex(const struct bsonraw_iter 
  *     What bsonraw_append_cancel takes back isn't needed: it returns what the builder had before the level.
  *   - Anything else: the first call that was refused, and why. Later calls change nothing, and count is the number of the element
  *     that was refused, from 0, in its level.
- * So one look at the end is enough. Refused are, in this order: NULL with a length (BSONRAW_NULL); an append to a builder in which a
+ * So one look at the end is enough. What is refused, in this order: NULL with a length (BSONRAW_NULL); an append to a builder in which a
  * level is open, its end, and the end of a level that isn't the one that is open in it, as one that was ended before (BSONRAW_MISUSE);
  * a builder that was ended, or whose len is under begins + 4, as where it is all 0
  * since no call has begun it, and a cursor that is at no element (BSONRAW_BAD_OFFSET); a tag of no kind, and parts that aren't
@@ -1276,7 +1276,7 @@ struct bsonraw_token {
     uint32_t inside; /* how many tokens are inside; the next element of the same level is 1 + inside tokens further on */
 };
 
-/* The elements of all levels, depth first in byte order: BSONRAW_OK, and count tokens are in front of the room. A code with
+/* The elements of all levels, depth first in byte order: BSONRAW_OK, and count tokens are at the front of the room. A code with
  * scope has the elements of its scope inside, one level deeper. What a token says needs no second look: texts are UTF-8,
  * numbers have their bytes, a boolean is 0 or 1, the inner length of a binary of subtype 2 is right, a scope is a document.
  * BSONRAW_SMALL_BUFFER where the document has count tokens and the room only the first of them. With BSONRAW_FAULT,
@@ -1303,9 +1303,9 @@ BSONRAW_USE int32_t bsonraw_flatten(const uint8_t *bytes, size_t len, size_t max
 BSONRAW_USE int32_t bsonraw_first_fault(const uint8_t *bytes, size_t len, size_t max_bytes, size_t max_depth,
                                         struct bsonraw_report *report, uint64_t *path, size_t path_room);
 
-/* Whether the document is canonical: BSONRAW_OK; or BSONRAW_BREACH, with the cause of its first breach and its place. Of an
- * element the key is looked at first, then the value, then what is inside. Why a value or a stop breaks it, bsonraw_first_fault
- * says. It takes memory for the keys of the documents that are open: mostly under 100 bytes for each, up to
+/* Whether the document is canonical: BSONRAW_OK; or BSONRAW_BREACH, with the cause of its first breach and its place. An
+ * element's key is looked at first, then its value, then what is inside. bsonraw_first_fault says why a value or a stop is a
+ * breach. It takes memory for the keys of the documents that are open: mostly under 100 bytes for each, up to
  * 200 where documents have few more than 128 or 1024 keys.
  *
  *     struct bsonraw_report r;
@@ -1444,7 +1444,7 @@ BSONRAW_USE BSONRAW_INLINE int32_t bsonraw_json_text(const uint8_t *bytes, size_
 /* Why a text isn't read. */
 enum bsonraw_json_reason {
     BSONRAW_JSON_END_OF_TEXT = 1,       /* the text ends inside the document */
-    BSONRAW_JSON_BYTE_ORDER_MARK = 2,   /* a byte order mark is in front */
+    BSONRAW_JSON_BYTE_ORDER_MARK = 2,   /* a byte order mark is at the front */
     BSONRAW_JSON_EXPECTED_DOCUMENT = 3, /* another value than a document */
     BSONRAW_JSON_EXPECTED_KEY = 4,      /* no key in quotes is where one has to be */
     BSONRAW_JSON_EXPECTED_COLON = 5,
@@ -1464,7 +1464,7 @@ enum bsonraw_json_reason {
     BSONRAW_JSON_UNSOUND = 19           /* reserved: no text gives this */
 };
 
-/* The objects that write a value which JSON has no words for, by their keys. */
+/* The objects that write a value that JSON has no words for, by their keys. */
 enum bsonraw_json_wrapper {
     BSONRAW_JSON_OID = 1,                /* $oid */
     BSONRAW_JSON_NUMBER_INT = 2,         /* $numberInt */
@@ -1638,7 +1638,7 @@ size_t bsonraw_json_fault_text(const struct bsonraw_json_report *report, char *B
 
 /* The path of a report as a text, as bsonraw-dump prints it: for each level a slash, the number, and where there is a key a colon and
  * the key in quotes, as in JSON, with all control characters escaped: /1:"authors"/0:"0". Of more than 20 levels the first ten and the last
- * ten are there, with /.. between. Of no document the text is empty. A path that leads nowhere ends where it does.
+ * ten are there, with /.. between. The text of bytes that are no document is empty. A path that leads nowhere ends where it does.
  *
  *     struct bsonraw_report r;
  *     uint64_t path[16];
@@ -1709,7 +1709,7 @@ const char *bsonraw_error_text(const struct bsonraw_error *error);
 
 /* The element at a path, and its value where it is of the kind that is asked for: BSONRAW_OK; BSONRAW_NO_DOCUMENT, BSONRAW_NONE,
  * BSONRAW_FAULT and BSONRAW_OTHER_KIND as the calls of a cursor. What is written is then 0, and a pointer NULL. Pointers are into the
- * bytes; a 0 follows a text. Other kinds are got by bsonraw_get and bsonraw_iter_regex and its kin. Each is one call that is proved,
+ * bytes; a 0 follows a text. Other kinds are read by bsonraw_get and bsonraw_iter_regex and its kin. Each is one call that is proved,
  * bsonraw_iter_init_find_descendant or bsonraw_value_at, with a dot for the separator; C looks for NULL, and hands out a field or a pointer.
  *
  *     int32_t born;
@@ -1763,13 +1763,13 @@ struct bsonraw_field {
 BSONRAW_USE int32_t bsonraw_find_many(const uint8_t *bytes, size_t len, struct bsonraw_field *fields, size_t count)
                                       BSONRAW_READS(1, 2) BSONRAW_CHANGES(3, 4);
 
-/* Whether a path leads to an element: 1, or 0. Why it doesn't, bsonraw_get says. */
+/* Whether a path leads to an element: 1, or 0. bsonraw_get says why it doesn't. */
 BSONRAW_USE int32_t bsonraw_has_key(const uint8_t *bytes, size_t len, const char *path) BSONRAW_READS(1, 2);
 
 /* How many elements a document has at its own level; with BSONRAW_FAULT those before the stop. */
 BSONRAW_USE int32_t bsonraw_count(const uint8_t *bytes, size_t len, uint64_t *count) BSONRAW_READS(1, 2);
 
-/* Whether the keys at all levels are some that a server takes, which is asked for by flags. The keys of arrays aren't looked at. */
+/* Whether a server takes the keys at all levels: flags say what is asked of them. The keys of arrays aren't looked at. */
 enum bsonraw_key_flags {
     BSONRAW_KEYS_DOLLAR = 1, /* none begins with a $, those of a reference, as $id, neither */
     BSONRAW_KEYS_DOTS = 2,   /* none has a dot */
@@ -1854,7 +1854,7 @@ BSONRAW_USE int32_t bsonraw_iter_json(const struct bsonraw_iter *iter, const uin
 /* What bsonraw_json prints, with its 0; what bsonraw_canonical writes; and the document that bsonraw_from_json reads: in memory that the
  * call takes by malloc. The caller gives it back by free, as the library, static or shared, has no allocator but the program's. With
  * BSONRAW_OK report->count is how many bytes it has, without the 0 of a text; report may be NULL. Else the pointer is NULL, and the status
- * and the report are those of these calls, but never BSONRAW_SMALL_BUFFER; the path, bsonraw_first_fault says. A call takes memory as these
+ * and the report are those of these calls, but never BSONRAW_SMALL_BUFFER; bsonraw_first_fault says the path. A call takes memory as these
  * do, and up to four times len bytes before it knows how many there are.
  *
  *     char *text;
@@ -1986,7 +1986,7 @@ struct bsonraw_change {
 
 /* Appends the elements of a document with changes, in one walk: O(n log m) steps for n elements of the levels that paths go through, and
  * m changes. All else is copied as it is, but that the elements of such an array are numbered anew.
- *   - Of a key that repeats in a level each element is changed, and each document with it is gone into.
+ *   - Each element of a key that repeats in a level is changed, and each document under it is gone into.
  *   - A path that leads to no element changes nothing, but that a value to be set is appended there: after the others, in the order of the
  *     changes, with documents for the steps that are lacking; in an array as the next element, else BSONRAW_BAD_OFFSET. A value
  *     isn't set through an element that is neither a document nor an array: BSONRAW_OTHER_KIND.

@@ -1,6 +1,6 @@
 // bsonraw.hpp: bsonraw.h for C++17. Views don't own the bytes that they name; a buffer owns the document that it builds. Nothing here
-// throws but what takes memory of std::string: a call that may find nothing returns a result, which is a value or the status why there is
-// none. Tested, not proved, over the functions of bsonraw.h. A view of a vector or a text that is a temporary doesn't compile.
+// throws but what takes memory of std::string: a call that may find nothing returns a result, which is a value or the status that says why
+// there is none. Tested, not proved, over the functions of bsonraw.h. A view of a vector or a text that is a temporary doesn't compile.
 #ifndef BSONRAW_HPP
 #define BSONRAW_HPP
 
@@ -22,7 +22,7 @@
 
 namespace bsonraw {
 
-// A value, or the status why there is none, of enum bsonraw_status.
+// A value, or the status that says why there is none, of enum bsonraw_status.
 template <class T>
 class [[nodiscard]] result {
 public:
@@ -30,7 +30,7 @@ public:
     explicit operator bool() const noexcept { return status_ == BSONRAW_OK; }
     int32_t status() const noexcept { return status_; }
     const char *text() const noexcept { return bsonraw_status_text(status_); }
-    // A result that is kept shows its value; one that isn't gives it away, as to a loop over what a call returns.
+    // A result that is kept shows its value; one that isn't kept gives it away, as to a loop over what a call returns.
     const T &operator*() const & noexcept { return value_; }
     T operator*() && { return std::move(value_); }
     const T *operator->() const noexcept { return &value_; }
@@ -94,7 +94,7 @@ struct regex {
 
 class view;
 
-// What C takes for a key or a path: the text; or one that no element has, and that is refused as a key, for one with a 0 in it.
+// What C takes for a key or a path: the text; for one with a 0 in it, a text that no element has and that is refused as a key.
 template <class Text>
 const char *without_nul(const Text &text, const char *kept) noexcept {
     return text.find('\0') == Text::npos ? kept : "\xff";
@@ -210,7 +210,7 @@ public:
     size_t size() const noexcept { return size_; }
     uint32_t tag() const noexcept { return tag_; } // BSONRAW_TAG_DOCUMENT or BSONRAW_TAG_ARRAY
 
-    // The elements; of a stop, or where the bytes are no document, the last one has its status.
+    // The elements. Where they end with a stop, or the bytes are no document, the last one has its status.
     iterator begin() const noexcept { return {data_, size_}; }
     iterator end() const noexcept { return {}; }
 
@@ -229,7 +229,7 @@ public:
         return found ? found->template as<T>() : result<T>(found.status(), T());
     }
     bool has(std::string_view path) const noexcept { return bool(find(path)); }
-    // The values at several paths, in one walk: of each path its value, or the status why there is none.
+    // The values at several paths, in one walk: of each path its value, or the status that says why there is none.
     std::vector<result<bsonraw_value>> find_many(const std::vector<std::string> &paths) const {
         std::vector<bsonraw_field> fields(paths.size());
         for (size_t i = 0; i < paths.size(); i++) fields[i].path = without_nul(paths[i], paths[i].c_str());
@@ -247,7 +247,7 @@ public:
         return size_ == other.size_ && (size_ == 0 || std::memcmp(data_, other.data_, size_) == 0);
     }
     bool operator!=(const view &other) const noexcept { return !(*this == other); }
-    // Whether both have one canonical form; else the status why one of them has none.
+    // Whether both have one canonical form; else the status that says why one of them has none.
     result<bool> is_same_tree(view other) const noexcept {
         int32_t is_equal = 0, status = bsonraw_equal(data_, size_, other.data_, other.size_, &is_equal);
         return {status, is_equal != 0};
@@ -271,7 +271,7 @@ public:
     }
 
 private:
-    // What a call puts into room, which is made larger where the call needs more, also for `extra` bytes after it, which are left out again.
+    // What a call puts into room, which grows where the call needs more. It has `extra` bytes after that, which are left out again.
     template <class T, class Call>
     result<T> filled(size_t extra, Call call) const {
         T room(size_ + 64, 0);

@@ -196,7 +196,7 @@ static int is_ascii(const uint8_t *text, size_t len) {
     return (any & 0x8080808080808080) == 0;
 }
 
-/* The value of an entry. What every payload of its kind means is taken as it is, as an entry has as many bytes as its kind. */
+/* The value of an entry. A kind whose every payload is a value is taken as it is, since an entry has as many bytes as its kind. */
 static int32_t value_of(const struct search *s, const struct bsonraw_iter *in, const struct bsonraw_entry *entry,
                         struct bsonraw_value *value) {
     const uint8_t *payload = s->bytes + entry->payload_at;
@@ -235,7 +235,7 @@ static void walk_into(const struct search *s, const struct bsonraw_iter *in, con
         }
 }
 
-/* The fields that are open in a level, in front; and of each the mark of its step: the first eight bytes, and 0s after them. */
+/* The fields that are open in a level come first; and of each the mark of its step: its first eight bytes, and 0s after them. */
 struct open {
     struct bsonraw_field *fields[GROUP];
     uint64_t marks[GROUP];
@@ -351,7 +351,7 @@ static int32_t next_entry(const struct search *s, struct bsonraw_iter *it, struc
     return BSONRAW_OK;
 }
 
-/* Walks a level up to its end, or until nothing is looked for in it any more; what ended it. */
+/* Walks a level up to its end, or until nothing is looked for in it any more. Returns what ended the walk. */
 static int32_t walk(const struct search *s, struct bsonraw_iter *it, uint32_t level, int is_array) {
     struct bsonraw_entry entry;
     struct open open;
@@ -449,7 +449,7 @@ static void tell_key(const struct bsonraw_token *token, const struct key_level *
     for (level = 0; level <= token->depth && level < path_room; level++) path[level] = levels[level].number;
 }
 
-/* Looks at the keys of tokens, but of arrays; the report says the first that is refused. */
+/* Looks at the keys of tokens, but not at those of arrays; the report says the first that is refused. */
 static int32_t look_at_keys(const uint8_t *bytes, const struct bsonraw_token *tokens, uint32_t flags, struct key_level *levels,
                             struct bsonraw_report *report, uint64_t *path, size_t path_room) {
     uint64_t at;
@@ -472,7 +472,7 @@ static int32_t look_at_keys(const uint8_t *bytes, const struct bsonraw_token *to
 int32_t bsonraw_check_keys(const uint8_t *bytes, size_t len, size_t max_bytes, size_t max_depth, uint32_t flags,
                            struct bsonraw_report *report, uint64_t *path, size_t path_room) {
     struct bsonraw_token none, *tokens;
-    struct key_level *levels; /* with the tokens after them, as each of these is in one level more at most */
+    struct key_level *levels; /* with the tokens after them: each token adds at most one level */
     uint64_t no_path[1];
     size_t count;
     int32_t status;
@@ -640,7 +640,7 @@ static void put_length(uint8_t *to, size_t len) {
     memcpy(to, number.bytes, 4);
 }
 
-/* Makes a document for this many bytes of elements of this level, in an array if it is one. Where they go. */
+/* Makes a document for this many bytes of elements of this level, in an array if it is one. Returns where they go. */
 static uint8_t *document_for(struct json *j, uint32_t tag, size_t len) {
     size_t front = tag == BSONRAW_TAG_ARRAY ? 10 : 4, after = tag == BSONRAW_TAG_ARRAY ? 2 : 1;
     uint8_t *document = grown(j, &j->document, front + len + after);
@@ -654,7 +654,7 @@ static uint8_t *document_for(struct json *j, uint32_t tag, size_t len) {
     return document + front;
 }
 
-/* Prints the document that was made, and leaves the text in j->text; how many bytes it has. */
+/* Prints the document that was made, and leaves the text in j->text. Returns how many bytes it has. */
 static size_t print_made(struct json *j) {
     size_t len = length_at(j->document.bytes);
     struct bsonraw_report report;
@@ -729,7 +729,7 @@ static void close_level(struct json *j) {
     emit(j, l->tag == BSONRAW_TAG_ARRAY ? "]" : l->tag == BSONRAW_TAG_DOCUMENT ? "}" : "}}", l->tag == BSONRAW_TAG_JAVASCRIPT_WITH_SCOPE ? 2 : 1);
 }
 
-/* Whether an element has so much inside that it isn't printed at once. */
+/* Whether an element has too much inside to be printed at once. */
 static int is_large(const struct bsonraw_iter *it) {
     return it->payload_len > CHUNK &&
            (it->tag == BSONRAW_TAG_DOCUMENT || it->tag == BSONRAW_TAG_ARRAY || it->tag == BSONRAW_TAG_JAVASCRIPT_WITH_SCOPE);
@@ -803,7 +803,7 @@ static size_t whole_characters(const char *text, size_t len) {
     return len - (begins - 1) < wanted ? begins - 1 : len;
 }
 
-/* As much as there is room for with a 0 after it; then no more is printed. */
+/* Puts as much as there is room for, with a 0 after it; then no more is printed. */
 static int32_t put_front_in_room(void *context, const char *text, size_t len) {
     struct out *out = context;
     size_t left = out->room > 0 ? out->room - 1 - out->len : 0, part = len < left ? len : left;
@@ -842,7 +842,7 @@ static int32_t look_inside(const struct bsonraw_iter *iter, const uint8_t *bytes
     return status;
 }
 
-/* As much as there is room for. */
+/* Puts as much as there is room for. */
 static int32_t put_in_room(void *context, const char *text, size_t len) {
     struct out *out = context;
     size_t left = out->room > out->len ? out->room - out->len : 0;
@@ -923,8 +923,8 @@ static int32_t make_document(struct making *m, uint8_t *room, size_t room_len) {
     return status;
 }
 
-/* What a call makes, in new memory: at first of this many bytes, which are mostly enough, since to count them costs as much as to make them; and
- * else of as many as it then says. */
+/* What a call makes, in new memory: at first of this many bytes, which are mostly enough, since to count them costs as much as to make
+ * them; else of as many as it then says. */
 static int32_t make_new(struct making *m, size_t room, uint8_t **made) {
     uint8_t *memory = room > 0 ? malloc(room) : NULL;
     int32_t status = m->make(m, bsonraw_some_room(memory), memory == NULL ? 0 : room);
@@ -1020,7 +1020,7 @@ static size_t object_end(const char *text, size_t len, size_t at) {
     return len;
 }
 
-/* Makes a place in the text after this front one in the whole text. */
+/* Turns a place in the text after this front into one in the whole text. */
 static void move_place(struct bsonraw_json_report *report, const char *front, size_t len) {
     uint64_t lines = 0, characters = 0;
     size_t at;
@@ -1186,7 +1186,7 @@ int32_t bsonraw_buffer_finish(struct bsonraw_buffer *buffer) {
     return buffer->status;
 }
 
-/* Appends an element, whose parts have these lengths; a key is at most eleven bytes longer than the one that is given, in an array. */
+/* Appends an element, whose parts have these lengths. In an array its key is at most eleven bytes longer than the one that is given. */
 static int32_t add(struct bsonraw_buffer *buffer, uint32_t tag, const char *key, const uint8_t *one, size_t one_len,
                    const uint8_t *two, size_t two_len) {
     size_t key_len = bsonraw_str_len(key);
@@ -1211,7 +1211,7 @@ static size_t put_decimal(uint32_t number, char *key) {
 }
 
 /* Puts an element up to its payload, of this many bytes, where nothing can be refused: its key is ASCII, or made, and its level can be
- * ended after it. Where the payload goes; else NULL, and the call of a builder has to do it. */
+ * ended after it. Returns where the payload goes; else NULL, and the call of a builder has to do it. */
 static uint8_t *put_front(struct bsonraw_buffer *buffer, uint32_t tag, const char *key, size_t payload_len) {
     struct bsonraw_builder *level;
     char number[11];

@@ -1,7 +1,7 @@
 /* Changes by path of bsonraw.h: a document is copied with them in one walk, over the calls that the library exports. Tested, not proved.
  *
- * The changes are sorted by the steps of their paths, and made into a tree: a node has for each next step another one, in a row that is
- * sorted by the step, so that the elements of a level are looked up in it: a hash could be crowded by chosen keys. Each element of a key that
+ * The changes are sorted by the steps of their paths, and made into a tree. A node has another one for each next step, in a row that is
+ * sorted by the step. The elements of a level are looked up in that row, since chosen keys could crowd a hash. Each element of a key that
  * repeats is changed, since readers differ in which one they take. Levels are kept in memory, not on the stack. */
 #define BSONRAW_UNCHECKED
 #include "bsonraw.h"
@@ -225,8 +225,8 @@ static size_t step_len(const struct edit *e, const char *step) {
     return len;
 }
 
-/* Makes a node of the changes from this one on that go through the same step, which begins at this byte of their paths. Whether there is
- * no other change at the end of one; where a path is a key, those of one key are alike. */
+/* Makes a node of the changes from this one on that go through the same step, which begins at this byte of their paths. Returns whether
+ * no other change is at the end of one; where a path is a key, those of one key are alike. */
 static int add_node(struct edit *e, size_t from, size_t end, size_t at) {
     struct node *node = &e->nodes[e->node_count++];
     const char *step = e->sorted[from]->path + at;
@@ -391,8 +391,8 @@ static void walk_on(struct edit *e) {
 
 /* ---- the calls ---- */
 
-/* Why the changes are none: a path that is NULL, a kind that isn't one. Else the most steps of a path, of all of them, and the most bytes of
- * a step. */
+/* Why the changes are none: a path that is NULL, or a kind that isn't one. Else counts the steps of all paths, the most steps of one, and
+ * the most bytes of a step. */
 static int32_t measure(struct edit *e, size_t *deepest, size_t *steps, size_t *longest) {
     size_t number;
     *deepest = *steps = *longest = 0;
@@ -490,7 +490,7 @@ int32_t bsonraw_buffer_copy_without(struct bsonraw_buffer *buffer, const uint8_t
     return buffer->status;
 }
 
-/* Makes a change of each element of a document, and a cursor that is at it; what ended it. */
+/* Makes a change of each element of a document, and a cursor that is at it. Returns what ended the walk. */
 static int32_t make_copies(const uint8_t *over, size_t over_len, struct bsonraw_change *changes, struct bsonraw_iter *at_each) {
     struct bsonraw_iter it;
     int32_t status = bsonraw_iter_init(&it, over, over_len);

@@ -161,20 +161,20 @@ static void pass(struct bsonraw_stream *stream, size_t count) {
     stream->offset += count;
 }
 
-/* Whether no key that begins before a place ends after it, so that the search needs no byte before it: a control character is
- * there, or one and then a 0, or no 0 for as long as a key can be. */
+/* Whether no key that begins before a place ends after it, so that the search needs no byte before it: there is a control
+ * character, or one and then a 0, or no 0 for as long as a key can be. */
 static int cuts_no_key(const uint8_t *bytes, size_t at, size_t left) {
     if (bytes[at] < 32) return bytes[at] != 0 || (at > 0 && bytes[at - 1] < 32);
     return memchr(bytes + at, 0, left - at < LONGEST_KEY + 2 ? left - at : LONGEST_KEY + 2) == NULL;
 }
 
-/* Whether a search may begin at a place: it says no length, and the search finds what one from further in front does. */
+/* Whether a search may begin at a place: it says no length, and the search finds what one from an earlier place does. */
 static int begins_afresh(const uint8_t *bytes, size_t at, size_t left, size_t most) {
     return !is_length(bytes + at, left - at, most) && cuts_no_key(bytes, at, left);
 }
 
-/* Searches until where documents go on doesn't depend on what wasn't read yet: two documents after it were. Where it may, what was
- * searched is passed by, up to a place where a search may begin. */
+/* Searches until two documents after the place where they go on were read, so that it doesn't depend on what wasn't read yet. What was
+ * searched is passed by, where it may be, up to a place where a search may begin. */
 static int32_t search_on(struct bsonraw_stream *stream, size_t most, size_t max_depth) {
     size_t step = most < STEP ? STEP : most, wanted = 2 * most + step, next, left, at;
     int32_t status, filled = fill(stream, 4);

@@ -2,7 +2,8 @@
 
 The header and the library are those of the prefix that BSONRAW_PREFIX names, where bin/install put them; without it, those of
 the first prefix that has them, ~/.local, /usr/local or /usr, or else those that pkg-config finds, such as those of Debian's
-packages. They are looked for when the module is compiled: for the metadata and the source archive they needn't be there. By CPython 3.11 and later one build serves these and all later ones; an older one makes a build for itself.
+packages. They are looked for when the module is compiled: the metadata and the source archive don't need them. A build by CPython
+3.11 or later serves it and all later ones; an older one makes a build for itself.
 """
 
 import hashlib

@@ -240,7 +240,7 @@ static int stops_at(int32_t status, const struct bsonraw_iter *it, const struct 
            it->key_at == (e->has_key ? e->key : len) && it->key_len == e->key_len;
 }
 
-/* A part of the bytes is what a value has, where its kind is the one that is asked for; else none. */
+/* A value has this part of the bytes where its kind is the one that is asked for; else it has none. */
 static int is_part(const void *part, size_t size, int is_asked, uint32_t at, uint32_t part_len) {
     return is_asked ? part == b + at && size == part_len : part == NULL && size == 0;
 }
@@ -291,7 +291,7 @@ static void compare_kinds(const struct bsonraw_iter *it, const struct bsonraw_va
     compare_parts(it, v, len);
 }
 
-/* Of a cursor that says another tag than its element has, no value is of that kind. */
+/* No value is of the kind of a cursor that says another tag than its element has. */
 static void compare_other_tag(struct bsonraw_iter it, uint32_t tag, size_t len) {
     struct bsonraw_value found;
     for (it.tag = 0; it.tag < 20; it.tag++) {
@@ -756,7 +756,7 @@ static void compare_form(uint32_t levels, size_t path_room, size_t len) {
     expect(i == form_len + 8, "what is after a form");
 }
 
-/* A level as it is built of its elements up to a stop: as they are, except for the keys of an array; how many they are. */
+/* A level as it is built of its elements up to a stop: as they are, except for the keys of an array. Returns how many they are. */
 static unsigned write_built(size_t first, size_t end, int in_array) {
     size_t at = first + 4, begins = form_len;
     unsigned number = 0;
@@ -874,7 +874,7 @@ static void compare(size_t len) {
     compare_reader(len);
 }
 
-/* How many documents: as many as the argument says, without one 200,000. */
+/* The argument says how many documents; without one they are 200,000. */
 int main(int count, char **arguments) {
     const char *digit;
     int i, documents = count == 2 ? 0 : 200000;

@@ -173,7 +173,7 @@ static void checks_lengths(const struct document *d, enum edge edge) {
     unmap(shorter);
 }
 
-/* A limit of just the document's bytes is kept to, and one byte less isn't; nor is one of no levels. */
+/* The document is within a limit of just its bytes, and not within one byte less, nor within no levels. */
 static void checks_limits(const struct document *d) {
     uint8_t room = 0;
     struct bsonraw_report r;

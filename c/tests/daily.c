@@ -140,7 +140,7 @@ static void look_at_control_characters(void) {
     is_text(text, "/0:\"\\u009bm\\u007f\\u009f\302\240\\u001f\\u0080\340\244\200\\b\\u000b\"");
 }
 
-/* A fault at the end of this many levels, each of which is under the empty key, except for the first with a null in front. */
+/* A fault at the end of this many levels. Each but the first is under an empty key; the first has a null before that. */
 static void look_at_levels(uint32_t levels, const char *wanted) {
     struct bsonraw_buffer b;
     struct bsonraw_report r;
@@ -630,7 +630,7 @@ static void look_at_edges(void) {
     bsonraw_buffer_free(&b);
 }
 
-/* A function in place of realloc that gives memory so often, and how much is out. */
+/* A function in place of realloc that gives memory `left` times; `out` counts the blocks that it hasn't got back. */
 struct limited {
     int left, out;
 };

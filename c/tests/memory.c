@@ -141,7 +141,7 @@ static int32_t call_flatten(const struct document *d, uint8_t *form, size_t form
     return status;
 }
 
-/* Where documents go on after damage in front of this one, whose report is the reader's place and what the search cost. */
+/* Where documents go on after damage before this one; the report is the reader's place and what the search cost. */
 static int32_t call_resync(const struct document *d, uint8_t *form, size_t form_len, struct bsonraw_report *report, uint64_t *path,
                            size_t path_room) {
     static uint8_t bytes[3 * ROOM];

@@ -46,7 +46,7 @@ static const struct row rows[] = {
 };
 
 #define SOUND 0
-#define STRINGS "\2\14\15\16" /* of the pointer, the string in front */
+#define STRINGS "\2\14\15\16" /* of a pointer the string before its ObjectId */
 #define DOCUMENTS "\3\4"
 
 /* What is after the key "k" up to the document's end, under each of these tags: the first fault, or none. */

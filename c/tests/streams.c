@@ -45,7 +45,7 @@ static void put_document(size_t size) {
     len += 30 + size;
 }
 
-/* Bytes that are no document: of one number, of any, or lengths that may be. */
+/* Bytes that are no document: all one number, any, or lengths that may be. */
 static void put_junk(size_t size) {
     uint32_t kind = any(4);
     for (; size > 0; size--, len++) data[len] = (uint8_t)(kind == 0 ? 0 : kind == 1 ? 255 : kind == 2 ? any(256) : any(3) == 0 ? any(40) : 0);
@@ -144,8 +144,8 @@ static void look_at_damage(void) {
     expect(all > 12, "damaged files", "too few are looked at in full");
 }
 
-/* Where the first search ends, a length that may be is in front of two documents, and another one is after it: it isn't believed, since the
- * damage is before. */
+/* Where the first search ends, a length that may be is before two documents, and another one is after it: it isn't believed, since the
+ * damage comes before it. */
 static void look_at_length(void) {
     size_t at = 65536, count, i;
     struct bsonraw_stream s;

@@ -19,7 +19,7 @@ struct caller {
     size_t wrong; /* how many results were others */
 };
 
-/* Of threads with an odd number each asks about copies; none begins with the same document. */
+/* Each thread with an odd number asks about copies; no two begin with the same document. */
 static void *call_all(void *argument) {
     struct caller *caller = argument;
     struct answers *got = needed(sizeof *got);
@@ -36,7 +36,7 @@ static void *call_all(void *argument) {
     return NULL;
 }
 
-/* An argument leaves but one round. */
+/* With an argument there is one round. */
 int main(int count, char **arguments) {
     static struct caller callers[THREADS];
     (void)arguments;

@@ -14,7 +14,7 @@ import (
 	"unsafe"
 )
 
-// bytes is where a slice is; of an empty one it is nil, which the library takes for no bytes.
+// bytes returns where a slice is: nil for an empty one, which the library takes for no bytes.
 func bytes(document []byte) *C.uint8_t {
 	if len(document) == 0 {
 		return nil

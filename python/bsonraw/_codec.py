@@ -43,8 +43,8 @@ class Codec:
     It knows dataclasses (a document of their fields), Enum (its value), set and
     frozenset (an array), Decimal (a Decimal128), date (its midnight in UTC) and
     paths (their text), and the classes that it is given, with what makes a
-    value of one. A class over another is taken as that one. It is asked for
-    values alone that encode doesn't know by itself.
+    value of one. A class over another is taken as that one. It is asked
+    only for values that encode doesn't know by itself.
     """
 
     def __init__(self, makers: Optional[Mapping[type, Callable[[Any], Any]]] = None) -> None:

@@ -136,8 +136,8 @@ def loads(
     """The values of the document that a text of Extended JSON v2 writes.
 
     The text is read as `from_json` does, and the document as `decode` does,
-    which has the same options. Of a repeated key the last value counts. Of an
-    array of documents, as `from_json_array` reads it, there is a list.
+    which has the same options. Of a repeated key the last value counts. An
+    array of documents, as `from_json_array` reads it, gives a list.
     json_options, of MongoDB's loads, raises TypeError unless it is None.
     """
     if json_options is not None:

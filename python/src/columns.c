@@ -29,7 +29,7 @@ struct columns {
     size_t count, room;
     size_t document; /* how many documents are before the one that is read */
     size_t next;     /* the number of the column that the next key is most likely in: the one after the last key's */
-    struct step first; /* in front of all paths */
+    struct step first; /* before all paths */
 };
 
 /* ---- columns ---- */

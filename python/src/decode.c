@@ -41,8 +41,8 @@ static int is_ascii(const uint8_t *at, size_t len) {
 
 #define COPIED 64
 
-/* Makes a copy of a text of eight to this many bytes, which begins at a multiple of eight. Whether it is ASCII. Python's decoder would go one by
- * one through those in front of one. */
+/* Makes a copy of a text of eight to this many bytes, which begins at a multiple of eight; says whether it is ASCII. Python's decoder would go
+ * one by one through the bytes before such a multiple. */
 INLINE int ascii_copy(uint64_t copy[COPIED / 8], const uint8_t *at, size_t len) {
     uint64_t eight = (uint64_t)le_i64(at + len - 8), all = eight;
     size_t done;
@@ -607,7 +607,7 @@ INLINE int take_entry(const struct maker *maker, struct levels *levels, struct c
 #define ROW 256 /* after this many a level's keys aren't looked up: they are mostly its own */
 
 /* Where the key ends that begins there, if it is ASCII: at its 0; else NULL. At the end is a 0. Of a key of fewer bytes than COPIED, and eight
- * more in front of the end, the copy has all. */
+ * more before the end, the copy has all. */
 INLINE const uint8_t *ascii_end(const uint8_t *key, const uint8_t *end, uint64_t copy[COPIED / 8]) {
     const uint8_t *at = key;
     for (; end - at >= 8; at += 8) {
@@ -699,7 +699,7 @@ static int append(PyObject *list, PyObject *value) {
     return status;
 }
 
-/* Appends the values of what was read to a list: all, or those in front of the first one that needs a second look; 0 where one has
+/* Appends the values of what was read to a list: all, or those before the first one that needs another look; 0 where one has
  * none. */
 static int take_leaves(const struct maker *maker, PyObject *list, struct cursor *cursor) {
     const struct bsonraw_entry *entry = &cursor->entries[cursor->done], *end = &cursor->entries[cursor->count];

@@ -16,7 +16,7 @@ typedef struct {
     size_t max_bytes;
     uint64_t before;  /* how many bytes of the dump are before the block */
     uint64_t to_drop; /* how many bytes of a document that is passed over aren't read yet */
-    uint8_t *room;    /* of a file: what was read of it and isn't given yet lies in front */
+    uint8_t *room;    /* of a file: what was read of it and isn't given yet is at the front */
     size_t room_len;
     uint8_t *copy; /* of a document that others may write */
     size_t copy_len;
@@ -34,7 +34,7 @@ enum cut {
     CUT_FAILED     /* an error is set */
 };
 
-/* What lies in front of bytes, by its length alone. */
+/* What is at the front of bytes, by its length alone. */
 enum cut cut_next(const uint8_t *at, size_t left, size_t max_bytes, size_t *len);
 uint32_t cut_reason(enum cut cut);
 

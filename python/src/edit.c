@@ -16,7 +16,7 @@ struct change {
     const uint8_t *key; /* which the path keeps */
     size_t key_len;
     enum kind kind;
-    size_t value_at, value_len;         /* the tag and the payload of a value, in front of the document */
+    size_t value_at, value_len;         /* the tag and the payload of a value, before the document */
     uint32_t next;                      /* the next step of the same level */
     uint32_t first, last, count;        /* the steps of the level inside */
     PyObject *numbers;                  /* of these by key, where they are many; or NULL */

@@ -80,7 +80,7 @@ static PyObject *numbers_of(const uint64_t *path, size_t len) {
     return numbers;
 }
 
-/* Goes to the element with this number of a level. Whether it is there. */
+/* Goes to the element with this number of a level, and says whether it is there. */
 static int go_to(struct bsonraw_iter *iter, const struct bytes *bytes, uint64_t number) {
     uint64_t passed;
     for (passed = 0; passed <= number; passed++)

@@ -127,7 +127,7 @@ static PyObject *larger(struct forms *all, PyObject *room) {
     return bytes;
 }
 
-/* The forms of all documents in front of bytes that may be more: NULL with an error set. */
+/* The forms of all documents, at the front of bytes that may be more: NULL with an error set. */
 static PyObject *formed(struct forms *all) {
     PyObject *room = PyBytes_FromStringAndSize(NULL, (Py_ssize_t)all->bytes.len);
     int outcome = WANTS_ROOM;
@@ -215,7 +215,7 @@ static int put_part(PyObject *parts, Py_ssize_t number, PyObject *part) {
     return part == NULL ? -1 : PyTuple_SetItem(parts, number, part);
 }
 
-/* What Forms is made of, in front of whose bytes the forms are: NULL with an error set. Takes the bytes. */
+/* What Forms is made of, at the front of whose bytes the forms are: NULL with an error set. Takes the bytes. */
 static PyObject *parts_of(const struct forms *all, PyObject *room) {
     PyObject *parts = room == NULL ? NULL : PyTuple_New(7);
     if (parts != NULL && (put_part(parts, 0, front_of(room, all->len)) < 0 ||

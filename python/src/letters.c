@@ -107,7 +107,7 @@ WITH_BLOCKS static inline wchar_t *put_letters(const struct letters *how, wchar_
     return to + how->counts[set];
 }
 
-/* Puts the letters of a text: the place after them. Done is how many bytes they are: all, or those in front of the first block with a
+/* Puts the letters of a text: the place after them. Done is how many bytes they are: all, or those before the first block with a
  * letter of four bytes or something that isn't UTF-8, and of the letter that ends in it. */
 WITH_BLOCKS static wchar_t *by_blocks(const struct letters *how, wchar_t *wide, const uint8_t *text, size_t len, size_t *done) {
     uint8_t copy[BLOCK + ROOM + 3 * BLOCK]; /* zeros are before and after the text */

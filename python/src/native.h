@@ -278,7 +278,7 @@ void set_error_of(const struct bytes *bytes, const struct told *told);
 PyObject *breach_of(const struct bytes *bytes, const struct told *told);
 /* Sets the error of a cursor over one level. */
 void set_cursor_error(struct state *state, const struct bytes *bytes, int32_t status, const struct bsonraw_iter *iter);
-/* Goes into the document, the array or the scope that a cursor is at. Whether there is one; if not, its error may say why. */
+/* Goes into the document, the array or the scope that a cursor is at, and says whether there is one; if not, its error may say why. */
 int go_into(struct bsonraw_iter *iter, const struct bytes *bytes);
 /* Of bytes that no document is cut from. */
 PyObject *error_no_document(struct state *state, uint32_t reason, uint64_t offset);

@@ -107,7 +107,7 @@ static enum typed_kind kind_of(uint32_t tag) {
 
 static int is_exact(int64_t number) { return number >= -EXACT && number <= EXACT; }
 
-/* Makes doubles of ints. Whether each is one exactly; if not, nothing changes. */
+/* Makes doubles of ints, and says whether each is one exactly; if not, nothing changes. */
 static int to_doubles(struct typed *typed) {
     size_t number;
     for (number = 0; number < typed->count; number++)

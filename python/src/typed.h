@@ -17,7 +17,7 @@ struct typed {
     enum typed_kind kind; /* OF_NOTHING before the first value */
     size_t count, missing;
     struct room values; /* numbers of eight bytes, bools of one, or the bytes of texts */
-    struct room ends;   /* of texts where each ends, in eight bytes, with a 0 in front */
+    struct room ends;   /* of texts where each ends, in eight bytes, with a 0 before them */
     struct room valid;  /* a bit for each place, the lowest first: whether a value is there */
 };
 

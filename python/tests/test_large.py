@@ -25,7 +25,7 @@ def outcome(data: bytes, **options: Any) -> Tuple[Any, ...]:
 
 
 def behind(found: Tuple[Any, ...], front: str, path: Tuple[int, ...], keys: Tuple[str, ...]) -> Tuple[Any, ...]:
-    """The same of a document that has something more in front."""
+    """The same of a document that has something more at its front."""
     if len(found) == 1:
         return (front + found[0][1:],) if found[0] != "{}" else (front[:-2] + "}",)
     kind, reason, key, offset, numbers, names = found

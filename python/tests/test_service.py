@@ -291,7 +291,7 @@ class Held(unittest.TestCase):
             thread.join()
 
     def test_the_collector_is_as_others_have_it(self) -> None:
-        """No code of others finds it off that was on, wherever a call runs some; nor does a child that is forked there."""
+        """Where a call runs code of others, this never finds it off that was on; nor does a child that is forked there."""
         seen: List[bool] = []
 
         def look(*_: Any) -> None:

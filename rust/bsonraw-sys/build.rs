@@ -8,7 +8,7 @@ use std::fs;
 use std::path::{Path, PathBuf};
 use std::process::{exit, Command};
 
-/// The declarations, which say of which version of the header they are.
+/// The declarations, which say which version of the header they are of.
 const DECLARED: &str = include_str!("src/lib.rs");
 
 /// A folder with the library, and the header of it.
@@ -135,7 +135,7 @@ fn main() {
     }
 }
 
-/// Has cargo run this again once that is changed. Of what isn't there it would do so each time.
+/// Has cargo run this again once that is changed. For what isn't there, cargo would do so each time.
 fn rerun_if_changed(path: &Path) {
     if path.exists() {
         println!("cargo:rerun-if-changed={}", path.display());

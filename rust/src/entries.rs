@@ -76,7 +76,7 @@ impl<V> Entries<V> {
         place
     }
 
-    /// The value goes to where its key is, and the old one is returned; or to the end.
+    /// Puts the value where its key is, and returns the old one; or puts it at the end.
     pub(crate) fn insert(&mut self, key: String, value: V) -> Option<V> {
         match self.place(&key) {
             Some(place) => Some(std::mem::replace(self.at_mut(place), value)),

@@ -267,7 +267,7 @@ impl<'a> Steps<'a> {
         Some(Frame { document: self.document, entry })
     }
 
-    /// Reads the next block. Whether it has an element.
+    /// Reads the next block, and says whether it has an element.
     fn fill(&mut self) -> bool {
         if self.status != BSONRAW_OK {
             return false;
@@ -282,7 +282,7 @@ impl<'a> Steps<'a> {
         self.count != 0
     }
 
-    /// Where there is no next element, why not, if that isn't the end; said once.
+    /// Why there is no next element, unless that is the end; said once.
     #[inline]
     pub(crate) fn stop(&mut self) -> Option<Stop<'a>> {
         if self.status != BSONRAW_FAULT {
@@ -335,7 +335,7 @@ pub(crate) fn find_descendant<'a>(
     found(document, &cursor, status)
 }
 
-/// Appends an element by its parts to the document that the bytes are, or the array, for which the library is given room for this many
+/// Appends an element by its parts to the document or the array that the bytes are. The library is given room for this many bytes
 /// more. With any status but `BSONRAW_OK` nothing is changed.
 #[inline]
 pub(crate) fn append(
@@ -423,8 +423,8 @@ unsafe fn grown<T>(mut made: Vec<T>, count: usize) -> Vec<T> {
     made
 }
 
-/// Makes a call that fills a room, and makes it again where more room is needed, with some after it. The items that it put there;
-/// none, where it fails. Without memory for the room the report says so.
+/// Makes a call that fills a room, and makes it again where more room is needed, with some after it. Returns the items that it put
+/// there; none, where it fails. Without memory for the room the report says so.
 ///
 /// # Safety
 ///
@@ -587,7 +587,7 @@ pub(crate) fn oid_time(id: &[u8; 12]) -> u32 {
     unsafe { bsonraw_oid_time(id.as_ptr()) }
 }
 
-/// The text in front of the 0 in a room that the library wrote.
+/// The text before the 0 in a room that the library wrote.
 fn text_of(room: &[u8]) -> String {
     let text = CStr::from_bytes_until_nul(room).unwrap_or_default();
     text.to_string_lossy().into_owned()

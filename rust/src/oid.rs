@@ -95,7 +95,7 @@ impl ObjectId {
         ObjectId { id: bytes }
     }
 
-    /// The id of these seconds from 1970 on, this process and this number, one after the other.
+    /// The id of these seconds from 1970 on, this process and this number, in this order.
     ///
     /// ```
     /// use bsonraw::oid::ObjectId;

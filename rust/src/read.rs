@@ -94,7 +94,7 @@ impl<R: Read> DocumentReader<R> {
         DocumentReader::with_max_bytes(reader, Limits::default().max_bytes)
     }
 
-    /// The documents of a reader, of this many bytes at most each. So much memory is taken, and up to as much again.
+    /// The documents of a reader, of this many bytes at most each. Up to twice that many bytes of memory are taken.
     pub fn with_max_bytes(reader: R, max_bytes: usize) -> DocumentReader<R> {
         DocumentReader { reader, max_bytes, offset: 0, is_done: false }
     }

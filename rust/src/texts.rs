@@ -35,7 +35,7 @@ pub enum JsonReason {
     Malformed(&'static str),
     /// The text ends inside the document.
     EndOfText,
-    /// A byte order mark is in front.
+    /// A byte order mark is at the front.
     ByteOrderMark,
     /// Another value than a document.
     ExpectedDocument,

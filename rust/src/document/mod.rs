@@ -178,7 +178,7 @@ impl Document {
         self.get(key) == Some(&Bson::Null)
     }
 
-    /// Puts a value to a key: in its place, if the key is there, whose old value is returned, and else at the end.
+    /// Puts a value under a key: in its place if the key is there, whose old value is returned; else at the end.
     pub fn insert(&mut self, key: impl Into<String>, value: impl Into<Bson>) -> Option<Bson> {
         self.entries.insert(key.into(), value.into())
     }

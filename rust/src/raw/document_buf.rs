@@ -168,7 +168,7 @@ impl RawDocumentBuf {
         let len = (self.data.len() - 1) as u32;
         let builder = bsonraw_builder { len, begins: 0, count, tag: of, status: BSONRAW_OK };
         let least = key.len().saturating_add(parts.one.len()).saturating_add(parts.two.len());
-        // Of more bytes than a document may have the library says so whatever the room is.
+        // The library refuses more bytes than a document may have, whatever the room is.
         let is_too_long = self.data.len().saturating_add(least) > ffi::MOST;
         let more = if is_too_long { 0 } else { least + AROUND };
         match ffi::append(&mut self.data, more, builder, parts.tag, key.as_bytes(), parts.one, parts.two) {
@@ -227,7 +227,7 @@ impl<'a> Parts<'a> {
     }
 }
 
-/// Puts bytes to the front of others, and gives them back as they are there.
+/// Puts bytes at the front of others, and gives them back as they are there.
 #[inline]
 fn put<const N: usize>(fixed: &mut [u8; 16], bytes: [u8; N]) -> &[u8] {
     fixed[..N].copy_from_slice(&bytes);

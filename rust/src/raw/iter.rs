@@ -138,8 +138,8 @@ fn fixed<const N: usize>(payload: &[u8]) -> [u8; N] {
     payload.try_into().expect("a payload has the size of its kind")
 }
 
-/// The text of a string, if it is UTF-8 and std says so as quickly as the library: of what is short, or begins in ASCII. Of any other
-/// the library is quicker.
+/// The text of a string, if it is UTF-8 and std says so as quickly as the library: where it is short, or begins in ASCII. The library
+/// is quicker with any other.
 #[inline]
 fn plain_text(payload: &[u8]) -> Option<&str> {
     let text = payload.get(4..payload.len() - 1)?;

@@ -79,7 +79,7 @@ fn payload_len(tag: u8, rest: &[u8], key: &str) -> Result<usize, Fault> {
     len.filter(|len| *len <= rest.len()).ok_or_else(|| malformed(Some(key)))
 }
 
-/// The element at the front, whose document it is at this offset of; or the fault.
+/// The element at the front, which is at this offset of its document; or the fault.
 fn frame(rest: &[u8], offset: usize) -> Result<Frame<'_>, Fault> {
     let (tag, behind) = rest.split_first().ok_or_else(|| malformed(None))?;
     // the last byte of a document is a 0, so that a key always ends

@@ -130,7 +130,7 @@ fn new_ids_are_new() {
         assert!(before <= seconds && seconds <= after);
         assert_eq!(id.bytes()[4..9], ids[0].bytes()[4..9]);
     }
-    // The numbers are one after the other, modulo 2 ^ 24.
+    // Each number is one more than the number before it, modulo 2 ^ 24.
     let mut numbers: Vec<u32> =
         ids.iter().map(|id| u32::from_be_bytes([0, id.bytes()[9], id.bytes()[10], id.bytes()[11]])).collect();
     numbers.sort_unstable();

@@ -73,6 +73,6 @@ fn new_ones_differ() {
         let bits = u128::from_be_bytes(id.bytes());
         (and & bits, or | bits)
     });
-    // Of the bits those of the version and of the variant are the same in all, and no other.
+    // The bits of the version and of the variant are the same in all, and no others are.
     assert_eq!(all, (0x4000_8000_0000_0000_0000, !0 ^ 0xb000_4000_0000_0000_0000));
 }
