@@ -78,7 +78,7 @@ AreParts layout.Regex one two = IsCText one × IsCText two
 AreParts layout.Pointer one two = (length two ≡ 12) × IsUtf8 one
 AreParts layout.Scoped one two = IsUtf8 one × IsEnvelope two
 
--- why they aren't: a text is none; a document is none; a length is another
+-- why they aren't: a text is none, or bytes are no document; a length is wrong, or a boolean is neither 0 nor 1
 abbrev pub RefusesParts : Layout → List ℕ → List ℕ → Status → Type 0
 RefusesParts (layout.Fixed n) one two s = (length one ≢ n) × (s ≡ status.OtherKind)
 RefusesParts layout.Flag one two s = (one ≢ 0 ∷ []) × (one ≢ 1 ∷ []) × (s ≡ status.OtherKind)

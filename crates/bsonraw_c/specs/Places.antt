@@ -1,7 +1,7 @@
 -- Where things are in the caller's bytes.
 use Rattle.std.specs.Prelude.{◌≡◌, ℕ, List, ◌++◌, length}
 
--- these bytes are `len`, and b has them at this offset
+-- b has these `len` bytes at this offset
 pub record StandsAt (b : List ℕ) (offset len : ℕ) (bytes : List ℕ) : Type 0 where
   pub before : List ℕ
   pub behind : List ℕ

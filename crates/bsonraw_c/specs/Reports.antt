@@ -46,7 +46,7 @@ pub record EndsWith (ending : Status) (b room path : List ℕ) (report : Report)
 abbrev pub Fits : ℕ → ℕ → Status → Type 0
 Fits count room s = ((count ≤ room) × (s ≡ status.Done)) ⊎ ((room < count) × (s ≡ status.SmallBuffer))
 
--- memory ran out, which is asked for only where the document b has few enough bytes and a level may be entered
+-- memory ran out; it is asked for only where the document b has few enough bytes and a level may be entered
 pub record RunsOut (limits : Limits) (b room path : List ℕ) (report : Report) (s : Status) : Type 0 where
   pub few_bytes : length b ≤ limits.bytes
   pub entered : 0 < limits.depth

@@ -16,7 +16,7 @@ use Rattle.bsonraw_c.specs.declared.resync.Behind.{Behind}
 use Rattle.bsonraw_c.specs.declared.resync.Onward.{Onward}
 use Rattle.bsonraw_c.specs.declared.resync.Resync.{Resync}
 
--- as many bytes as the document at the front of s says, and may have
+-- the document at the front of s says that it has `len` bytes, which it may have, and s has them
 abbrev pub BeginsPiece : (most : ℕ) → List ℕ → ℕ → Type 0
 BeginsPiece most s len = (len ≤ length s) × IsPiece most (take len s)
 

@@ -63,7 +63,7 @@ fn document_at(bytes: &[u8], offset: u32, len: u32) -> Option<RawDocument<'_>>
     Some(document)
 }
 
-/// Where this element ends, whose tag is at this offset.
+/// Where this element ends; its tag is at this offset.
 #[inline(always)]
 pub fn behind(offset: u32, element: RawElement<'_>) -> u32
     requires { offset + (2 + (length (frame_of element).key
