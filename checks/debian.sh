@@ -1,4 +1,13 @@
-# What checks/packages.sh and checks/arm.sh share: a fresh Debian in a folder. They source it.
+# What checks/packages.sh, checks/records.txt and checks/arm.sh share: a copy of what is here, and a fresh Debian in a folder. They source it.
+
+# put FOLDER: the files of this repository as they are here, and what was built
+put() {
+    git ls-files -z --cached --others --exclude-standard | xargs -0 cp -P --parents -t "$1" &&
+        for built in crates/bsonraw/out/bsonraw crates/bsonraw_dump/out/bsonraw_dump crates/bsonraw_c/out/*.a crates/bsonraw_c/out/baseline/* \
+            crates/bsonraw_c/out/aarch64/* crates/*/out/built; do
+            [ ! -e "$built" ] || cp -p --parents "$built" "$1" || return 1
+        done
+}
 
 # debian FOLDER RELEASE MACHINE: makes one there, with a C compiler and Python; as root, with debootstrap and the net. MACHINE is amd64, or
 # arm64 where the machine runs such programs by an emulator. Where BSONRAW_DEBIANS names a folder, what is made is kept there, for the

@@ -4,9 +4,8 @@
 # Python has the module. release/verify finds a changed byte in each file, and each part that is compiled in has its licence there, whole.
 # gdb finds functions of the library by the symbol table that is packed apart.
 # lintian has nothing against the packages. One commit gives the same bytes twice, in another folder and with other settings of the
-# machine, too, and where bin/test hasn't passed for the very commit and what is built, nothing is made; what is made all the same says of
-# itself nowhere that it is proved. On processors without SSE4.1 the libraries and the module give what they give here, and the programs
-# say in a line why they don't run.
+# machine, too; what is made though nothing was seen of proofs says nowhere that it is proved. On processors without SSE4.1 the libraries and
+# the module give what they give here, and the programs say in a line why they don't run. What has to have passed is in checks/records.txt.
 #
 #   checks/packages.sh --short   for the gate: each in a folder of its own, with the machine's compiler and Python
 #   checks/packages.sh           for a release, as root, with the net: in fresh Debians, too, from 11 to 13, and for ARM in those from 12 on. The
@@ -66,131 +65,19 @@ join() {
     lanes=
 }
 
-# put FOLDER: the files of this repository as they are here, and what was built
-put() {
-    git ls-files -z --cached --others --exclude-standard | xargs -0 cp -P --parents -t "$1" &&
-        for built in crates/bsonraw/out/bsonraw crates/bsonraw_dump/out/bsonraw_dump crates/bsonraw_c/out/*.a crates/bsonraw_c/out/baseline/* \
-            crates/bsonraw_c/out/aarch64/* crates/*/out/built; do
-            [ ! -e "$built" ] || cp -p --parents "$built" "$1" || return 1
-        done
-}
-
-# copy FOLDER: the same in one commit of a repository of its own
-copy() {
-    mkdir -p "$1" && put "$1" && git -C "$1" init -q && git -C "$1" add -A &&
-        git -C "$1" -c user.name=checks -c user.email=checks@localhost commit -qm "What is tried"
-}
-
-# clone FOLDER: the same in a clone of someone who lets nobody else read, with the commit and what isn't committed, and with what Python leaves
+# clone FOLDER: what `put` puts, in a clone of someone who lets nobody else read, with the commit and what isn't committed, and with what
+# Python leaves
 clone() (
     umask 077
     rm -rf "$1" && git clone -q --no-checkout . "$1" && git -C "$1" reset -q && put "$1" &&
         mkdir -p "$1/python/bsonraw/__pycache__" && echo left >"$1/python/bsonraw/__pycache__/left.pyc"
 )
 
-# record FOLDER RECORD LINE: what bin/test or bin/install would note there, and this line of what passed
-record() {
-    (
-        cd "$1" && mkdir -p out && {
-            echo "commit $(git rev-parse HEAD)"
-            echo "$3"
-            (root=$PWD && . bin/release.sh && checksums) | sed 's/^/built /'
-        } >"out/$2"
-    )
-}
-
-# refuses WHY [FLAGS]: whether nothing is made in the copy, for this reason
-refuses() {
-    # shellcheck disable=SC2086 # flags or none
-    if "$work/copy/bin/package" ${2-} "$work/none" >/dev/null 2>"$work/said" || [ -e "$work/none" ]; then
-        fails "something is made though $1"
-    fi
-    [ "$(wc -l <"$work/said")" = 1 ] || fails "more or less than a line is said where $1: $(cat "$work/said")"
-}
-
-# makes WHAT [FLAG]: whether it is made in the copy, without a name that says unproved
-makes() {
-    # shellcheck disable=SC2086 # a flag or none
-    "$work/copy/bin/package" ${2-} "$work/$1" >/dev/null || fails "nothing is made of what is $1"
-    for file in "$work/$1"/*; do
-        case $file in *unproved*) fails "of what is $1 this is made: $file" ;; esac
-    done
-}
-
-try_record() {
-    well='bin/test 5 passed, 0 failed, 0 skipped'
-    copy "$work/copy" || exit 1
-    refuses "nothing says that bin/test passed"
-    refuses "nothing says that checks/arm.sh passed" "--target aarch64"
-    record "$work/copy" passed "$well"
-    sed -i 's/^commit ./commit x/' "$work/copy/out/passed"
-    refuses "bin/test passed for another commit"
-    record "$work/copy" passed 'bin/test 5 passed, 1 failed, 0 skipped'
-    refuses "one of bin/test's parts failed"
-    record "$work/copy" passed 'bin/test'
-    refuses "bin/test has no result"
-    record "$work/copy" passed "$well (bsonraw and the crates below alone: not the gate)"
-    refuses "bin/test passed for one crate"
-    record "$work/copy" passed 'bin/test 0 passed, 0 failed, 0 skipped'
-    refuses "bin/test had nothing that could pass"
-    record "$work/copy" passed 'bin/test 5 passed, 0 failed, 1 skipped'
-    refuses "nothing says what bin/test skipped"
-    record "$work/copy" passed "bin/test 5 passed, 1 failed, 0 skipped
-$well"
-    refuses "bin/test has two results"
-    record "$work/copy" passed "$well"
-    echo >>"$work/copy/crates/bsonraw_dump/out/bsonraw_dump"
-    refuses "another program is built than bin/test built"
-    cp -p crates/bsonraw_dump/out/bsonraw_dump "$work/copy/crates/bsonraw_dump/out" && record "$work/copy" passed "$well"
-    echo >>"$work/copy/README.md"
-    refuses "a file was changed since"
-    (cd "$work/copy" && git checkout -q README.md)
-    makes proved
-    record "$work/copy" passed 'bin/test 5 passed, 0 failed, 1 skipped
-skipped rust: cargo of 1.81 or later'
-    makes with_skips
-    tar -xOf "$work"/with_skips/*-linux.tar.gz --wildcards '*/PROVED' >"$work/said"
-    grep -qx 'skipped rust: cargo of 1.81 or later' "$work/said" && grep -q 'all is tested except what is named as skipped' "$work/said" ||
-        fails "PROVED doesn't say what was skipped"
-    record "$work/copy" passed "$well"
-    refuses "nothing says that bin/install proved it" --untested
-    claims "$work/proved" 'was not seen|no proof|no test' "it has no test"
-    (root=$work/copy && . bin/build.sh && for name in $crates; do note_built "$name" || exit 1; done) || exit 1
-    "$work/copy/bin/install" "$work/installed" >/dev/null || fails "what is built isn't installed"
-    makes untested --untested
-    ! "$work/copy/bin/package" --untested "$work/untested" >/dev/null 2>&1 || fails "something is put beside what is there"
-    tar -xOf "$work"/untested/*untested*-linux.tar.gz --wildcards '*/PROVED' | grep -Eqx 'proved: [1-9][0-9]* crates; tests not run' ||
-        fails "PROVED doesn't say that tests weren't run"
-    claims "$work/untested" '\btested\b' 'no test'
-    echo >>"$work/copy/crates/bsonraw_dump/out/bsonraw_dump"
-    refuses "another program is there than bin/install proved" --untested
-    sed -i 2d "$work/copy/crates/bsonraw_dump/out/built"
-    "$work/copy/bin/install" "$work/installed" >/dev/null || fails "what is built isn't installed again"
-    refuses "nothing says which program a build made" --untested
-}
-
-# claims FOLDER PATTERN ALLOWED: whether no text of what is made there has a line with the first pattern, but with the second one. Of the
-# pages that are in each package the first line says how much of them holds; a changelog tells of other builds.
-claims() {
-    rm -rf "$work/unpacked" && mkdir "$work/unpacked" || exit 1
-    for file in "$1"/*; do
-        into=$work/unpacked/$(basename "$file")
-        case $file in
-        *.tar.gz) mkdir "$into" && tar -C "$into" -xf "$file" ;;
-        *.deb) dpkg-deb -R "$file" "$into" ;;
-        *.whl) mkdir "$into" && python3 -m zipfile -e "$file" "$into" ;;
-        esac || exit 1
-    done
-    find "$work/unpacked" -type f -name '*.gz' -exec gunzip {} +
-    find "$work/unpacked" -name PROMISES.md -exec sed -i '1!d' {} +
-    find "$work/unpacked" -type f ! -iname 'changelog*' ! -name DEFINITIONS.md ! -name LICENCES ! -name copyright ! -name verify ! -path '*/rust/*tests/*' \
-        -exec grep -hIEi "$2" {} + | grep -Eiv "$3" >"$work/claims"
-    [ ! -s "$work/claims" ] || fails "of what is packed this isn't known: $(cat "$work/claims")"
-}
-
 # What is packed though no proof was seen says so, and nothing else of proofs; except for the way from a clone in the page on Python, and names.
 try_unproved() {
-    claims "$1" '\bprove[ds]\b|\bproofs?\b|\btested\b' 'was not seen|was seen|nothing (of that )?is proved|would be proved|PROVED says|/PROVED\b| PROVED$|proves and installs|unproved'
+    allowed='was not seen|was seen|nothing (of that )?is proved|would be proved|PROVED says|/PROVED\b| PROVED$|proves and installs|unproved'
+    checks/claims.sh "$1" '\bprove[ds]\b|\bproofs?\b|\btested\b' "$allowed" >"$work/claims" || exit 1
+    [ ! -s "$work/claims" ] || fails "of what is packed this isn't known: $(cat "$work/claims")"
 }
 
 # make_all FOLDER [FLAG..]: makes twice the same bytes, a second later and in another folder the second time, where the machine has settings of its
@@ -550,7 +437,6 @@ else
 fi
 gdb=$(command -v gdb) || skip "gdb (gdb)"
 said=$(root=$PWD && . bin/release.sh && echo "bsonraw-dump $version ($(crates_commit))")
-lane try_record
 make_all "$made"
 [ -z "$by_key" ] || gpgconf --kill all
 by_key=
