@@ -52,7 +52,7 @@ class Run(NamedTuple):
     def wrong(self, folder: Path, path: str) -> Iterator[str]:
         """What goes wrong; nothing where all is as it is wanted."""
         how = {"cwd": folder, "stdin": subprocess.DEVNULL, "stdout": subprocess.PIPE, "stderr": subprocess.PIPE}
-        done = subprocess.run(["sh", "-c", f". {SKIPS}\n{self.command}", "cram"], env={**os.environ, "PATH": path}, timeout=1800, **how)
+        done = subprocess.run(["sh", "-c", f". {SKIPS}\n{self.command}", "cram"], env={**os.environ, "PATH": path}, timeout=3600, **how)
         if done.returncode == SKIPPED and done.stderr.startswith(b"cram: skipped: "):
             raise Skipped
         files = self.files()
