@@ -23,13 +23,13 @@ make_twice() {
     folder=$1
     shift
     rm -rf "another clone" again && clone "$CRAMTMP/another clone" || return
-    "$TOP/bin/package" "$@" --unproved "$CRAMTMP/$folder" >said &
+    "$TOP/bin/package" "$@" --unproved "$CRAMTMP/$folder" >said 2>&1 &
     first=$!
     sleep 1
     # shellcheck disable=SC2046 # words
-    CFLAGS=-g LDFLAGS=-Wl,--build-id=none TZ=X-13 "another clone/bin/package" "$@" --unproved $(cat key 2>/dev/null) "$CRAMTMP/again" >said.again
+    CFLAGS=-g LDFLAGS=-Wl,--build-id=none TZ=X-13 "another clone/bin/package" "$@" --unproved $(cat key 2>/dev/null) "$CRAMTMP/again" >again.said 2>&1
     second=$?
-    wait "$first" && [ "$second" = 0 ] || return
+    wait "$first" && [ "$second" = 0 ] || { cat said again.said && return 1; }
     diff -r -x SHA256SUMS.asc "$folder" again
     (cd "$folder" && sha256sum --check --quiet --strict SHA256SUMS)
     ! ls "$folder" | grep '\.' | grep -v unproved
