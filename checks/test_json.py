@@ -107,8 +107,10 @@ def cases() -> "Tuple[List[Made], List[str]]":
 
 
 def fits(made: Optional[bytes], wanted: str) -> bool:
-    """Whether this is the document in hex that is expected, in which each dot stands for any digit."""
-    shown = "-" if made is None else made.hex().upper()
+    """Whether this is the document in hex that is expected, in which dots stand for any digits, with which there may be none."""
+    if made is None:
+        return wanted == "-" or "." in wanted
+    shown = made.hex().upper()
     return len(shown) == len(wanted) and all(w in (m, ".") for m, w in zip(shown, wanted))
 
 
