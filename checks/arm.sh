@@ -15,7 +15,7 @@
 # or a part, it fails.
 set -u
 cd "$(dirname "$(realpath "$0")")/.." || exit 1
-. checks/debian.sh
+. checks/packed.sh
 root=$PWD
 . bin/release.sh
 for_machine aarch64

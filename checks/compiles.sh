@@ -2,8 +2,8 @@
 # compiles.sh FILE: what has to compile compiles, and what must not doesn't. No proof is needed for either.
 #
 # What has to: each block of Rust that a page shows, each example in a doc comment, which is also run, and the twin of each
-# misuse. What must not: the misuses, each line of the file a case (checks/must-not-compile.txt says how they are written).
-# A misuse fails for just the error that its case names, so for the reason that it is meant to.
+# misuse. What must not: the misuses of the file (checks/must-not-compile.txt says how they are written). A misuse fails for just the error
+# that is named, so for the reason that it is meant to.
 #
 # For the first three a crate of tests that lists what a user names, made in a copy of the tracked files, is compiled: once with all
 # that has to compile, and once, over raw_bson alone, with all misuses. A block that has a `main` is a program: it is that of the crate
@@ -19,7 +19,7 @@ git ls-files -z crates crates.txt HANDLES | xargs -0 cp --parents -t "$work/copy
 cp crates.txt "$work/crates.txt" || exit 1
 pages='README.md CONTRIBUTING.md docs/*.md examples/*.md'
 documented=$(git ls-files crates/bson_model/src crates/raw_view/src crates/raw_tree/src crates/raw_form/src crates/raw_bson/src crates/raw_shelf/src crates/bson_to_json/src crates/values_from_json/src crates/bson_from_json/src crates/json_round_trip/src crates/bson_uses/src)
-sed '/^#/d; /^$/d' "$list" >"$work/cases"
+grep '^[a-z]' "$list" >"$work/cases"
 count=$(wc -l <"$work/cases")
 failed=0
 
@@ -36,11 +36,12 @@ examples() {
     python3 -B checks/pages.py tests "$1" $documented >"$work/examples"
 }
 
-# snippets KIND FOLDER: copies the misuses, or their twins
+# snippets SIGN FOLDER: writes the misuses (-), or their twins (+)
 snippets() {
-    while read -r name _; do
-        cp "checks/must-not-compile/$name.$1" "$2/$name.rt" || return 1
-    done <"$work/cases"
+    awk -v sign="$1" -v folder="$2" '
+        /^[a-z]/ { file = folder "/" $1 ".rt"; next }
+        file && (/^ / || !NF || substr($0, 1, 1) == sign) { print substr($0, 5) >file }
+    ' "$list"
 }
 
 # compile LIBRARIES FILL..: compiles the crate of the modules that FILL puts into its folder, over these; leaves what rt said in $work/said
@@ -58,7 +59,7 @@ compile() {
     (cd "$crate" && rt try --test) >"$work/said" 2>&1 </dev/null
 }
 
-if ! compile "raw_bson raw_form raw_shelf bson_to_json bson_from_json json_round_trip bson_uses" blocks examples "snippets twin"; then
+if ! compile "raw_bson raw_form raw_shelf bson_to_json bson_from_json json_round_trip bson_uses" blocks examples "snippets +"; then
     cat "$work/said" >&2
     echo "a block of a page or a twin doesn't compile, or an example of a doc comment goes wrong" >&2
     failed=1
@@ -78,7 +79,7 @@ for program in "$work/programs"/*; do
     failed=1
 done
 
-if compile raw_bson "snippets misuse" || [ "$(grep -c ': error' "$work/said")" != "$count" ]; then
+if compile raw_bson "snippets -" || [ "$(grep -c ': error' "$work/said")" != "$count" ]; then
     cat "$work/said" >&2
     echo "the misuses have another number of errors than $count" >&2
     failed=1

@@ -52,12 +52,13 @@ class Run(NamedTuple):
     def wrong(self, folder: Path, path: str) -> Iterator[str]:
         """What goes wrong; nothing where all is as it is wanted."""
         how = {"cwd": folder, "stdin": subprocess.DEVNULL, "stdout": subprocess.PIPE, "stderr": subprocess.PIPE}
-        done = subprocess.run(["sh", "-c", f". {SKIPS}\n{self.command}", "cram"], env={**os.environ, "PATH": path}, timeout=300, **how)
+        done = subprocess.run(["sh", "-c", f". {SKIPS}\n{self.command}", "cram"], env={**os.environ, "PATH": path}, timeout=3600, **how)
         if done.returncode == SKIPPED and done.stderr.startswith(b"cram: skipped: "):
             raise Skipped
         files = self.files()
         if done.returncode != self.status():
-            yield f"status {done.returncode}, not {self.status()}"
+            last = (done.stdout + done.stderr).decode(errors="replace").splitlines()[-20:]
+            yield "\n    ".join([f"status {done.returncode}, not {self.status()}; the last lines are", *last])
         if files is not None and done.stdout != b"".join((folder / it).read_bytes() for it in files):
             yield f"standard output hasn't the bytes of {' '.join(files)}, but {len(done.stdout)} others"
         if files is None:

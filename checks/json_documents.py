@@ -1,25 +1,12 @@
-#!/usr/bin/env python3
-"""Makes dumps for checks/json.sh and checks/from_json.sh, and compares what two programs print of them as Extended JSON.
-
-    json_documents.py made COUNT SEED      a dump of so many documents, of all kinds of values with their borders
-    json_documents.py whole COUNT SEED     the same of documents that come back from their text, and one behind them that doesn't
-    json_documents.py typical COUNT        a dump of so many copies of a typical document
-    json_documents.py compare OURS THEIRS  whether the lines of two files have the same values
-    json_documents.py times DUMP COUNT COMMAND [WORD..] , COMMAND [WORD..]
-                                           the time of the processor of two programs that print this dump of so many documents,
-                                           and that of MongoDB's json_util.dumps
+"""Documents that are made at random, of all kinds of values with their borders, and how what two programs print of them as Extended JSON may
+differ.
 """
 
 import json
-import os
 import random
 import struct
-import subprocess
-import sys
-import time
-from collections import Counter
 from datetime import datetime, timedelta
-from typing import Any, Callable, Dict, List, Optional, Tuple
+from typing import Any, Callable, Dict, Iterator, List, Optional, Tuple
 
 CONTROLS = "".join(map(chr, range(32)))
 WORDS = "then one that he by than out could each all no find his has of long way for when but people its have look".split()
@@ -159,6 +146,10 @@ class Maker:
             inside = body([(self.rng.choice([3, 4]), "0", inside)])
         return inside
 
+    def documents(self, count: int) -> Iterator[bytes]:
+        for place in range(count):
+            yield self.deep() if place % 100 == 99 else self.document()
+
 
 class Whole(Maker):
     """Makes documents whose canonical text has all of them: canonical ones, whose nested documents have no wrapper's key, whose NaNs
@@ -189,70 +180,14 @@ class Whole(Maker):
         return body([(tag, key, value) for key, (tag, value) in ((key, self.value(depth)) for key in keys)])
 
 
-def whole(count: int, seed: int) -> bytes:
-    """So many, and one behind them that comes back as another: with a NaN that isn't the default one."""
-    maker = Whole(seed)
-    documents = [maker.deep() if place % 100 == 99 else maker.document() for place in range(count)]
-    return b"".join(documents) + body([(1, "a", number(NO_NUMBERS[0], 8, False))])
-
-
-def made(count: int, seed: int) -> bytes:
-    maker = Maker(seed)
-    return b"".join(maker.deep() if place % 100 == 99 else maker.document() for place in range(count))
-
-
-def typical() -> bytes:
-    """A document of some ninety elements of many kinds over five levels."""
-    rng = random.Random(1)
-
-    def string(key: str, count: int) -> Tuple[int, str, bytes]:
-        return (2, key, text(" ".join(rng.choice(WORDS) for _ in range(count))))
-
-    def when(key: str) -> Tuple[int, str, bytes]:
-        return (9, key, number(1262304000000 + rng.randrange(10**11), 8))
-
-    def count(key: str, most: int) -> Tuple[int, str, bytes]:
-        return (0x10, key, number(rng.randrange(most), 4))
-
-    def user() -> bytes:
-        names = [(0x12, "id", number(rng.randrange(2**40), 8)), string("name", 5), (2, "screen_name", text("user_1234567"))]
-        texts = [(2, "location", text(rng.choice(["Zürich", "東京", "Oslo"]))), string("description", 25), (0x0A, "url", b"")]
-        counts = [(8, "protected", b"\0"), count("followers_count", 10**5), count("friends_count", 10**4)]
-        last = [when("created_at"), (8, "verified", b"\0"), (0x13, "balance", decimal(rng.randrange(10**12), -2, False))]
-        return body(names + texts + counts + last)
-
-    def tag() -> bytes:
-        places = body([count("0", 50), count("1", 100)])
-        return body([string("text", 1), (4, "indices", places)])
-
-    def numbers(values: List[float]) -> bytes:
-        return body([(1, str(place), struct.pack("<d", value)) for place, value in enumerate(values)])
-
-    def rows(key: str, values: List[bytes]) -> Tuple[int, str, bytes]:
-        return (4, key, body([(3, str(place), value) for place, value in enumerate(values)]))
-
-    point = body([(2, "type", text("Point")), (4, "coordinates", numbers([rng.uniform(0, 50), rng.uniform(0, 50)]))])
-    entities = body([rows("hashtags", [tag() for _ in range(3)]), rows("urls", []), rows("user_mentions", [])])
-    history = [body([when("at"), (2, "by", text("user_7654321"))]) for _ in range(4)]
-    begin = [(7, "_id", rng.randbytes(12)), when("created_at"), (0x12, "id", number(rng.randrange(2**60), 8))]
-    texts = [(2, "id_str", text("123456789012345678")), string("text", 45), (2, "source", text('<a href="https://example.org">Web</a>'))]
-    users = [(8, "truncated", b"\0"), (0x0A, "in_reply_to_status_id", b""), (3, "user", user()), (3, "in_reply_to_user", user())]
-    lists = [(3, "coordinates", point), (3, "entities", entities), (4, "scores", numbers([rng.random() for _ in range(8)]))]
-    counts = [rows("history", history), count("retweet_count", 500), count("favorite_count", 500), (8, "favorited", b"\0")]
-    rare = [(0x0B, "filter", b"^user_[0-9]+$\0im\0"), (5, "digest", number(32, 4) + b"\0" + rng.randbytes(32))]
-    rest = [(5, "session", number(16, 4) + b"\4" + rng.randbytes(16)), (0x11, "ts", number(61 | rng.randrange(2**31) << 32, 8, False))]
-    end = [(2, "note", text("naïve 😀 日本語 café")), (2, "lang", text("ja"))]
-    return body(begin + texts + users + lists + counts + rare + rest + end)
+OTHER_NAN = body([(1, "a", number(NO_NUMBERS[0], 8, False))])
+"""A document that comes back from its text as another one: its NaN isn't the default one."""
 
 
 # What two programs print of a document, and how it may differ.
 
 Pairs = List[Tuple[str, Any]]
 CYCLE = 146097 * 86400000
-OPTIONS = "options of a regular expression that aren't in order, or not known: those of the document; libbson sorts them and leaves some out"
-YEARS = "a time behind the year 9999, relaxed: the format has it as a number, libbson as text"
-DIGITS = "a Decimal128 whose coefficient has 35 digits: the format has 0, libbson its digits"
-NAMESPACE = "a DbPointer whose namespace has a 0: the format has all of it, libbson what is before"
 
 
 class Object:
@@ -263,10 +198,6 @@ class Object:
 
     def keys(self) -> List[str]:
         return [key for key, _ in self.pairs]
-
-    def of(self, key: str) -> Optional[Any]:
-        """The value of the one pair, if it has this key."""
-        return self.pairs[0][1] if self.keys() == [key] else None
 
     def texts(self, *keys: str) -> Optional[List[str]]:
         """The values of the pairs, if they have these keys and are texts."""
@@ -296,40 +227,42 @@ def instant(millis: int) -> str:
 
 
 def is_later(ours: Any, theirs: Any) -> bool:
+    """A time behind the year 9999, relaxed: the format has it as a number, libbson as text."""
     millis = ours.texts("$numberLong") if isinstance(ours, Object) else None
     return bool(millis) and int(millis[0]) > LAST and theirs == instant(int(millis[0]))
 
 
 def is_longer(ours: Any, theirs: Any) -> bool:
+    """A Decimal128 whose coefficient has 35 digits: the format has 0, libbson its digits."""
     digits = theirs.split("E")[0].strip("-").replace(".", "").lstrip("0")
     return ours.startswith("-") == theirs.startswith("-") and not ours.split("E")[0].strip("-0.") and len(digits) in (34, 35) and digits[:2] == "10"
 
 
 def is_sorted(ours: Any, theirs: Any) -> bool:
+    """Options of a regular expression that aren't in order, or not known: those of the document; libbson sorts them and leaves some out."""
     mine, others = ours.texts("pattern", "options"), theirs.texts("pattern", "options")
     return mine[0] == others[0] and "".join(sorted(set(mine[1]) & set("ilmsux"))) == others[1]
 
 
 def is_cut(ours: Any, theirs: Any) -> bool:
-    (mine, others), same_id = (ours.pairs, theirs.pairs), same(ours.pairs[1], theirs.pairs[1], Counter())
+    """A DbPointer whose namespace has a 0: the format has all of it, libbson what is before."""
+    (mine, others), same_id = (ours.pairs, theirs.pairs), same(ours.pairs[1], theirs.pairs[1])
     return same_id and "\0" in mine[0][1] and mine[0][1].split("\0")[0] == others[0][1]
 
 
-# by the one key of an object: what a difference of its values has to be, and the rule that settles it
-CLASSES: Dict[str, Tuple[Callable[[Any, Any], bool], str]] = {
-    "$date": (is_later, YEARS),
-    "$numberDecimal": (is_longer, DIGITS),
-    "$regularExpression": (is_sorted, OPTIONS),
-    "$dbPointer": (is_cut, NAMESPACE),
+SETTLED: Dict[str, Callable[[Any, Any], bool]] = {
+    **{"$date": is_later, "$numberDecimal": is_longer},
+    **{"$regularExpression": is_sorted, "$dbPointer": is_cut},
 }
+"""By the one key of an object what a difference of its values has to be."""
 
 
-def same(ours: Any, theirs: Any, classes: Counter) -> bool:
-    """Whether both are the same value, but for what is counted in a class of differences."""
+def same(ours: Any, theirs: Any) -> bool:
+    """Whether both are the same value, but for such a difference."""
     if type(ours) is not type(theirs):
         return False
     if isinstance(ours, (list, tuple)):
-        return len(ours) == len(theirs) and all(same(a, b, classes) for a, b in zip(ours, theirs))
+        return len(ours) == len(theirs) and all(map(same, ours, theirs))
     if isinstance(ours, float):
         return bits(ours) == bits(theirs)
     if not isinstance(ours, Object):
@@ -337,94 +270,7 @@ def same(ours: Any, theirs: Any, classes: Counter) -> bool:
     mine, others = ours.texts("$numberDouble"), theirs.texts("$numberDouble")
     if mine and others:
         return bits(mine[0]) == bits(others[0])
-    if same(ours.pairs, theirs.pairs, classes):
+    if same(ours.pairs, theirs.pairs):
         return True
     key = ours.pairs[0][0] if ours.pairs else ""
-    if ours.keys() == theirs.keys() == [key] and key in CLASSES:
-        settles, name = CLASSES[key]
-        classes[name] += 1
-        return settles(ours.of(key), theirs.of(key))
-    return False
-
-
-def compare(ours: str, theirs: str) -> int:
-    classes: Counter = Counter()
-    wrong = 0
-    with open(ours, encoding="utf-8", newline="\n") as mine, open(theirs, encoding="utf-8", newline="\n") as others:
-        left, right = mine.readlines(), others.readlines()
-    if len(left) != len(right):
-        print(f"{len(left)} lines beside {len(right)}")
-        return 1
-    for place, (a, b) in enumerate(zip(left, right)):
-        if not same(read(a), read(b), classes):
-            wrong += 1
-            if wrong <= 5:
-                print(f"document {place}\n    {a}    {b}", end="")
-    print(f"{len(left)} documents, {wrong} of them with another value")
-    for name, count in sorted(classes.items()):
-        print(f"    {count}: {name}")
-    return 1 if wrong else 0
-
-
-def spent(command: List[str]) -> float:
-    """The seconds of the processor that a command takes."""
-    with open(os.devnull, "wb") as nothing:
-        started = subprocess.Popen(command, stdout=nothing)
-    _, status, usage = os.wait4(started.pid, 0)
-    if status:
-        raise SystemExit(f"{' '.join(command)}: status {status}")
-    return usage.ru_utime + usage.ru_stime
-
-
-def json_util(dump: str) -> Optional[float]:
-    """The seconds that json_util.dumps takes for a document, the least of five; nothing where it isn't there."""
-    try:
-        import bson
-        from bson.json_util import RELAXED_JSON_OPTIONS, dumps
-    except ImportError:
-        return None
-    with open(dump, "rb") as file:
-        documents = [next(bson.decode_file_iter(file)) for _ in range(200)]
-    least = 9e9
-    for _ in range(5):
-        start = time.process_time()
-        for document in documents:
-            dumps(document, json_options=RELAXED_JSON_OPTIONS)
-        least = min(least, (time.process_time() - start) / len(documents))
-    return least
-
-
-def times(dump: str, count: int, ours: List[str], theirs: List[str]) -> None:
-    """Prints the least of seven times of each, which take turns."""
-    least = [9e9, 9e9]
-    for _ in range(7):
-        for place, command in enumerate((ours, theirs)):
-            least[place] = min(least[place], spent(command) / count)
-    print(f"typical: bsonraw-dump {least[0] * 1e6:.1f} µs, libbson {least[1] * 1e6:.1f} µs, {least[0] / least[1]:.2f} of it", end="")
-    python = json_util(dump)
-    print("" if python is None else f"; json_util.dumps {python * 1e6:.0f} µs, {python / least[0]:.0f} times as long")
-
-
-def main(words: List[str]) -> int:
-    sys.setrecursionlimit(20000)  # documents nest 200 levels, each some frames
-    if words[:1] == ["made"] and len(words) == 3:
-        sys.stdout.buffer.write(made(int(words[1]), int(words[2])))
-        return 0
-    if words[:1] == ["whole"] and len(words) == 3:
-        sys.stdout.buffer.write(whole(int(words[1]), int(words[2])))
-        return 0
-    if words[:1] == ["typical"] and len(words) == 2:
-        sys.stdout.buffer.write(typical() * int(words[1]))
-        return 0
-    if words[:1] == ["compare"] and len(words) == 3:
-        return compare(words[1], words[2])
-    if words[:1] == ["times"] and "," in words[4:]:
-        middle = words.index(",")
-        times(words[1], int(words[2]), words[3:middle], words[middle + 1 :])
-        return 0
-    print(__doc__, file=sys.stderr)
-    return 2
-
-
-if __name__ == "__main__":
-    sys.exit(main(sys.argv[1:]))
+    return ours.keys() == theirs.keys() == [key] and key in SETTLED and SETTLED[key](ours.pairs[0][1], theirs.pairs[0][1])

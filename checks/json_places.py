@@ -1,66 +1,43 @@
-#!/usr/bin/env python3
-"""Cuts texts of Extended JSON at each byte, puts others in the place of each byte, and sees what readers make of them.
-
-    json_places.py made                              such texts, a line each: which text, where, how, a tab and the text
-    json_places.py compare TEXTS OURS LIBBSON [PACKAGE]  whether each is a document that all readers give, or refused at the right place
+"""Cuts the texts of Extended JSON of checks/json_places.txt at each byte, puts others in the place of each byte, and says which place of each has
+to be refused.
 
 A text that is cut off is refused at its end. Else the place is that of the first token that can't be there: a small reader of JSON says
 which that is where a text isn't JSON; where only its meaning is wrong, it is a token that isn't before the one with the other byte.
 """
 
 import re
-import sys
-from collections import Counter
-from typing import Dict, Iterator, List, Optional, Set, Tuple
+from pathlib import Path
+from typing import Iterator, List, NamedTuple, Optional, Tuple
 
 END, BOM, DOCUMENT, KEY, COLON, COMMA, VALUE, BEHIND, NUMBER, CONTROL, ESCAPE, SURROGATE, UTF8 = 1, 2, 3, 4, 5, 6, 7, 8, 9, 12, 13, 14, 18
 MEANING = (10, 11, 15, 16, 17)  # too large, U+0000 in a key, no value of its wrapper, a decimal that isn't exact
 
-BOTH, LIBBSON, PACKAGE, NONE = ("libbson", "package"), ("libbson",), ("package",), ()
-# Texts, and which readers may read something else of texts like these; checks/json_texts.py has the rules.
-WHOLE: List[Tuple[str, Tuple[str, ...]]] = [
-    ('{"a":{"$oid":"56e1fc72e0c917e9c4714161"}}', NONE),
-    ('{"a":{"$numberInt":"-12"},"bc":3}', NONE),
-    ('{"a":{"$numberLong":"9007199254740993"}}', NONE),
-    ('{"a":{"$numberDouble":"-1.5e3"},"bc":{"$numberDouble":"Infinity"}}', NONE),
-    ('{"a":{"$numberDecimal":"-12.50E-3"}}', NONE),
-    ('{"a":{"$binary":{"base64":"AQID","subType":"05"}}}', PACKAGE),
-    ('{"a":{"$binary":{"subType":"2","base64":"AQ=="}}}', PACKAGE),
-    ('{"a":{"$uuid":"73ffd264-44b3-4c69-90e8-e7d1dfc035d4"}}', NONE),
-    ('{"a":{"$date":"2012-12-24T12:15:30.501Z"}}', BOTH),
-    ('{"a":{"$date":"1999-02-28T23:59:59+0130"}}', BOTH),
-    ('{"a":{"$date":{"$numberLong":"1356351330501"}}}', PACKAGE),
-    ('{"a":{"$date":-1356351330501}}', BOTH),
-    ('{"a":{"$regularExpression":{"pattern":"a*","options":"im"}}}', BOTH),
-    ('{"a":{"$regularExpression":{"options":"","pattern":"b"}}}', BOTH),
-    ('{"a":{"$timestamp":{"t":1565545664,"i":42}}}', NONE),
-    ('{"a":{"$timestamp":{"i":0,"t":7}}}', NONE),
-    ('{"a":{"$code":"f()"}}', NONE),
-    ('{"a":{"$code":"f()","$scope":{"b":[1]}}}', NONE),
-    ('{"a":{"$scope":{"b":{"$minKey":1}},"$code":"g"},"bc":1}', NONE),
-    ('{"a":{"$dbPointer":{"$ref":"b","$id":{"$oid":"56e1fc72e0c917e9c4714161"}}}}', BOTH),
-    ('{"a":{"$symbol":"s"},"b":{"$undefined":true}}', PACKAGE),
-    ('{"a":{"$minKey":1},"bc":[{"$maxKey":1}]}', NONE),
-    ('{"a":{"$ref":"c","$id":{"$oid":"56e1fc72e0c917e9c4714161"}}}', PACKAGE),
-    ('{"a":{"$regex":"b","$options":"i"}}', BOTH),
-    ('{"$oid":"x","b":{"c":{}}}', PACKAGE),
-    ("{}", NONE),
-    (' { "a" : [ 1 , -0.5e-7 , true , false , null , "b" ] } ', NONE),
-    ('{"a":[[],[[{}]],{"b":[{"c":[0]}]}]}', NONE),
-    ('{"\u00e9\\u00e9\\ud834\\udd1e":"\\"\\\\\\/\\b\\f\\n\\r\\t","\U0001f600":1.0}', NONE),
-    ('{"a":1,"bc":2147483648,"de":-9223372036854775808,"fg":1E+30}', LIBBSON),
-]
-
 OTHERS = b'{}[]",:\\/ 019-+.eEtnu$aZ=_\x01\x7f\xc3\xff'
 
 
-def made() -> None:
-    for number, (text, _) in enumerate(WHOLE):
-        data = text.encode()
+class Text(NamedTuple):
+    """A text that was changed."""
+
+    data: bytes
+    is_cut: bool
+    place: int
+    begin: int
+    """Where the token begins that has the byte that was there."""
+    others: List[str]
+    """Who may read something else of texts like this one."""
+
+
+def made() -> Iterator[Text]:
+    for line in Path(__file__).with_suffix(".txt").read_text(encoding="utf-8").splitlines():
+        if line.startswith("#"):
+            continue
+        whole, _, others = line.rpartition(" | ")
+        data = whole.encode()
+        _, tokens = read(data)
         for place in range(len(data)):
-            lines = [(b"cut", data[:place])] + [(b"put", data[:place] + bytes([other]) + data[place + 1 :]) for other in OTHERS if other != data[place]]
-            for how, changed in lines:
-                sys.stdout.buffer.write(b"%d %d %s\t%s\n" % (number, place, how, changed))
+            given = place, begin_of(tokens, place), others.split()
+            yield Text(data[:place], True, *given)
+            yield from (Text(data[:place] + bytes([it]) + data[place + 1 :], False, *given) for it in OTHERS if it != data[place])
 
 
 class Wrong(Exception):
@@ -212,55 +189,19 @@ def begin_of(tokens: List[Tuple[int, int]], place: int) -> int:
     return next((begin for begin, end in tokens if begin <= place < end), place)
 
 
-def problem_of(data: bytes, how: str, begin: int, changed: int, mine: str) -> str:
-    """Why a text isn't refused as it has to be, or not read, if that is so: a byte was changed, of a token that begins there."""
+def problem_of(text: Text, said: "Optional[Tuple[int, int]]") -> str:
+    """Why it isn't as it has to be that a text is refused for this reason at this place, or is read, if that is so."""
+    data = text.data
     wrong, tokens = read(data)
-    if not mine.startswith("@"):
-        return "we read it, and it isn't JSON" if wrong else ""
-    reason, place = map(int, mine[1:].split())
-    if how == "cut" and (wrong is None or wrong.reason != UTF8):
-        return "" if (reason, place) == (END, len(data)) else "it isn't refused at its end"
+    if not said:
+        return "it is read, and isn't JSON" if wrong else ""
+    reason, place = said
+    if text.is_cut and (wrong is None or wrong.reason != UTF8):
+        return "" if said == (END, len(data)) else "it isn't refused at its end"
     if reason in MEANING:
         last = wrong.place if wrong else len(data) - 1
-        is_there = min(begin, begin_of(tokens, changed), last) <= place <= last and (place == last or any(place == token for token, _ in tokens))
+        is_there = min(text.begin, begin_of(tokens, text.place), last) <= place <= last and (place == last or any(place == it for it, _ in tokens))
         return "" if is_there else "its meaning isn't refused there"
-    return "" if wrong and (reason, place) == (wrong.reason, wrong.place) else f"it is refused for {wrong.reason} at {wrong.place}" if wrong else "it is JSON"
-
-
-def compare(texts: str, columns: List[str]) -> int:
-    rows = [open(path, "rb").read().split(b"\n")[:-1] for path in [texts] + columns]
-    if len({len(column) for column in rows}) != 1:
-        print(f"the readers didn't read as many texts: {[len(column) for column in rows]}")
-        return 1
-    wholes = [read(text.encode())[1] for text, _ in WHOLE]
-    counts: Counter = Counter()
-    for line, mine_bytes, *theirs in zip(*rows):
-        head, data = line.split(b"\t", 1)
-        number, place, how = int(head.split()[0]), int(head.split()[1]), head.split()[2].decode()
-        mine = mine_bytes.decode()
-        problem = problem_of(data, how, begin_of(wholes[number], place), place, mine)
-        if not mine.startswith("@"):
-            counts["documents"] += 1
-            for name, made_by in zip(["libbson", "package"], theirs):
-                if made_by != mine_bytes and name not in WHOLE[number][1]:
-                    problem = f"{name} reads it otherwise: {made_by.decode()}"
-        if problem:
-            counts["wrong"] += 1
-            if counts["wrong"] <= 20:
-                print(f"{problem}: {data!r}\n    {mine}")
-    print(f"{len(rows[0])} texts, {counts['documents']} documents, {counts['wrong']} not as they have to be")
-    return 1 if counts["wrong"] else 0
-
-
-def main(words: List[str]) -> int:
-    if words == ["made"]:
-        made()
-        return 0
-    if words[:1] == ["compare"] and len(words) in (4, 5):
-        return compare(words[1], words[2:])
-    print(__doc__, file=sys.stderr)
-    return 2
-
-
-if __name__ == "__main__":
-    sys.exit(main(sys.argv[1:]))
+    if not wrong:
+        return "it is JSON"
+    return "" if said == (wrong.reason, wrong.place) else f"it has to be refused for {wrong.reason} at {wrong.place}"

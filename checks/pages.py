@@ -10,7 +10,7 @@
                                          FOLDER/raw_view_array.rt with a test line_25, and says how many they are
 
 A block in fences is Rattle (`rust`), which compiles.sh compiles; Rust (`rust,edition2021`, what is to
-be compiled alone `rust,no_run`, and what needs serde `rust,ignore`), which rust.sh runs; C, which c.sh compiles; Python, which is compiled here; or commands,
+be compiled alone `rust,no_run`, and what needs serde `rust,ignore`), which checks/rust.txt runs; C, which c.sh compiles; Python, which is compiled here; or commands,
 which are run. `text` is a picture, or the output of the commands right before it. An indented block is so in the
 sources of a crate, except for comments and for how far it is indented, and a record is shown whole.
 """

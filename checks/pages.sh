@@ -6,8 +6,8 @@
 #   checks/pages.sh            with what bin/install built here, and `--unproved` left away, since `bin/test unproved` tries that
 #   checks/pages.sh --fresh    with nothing built, as a newcomer types them: for a release; half an hour to an hour
 #
-# What pages name beside their blocks is run by others: `rt try` by `bin/test unproved`, the program of `reader` by `rt ci`, `cargo` by rust.sh,
-# `apt` by packages.sh, `--target aarch64` by arm.sh.
+# What pages name beside their blocks is run by others: `rt try` by `bin/test unproved`, the program of `reader` by `rt ci`, `cargo` by rust.txt,
+# `apt` by debians.txt, `--target aarch64` by arm.sh.
 set -u
 cd "$(dirname "$(realpath "$0")")/.." || exit 1
 case "$*" in "") as_typed= ;; --fresh) as_typed=--as-typed ;; *) echo "usage: checks/pages.sh [--fresh]" >&2 && exit 2 ;; esac

@@ -1,6 +1,6 @@
 #!/bin/sh
 # try-release.sh PROGRAMS VERSION: what a new user does with an installed bsonraw, in a folder that has examples/, greeting.c and
-# print.c: checks/packages.sh copies this file there, and runs it where nothing of the repository is. PROGRAMS is the folder of the
+# print.c: checks/packages.txt copies this file there, and runs it where nothing of the repository is. PROGRAMS is the folder of the
 # programs, or empty where there are none, VERSION what `bsonraw-dump --version` has to print. It says what isn't as it has to be, and
 # gives 0 where all is.
 #

@@ -1,4 +1,4 @@
-"""Tests of release/wheel.py, on what readelf says and on a wheel of one module; checks/packages.sh runs them."""
+"""Tests of release/wheel.py, on what readelf says and on a wheel of one module; checks/packages.txt runs them."""
 
 import os
 import sys

@@ -1,5 +1,5 @@
-"""Calls with memory and reference counts watched: what grows is a leak. checks/python_long.sh makes a million of them, and
-checks/python.sh a few.
+"""Calls with memory and reference counts watched: what grows is a leak. checks/python_long.txt makes a million of them, and
+checks/python.txt a few.
 
     python3 long.py [CALLS]
 """

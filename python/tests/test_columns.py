@@ -228,14 +228,14 @@ class Arrow(unittest.TestCase):
         ctypes.PYFUNCTYPE(None, ctypes.POINTER(Array))(taken.release)(ctypes.byref(taken))
         self.assertEqual((sys.getrefcount(values), taken.release), (before, None))
 
-    @unittest.skipIf(pyarrow is None, "pyarrow isn't there")
+    @unittest.skipIf(pyarrow is None, "pyarrow isn't there, which Debian hasn't")
     def test_pyarrow(self) -> None:
         for key, column in bsonraw.columns(DUMP, paths=list(WANTED), typed=True).items():
             self.assertEqual(pyarrow.array(column).to_pylist(), WANTED[key][1])
 
 
 class Numpy(unittest.TestCase):
-    @unittest.skipIf(numpy is None, "numpy isn't there")
+    @unittest.skipIf(numpy is None, "numpy isn't there (Debian: python3-numpy)")
     def test_arrays(self) -> None:
         table = bsonraw.columns(DUMP, paths=list(WANTED), typed=True)
         arrays = {key: numpy.asarray(column) for key, column in table.items() if isinstance(column, Column)}
@@ -262,7 +262,7 @@ class Numpy(unittest.TestCase):
             else:
                 self.assertRaises(ValueError, column.__array__, kind, copy=False)
 
-    @unittest.skipIf(pandas is None, "pandas isn't there")
+    @unittest.skipIf(pandas is None, "pandas isn't there (Debian: python3-pandas)")
     def test_a_frame(self) -> None:
         frame = pandas.DataFrame(bsonraw.columns(DUMP, paths=list(WANTED), typed=True))
         self.assertEqual(list(frame.columns), list(WANTED))

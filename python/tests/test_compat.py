@@ -184,7 +184,7 @@ class Codecs(unittest.TestCase):
         self.assertRaises(TypeError, compat.encode, [1])
         self.assertEqual(compat.ObjectId.is_valid("zz"), False)
 
-    @unittest.skipIf(bson is None, "MongoDB's package isn't there")
+    @unittest.skipIf(bson is None, "MongoDB's package isn't there (Debian: python3-bson)")
     def test_made_documents_beside_mongodbs(self) -> None:
         count = 0
         for data in all_made(17, 400):
@@ -199,7 +199,7 @@ class Codecs(unittest.TestCase):
             count += 1
         self.assertGreater(count, 100)
 
-    @unittest.skipIf(bson is None, "MongoDB's package isn't there")
+    @unittest.skipIf(bson is None, "MongoDB's package isn't there (Debian: python3-bson)")
     def test_documents_are_written_as_mongodbs_writes_them(self) -> None:
         for value in VALUES:
             theirs = bson.decode(compat.encode({"v": value}), TheirOptions(tz_aware=True))
@@ -222,7 +222,7 @@ class Json(unittest.TestCase):
         text = json_util.dumps([compat.Int64(1), WHEN, uuid.UUID(int=1)], json_options=legacy)
         self.assertEqual(text, '[{"$numberLong": "1"}, {"$date": "2020-01-02T03:04:05.678Z"}, {"$binary": "AAAAAAAAAAAAAAAAAAAAAQ==", "$type": "04"}]')
 
-    @unittest.skipIf(their_json is None, "MongoDB's json_util isn't there")
+    @unittest.skipIf(their_json is None, "MongoDB's json_util isn't there (Debian: python3-bson)")
     def test_texts_are_mongodbs(self) -> None:
         for value in VALUES + [uuid.UUID(int=5), float("nan"), float("-inf")]:
             data = compat.encode({"v": value})

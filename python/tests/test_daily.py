@@ -49,7 +49,7 @@ class Jobs(unittest.TestCase):
             import bson
             import pandas  # noqa: F401
         except ImportError as error:
-            self.skipTest(f"{error.name} isn't there")
+            self.skipTest(f"{error.name} isn't there (Debian: python3-bson, python3-pandas)")
         if not hasattr(bson, "decode_file_iter"):
             self.skipTest("the module bson isn't that of MongoDB's package")
         self.ours, self.theirs = map(importlib.import_module, ("daily_bsonraw", "daily_mongodb"))
@@ -97,7 +97,7 @@ class Jobs(unittest.TestCase):
         try:
             importlib.import_module("bson.json_util")
         except ImportError as error:
-            self.skipTest(f"{error.name} isn't there")
+            self.skipTest(f"{error.name} isn't there (Debian: python3-bson, python3-pandas)")
         self.ours.write(self.path, [*DOCUMENTS, {"at": datetime(2009, 2, 13, 23, 31, 30, tzinfo=timezone.utc), "long": bsonraw.Int64(5)}])
         texts = []
         for module in (self.ours, self.theirs):

@@ -371,7 +371,7 @@ class Classes(unittest.TestCase):
                 call()
             self.assertEqual(getattr(zero.exception, "__notes__", ["at key 'a.t'"]), ["at key 'a.t'"])
 
-    @unittest.skipIf(pandas is None, "pandas isn't there")
+    @unittest.skipIf(pandas is None, "pandas isn't there (Debian: python3-pandas)")
     def test_no_time(self) -> None:
         with self.assertRaisesRegex(TypeError, "at key 'a.0': a value of class NaTType can't be encoded"):
             bsonraw.encode({"a": [pandas.NaT]})

@@ -163,7 +163,7 @@ class Into(unittest.TestCase):
         self.assertEqual(bsonraw.decode(bsonraw.encode({}), type=Some), {})
         self.assertEqual(bsonraw.decode(bsonraw.encode({"x": 1, "y": 2}), type=Some), {"x": 1.0})
 
-    @unittest.skipIf(attr is None, "attrs isn't there")
+    @unittest.skipIf(attr is None, "attrs isn't there (Debian: python3-attr)")
     def test_attrs(self) -> None:
         @attr.s(auto_attribs=True)
         class Inner:
@@ -180,7 +180,7 @@ class Into(unittest.TestCase):
             bsonraw.decode(bsonraw.encode({"inner": {"n": "1"}}), type=Outer)
         self.assertEqual(bsonraw.decode(data, type=Outer), Outer(Inner(1), "x", [Inner(2)]))
 
-    @unittest.skipIf(pydantic is None, "pydantic isn't there")
+    @unittest.skipIf(pydantic is None, "pydantic isn't there (Debian: python3-pydantic)")
     def test_pydantic(self) -> None:
         class Model(pydantic.BaseModel):
             name: str

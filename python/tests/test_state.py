@@ -161,7 +161,7 @@ class State(unittest.TestCase):
         libraries = [Path(one, f"libpython{version}{ending}") for one in folders for ending in (".so", ".a")]
         library = next((one for one in libraries if one.exists()), None)
         if library is None or not Path(include, "Python.h").exists():
-            self.skipTest("a library for embedding this Python isn't there")
+            self.skipTest("a library for embedding this Python isn't there (Debian: python3-dev)")
         with tempfile.TemporaryDirectory() as made:
             source, program = Path(made, "embed.c"), Path(made, "embed")
             source.write_text(EMBEDDED)
@@ -169,7 +169,7 @@ class State(unittest.TestCase):
             try:
                 built = subprocess.run(["cc", "-w", f"-I{include}", str(source), "-o", str(program), *links], stderr=subprocess.PIPE)
             except FileNotFoundError:
-                self.skipTest("a C compiler isn't there")
+                self.skipTest("a C compiler isn't there (Debian: gcc, libc6-dev)")
             if built.returncode != 0 and library.suffix == ".a":
                 self.skipTest("the library for embedding this Python isn't linked")
             self.assertEqual((built.returncode, built.stderr), (0, b""))

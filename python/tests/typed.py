@@ -1,4 +1,4 @@
-"""What a caller with annotations writes; `mypy --strict` takes it (checks/python.sh)."""
+"""What a caller with annotations writes; `mypy --strict` takes it (checks/python.txt)."""
 
 import gzip
 import io
