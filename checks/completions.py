@@ -27,6 +27,7 @@ WANTED: List[Tuple[str, Set[str]]] = [
     ("sound --findings ", {"words", "json"}),
     ("unique --repeats --a", {"--alone", "--as-is", "--at"}),
     ("bson --k", {"--keep-going"}),
+    ("bson --max", {"--max-bytes", "--max-depth"}),
     ("check --q", {"--quiet"}),
     ("list --at ", set()),
     ("help pi", {"pick"}),

@@ -5,6 +5,7 @@ import pty
 import re
 import subprocess
 import tty
+from base64 import b64encode
 from pathlib import Path
 from typing import Dict
 
@@ -64,11 +65,14 @@ def made_files() -> Dict[str, bytes]:
     made.update(steps20=many_levels(19, unit), steps21=many_levels(20, unit), inmost=many_levels(500, unit))
     made["inmost.form"] = many_levels(500, made["repeated.form"])
     made.update({"most": of_bytes(MOST), "over.most": of_bytes(MOST + 1)})
+    made["over.most.json"] = b'{"b":{"$binary":{"base64":"' + b64encode(bytes(MOST - 12)) + b'","subType":"00"}}}'
     made["named"] = document(b"\x0a" + b"k" * 4096 + b"\0", b"\x0a" + b"l" * 4097 + b"\0", b"\x03" + b"m" * 4095 + b"\0" + made["keyless"])
     lengths = range(5 + 8 * 2097151, 5, -8)
     made["deep"] = b"".join(it.to_bytes(4, "little") + b"\x03d\0" for it in lengths) + made["empty"] + bytes(2097151)
     made["deep.json"] = b'{"d":' * 2097151 + b"{}" + b"}" * 2097151 + b"\n"
     made["levels500.json"] = b'{"d":' * 499 + b"{}" + b"}" * 499 + b"\n"
+    made.update({"levels600": many_levels(599, made["empty"]), "levels600.json": b'{"d":' * 599 + b"{}" + b"}" * 599 + b"\n"})
+    made["limit.json"] = b'{"a":1}\n' * 2
     made["long"] = document(b"\x02s\0\x41\0\0\0" + b"x" * 64 + b"\0", b"\x02t\0\x42\0\0\0" + b"x" * 65 + b"\0")
     made.update(passed=under + unit + one * 2, lost=one + under + one * 2, last=one + under + one, none=one + made["negative"])
     made["alone"] = one + under + one + made["stop"] + one * 2

@@ -23,7 +23,7 @@ ANSWERED = {
         *["", "-h", "--help", "help", "-V", "--version", "help check", "help zzz", "help help", "--bogus", "-x", "zzz", "zzz --help"],
         *["chek", "chec", "lst", "conut", "cano", "jsn", "uniqe", "pikc", "bsn", "fielsd", "checks"],
         *["check --help", "json -h", "check --bogus", "check -x", "check -o x", "check --quet", "check --max-byte 7", "json --outptu=x"],
-        *["json --canonicla", "bson --take 3", "pick", "check --quiet --help", "check --max-bytes 7 --help", "list -q"],
+        *["json --canonicla", "bson --take 3", "bson --max-depth 7 --help", "pick", "check --quiet --help", "check --max-bytes 7 --help", "list -q"],
     ],
 }
 # Words that name a FILE that isn't there: of what the program prints the lines on that.

@@ -13,6 +13,7 @@ use dump_commands::command::Command;
 use dump_commands::counts::Counts;
 use dump_commands::job::Job;
 use dump_io::lines::style::Style;
+use raw_tree::Limits;
 
 /// What is asked of inputs of texts.
 #[derive(Clone, Copy)]
@@ -21,6 +22,8 @@ pub struct TextJob {
     pub style: Style,
     /// whether reading goes on after a fault
     pub keep_going: bool,
+    /// what a document may cost
+    pub limits: Limits,
     /// how many faults are told at most
     pub limit: Option<u64>,
 }

@@ -93,9 +93,8 @@ fn size<'a>(alloc: Global, name: &'a str, value: &'a str, help: &'a str) -> Arg<
         .action(ArgAction::Set)
 }
 
-/// What a document may cost.
-fn limits<'a>(alloc: Global, command: CommandBuilder<'a>) -> CommandBuilder<'a> {
-    let bytes = "A length over N bytes is unsound; 16793600 if it isn't given";
+/// What a document may cost; the help says what comes of one that has more bytes.
+fn limits<'a>(alloc: Global, command: CommandBuilder<'a>, bytes: &'a str) -> CommandBuilder<'a> {
     let depth = "A document of more than N levels is too deep; 500 if it isn't given";
     command
         .arg(number(alloc, "max-bytes", "N", 5, LARGEST, bytes))
@@ -116,7 +115,8 @@ fn portion<'a>(alloc: Global, command: CommandBuilder<'a>) -> CommandBuilder<'a>
 /// A command that reads FILEs.
 fn reading<'a>(alloc: Global, command: CommandBuilder<'a>) -> CommandBuilder<'a> {
     let help = "Continues after an unsound length, at the next document that counts";
-    limits(alloc, portion(alloc, command))
+    let bytes = "A length over N bytes is unsound; 16793600 if it isn't given";
+    limits(alloc, portion(alloc, command), bytes)
         .arg(switch(alloc, "resync", help))
         .arg(files(alloc, "Dumps; nothing or -: standard input"))
 }
@@ -185,8 +185,9 @@ fn picks<'a>(alloc: Global) -> CommandBuilder<'a> {
 fn texts<'a>(alloc: Global) -> CommandBuilder<'a> {
     let about = "Writes the documents of texts of MongoDB Extended JSON v2, one after the other";
     let keep_going = "Continues after a fault, and leaves out its document";
-    findings(alloc, CommandBuilder::new(alloc, "bson", about))
-        .arg(output(alloc))
+    let bytes = "A document of over N bytes is too long; 16793600 if it isn't given";
+    let command = findings(alloc, CommandBuilder::new(alloc, "bson", about)).arg(output(alloc));
+    limits(alloc, command, bytes)
         .arg(switch(alloc, "keep-going", keep_going))
         .arg(files(alloc, "Texts; nothing or -: standard input"))
 }

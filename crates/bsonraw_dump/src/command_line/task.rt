@@ -174,6 +174,7 @@ fn text_task<'a>(alloc: Global, matches: &ArgMatches<'a>) -> Result<Task<'a>, Er
         reading: Reading::Texts(TextJob {
             style: style_of(matches),
             keep_going: matches.get_flag("keep-going"),
+            limits: limits_of(matches),
             limit: matches.get_one("limit"),
         }),
         output: matches.get_str("output").filter(|name| *name != "-"),

@@ -65,7 +65,7 @@ gap_in p (b ∷ l) u =
     ] refl
 
 -- why no whole text is in front of these bytes, where it was found and told
-module _ (r : Option (List ℕ)) (ahead rest : List ℕ) (u : Turn) (ends : IsAtEnd r → rest ≡ []) where
+module _ (r : Option (List ℕ)) (ahead rest : List ℕ) (here : TextPoint) (ends : IsAtEnd r → rest ≡ []) where
   text_of : (found : Scanned) → IsScanned r ahead found → IsTextOf (ahead ++ rest) (take found.len ahead)
   text_of found (scans, all) =
       let size : length (take found.len ahead) ≡ found.len = length-take-le found.len ahead scans.within in
@@ -91,18 +91,19 @@ module _ (r : Option (List ℕ)) (ahead rest : List ℕ) (u : Turn) (ends : IsAt
             ];
       }
 
-  no_text_of : (told : NextText) (begun at : ℕ) (why : TextReason) → IsNextText r ahead u told → TellsNoText ahead told begun at why → HasNoText u (ahead ++ rest) begun at why
+  no_text_of : (told : NextText) (begun at : ℕ) (why : TextReason) → IsNextText r ahead here.turn told → TellsNoText here.limits ahead told begun at why
+      → HasNoText here (ahead ++ rest) begun at why
   no_text_of (next.Text found) begun at why (may, (behind, brace), scanned') (whole, has, fault) =
-      let here : HasNoText u (123 ∷ (behind ++ rest)) begun at why =
+      let found_there : HasNoText here (123 ∷ (behind ++ rest)) begun at why =
       let is : IsTextOf ((123 ∷ behind) ++ rest) (take found.len ahead) = subst (λ l. IsTextOf (l ++ rest) (take found.len ahead)) brace (text_of found scanned') in
       inr (refl, may, (take found.len ahead, is, whole, unended_says_none ahead found scanned'.0 whole, has, fault)) in
-      subst (λ l. HasNoText u (l ++ rest) begun at why) (sym brace) here
+      subst (λ l. HasNoText here (l ++ rest) begun at why) (sym brace) found_there
   no_text_of (next.Wrong reason) begun at why (inl (b, behind, is, cant, because)) (none, zero, same) =
-      let here : HasNoText u (b ∷ (behind ++ rest)) begun at why = inl (cant, none, zero, same ∙ because) in
-      subst (λ l. HasNoText u (l ++ rest) begun at why) (sym is) here
+      let other : HasNoText here (b ∷ (behind ++ rest)) begun at why = inl (cant, none, zero, same ∙ because) in
+      subst (λ l. HasNoText here (l ++ rest) begun at why) (sym is) other
   no_text_of (next.Wrong reason) begun at why (inr (is, end, may, because)) (none, zero, same) =
-      let here : HasNoText u [] begun at why = (may, none, zero, same ∙ because) in
-      subst (λ l. HasNoText u l begun at why) (sym (ap (λ l. l ++ rest) is ∙ ends end)) here
+      let none_left : HasNoText here [] begun at why = (may, none, zero, same ∙ because) in
+      subst (λ l. HasNoText here l begun at why) (sym (ap (λ l. l ++ rest) is ∙ ends end)) none_left
   no_text_of next.End begun at why is told = absurd told
 
 -- what comes of bytes that were passed over, up to their end
@@ -119,8 +120,8 @@ module _ {style : Style} {input : Option (List ℕ)} (r' : Option (List ℕ)) (b
     unended = is.unended;
     no_line = none;
     fault = is.fault;
-    why = behind_of input r' bytes ahead (λ l. HasNoText here.turn l (length text) is.fault.at is.fault.reason) read
-        (λ rest end. no_text_of r' ahead rest here.turn end told (length text) is.fault.at is.fault.reason is_next is.why) here.offset far;
+    why = behind_of input r' bytes ahead (λ l. HasNoText here l (length text) is.fault.at is.fault.reason) read
+        (λ rest end. no_text_of r' ahead rest here end told (length text) is.fault.at is.fault.reason is_next is.why) here.offset far;
     next = next;
     ends = ends;
   }

@@ -7,30 +7,30 @@ use Rattle.dump_io.specs.input.Reading.{ahead_of}
 use Rattle.dump_io.specs.input.Texts.{HasBrace, IsOpen, IsOneText, may_begin, position_over, scanned, turn_behind_document, turn_behind_gap}
 use Rattle.dump_io.specs.declared.input.scan.Scan.TheVariants as scan
 use Rattle.dump_io.specs.declared.input.turn.Turn.{Turn}
-use Rattle.dump_io.specs.declared.lines.style.Style.{Style}
 use Rattle.dump_commands.specs.Counting.{count_fault, count_said}
 use Rattle.dump_commands.specs.declared.counts.Counts.{Counts}
 use Rattle.dump_commands.specs.declared.state.kept.Kept.{Kept}
+use Rattle.dump_runs.specs.Limits.{style_at}
 use Rattle.dump_runs.specs.Plays.{Held, Played, given, reported}
 use Rattle.dump_runs.specs.texts.Faults.{fault_line}
 use Rattle.dump_runs.specs.texts.Reading.{PassesAhead}
-use Rattle.dump_runs.specs.texts.Run.{Gives, IsFaultOf, TellsTextFault, TextPoint, events_of, refused, said}
-use Rattle.dump_runs.specs.texts.Steps.{HaltsSaid, HaltsText, PassesText, TellsNoText, point_of}
+use Rattle.dump_runs.specs.texts.Run.{Gives, IsFaultOf, TellsTextFault, events_of, refused, said, style_of}
+use Rattle.dump_runs.specs.texts.Steps.{HaltsSaid, HaltsText, PassesText, TellsNoText, line_of, point_of}
+use Rattle.dump_runs.specs.declared.reading.TextJob.{TextJob}
 use Rattle.dump_runs.specs.declared.texts.cursor.Cursor.{Cursor}
 use Rattle.dump_runs.specs.declared.texts.cursor.NextText.{NextText}
-use Rattle.dump_runs.specs.declared.texts.fault.TextReason.{TextReason}
 use Rattle.dump_runs.specs.declared.texts.piece.Fault.{Fault}
 use Rattle.dump_runs.specs.declared.texts.piece.Went.TheVariants as went
 use Rattle.dump_runs.proofs.Plays.{holds, played_count, played_given, played_none, played_text}
 
 -- the line of a fault in the front of what is ahead
-abbrev tells_fault : (style : Style) (here : TextPoint) (ahead : List ℕ) (len at : ℕ) (reason : TextReason) → len ≤ length ahead → at ≤ len
-    → TellsTextFault style here (take len ahead) (fault_line style here.name (position_over here.place (take at ahead)) reason)
-tells_fault style here ahead len at reason fits within = record {
-  at = at;
-  within = subst (λ (n : ℕ). at ≤ n) (sym (length-take-le len ahead fits)) within;
-  reason = reason;
-  told = ap (λ l. fault_line style here.name (position_over here.place l) reason) (sym (take-take at len ahead within));
+abbrev tells_fault : (job : TextJob) (name : List ℕ) (y : Cursor) (n : Counts) (f : Fault) → f.len ≤ length (ahead_of y.window) → f.at ≤ f.len
+    → TellsTextFault (style_of job (point_of job name y n)) (point_of job name y n) (take f.len (ahead_of y.window)) (line_of job name y n f)
+tells_fault job name y n f fits within = record {
+  at = f.at;
+  within = subst (λ (l : ℕ). f.at ≤ l) (sym (length-take-le f.len (ahead_of y.window) fits)) within;
+  reason = f.reason;
+  told = ap (λ l. fault_line (style_at job.style job.limit n) name (position_over y.place l) f.reason) (sym (take-take f.at f.len (ahead_of y.window) within));
 }
 
 -- a text that isn't empty begins with the brace that is ahead
@@ -56,20 +56,16 @@ offset_after y z len p = p.is.3 ∙ ap (λ n. y.window.offset + n) (sym (length-
 first_of : (len : ℕ) (ahead : List ℕ) → HasFront ahead (take len ahead)
 first_of len ahead = (drop len ahead, sym (take-append-drop len ahead))
 
--- the line of a fault there
-abbrev pub line_of : Style → List ℕ → Cursor → Fault → List ℕ
-line_of style name y f = fault_line style name (position_over y.place (take f.at (ahead_of y.window))) f.reason
-
 -- a whole text of this length is there
 pub record HasWhole (y : Cursor) (len : ℕ) : Type 0 where
   pub may : may_begin y.turn ≡ true
   pub brace : HasBrace (ahead_of y.window)
   pub whole : IsOneText (take len (ahead_of y.window))
 
-module _ (style : Style) (name : List ℕ) (told : NextText) (y : Cursor) {old new : Held} where
+module _ (job : TextJob) (name : List ℕ) (told : NextText) (y : Cursor) {old new : Held} where
   -- a document is passed
-  pub passes_document : {z : Cursor} {v : Turn} (len : ℕ) (bytes : List ℕ) → PassesFirst y z len → HasWhole y len → Gives (take len (ahead_of y.window)) bytes
-      → Played (events_of (said bytes)) old new → v ≡ turn_behind_document z.turn → PassesText style name told y (record z { turn = v }) old new went.Document
+  pub passes_document : {z : Cursor} {v : Turn} (len : ℕ) (bytes : List ℕ) → PassesFirst y z len → HasWhole y len → Gives job.limits (take len (ahead_of y.window)) bytes
+      → Played (events_of (said bytes)) old new → v ≡ turn_behind_document z.turn → PassesText job name told y (record z { turn = v }) old new went.Document
   passes_document {z = z} len bytes p h gives played next = record {
     window = p.is.0;
     text = take len (ahead_of y.window);
@@ -82,7 +78,7 @@ module _ (style : Style) (name : List ℕ) (told : NextText) (y : Cursor) {old n
   }
 
   -- a front of it is given
-  pub halts_document : (len : ℕ) (bytes : List ℕ) → HasWhole y len → Gives (take len (ahead_of y.window)) bytes → HaltsSaid (said bytes) old new → HaltsText style name told y old new
+  pub halts_document : (len : ℕ) (bytes : List ℕ) → HasWhole y len → Gives job.limits (take len (ahead_of y.window)) bytes → HaltsSaid (said bytes) old new → HaltsText job name told y old new
   halts_document len bytes h gives halts = inr (
     went.Document,
     take len (ahead_of y.window),
@@ -95,12 +91,12 @@ module _ (style : Style) (name : List ℕ) (told : NextText) (y : Cursor) {old n
 
   module _ (f : Fault) (within : f.at ≤ f.len) where
     -- a text with a fault is passed
-    pub passes_refused : {z : Cursor} {v : Turn} → PassesFirst y z f.len → HasWhole y f.len → IsFaultOf (take f.len (ahead_of y.window)) f.at f.reason
-        → Played (events_of (refused (line_of style name y f))) old new → v ≡ turn_behind_document z.turn → PassesText style name told y (record z { turn = v }) old new went.Refused
+    pub passes_refused : {z : Cursor} {v : Turn} → PassesFirst y z f.len → HasWhole y f.len → IsFaultOf job.limits (take f.len (ahead_of y.window)) f.at f.reason
+        → Played (events_of (refused (line_of job name y old.counts f))) old new → v ≡ turn_behind_document z.turn → PassesText job name told y (record z { turn = v }) old new went.Refused
     passes_refused {z = z} p h why played next = record {
       window = p.is.0;
       text = take f.len (ahead_of y.window);
-      says = refused (line_of style name y f);
+      says = refused (line_of job name y old.counts f);
       ahead = split y z f.len p;
       place = p.is.2;
       offset = offset_after y z f.len p;
@@ -108,7 +104,7 @@ module _ (style : Style) (name : List ℕ) (told : NextText) (y : Cursor) {old n
         may_be = h.may;
         brace = brace_first f.len (ahead_of y.window) h.brace h.whole;
         whole = h.whole;
-        fault = tells_fault style (point_of name y old.counts) (ahead_of y.window) f.len f.at f.reason p.fits within;
+        fault = tells_fault job name y old.counts f p.fits within;
         why = why;
         next = next ∙ ap turn_behind_document p.is.4;
       };
@@ -116,19 +112,19 @@ module _ (style : Style) (name : List ℕ) (told : NextText) (y : Cursor) {old n
     }
 
     -- a front of its line is told
-    pub halts_refused : f.len ≤ length (ahead_of y.window) → HasWhole y f.len → IsFaultOf (take f.len (ahead_of y.window)) f.at f.reason
-        → HaltsSaid (refused (line_of style name y f)) old new → HaltsText style name told y old new
+    pub halts_refused : f.len ≤ length (ahead_of y.window) → HasWhole y f.len → IsFaultOf job.limits (take f.len (ahead_of y.window)) f.at f.reason
+        → HaltsSaid (refused (line_of job name y old.counts f)) old new → HaltsText job name told y old new
     halts_refused fits h why halts = inr (
       went.Refused,
       take f.len (ahead_of y.window),
-      refused (line_of style name y f),
+      refused (line_of job name y old.counts f),
       turn_behind_document y.turn,
       first_of f.len (ahead_of y.window),
       record {
         may_be = h.may;
         brace = brace_first f.len (ahead_of y.window) h.brace h.whole;
         whole = h.whole;
-        fault = tells_fault style (point_of name y old.counts) (ahead_of y.window) f.len f.at f.reason fits within;
+        fault = tells_fault job name y old.counts f fits within;
         why = why;
         next = refl;
       },
@@ -136,45 +132,45 @@ module _ (style : Style) (name : List ℕ) (told : NextText) (y : Cursor) {old n
     )
 
     -- what is no whole text is passed
-    pub passes_astray : {z : Cursor} {v : Turn} → PassesFirst y z f.len → IsOpen (scanned (take f.len (ahead_of y.window))) → TellsNoText (ahead_of y.window) told f.len f.at f.reason
-        → Played (events_of (refused (line_of style name y f))) old new → v ≡ turn_behind_gap z.turn → PassesText style name told y (record z { turn = v }) old new went.Astray
+    pub passes_astray : {z : Cursor} {v : Turn} → PassesFirst y z f.len → IsOpen (scanned (take f.len (ahead_of y.window))) → TellsNoText job.limits (ahead_of y.window) told f.len f.at f.reason
+        → Played (events_of (refused (line_of job name y old.counts f))) old new → v ≡ turn_behind_gap z.turn → PassesText job name told y (record z { turn = v }) old new went.Astray
     passes_astray {z = z} p open' why played next = record {
       window = p.is.0;
       text = take f.len (ahead_of y.window);
-      says = refused (line_of style name y f);
+      says = refused (line_of job name y old.counts f);
       ahead = split y z f.len p;
       place = p.is.2;
       offset = offset_after y z f.len p;
       is = record {
         unended = open';
-        fault = tells_fault style (point_of name y old.counts) (ahead_of y.window) f.len f.at f.reason p.fits within;
-        why = subst (λ n. TellsNoText (ahead_of y.window) told n f.at f.reason) (sym (length-take-le f.len (ahead_of y.window) p.fits)) why;
+        fault = tells_fault job name y old.counts f p.fits within;
+        why = subst (λ n. TellsNoText job.limits (ahead_of y.window) told n f.at f.reason) (sym (length-take-le f.len (ahead_of y.window) p.fits)) why;
         next = next ∙ ap turn_behind_gap p.is.4;
       };
       played = played;
     }
 
     -- a front of its line is told
-    pub halts_astray : f.len ≤ length (ahead_of y.window) → IsOpen (scanned (take f.len (ahead_of y.window))) → TellsNoText (ahead_of y.window) told f.len f.at f.reason
-        → HaltsSaid (refused (line_of style name y f)) old new → HaltsText style name told y old new
+    pub halts_astray : f.len ≤ length (ahead_of y.window) → IsOpen (scanned (take f.len (ahead_of y.window))) → TellsNoText job.limits (ahead_of y.window) told f.len f.at f.reason
+        → HaltsSaid (refused (line_of job name y old.counts f)) old new → HaltsText job name told y old new
     halts_astray fits open' why halts = inr (
       went.Astray,
       take f.len (ahead_of y.window),
-      refused (line_of style name y f),
+      refused (line_of job name y old.counts f),
       turn_behind_gap y.turn,
       first_of f.len (ahead_of y.window),
       record {
         unended = open';
-        fault = tells_fault style (point_of name y old.counts) (ahead_of y.window) f.len f.at f.reason fits within;
-        why = subst (λ n. TellsNoText (ahead_of y.window) told n f.at f.reason) (sym (length-take-le f.len (ahead_of y.window) fits)) why;
+        fault = tells_fault job name y old.counts f fits within;
+        why = subst (λ n. TellsNoText job.limits (ahead_of y.window) told n f.at f.reason) (sym (length-take-le f.len (ahead_of y.window) fits)) why;
         next = refl;
       },
       halts,
     )
 
 -- nothing is played
-pub halts_none : (style : Style) (name : List ℕ) (told : NextText) (y : Cursor) (old : Held) → HaltsText style name told y old old
-halts_none style name told y old = inl (played_none refl)
+pub halts_none : (job : TextJob) (name : List ℕ) (told : NextText) (y : Cursor) (old : Held) → HaltsText job name told y old old
+halts_none job name told y old = inl (played_none refl)
 
 module _ {d a w : Option (List ℕ)} {n : Counts} {k : Kept} where
   -- a document is written, and counted

@@ -10,10 +10,9 @@ use Rattle.dump_io.specs.declared.input.turn.Turn.{Turn}
 use Rattle.dump_io.specs.declared.input.turn.Turn.TheVariants as turn
 use Rattle.dump_io.specs.declared.lines.style.Style.{Style}
 use Rattle.dump_io.proofs.Face.{read_behind}
-use Rattle.dump_runs.specs.Limits.{style_at}
 use Rattle.dump_runs.specs.Plays.{Event, Held, Played}
 use Rattle.dump_runs.specs.texts.Reading.{Advances, FindsText, GoesOnTo, PassesGap}
-use Rattle.dump_runs.specs.texts.Run.{AreTexts, EndsTexts, GoesOn, HaltsTexts, IsFault, IsSaid, IsTextPart, Said, TextPart, TextPoint, after, after_all, bytes_of, bytes_of_texts, events_of, events_of_texts, first_point, passed_to, refused, said, turn_behind_texts}
+use Rattle.dump_runs.specs.texts.Run.{AreTexts, EndsTexts, GoesOn, HaltsTexts, IsFault, IsSaid, IsTextPart, Said, TextPart, TextPoint, after, after_all, bytes_of, bytes_of_texts, events_of, events_of_texts, first_point, passed_to, refused, said, style_of, turn_behind_texts}
 use Rattle.dump_runs.specs.texts.Steps.{Becomes, FailsAt, HaltsText, IsBegun, PassesBehind, PassesText, PassesTexts, point_of}
 use Rattle.dump_runs.specs.declared.ends.Ended.{Ended}
 use Rattle.dump_runs.specs.declared.ends.Ended.TheVariants as how
@@ -87,7 +86,7 @@ at_more input r r' x y is (more, p) =
 
 -- what is known of parts in front of an input
 pub record HasTexts (job : TextJob) (name : List ℕ) (input : Option (List ℕ)) (old new : Held) (ps : List TextPart) : Type 0 where
-  pub parts : AreTexts job input (first_point name old.counts) ps
+  pub parts : AreTexts job input (first_point job name old.counts) ps
   pub in_front : IfSome input (λ s. HasFront s (bytes_of_texts ps))
   pub played : Played (events_of_texts ps) old new
 
@@ -97,7 +96,7 @@ pub record GoesOnBehind (job : TextJob) (name : List ℕ) (input r : Option (Lis
   pub has : HasTexts job name input old new ps
   pub all : AllGoOn job.keep_going ps
   pub is_read : Consumes input r (bytes_of_texts ps ++ ahead_of x.window)
-  pub to : point_of name x new.counts ≡ after_all (first_point name old.counts) ps
+  pub to : point_of job name x new.counts ≡ after_all (first_point job name old.counts) ps
 
 pub nothing_passed : (job : TextJob) (name : List ℕ) (r : Option (List ℕ)) (old : Held) (x : Cursor) → ahead_of x.window ≡ [] → x.place ≡ first_position → x.window.offset ≡ 0 → x.turn ≡ turn.First
     → GoesOnBehind job name r r old old x
@@ -108,23 +107,23 @@ nothing_passed job name r old x none start zero first =
       has = record { parts = tt; in_front = front_of r r [] (ahead_of x.window) read; played = played_none refl };
       all = tt;
       is_read = read;
-      to = λ i. record { name = name; offset = zero i; place = start i; turn = first i; counts = old.counts };
+      to = λ i. record { name = name; limits = job.limits; offset = zero i; place = start i; turn = first i; counts = old.counts };
     }
 
 module _ {job : TextJob} {name : List ℕ} {input r : Option (List ℕ)} {old mid : Held} {x : Cursor} (g : GoesOnBehind job name input r old mid x) where
   there : x.window.offset ≡ length (bytes_of_texts g.ps)
-  there = ap (λ (q : TextPoint). q.offset) g.to ∙ offset_behind (first_point name old.counts) g.ps ∙ zero-add (length (bytes_of_texts g.ps))
+  there = ap (λ (q : TextPoint). q.offset) g.to ∙ offset_behind (first_point job name old.counts) g.ps ∙ zero-add (length (bytes_of_texts g.ps))
 
   pub at_of : IsAt input r x
   at_of = record { bytes = bytes_of_texts g.ps; offset = there; is_read = g.is_read }
 
   -- one more part comes after them
-  parts_more : (p : TextPart) → IsTextPart job input (point_of name x mid.counts) p → AreTexts job input (first_point name old.counts) (g.ps ++ p ∷ [])
+  parts_more : (p : TextPart) → IsTextPart job input (point_of job name x mid.counts) p → AreTexts job input (first_point job name old.counts) (g.ps ++ p ∷ [])
   parts_more p is =
-      texts_more job (first_point name old.counts) g.ps p g.has.parts g.all (subst (λ (q : TextPoint). IsTextPart job input q p) g.to is)
+      texts_more job (first_point job name old.counts) g.ps p g.has.parts g.all (subst (λ (q : TextPoint). IsTextPart job input q p) g.to is)
 
   -- it is the last one, in front of the input
-  has_more : {new : Held} (p : TextPart) → IsTextPart job input (point_of name x mid.counts) p → IfSome input (λ s. HasFront s (bytes_of_texts g.ps ++ bytes_of p))
+  has_more : {new : Held} (p : TextPart) → IsTextPart job input (point_of job name x mid.counts) p → IfSome input (λ s. HasFront s (bytes_of_texts g.ps ++ bytes_of p))
       → Played (events_of p.says) mid new → HasTexts job name input old new (g.ps ++ p ∷ [])
   has_more {new} p is front played = record {
     parts = parts_more p is;
@@ -134,15 +133,15 @@ module _ {job : TextJob} {name : List ℕ} {input r : Option (List ℕ)} {old mi
 
   -- it is passed
   module _ {r' : Option (List ℕ)} {y : Cursor} {new : Held} where
-    goes_more : (p : TextPart) → IsTextPart job input (point_of name x mid.counts) p → Advances r r' x y (bytes_of p) → Played (events_of p.says) mid new → GoesOn job.keep_going p.says
+    goes_more : (p : TextPart) → IsTextPart job input (point_of job name x mid.counts) p → Advances r r' x y (bytes_of p) → Played (events_of p.says) mid new → GoesOn job.keep_going p.says
         → y.turn ≡ p.behind → GoesOnBehind job name input r' old new y
     goes_more p is advances played goes turns =
         let bytes = bytes_of_texts g.ps in
-        let first = first_point name old.counts in
+        let first = first_point job name old.counts in
         let read = read_behind bytes (ahead_of x.window) (bytes_of p ++ ahead_of y.window) input r r' g.is_read advances.is_read in
         let both = subst (Consumes input r') (sym (append_assoc bytes (bytes_of p) (ahead_of y.window))) read in
-        let next : point_of name y new.counts ≡ after (point_of name x mid.counts) p =
-        λ i. record { name = name; offset = advances.offset i; place = advances.place i; turn = turns i; counts = played.counts i } in
+        let next : point_of job name y new.counts ≡ after (point_of job name x mid.counts) p =
+        λ i. record { name = name; limits = job.limits; offset = advances.offset i; place = advances.place i; turn = turns i; counts = played.counts i } in
         record {
           ps = g.ps ++ p ∷ [];
           has = has_more p is (front_of input r' (bytes ++ bytes_of p) (ahead_of y.window) both) played;
@@ -199,11 +198,11 @@ module _ {job : TextJob} {name : List ℕ} {input r r' : Option (List ℕ)} {old
     (g : GoesOnBehind job name input r old mid x) (f : FindsText r r' x y told) where
   -- where the text begins
   abbrev here : TextPoint
-  here = point_of name y mid.counts
+  here = point_of job name y mid.counts
 
   -- how its fault is told
   abbrev shown : Style
-  shown = style_at job.style job.limit mid.counts
+  shown = style_of job here
 
   -- what is in front of the text
   abbrev before : List ℕ
@@ -219,10 +218,10 @@ module _ {job : TextJob} {name : List ℕ} {input r r' : Option (List ℕ)} {old
 
   -- what is next is a part
   part_of : (text : List ℕ) (says : Said) (v : Turn) → IsSaid shown input here text says v
-      → IsTextPart job input (point_of name x mid.counts) (record { front = f.front; text = text; says = says; behind = v })
+      → IsTextPart job input (point_of job name x mid.counts) (record { front = f.front; text = text; says = says; behind = v })
   part_of text says v is =
-      let same : here ≡ passed_to (point_of name x mid.counts) f.front y.turn =
-      λ i. record { name = name; offset = f.advances.offset i; place = f.advances.place i; turn = y.turn; counts = mid.counts } in
+      let same : here ≡ passed_to (point_of job name x mid.counts) f.front y.turn =
+      λ i. record { name = name; limits = job.limits; offset = f.advances.offset i; place = f.advances.place i; turn = y.turn; counts = mid.counts } in
       record { between = y.turn; fronts = f.turns; is = subst (λ (q : TextPoint). IsSaid shown input q text says v) same is }
 
   -- the text is in front of the input, after what is before it
@@ -233,7 +232,7 @@ module _ {job : TextJob} {name : List ℕ} {input r r' : Option (List ℕ)} {old
 
   -- a whole text with nothing after it
   completed_whole : (text : List ℕ) (says : Said) (v : Turn) → HasFront (ahead_of y.window) text → IsSaid shown input here text says v
-      → Completes job input (bytes_of_texts g.ps) (point_of name x mid.counts) f.front text says
+      → Completes job input (bytes_of_texts g.ps) (point_of job name x mid.counts) f.front text says
   completed_whole text says v front is =
       let same : text ≡ text ++ [] = sym (append-nil text) in (
         [],
@@ -244,7 +243,7 @@ module _ {job : TextJob} {name : List ℕ} {input r r' : Option (List ℕ)} {old
 
   -- and with what is passed over after it, where it is no whole one
   completed : (what : Went) (text : List ℕ) (says : Said) (v : Turn) → HasFront (ahead_of y.window) text
-      → Becomes shown here (ahead_of y.window) told what text says v → Completes job input (bytes_of_texts g.ps) (point_of name x mid.counts) f.front text says
+      → Becomes shown here (ahead_of y.window) told what text says v → Completes job input (bytes_of_texts g.ps) (point_of job name x mid.counts) f.front text says
   completed went.Document text (said bytes) v front is = completed_whole text (said bytes) v front is
   completed went.Document text (refused line) v front is = absurd is
   completed went.Refused text (said bytes) v front is = absurd is
@@ -260,7 +259,7 @@ module _ {job : TextJob} {name : List ℕ} {input r r' : Option (List ℕ)} {old
       )
 
   -- a run that fails, and of what is next a front was played
-  pub halts_next : {new : Held} → HaltsText shown name told y mid new → HaltsTexts job name input old new
+  pub halts_next : {new : Held} → HaltsText job name told y mid new → HaltsTexts job name input old new
   halts_next (inl none) = record { ps = g.ps; parts = g.has.parts; in_front = g.has.in_front; es = []; next = inl refl; played = played_on g.has.played none }
   halts_next (inr (what, text, says, v, front, is, (es, played, inl none))) =
       record { ps = g.ps; parts = g.has.parts; in_front = g.has.in_front; es = es; next = inl none; played = played_on g.has.played played }
@@ -276,7 +275,7 @@ module _ {job : TextJob} {name : List ℕ} {input r r' : Option (List ℕ)} {old
         played = played_on g.has.played played;
       }
 
-  module _ {z : Cursor} {new : Held} {what : Went} (p : PassesText shown name told y z mid new what) where
+  module _ {z : Cursor} {new : Held} {what : Went} (p : PassesText job name told y z mid new what) where
     over_text : Advances r r' x z (f.front ++ p.text)
     over_text = advances_more r r' x y z f.front p.text f.advances p.window p.ahead p.place p.offset
 
@@ -348,14 +347,14 @@ same_behind {job = job} {name = name} {input = input} {r = r} {old = old} {new =
 module _ {job : TextJob} {name : List ℕ} {input r r' : Option (List ℕ)} {old mid new : Held} {x y z : Cursor} {told : NextText}
     (g : GoesOnBehind job name input r old mid x) (f : FindsText r r' x y told) where
   -- a whole text is passed
-  goes_on_whole : (what : Went) → PassesText (style_at job.style job.limit mid.counts) name told y z mid new what → (what ≡ went.Astray → ⊥)
+  goes_on_whole : (what : Went) → PassesText job name told y z mid new what → (what ≡ went.Astray → ⊥)
       → (what ≡ went.Document) ⊎ (job.keep_going ≡ true) → GoesOnBehind job name input r' old new z
   goes_on_whole what p whole asked =
       let on = on_of (shown g f) (here g f) (ahead_of y.window) told what p.text p.says z.turn job.keep_going p.is asked in
       goes_whole g f p on (said_of (shown g f) input (here g f) (ahead_of y.window) told what p.text p.says z.turn whole p.is)
 
   -- what is next is passed, and the bytes after it
-  pub goes_next : (what : Went) (r'' : Option (List ℕ)) (q : Cursor) → PassesText (style_at job.style job.limit mid.counts) name told y z mid new what
+  pub goes_next : (what : Went) (r'' : Option (List ℕ)) (q : Cursor) → PassesText job name told y z mid new what
       → PassesBehind what r' r'' z q → (what ≡ went.Document) ⊎ (job.keep_going ≡ true) → GoesOnBehind job name input r'' old new q
   goes_next went.Document r'' q p same asked = same_behind same (goes_on_whole went.Document p (λ other. let none : ⊥ = cc in none) asked)
   goes_next went.Refused r'' q p same asked = same_behind same (goes_on_whole went.Refused p (λ other. let none : ⊥ = cc in none) asked)
@@ -390,7 +389,7 @@ module _ {job : TextJob} {name : List ℕ} {input r : Option (List ℕ)} {old ne
   stops_end r' y f =
       let bytes = bytes_of_texts g.ps in
       let read = read_behind bytes (ahead_of x.window) (f.front ++ ahead_of y.window) input r r' g.is_read f.advances.is_read in
-      let same : x.turn ≡ turn_behind_texts g.ps = ap (λ (q : TextPoint). q.turn) g.to ∙ turn_behind (first_point name old.counts) g.ps in
+      let same : x.turn ≡ turn_behind_texts g.ps = ap (λ (q : TextPoint). q.turn) g.to ∙ turn_behind (first_point job name old.counts) g.ps in
       let turns = subst (λ (l : Turn). turn_over l f.front ≡ Some y.turn) same f.turns in
       record {
         ps = g.ps;

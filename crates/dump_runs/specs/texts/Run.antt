@@ -4,10 +4,10 @@ use Rattle.std.specs.Io.KnownBytes.{Consumes, IsAtEnd}
 use Rattle.std.specs.Str.{IsUtf8, IsValidUpTo}
 use Rattle.bson_model.specs.Tree.{Tree}
 use Rattle.raw_tree.specs.WithinLimits.{ReadsWithin}
+use Rattle.raw_tree.specs.declared.reader.limits.Limits.{Limits}
 use Rattle.bson_from_json.specs.Texts.{IsCause, IsWritten, SaysNone}
 use Rattle.bson_from_json.specs.JsonReason.TheVariants as json
 use Rattle.dump_io.specs.input.Texts.{CantBe, EndsGap, HasBegun, HasBrace, HasNoLine, IsOpen, IsTextOf, IsOneText, first_position, may_begin, may_end, position_over, scanned, turn_behind_document, turn_behind_gap, turn_over}
-use Rattle.dump_io.specs.lines.Find.{usual}
 use Rattle.dump_io.specs.lines.Fronts.{HasFront}
 use Rattle.dump_io.specs.declared.input.position.Position.{Position}
 use Rattle.dump_io.specs.declared.input.turn.Turn.{Turn}
@@ -57,17 +57,19 @@ IsFrontOf (refused line) es = (front : List ℕ) × HasFront line front × (es �
 abbrev pub events_of_texts : List TextPart → List Event
 events_of_texts ps = flat_map (λ p. events_of p.says) ps
 
--- where a part of an input begins: the input's name, the offset, the line and the column, what may come there, and what was counted before it
+-- where a part of an input begins: the input's name, what a document may cost, the offset, the line and the column, what may come there, and what was
+-- counted before it
 pub record TextPoint : Type 0 where
   pub name : List ℕ
+  pub limits : Limits
   pub offset : ℕ
   pub place : Position
   pub turn : Turn
   pub counts : Counts
 
 -- the first part of an input begins here
-abbrev pub first_point : List ℕ → Counts → TextPoint
-first_point name n = record { name = name; offset = 0; place = first_position; turn = turns.First; counts = n }
+abbrev pub first_point : TextJob → List ℕ → Counts → TextPoint
+first_point job name n = record { name = name; limits = job.limits; offset = 0; place = first_position; turn = turns.First; counts = n }
 
 -- these bytes are passed, and this may come then
 abbrev pub passed_to : TextPoint → List ℕ → Turn → TextPoint
@@ -77,6 +79,7 @@ passed_to here bytes t = record here { offset = here.offset + length bytes; plac
 abbrev pub after : TextPoint → TextPart → TextPoint
 after here p = record {
   name = here.name;
+  limits = here.limits;
   offset = here.offset + length (bytes_of p);
   place = position_over here.place (bytes_of p);
   turn = p.behind;
@@ -91,16 +94,16 @@ after_all here ps = fold after here ps
 abbrev pub style_of : TextJob → TextPoint → Style
 style_of job here = style_at job.style job.limit here.counts
 
--- the text says this document, which is read within the limits where none are given
-abbrev pub Gives : List ℕ → List ℕ → Type 0
-Gives text bytes = IsWritten text bytes × ((t : Tree) × ReadsWithin usual bytes t)
+-- the text says this document, which is read within these limits
+abbrev pub Gives : Limits → List ℕ → List ℕ → Type 0
+Gives limits text bytes = IsWritten text bytes × ((t : Tree) × ReadsWithin limits bytes t)
 
 -- the whole text says this document
 pub record IsDocument (here : TextPoint) (text bytes : List ℕ) (behind : Turn) : Type 0 where
   pub may_be : may_begin here.turn ≡ true
   pub brace : HasBrace text
   pub whole : IsOneText text
-  pub is_written : Gives text bytes
+  pub is_written : Gives here.limits text bytes
   pub next : behind ≡ turn_behind_document here.turn
 
 -- this is the line of a fault in a text that begins here, and this number of its bytes are before the fault
@@ -112,9 +115,9 @@ pub record TellsTextFault (style : Style) (here : TextPoint) (text line : List �
 
 -- Why a text isn't read that has a fault after its first bytes, which are this many: from there on it isn't UTF-8; or it is UTF-8, and says no document, or none
 -- within the limit that the reason names. Which of these reasons it is, and where, is what from_json says of it.
-abbrev pub IsFaultOf : List ℕ → ℕ → TextReason → Type 0
-IsFaultOf text at reason.NotUtf8 = IsValidUpTo text at
-IsFaultOf text at (reason.Json why) = IsUtf8 text × (why ≢ json.OutOfMemory) × IsCause usual text why
+abbrev pub IsFaultOf : Limits → List ℕ → ℕ → TextReason → Type 0
+IsFaultOf limits text at reason.NotUtf8 = IsValidUpTo text at
+IsFaultOf limits text at (reason.Json why) = IsUtf8 text × (why ≢ json.OutOfMemory) × IsCause limits text why
 
 -- the whole text has a fault
 pub record IsRefused (style : Style) (here : TextPoint) (text line : List ℕ) (behind : Turn) : Type 0 where
@@ -122,28 +125,29 @@ pub record IsRefused (style : Style) (here : TextPoint) (text line : List ℕ) (
   pub brace : HasBrace text
   pub whole : IsOneText text
   pub fault : TellsTextFault style here text line
-  pub why : IsFaultOf text fault.at fault.reason
+  pub why : IsFaultOf here.limits text fault.at fault.reason
   pub next : behind ≡ turn_behind_document here.turn
 
 -- What is wrong with a text that doesn't come to its end, where these bytes are read for it, and this number of them begun: there are 128 MiB; or they
 -- have a fault, whose place is told within what is begun.
-abbrev pub IsUnendedFault : (text : List ℕ) → (begun at : ℕ) → TextReason → Type 0
-IsUnendedFault text begun at why =
+abbrev pub IsUnendedFault : Limits → (text : List ℕ) → (begun at : ℕ) → TextReason → Type 0
+IsUnendedFault limits text begun at why =
     ((length text ≡ 2 ^ 27) × (at ≡ 0) × (why ≡ reason.Json json.TooManyBytes))
-    ⊎ ((length text < 2 ^ 27) × ((place : ℕ) × IsFaultOf text place why × (at ≡ min place begun)))
+    ⊎ ((length text < 2 ^ 27) × ((place : ℕ) × IsFaultOf limits text place why × (at ≡ min place begun)))
 
 -- The text of a document in front of s doesn't come to its end, and says no document: this number of its bytes are begun, and after at of them it
 -- has this fault.
-abbrev pub IsUnended : (s : List ℕ) → (begun at : ℕ) → TextReason → Type 0
-IsUnended s begun at why = (text : List ℕ) × IsTextOf s text × (¬ IsOneText text) × SaysNone text × HasBegun text begun × IsUnendedFault text begun at why
+abbrev pub IsUnended : Limits → (s : List ℕ) → (begun at : ℕ) → TextReason → Type 0
+IsUnended limits s begun at why =
+    (text : List ℕ) × IsTextOf s text × (¬ IsOneText text) × SaysNone text × HasBegun text begun × IsUnendedFault limits text begun at why
 
--- Why no whole text is in front of s, of which this number of bytes are begun, and after how many of them: the input ends where it may not; a
--- byte can't be there; or a text doesn't come to its end.
-abbrev pub HasNoText : (before : Turn) → (s : List ℕ) → (begun at : ℕ) → TextReason → Type 0
-HasNoText before [] begun at why = (may_end before ≡ false) × (begun ≡ 0) × (at ≡ 0) × (why ≡ reason.Json json.EndOfText)
-HasNoText before (b ∷ bs) begun at why =
-    (CantBe before b × (begun ≡ 0) × (at ≡ 0) × (why ≡ reason.Json (reason_between before)))
-    ⊎ ((b ≡ 123) × (may_begin before ≡ true) × IsUnended (b ∷ bs) begun at why)
+-- Why no whole text begins here, in front of s, of which this number of bytes are begun, and after how many of them: the input ends where it may
+-- not; a byte can't be there; or a text doesn't come to its end.
+abbrev pub HasNoText : TextPoint → (s : List ℕ) → (begun at : ℕ) → TextReason → Type 0
+HasNoText here [] begun at why = (may_end here.turn ≡ false) × (begun ≡ 0) × (at ≡ 0) × (why ≡ reason.Json json.EndOfText)
+HasNoText here (b ∷ bs) begun at why =
+    (CantBe here.turn b × (begun ≡ 0) × (at ≡ 0) × (why ≡ reason.Json (reason_between here.turn)))
+    ⊎ ((b ≡ 123) × (may_begin here.turn ≡ true) × IsUnended here.limits (b ∷ bs) begun at why)
 
 -- No text of a document is here in an input, of which these bytes are known, or one that doesn't come to its end. What there is of it is
 -- passed, and the bytes after it up to the next line that begins with a brace, or to the end of the input.
@@ -154,7 +158,7 @@ pub record MeetsNoText (style : Style) (input : Option (List ℕ)) (here : TextP
   pub unended : IsOpen (scanned begun)
   pub no_line : HasNoLine (position_over here.place begun) gap
   pub fault : TellsTextFault style here begun line
-  pub why : IfSome input (λ s. HasNoText here.turn (drop here.offset s) (length begun) fault.at fault.reason)
+  pub why : IfSome input (λ s. HasNoText here (drop here.offset s) (length begun) fault.at fault.reason)
   pub next : (behind ≡ turn_behind_gap here.turn) ⊎ (behind ≡ turns.Last)
   pub ends : IfSome input (λ s. EndsGap (position_over here.place text) (turn_behind_gap here.turn) (drop (here.offset + length text) s) behind)
 
@@ -208,7 +212,7 @@ last_events _ = []
 -- How a run over an input ends, of which these bytes are known: it was cut into parts, and what they give was played, and nothing else.
 pub record ReadsTexts (job : TextJob) (name : List ℕ) (input : Option (List ℕ)) (old new : Held) (ended : Ended) : Type 0 where
   pub ps : List TextPart
-  pub parts : AreTexts job input (first_point name old.counts) ps
+  pub parts : AreTexts job input (first_point job name old.counts) ps
   pub left : Option (List ℕ)
   pub ends : IfSome input (EndsTexts ended ps left)
   pub stops : StopsTexts ended job.keep_going ps
@@ -223,8 +227,8 @@ IsNextTextFront job input first ps es =
 -- How a run over an input fails. These parts are in front of it. What they give was played, and then a front of what is next.
 pub record HaltsTexts (job : TextJob) (name : List ℕ) (input : Option (List ℕ)) (old new : Held) : Type 0 where
   pub ps : List TextPart
-  pub parts : AreTexts job input (first_point name old.counts) ps
+  pub parts : AreTexts job input (first_point job name old.counts) ps
   pub in_front : IfSome input (λ s. HasFront s (bytes_of_texts ps))
   pub es : List Event
-  pub next : IsNextTextFront job input (first_point name old.counts) ps es
+  pub next : IsNextTextFront job input (first_point job name old.counts) ps es
   pub played : Played (events_of_texts ps ++ es) old new

@@ -1,5 +1,6 @@
 -- What the code tells of one part of an input of texts. No public contract cites this file.
 use Rattle.std.specs.Prelude.{◌≡◌, ◌⊎◌, ◌+◌, ◌≤◌, ℕ, List, [], ◌++◌, true, Option, IfSome, Result, Ok, Err, length, take}
+use Rattle.raw_tree.specs.declared.reader.limits.Limits.{Limits}
 use Rattle.dump_io.specs.input.Reading.{IsWindow, ahead_of, offset_of}
 use Rattle.dump_io.specs.input.Texts.{HasBegun, HasBrace, IsOpen, IsOneText, ScansAhead, may_begin, position_over, scanned, turn_behind_gap}
 use Rattle.dump_io.specs.lines.Failing.{IsReading}
@@ -8,9 +9,11 @@ use Rattle.dump_io.specs.declared.input.turn.Turn.{Turn}
 use Rattle.dump_io.specs.declared.lines.failure.Failure.{Failure}
 use Rattle.dump_io.specs.declared.lines.style.Style.{Style}
 use Rattle.dump_commands.specs.declared.counts.Counts.{Counts}
+use Rattle.dump_runs.specs.Limits.{style_at}
 use Rattle.dump_runs.specs.Plays.{Event, Held, Played}
+use Rattle.dump_runs.specs.texts.Faults.{fault_line}
 use Rattle.dump_runs.specs.texts.Reading.{PassesGap}
-use Rattle.dump_runs.specs.texts.Run.{AreTexts, EndsTexts, Gives, IsDocument, IsFaultOf, IsFrontOf, IsRefused, IsUnendedFault, Said, StopsTexts, TellsTextFault, TextPart, TextPoint, events_of, events_of_texts, first_point, refused, said}
+use Rattle.dump_runs.specs.texts.Run.{AreTexts, EndsTexts, Gives, IsDocument, IsFaultOf, IsFrontOf, IsRefused, IsUnendedFault, Said, StopsTexts, TellsTextFault, TextPart, TextPoint, events_of, events_of_texts, first_point, refused, said, style_of}
 use Rattle.dump_runs.specs.declared.ends.Ended.{Ended}
 use Rattle.dump_runs.specs.declared.ends.Ended.TheVariants as how
 use Rattle.dump_runs.specs.declared.reading.TextJob.{TextJob}
@@ -18,27 +21,32 @@ use Rattle.dump_runs.specs.declared.texts.cursor.Cursor.{Cursor}
 use Rattle.dump_runs.specs.declared.texts.cursor.NextText.{NextText}
 use Rattle.dump_runs.specs.declared.texts.cursor.NextText.TheVariants as next
 use Rattle.dump_runs.specs.declared.texts.fault.TextReason.{TextReason}
+use Rattle.dump_runs.specs.declared.texts.piece.Fault.{Fault}
 use Rattle.dump_runs.specs.declared.texts.piece.Made.{Made}
 use Rattle.dump_runs.specs.declared.texts.piece.Made.TheVariants as made
 use Rattle.dump_runs.specs.declared.texts.piece.Went.{Went}
 use Rattle.dump_runs.specs.declared.texts.piece.Went.TheVariants as went
 
 -- where the next part begins, where the input is read as far as this, and this was counted
-abbrev pub point_of : List ℕ → Cursor → Counts → TextPoint
-point_of name x n = record { name = name; offset = offset_of x.window; place = x.place; turn = x.turn; counts = n }
+abbrev pub point_of : TextJob → List ℕ → Cursor → Counts → TextPoint
+point_of job name x n = record { name = name; limits = job.limits; offset = offset_of x.window; place = x.place; turn = x.turn; counts = n }
+
+-- the line of a fault in the bytes ahead, after these counts
+abbrev pub line_of : TextJob → List ℕ → Cursor → Counts → Fault → List ℕ
+line_of job name x n fault = fault_line (style_at job.style job.limit n) name (position_over x.place (take fault.at (ahead_of x.window))) fault.reason
 
 -- no whole text is in front of these bytes, of which this was told: begun of them are begun, and after at of them is this fault
-abbrev pub TellsNoText : (ahead : List ℕ) → NextText → (begun at : ℕ) → TextReason → Type 0
-TellsNoText ahead (next.Text found) begun at why =
-    (¬ IsOneText (take found.len ahead)) × HasBegun (take found.len ahead) begun × IsUnendedFault (take found.len ahead) begun at why
-TellsNoText ahead (next.Wrong reason) begun at why = (begun ≡ 0) × (at ≡ 0) × (why ≡ reason)
-TellsNoText ahead next.End begun at why = ⊥
+abbrev pub TellsNoText : Limits → (ahead : List ℕ) → NextText → (begun at : ℕ) → TextReason → Type 0
+TellsNoText limits ahead (next.Text found) begun at why =
+    (¬ IsOneText (take found.len ahead)) × HasBegun (take found.len ahead) begun × IsUnendedFault limits (take found.len ahead) begun at why
+TellsNoText limits ahead (next.Wrong reason) begun at why = (begun ≡ 0) × (at ≡ 0) × (why ≡ reason)
+TellsNoText limits ahead next.End begun at why = ⊥
 
 -- what is begun of a text that doesn't come to its end is passed; nothing, where none is there
 pub record IsBegun (style : Style) (here : TextPoint) (ahead : List ℕ) (told : NextText) (text line : List ℕ) (behind : Turn) : Type 0 where
   pub unended : IsOpen (scanned text)
   pub fault : TellsTextFault style here text line
-  pub why : TellsNoText ahead told (length text) fault.at fault.reason
+  pub why : TellsNoText here.limits ahead told (length text) fault.at fault.reason
   pub next : behind ≡ turn_behind_gap here.turn
 
 -- what came of the bytes ahead, of which this was told: a document, a text with a fault, or what is no text
@@ -49,14 +57,14 @@ Becomes style here ahead told went.Astray text (refused line) behind = IsBegun s
 Becomes style here ahead told what text says behind = ⊥
 
 -- a part is passed, of which these bytes are ahead, and this was told
-pub record PassesText (style : Style) (name : List ℕ) (told : NextText) (x y : Cursor) (old new : Held) (what : Went) : Type 0 where
+pub record PassesText (job : TextJob) (name : List ℕ) (told : NextText) (x y : Cursor) (old new : Held) (what : Went) : Type 0 where
   pub window : IsWindow y.window
   pub text : List ℕ
   pub says : Said
   pub ahead : ahead_of x.window ≡ text ++ ahead_of y.window
   pub place : y.place ≡ position_over x.place text
   pub offset : offset_of y.window ≡ offset_of x.window + length text
-  pub is : Becomes style (point_of name x old.counts) (ahead_of x.window) told what text says y.turn
+  pub is : Becomes (style_of job (point_of job name x old.counts)) (point_of job name x old.counts) (ahead_of x.window) told what text says y.turn
   pub played : Played (events_of says) old new
 
 -- nothing is played, or a front of what a text gives
@@ -64,17 +72,18 @@ abbrev pub HaltsSaid : Said → (old new : Held) → Type 0
 HaltsSaid says old new = (es : List Event) × Played es old new × ((es ≡ []) ⊎ IsFrontOf says es)
 
 -- nothing is played of these bytes, or a front of what a part gives that is in front of them
-abbrev pub HaltsText : Style → List ℕ → NextText → Cursor → (old new : Held) → Type 0
-HaltsText style name told x old new =
+abbrev pub HaltsText : TextJob → List ℕ → NextText → Cursor → (old new : Held) → Type 0
+HaltsText job name told x old new =
     Played [] old new
     ⊎ ((what : Went) × (text : List ℕ) × (says : Said) × (behind : Turn) × HasFront (ahead_of x.window) text
-    × Becomes style (point_of name x old.counts) (ahead_of x.window) told what text says behind × HaltsSaid says old new)
+    × Becomes (style_of job (point_of job name x old.counts)) (point_of job name x old.counts) (ahead_of x.window) told what text says behind
+    × HaltsSaid says old new)
 
 -- What comes of the part that is ahead, of which this was told: it is passed; or it isn't counted, and nothing is written, or a front of what
 -- it gives.
-abbrev pub PassesPart : Style → List ℕ → NextText → (x y : Cursor) → (old new : Held) → Result Went Failure → Type 0
-PassesPart style name told x y old new (Ok what) = PassesText style name told x y old new what
-PassesPart style name told x y old new (Err failure) = HaltsText style name told x old new × (¬ IsReading failure)
+abbrev pub PassesPart : TextJob → List ℕ → NextText → (x y : Cursor) → (old new : Held) → Result Went Failure → Type 0
+PassesPart job name told x y old new (Ok what) = PassesText job name told x y old new what
+PassesPart job name told x y old new (Err failure) = HaltsText job name told x old new × (¬ IsReading failure)
 
 -- what is next in the bytes ahead, and isn't the end of the input
 abbrev pub HasNext : List ℕ → Turn → NextText → Type 0
@@ -82,10 +91,10 @@ HasNext ahead t (next.Text found) = (may_begin t ≡ true) × HasBrace ahead × 
 HasNext ahead t (next.Wrong reason) = Unit {0}
 HasNext ahead t next.End = ⊥
 
--- what a text makes
-abbrev pub IsMadeOf : List ℕ → Made → Type 0
-IsMadeOf text (made.Document bytes) = Gives text bytes
-IsMadeOf text (made.Fault at reason) = (at ≤ length text) × IsFaultOf text at reason
+-- what a text makes within limits
+abbrev pub IsMadeOf : Limits → List ℕ → Made → Type 0
+IsMadeOf limits text (made.Document bytes) = Gives limits text bytes
+IsMadeOf limits text (made.Fault at reason) = (at ≤ length text) × IsFaultOf limits text at reason
 
 -- bytes are passed after what was no whole text, and none after another part
 abbrev pub PassesBehind : Went → (old new : Option (List ℕ)) → (x y : Cursor) → Type 0
@@ -100,7 +109,7 @@ FailsAt at _ = ⊥
 -- an input is cut into parts, and what they give was played, and nothing else; it isn't counted yet that reading failed
 pub record PassesTexts (job : TextJob) (name : List ℕ) (input left : Option (List ℕ)) (old new : Held) (ended : Ended) : Type 0 where
   pub ps : List TextPart
-  pub parts : AreTexts job input (first_point name old.counts) ps
+  pub parts : AreTexts job input (first_point job name old.counts) ps
   pub ends : IfSome input (EndsTexts ended ps left)
   pub stops : StopsTexts ended job.keep_going ps
   pub played : Played (events_of_texts ps) old new

@@ -34,15 +34,6 @@ impl TextReason {
     }
 }
 
-/// How a fault is told, and of which input.
-#[derive(Clone, Copy)]
-pub struct Telling<'a> {
-    /// how it is printed
-    pub style: Style,
-    /// the name of the input, which begins the line
-    pub name: &'a str,
-}
-
 /// The line of what is wrong at a place of an input.
 pub fn line_of_fault(
     alloc: Global,

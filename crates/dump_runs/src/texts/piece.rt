@@ -2,6 +2,7 @@
 #![tactic(auto)]
 
 ghost use Rattle.std.specs.Prelude.{◌≡◌, ◌^◌, ◌≤◌, ℕ, List, length, take, IfErr, IfOk, OnErr, OnOk, true};
+ghost use Rattle.raw_tree.specs.declared.reader.limits.Limits.{Limits};
 ghost use Rattle.dump_io.specs.input.Reading.{IsWindow, ahead_of};
 ghost use Rattle.dump_io.specs.input.Texts.{ScansAhead, HasBrace, IsOpen, IsOneText, may_begin, position_over, scanned};
 ghost use Rattle.dump_io.specs.lines.Failing.{IsReading};
@@ -10,23 +11,35 @@ ghost use Rattle.dump_runs.specs.texts.Faults.{fault_line};
 ghost use Rattle.dump_runs.specs.texts.Reading.{PassesAhead};
 ghost use Rattle.dump_runs.specs.texts.Run as says;
 ghost use Rattle.dump_runs.specs.texts.Run.{Gives, IsFaultOf, IsUnendedFault, events_of};
-ghost use Rattle.dump_runs.specs.texts.Steps.{HaltsSaid, HasNext, IsMadeOf, PassesPart, TellsNoText};
-ghost use Rattle.dump_io.specs.declared.lines.style.Style.{Style};
+ghost use Rattle.dump_runs.specs.texts.Steps.{HaltsSaid, HasNext, IsMadeOf, PassesPart, TellsNoText, line_of};
+ghost use Rattle.dump_runs.specs.declared.reading.TextJob.{TextJob};
 ghost use Rattle.dump_runs.specs.declared.texts.cursor.NextText.{NextText as Told};
 ghost use Rattle.dump_runs.specs.declared.texts.cursor.NextText.TheVariants.{Text};
 
+use crate::reading::TextJob;
+use crate::style::style_at;
 use crate::texts::cursor::{Cursor, NextText};
-use crate::texts::fault::{Telling, TextReason, line_of_fault};
+use crate::texts::fault::{TextReason, line_of_fault};
 use crate::writers::{Tally, Writers};
 use bson_from_json::{JsonReason, from_json};
 use dump_io::input::scan::{MOST_TEXT, Scanned};
 use dump_io::lines::failure::{Failure, in_range};
-use dump_io::lines::find::most_allowed;
+use dump_io::lines::style::Style;
 use dump_io::lines::write::put;
 use raw_bson::RawDocumentBuf;
+use raw_tree::Limits;
 use std::alloc::Global;
 use std::io::Write;
 use std::str;
+
+/// An input of texts, and what is asked of it.
+#[derive(Clone, Copy)]
+pub struct TextInput<'a> {
+    /// its name
+    pub name: &'a str,
+    /// what is asked of it
+    pub job: TextJob,
+}
 
 /// What came of the bytes that are next.
 #[derive(Clone, Copy)]
@@ -62,24 +75,24 @@ struct Fault {
 /// Passes what is next.
 pub fn pass_next<D: Write + Drop, A: Write + Drop, W: Write + Drop>(
     alloc: Global,
-    telling: Telling<'_>,
+    input: TextInput<'_>,
     next: NextText,
     cursor: &mut Cursor,
     writers: &mut Writers<D, A, W>,
     tally: &mut Tally<'_>,
 ) -> Result<Went, Failure>
     requires { IsWindow cursor.old.window × HasNext (ahead_of cursor.old.window) cursor.old.turn next }
-    ensures { PassesPart telling.entry.style telling.entry.name.now next cursor.old cursor.new (held writers.old tally.old) (held writers.new tally.new) result }
+    ensures { PassesPart input.entry.job input.entry.name.now next cursor.old cursor.new (held writers.old tally.old) (held writers.new tally.new) result }
 {
     match next {
-        NextText::Text(found) => pass_found(alloc, telling, found, cursor, writers, tally),
+        NextText::Text(found) => pass_found(alloc, input, found, cursor, writers, tally),
         NextText::Wrong(reason) => {
             let fault = Fault {
                 len: 0,
                 at: 0,
                 reason,
             };
-            pass_astray(alloc, telling, fault, cursor, writers, tally)
+            pass_astray(alloc, input, fault, cursor, writers, tally)
         }
         NextText::End => unreachable!(),
     }
@@ -88,32 +101,32 @@ pub fn pass_next<D: Write + Drop, A: Write + Drop, W: Write + Drop>(
 /// Passes the text of a document, as far as it comes.
 fn pass_found<D: Write + Drop, A: Write + Drop, W: Write + Drop>(
     alloc: Global,
-    telling: Telling<'_>,
+    input: TextInput<'_>,
     found: Scanned,
     cursor: &mut Cursor,
     writers: &mut Writers<D, A, W>,
     tally: &mut Tally<'_>,
 ) -> Result<Went, Failure>
     requires { IsWindow cursor.old.window × (may_begin cursor.old.turn ≡ true) × HasBrace (ahead_of cursor.old.window) × ScansAhead (ahead_of cursor.old.window) found }
-    ensures { PassesPart telling.entry.style telling.entry.name.now (Text found) cursor.old cursor.new (held writers.old tally.old) (held writers.new tally.new) result }
+    ensures { PassesPart input.entry.job input.entry.name.now (Text found) cursor.old cursor.new (held writers.old tally.old) (held writers.new tally.new) result }
 {
     let len = found.len;
-    match made_of(alloc, &cursor.window.ahead()[..len])? {
+    match made_of(alloc, input.job.limits, &cursor.window.ahead()[..len])? {
         Made::Document(document) => pass_document(len, &document, cursor, writers, tally),
         Made::Fault(at, reason) if found.is_whole() => {
             let fault = Fault { len, at, reason };
-            pass_refused(alloc, telling, fault, cursor, writers, tally)
+            pass_refused(alloc, input, fault, cursor, writers, tally)
         }
         Made::Fault(at, reason) => {
             let fault = fault_of(len, found.begun(), at, reason);
-            pass_astray(alloc, telling, fault, cursor, writers, tally)
+            pass_astray(alloc, input, fault, cursor, writers, tally)
         }
     }
 }
 
-/// What a text makes.
-fn made_of(alloc: Global, text: &[u8]) -> Result<Made, Failure>
-    ensures made { IfOk result (IsMadeOf text.now) }
+/// What a text makes within limits.
+fn made_of(alloc: Global, limits: Limits, text: &[u8]) -> Result<Made, Failure>
+    ensures made { IfOk result (IsMadeOf limits text.now) }
     ensures failed { IfErr result (λ failure. ¬ IsReading failure) }
 {
     let text = match str::from_utf8(text) {
@@ -122,7 +135,7 @@ fn made_of(alloc: Global, text: &[u8]) -> Result<Made, Failure>
             return Ok(Made::Fault(error.valid_up_to(), TextReason::NotUtf8));
         }
     };
-    match from_json(alloc, text, most_allowed()) {
+    match from_json(alloc, text, limits) {
         Ok(document) => Ok(Made::Document(document)),
         Err(error) => match error.reason {
             JsonReason::OutOfMemory => Err(Failure::Memory),
@@ -136,7 +149,8 @@ fn fault_of(len: usize, begun: usize, at: usize, reason: TextReason) -> Fault
     requires { len ≤ 2 ^ 27 }
     ensures begun { result.len ≡ begun }
     ensures within { result.at ≤ begun }
-    ensures fault { (text : List ℕ) → length text ≡ len → IsFaultOf text at reason → IsUnendedFault text begun result.at result.reason }
+    ensures fault { (limits : Limits) (text : List ℕ) → length text ≡ len → IsFaultOf limits text at reason
+        → IsUnendedFault limits text begun result.at result.reason }
 {
     if len == MOST_TEXT {
         Fault {
@@ -162,8 +176,9 @@ fn pass_document<D: Write + Drop, A: Write + Drop, W: Write + Drop>(
     tally: &mut Tally<'_>,
 ) -> Result<Went, Failure>
     requires { IsWindow cursor.old.window × (may_begin cursor.old.turn ≡ true) × HasBrace (ahead_of cursor.old.window)
-        × (len ≤ length (ahead_of cursor.old.window)) × IsOneText (take len (ahead_of cursor.old.window)) × Gives (take len (ahead_of cursor.old.window)) document.now }
-    ensures { (style : Style) (name : List ℕ) (told : Told) → PassesPart style name told cursor.old cursor.new (held writers.old tally.old) (held writers.new tally.new) result }
+        × (len ≤ length (ahead_of cursor.old.window)) × IsOneText (take len (ahead_of cursor.old.window)) }
+    ensures { (job : TextJob) (name : List ℕ) (told : Told) → Gives job.limits (take len (ahead_of cursor.old.window)) document.now
+        → PassesPart job name told cursor.old cursor.new (held writers.old tally.old) (held writers.new tally.new) result }
 {
     let bytes = document.as_bytes();
     let counted = in_range(tally.counts.with_said(bytes.len()))?;
@@ -177,7 +192,7 @@ fn pass_document<D: Write + Drop, A: Write + Drop, W: Write + Drop>(
 /// Tells the fault of a whole text, and passes the text.
 fn pass_refused<D: Write + Drop, A: Write + Drop, W: Write + Drop>(
     alloc: Global,
-    telling: Telling<'_>,
+    input: TextInput<'_>,
     fault: Fault,
     cursor: &mut Cursor,
     writers: &mut Writers<D, A, W>,
@@ -185,10 +200,10 @@ fn pass_refused<D: Write + Drop, A: Write + Drop, W: Write + Drop>(
 ) -> Result<Went, Failure>
     requires { IsWindow cursor.old.window × (may_begin cursor.old.turn ≡ true) × HasBrace (ahead_of cursor.old.window)
         × (fault.len ≤ length (ahead_of cursor.old.window)) × IsOneText (take fault.len (ahead_of cursor.old.window)) × (fault.at ≤ fault.len)
-        × IsFaultOf (take fault.len (ahead_of cursor.old.window)) fault.at fault.reason }
-    ensures { (told : Told) → PassesPart telling.entry.style telling.entry.name.now told cursor.old cursor.new (held writers.old tally.old) (held writers.new tally.new) result }
+        × IsFaultOf input.job.limits (take fault.len (ahead_of cursor.old.window)) fault.at fault.reason }
+    ensures { (told : Told) → PassesPart input.entry.job input.entry.name.now told cursor.old cursor.new (held writers.old tally.old) (held writers.new tally.new) result }
 {
-    tell_fault(alloc, telling, fault, cursor, writers, tally)?;
+    tell_fault(alloc, input, fault, cursor, writers, tally)?;
     cursor.turn = cursor.turn.behind_document();
     Ok(Went::Refused)
 }
@@ -196,7 +211,7 @@ fn pass_refused<D: Write + Drop, A: Write + Drop, W: Write + Drop>(
 /// Tells why no whole text is there, and passes what there is of one.
 fn pass_astray<D: Write + Drop, A: Write + Drop, W: Write + Drop>(
     alloc: Global,
-    telling: Telling<'_>,
+    input: TextInput<'_>,
     fault: Fault,
     cursor: &mut Cursor,
     writers: &mut Writers<D, A, W>,
@@ -204,10 +219,10 @@ fn pass_astray<D: Write + Drop, A: Write + Drop, W: Write + Drop>(
 ) -> Result<Went, Failure>
     requires { IsWindow cursor.old.window × (fault.len ≤ length (ahead_of cursor.old.window))
         × IsOpen (scanned (take fault.len (ahead_of cursor.old.window))) × (fault.at ≤ fault.len) }
-    ensures { (told : Told) → TellsNoText (ahead_of cursor.old.window) told fault.len fault.at fault.reason
-        → PassesPart telling.entry.style telling.entry.name.now told cursor.old cursor.new (held writers.old tally.old) (held writers.new tally.new) result }
+    ensures { (told : Told) → TellsNoText input.entry.job.limits (ahead_of cursor.old.window) told fault.len fault.at fault.reason
+        → PassesPart input.entry.job input.entry.name.now told cursor.old cursor.new (held writers.old tally.old) (held writers.new tally.new) result }
 {
-    tell_fault(alloc, telling, fault, cursor, writers, tally)?;
+    tell_fault(alloc, input, fault, cursor, writers, tally)?;
     cursor.turn = cursor.turn.behind_gap();
     Ok(Went::Astray)
 }
@@ -215,21 +230,22 @@ fn pass_astray<D: Write + Drop, A: Write + Drop, W: Write + Drop>(
 /// Tells a fault, counts it, and passes the bytes that it ends.
 fn tell_fault<D: Write + Drop, A: Write + Drop, W: Write + Drop>(
     alloc: Global,
-    telling: Telling<'_>,
+    input: TextInput<'_>,
     fault: Fault,
     cursor: &mut Cursor,
     writers: &mut Writers<D, A, W>,
     tally: &mut Tally<'_>,
 ) -> Result<(), Failure>
     requires { IsWindow cursor.old.window × (fault.len ≤ length (ahead_of cursor.old.window)) × (fault.at ≤ fault.len) }
-    ensures told { OnOk result (Played (events_of (says.refused (fault_line telling.entry.style telling.entry.name.now
-        (position_over cursor.old.place (take fault.at (ahead_of cursor.old.window))) fault.reason))) (held writers.old tally.old) (held writers.new tally.new)) }
+    ensures told { OnOk result (Played (events_of (says.refused (line_of input.entry.job input.entry.name.now cursor.old tally.old.counts fault)))
+        (held writers.old tally.old) (held writers.new tally.new)) }
     ensures passed { OnOk result (PassesAhead cursor.old cursor.new fault.len) }
-    ensures front { OnErr result (HaltsSaid (says.refused (fault_line telling.entry.style telling.entry.name.now
-        (position_over cursor.old.place (take fault.at (ahead_of cursor.old.window))) fault.reason)) (held writers.old tally.old) (held writers.new tally.new)) }
+    ensures front { OnErr result (HaltsSaid (says.refused (line_of input.entry.job input.entry.name.now cursor.old tally.old.counts fault))
+        (held writers.old tally.old) (held writers.new tally.new)) }
     ensures failed { IfErr result (λ failure. ¬ IsReading failure) }
 {
-    let line = line_at(alloc, telling, fault.at, fault.reason, cursor)?;
+    let style = style_at(input.job.style, input.job.limit, tally.counts);
+    let line = line_at(alloc, style, input.name, fault, cursor)?;
     let counted = in_range(tally.counts.with_fault())?;
     cursor.pass(fault.len)?;
     put(&mut writers.report, &line)?;
@@ -237,19 +253,19 @@ fn tell_fault<D: Write + Drop, A: Write + Drop, W: Write + Drop>(
     Ok(())
 }
 
-/// The line of a fault that is `at` bytes after the place.
+/// The line of a fault in the bytes ahead.
 fn line_at(
     alloc: Global,
-    telling: Telling<'_>,
-    at: usize,
-    reason: TextReason,
+    style: Style,
+    name: &str,
+    fault: Fault,
     cursor: &Cursor,
 ) -> Result<Vec<u8>, Failure>
-    requires { IsWindow cursor.now.window × (at ≤ length (ahead_of cursor.now.window)) }
-    ensures line { IfOk result (λ line. line.items ≡ fault_line telling.entry.style telling.entry.name.now
-        (position_over cursor.now.place (take at (ahead_of cursor.now.window))) reason) }
+    requires { IsWindow cursor.now.window × (fault.at ≤ length (ahead_of cursor.now.window)) }
+    ensures line { IfOk result (λ line. line.items ≡ fault_line style name.now
+        (position_over cursor.now.place (take fault.at (ahead_of cursor.now.window))) fault.reason) }
     ensures failed { IfErr result (λ failure. ¬ IsReading failure) }
 {
-    let place = cursor.place.over(&cursor.window.ahead()[..at])?;
-    Ok(line_of_fault(alloc, telling.style, telling.name, place, reason)?)
+    let place = cursor.place.over(&cursor.window.ahead()[..fault.at])?;
+    Ok(line_of_fault(alloc, style, name, place, fault.reason)?)
 }

@@ -12,10 +12,8 @@ ghost use Rattle.dump_runs.specs.declared.texts.piece.Went.TheVariants.{Document
 
 use crate::ends::Ended;
 use crate::reading::TextJob;
-use crate::style::style_at;
 use crate::texts::cursor::{Cursor, NextText};
-use crate::texts::fault::Telling;
-use crate::texts::piece::{Went, pass_next};
+use crate::texts::piece::{TextInput, Went, pass_next};
 use crate::writers::{Tally, Writers};
 use dump_io::lines::failure::{Failure, ReadFailure, in_range};
 use std::alloc::Global;
@@ -67,11 +65,8 @@ fn pass_texts<R: Read, D: Write + Drop, A: Write + Drop, W: Write + Drop>(
             Ok(next) => next,
             Err(failure) => return stopped(&cursor, failure),
         };
-        let telling = Telling {
-            style: style_at(job.style, job.limit, tally.counts),
-            name,
-        };
-        let went = pass_next(alloc, telling, next, &mut cursor, writers, tally)?;
+        let input = TextInput { name, job };
+        let went = pass_next(alloc, input, next, &mut cursor, writers, tally)?;
         if stops(job.keep_going, went) {
             return Ok(Ended::Cut);
         }

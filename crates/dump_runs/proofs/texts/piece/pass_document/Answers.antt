@@ -10,39 +10,39 @@ use Rattle.dump_runs.proofs.texts.Parts.{halts_document, halts_none, passes_docu
 use Rattle.dump_runs.proofs.texts.piece.pass_document.Goals as goal
 
 pub returns : goal.returns
-returns g c style name told =
+returns g c job name told gives =
     let bytes = c.as_bytes-bytes.result.now in
     let y = c.args.cursor.now in
     let t = c.args.tally.now in
-    let is = subst (λ (b : List ℕ). Gives (take c.args.len (ahead_of y.window)) b) (sym c.as_bytes-bytes.ensures.bytes) c.requires.5 in
+    let is = subst (λ (b : List ℕ). Gives job.limits (take c.args.len (ahead_of y.window)) b) (sym c.as_bytes-bytes.ensures.bytes) gives in
     let counted : c.in_ok-counted.counted ≡ count_said t.counts (length bytes) = search rules in
     let new =
     held (record { out = g.D.Write.contents c.put.new.writer; alone = g.A.Write.contents c.writers.inside.alone; report = g.W.Write.contents c.writers.inside.report })
     (record t { counts = c.in_ok-counted.counted }) in
-    subst (λ (v : Written). PassesText style name told y (record c.pass.new.self { turn = c.behind_document-cursor.result }) (held v t) new went.Document) c.writers.view_is
-    (passes_document style name told y c.args.len bytes (record { fits = c.requires.3; is = c.in_ok-pass.ensures.passed }) (record { may = c.requires.1; brace = c.requires.2; whole = c.requires.4 })
+    subst (λ (v : Written). PassesText job name told y (record c.pass.new.self { turn = c.behind_document-cursor.result }) (held v t) new went.Document) c.writers.view_is
+    (passes_document job name told y c.args.len bytes (record { fits = c.requires.3; is = c.in_ok-pass.ensures.passed }) (record { may = c.requires.1; brace = c.requires.2; whole = c.requires.4 })
     is (said_played bytes c.in_ok-put.ensures.written counted) c.behind_document-cursor.ensures)
 
 pub returns-in_err-counted : goal.returns-in_err-counted
-returns-in_err-counted g c style name told =
+returns-in_err-counted g c job name told gives =
     let e = err_from_is_err_and c.from_residual.result c.from_residual.ensures.1 in
-    rw (e.1, e.2) (halts_none style name told c.args.cursor.now (held c.args.writers.now c.args.tally.now), c.in_err-counted.ensures.failed)
+    rw (e.1, e.2) (halts_none job name told c.args.cursor.now (held c.args.writers.now c.args.tally.now), c.in_err-counted.ensures.failed)
 
 pub returns-in_err-pass : goal.returns-in_err-pass
-returns-in_err-pass g c style name told =
+returns-in_err-pass g c job name told gives =
     let e = err_from_is_err_and c.from_residual-in_err-pass.result c.from_residual-in_err-pass.ensures.1 in
-    rw (e.1, e.2) (halts_none style name told c.args.cursor.now (held c.args.writers.now c.args.tally.now), c.in_err-pass.ensures.failed)
+    rw (e.1, e.2) (halts_none job name told c.args.cursor.now (held c.args.writers.now c.args.tally.now), c.in_err-pass.ensures.failed)
 
 pub returns-in_err-put : goal.returns-in_err-put
-returns-in_err-put g c style name told =
+returns-in_err-put g c job name told gives =
     let bytes = c.as_bytes-bytes.result.now in
     let y = c.args.cursor.now in
     let t = c.args.tally.now in
-    let is = subst (λ (b : List ℕ). Gives (take c.args.len (ahead_of y.window)) b) (sym c.as_bytes-bytes.ensures.bytes) c.requires.5 in
+    let is = subst (λ (b : List ℕ). Gives job.limits (take c.args.len (ahead_of y.window)) b) (sym c.as_bytes-bytes.ensures.bytes) gives in
     let new = held (record { out = g.D.Write.contents c.put.new.writer; alone = g.A.Write.contents c.writers.inside.alone; report = g.W.Write.contents c.writers.inside.report }) t in
     let e = err_from_is_err_and c.from_residual-in_err-put.result c.from_residual-in_err-put.ensures.1 in
     rw (e.1, e.2) (
-      subst (λ (v : Written). HaltsText style name told y (held v t) new) c.writers.view_is
-          (halts_document style name told y c.args.len bytes (record { may = c.requires.1; brace = c.requires.2; whole = c.requires.4 }) is (said_front bytes c.in_err-put.ensures.front)),
+      subst (λ (v : Written). HaltsText job name told y (held v t) new) c.writers.view_is
+          (halts_document job name told y c.args.len bytes (record { may = c.requires.1; brace = c.requires.2; whole = c.requires.4 }) is (said_front bytes c.in_err-put.ensures.front)),
       c.in_err-put.ensures.failed,
     )

@@ -6,6 +6,7 @@ use Rattle.dump_runs.proofs.texts.piece.pass_next.Goals as goal
 
 pub returns-in-Wrong : goal.returns-in-Wrong
 returns-in-Wrong g c =
-    let told : TellsNoText (ahead_of c.args.cursor.now.window) c.args.next 0 0 c.in-Wrong.reason =
-    subst (λ (n : NextText). TellsNoText (ahead_of c.args.cursor.now.window) n 0 0 c.in-Wrong.reason) (sym c.in-Wrong.is) (refl, refl, refl) in
+    let limits = c.args.input.job.limits in
+    let told : TellsNoText limits (ahead_of c.args.cursor.now.window) c.args.next 0 0 c.in-Wrong.reason =
+    subst (λ (n : NextText). TellsNoText limits (ahead_of c.args.cursor.now.window) n 0 0 c.in-Wrong.reason) (sym c.in-Wrong.is) (refl, refl, refl) in
     c.pass_astray.ensures c.args.next told

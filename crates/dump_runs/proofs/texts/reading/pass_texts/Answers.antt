@@ -1,8 +1,6 @@
 use Rattle.std.proofs.Common.{subst}
-use Rattle.dump_io.specs.declared.lines.style.Style.{Style}
 use Rattle.dump_runs.specs.Plays.{held}
 use Rattle.dump_runs.specs.texts.Reading.{FindsText}
-use Rattle.dump_runs.specs.texts.Steps.{HaltsText, PassesText}
 use Rattle.dump_io.proofs.Face.{if_ok, on_any}
 use Rattle.dump_runs.proofs.texts.Passing.{fails_behind, fails_here, goes_next, halts_here, halts_next, halts_passed, nothing_passed, stops_end, stops_fault, window_behind}
 use Rattle.dump_runs.proofs.texts.reading.pass_texts.Goals as goal
@@ -29,9 +27,7 @@ returns-in-Err-clause-passed g c =
 pub returns-then-stops : goal.returns-then-stops
 returns-then-stops g c =
     let read = g.R.Read.remaining in
-    let new = c.pass_next.new in
-    let passed = subst (λ (s : Style). PassesText s c.args.name.now c.in-Ok.next c.find_text.new.self new.cursor (held c.loop.writers c.loop.tally) (held new.writers new.tally) c.in_ok-went.went)
-    c.style_at.ensures c.in_ok-went.ensures in
+    let passed = c.in_ok-went.ensures in
     record {
       passed = stops_fault c.loop.invariant.1 c.in-Ok.ensures.found passed (read c.find_text.new.reader) c.if-stops.ensures;
       halts = tt;
@@ -41,10 +37,8 @@ returns-then-stops g c =
 pub returns-in-Err-pass_behind : goal.returns-in-Err-pass_behind
 returns-in-Err-pass_behind g c =
     let read = g.R.Read.remaining in
-    let new = c.pass_next.new in
     let q = c.pass_behind.new.cursor in
-    let passed = subst (λ (s : Style). PassesText s c.args.name.now c.in-Ok.next c.find_text.new.self new.cursor (held c.loop.writers c.loop.tally) (held new.writers new.tally) c.in_ok-went.went)
-    c.style_at.ensures c.in_ok-went.ensures in
+    let passed = c.in_ok-went.ensures in
     record {
       passed = if_ok c.stopped-in-Err-pass_behind.result _ _
           (λ e is.
@@ -59,10 +53,7 @@ returns-in-Err-clause-halts g c = on_any _ _ (halts_here c.loop.invariant.1)
 
 pub returns-in_err-went-clause-halts : goal.returns-in_err-went-clause-halts
 returns-in_err-went-clause-halts g c =
-    let new = c.pass_next.new in
-    let stops = subst (λ (s : Style). HaltsText s c.args.name.now c.in-Ok.next c.find_text.new.self (held c.loop.writers c.loop.tally) (held new.writers new.tally)) c.style_at.ensures
-    c.in_err-went.ensures.0 in
-    on_any _ _ (halts_next c.loop.invariant.1 c.in-Ok.ensures.found stops)
+    on_any _ _ (halts_next c.loop.invariant.1 c.in-Ok.ensures.found c.in_err-went.ensures.0)
 
 pub returns-clause-halts : goal.returns-clause-halts
 returns-clause-halts g c = halts_here c.loop.invariant.1
@@ -72,8 +63,7 @@ loop-preserved g c =
     let read = g.R.Read.remaining in
     let new = c.pass_next.new in
     let q = c.pass_behind.new.cursor in
-    let passed = subst (λ (s : Style). PassesText s c.args.name.now c.in-Ok.next c.find_text.new.self new.cursor (held c.loop.writers c.loop.tally) (held new.writers new.tally) c.in_ok-went.went)
-    c.style_at.ensures c.in_ok-went.ensures in (
+    let passed = c.in_ok-went.ensures in (
       window_behind c.in_ok-went.went (read c.find_text.new.reader) (read c.pass_behind.new.reader) new.cursor q c.in_default.ensures.passed passed.window,
       goes_next c.loop.invariant.1 c.in-Ok.ensures.found c.in_ok-went.went (read c.pass_behind.new.reader) q passed c.in_default.ensures.passed c.if-stops.ensures,
     )
