@@ -20,7 +20,8 @@ BOTH, LIBBSON, PACKAGE = ("libbson", "package"), ("libbson",), ("package",)
 RULES: Dict[str, Tuple[str, Optional[bool], Tuple[str, ...]]] = {
     "json": ("a text that isn't JSON: an error; libbson reads some", False, LIBBSON),
     "regex": ("$regex and $options: a document; both read a regular expression of version 1", True, BOTH),
-    "binary": ("$binary and $type: an error; both read a binary of version 1", False, BOTH),
+    "binary": ("$binary and $type that aren't base64 and one or two hex digits alone: an error; libbson or the package read some", False, BOTH),
+    "typed": ("$type without $binary: a document; libbson refuses some", True, LIBBSON),
     "mixed": ("a wrapper's key and others: an error; libbson goes by the first key, the package by some", False, BOTH),
     "whole": ("the whole text or a scope with a wrapper's key: a document; the package reads a value, or refuses it", True, PACKAGE),
     "number": ("a text in quotes that isn't a number, or has white space after an integer: an error; libbson or the package reads some", False, BOTH),
@@ -307,10 +308,25 @@ def mixed(rng: random.Random) -> Made:
 
 
 def old_binary(rng: random.Random) -> Made:
-    parts = ['"$binary":"AQ=="', '"$type":"00"']
+    subtype = rng.choice(["%02x", "%02X", "0%x", "%x", " %x", "\t%02x ", "+%x"]) % rng.choice([0, 1, 2, 5, 8, 10, 15])
+    parts = ['"$binary":%s' % quoted(base64_of(rng.randbytes(rng.randrange(20))), rng), '"$type":%s' % json.dumps(subtype)]
     if rng.randrange(2):
         parts.reverse()
+    return "", "{%s}" % ",".join(parts)
+
+
+def no_old_binary(rng: random.Random) -> Made:
+    data, subtype = rng.choice([('"AQ=="', rng.choice(['""', '"g"', '"005"', '"100"', '"0x"', '"-1"', "0", "5", "null", "{}", "[]"])), (rng.choice(['"AQ"', '"AR=="', '"!"', "1", "null", "{}"]), '"00"')])
+    parts = ['"$binary":' + data, '"$type":' + subtype]
+    if rng.randrange(4) == 0:
+        parts = ['"$binary":"AQ=="', '"$type":"00"', quoted(key(rng), rng) + ":1"]
+    rng.shuffle(parts)
     return "binary", "{%s}" % ",".join(parts)
+
+
+def typed(rng: random.Random) -> Made:
+    first = '"$type":' + rng.choice(['"05"', '"string"', "2", "-1.5", "null", "true", "{}", "[]", '["string"]', '{"b":{"$type":"c"}}', '{"$minKey":1}', '[{"$type":"00","$binary":"AQ=="}]'])
+    return "typed", "{%s}" % ",".join([first, '"b":1', '"$type2":"00"'][: rng.randrange(1, 4)])
 
 
 def nul(rng: random.Random) -> Made:
@@ -328,7 +344,7 @@ def reference(rng: random.Random) -> Made:
 KINDS: List[Callable[[random.Random], Made]] = [integer, double, plain, int32, int64, wrapped_double, object_id, date, millis, binary, uuid, regex]
 KINDS += [timestamp, ends, decimal, border_decimal, reference]
 RULED = [far_integer, large, minus, wide, no_number, no_object_id, zoned, small, fraction, no_date, far_millis, no_binary, no_uuid, other_options, old_regex]
-RULED += [loose_number, loose_binary, inner_code, last_subtype, no_timestamp, kept, other_type, no_decimal, mixed, old_binary, nul, repeated]
+RULED += [loose_number, loose_binary, inner_code, last_subtype, no_timestamp, kept, other_type, no_decimal, mixed, old_binary, no_old_binary, typed, nul, repeated]
 
 
 def value(rng: random.Random, depth: int, ruled: bool) -> Made:
