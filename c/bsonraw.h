@@ -1499,9 +1499,9 @@ struct bsonraw_json_report {
  * or BSONRAW_NO_MEMORY, and the report says where the text isn't read. With any status but BSONRAW_OK nothing is written to
  * document. What isn't said of the report is 0. The text is UTF-8, and needs no 0 after it.
  * A number without a wrapper is an int32 or else an int64 where it is an integer, and else the nearest double. An object with a
- * wrapper's key is its value, or an error; only the whole text and a scope are documents whatever their keys. Keys that repeat
- * are kept, in order. It takes memory for the levels, under 100 bytes for each; for the document, which has at most max_bytes, and up to
- * three times as much while it grows; and for as many bytes as the text has.
+ * wrapper's key is its value, or an error, and $binary may be beside $type, as in version 1; only the whole text and a scope are
+ * documents whatever their keys. Keys that repeat are kept, in order. It takes memory for the levels, under 100 bytes for each; for the
+ * document, which has at most max_bytes, and up to three times as much while it grows; and for as many bytes as the text has.
  *
  *     uint8_t document[4096];
  *     struct bsonraw_json_report r;

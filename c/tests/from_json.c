@@ -17,7 +17,10 @@ static const struct row {
      "1400000007610056E1FC72E0C917E9C471416100"},
     {"{\"a\":{\"$regex\":\"a\",\"$options\":\"b\"}}",
      "2B00000003610023000000022472656765780002000000610002246F7074696F6E73000200000062000000"},
-    {"{\"a\":{\"$type\":\"00\",\"$binary\":\"AAAA\"}}", NULL},
+    {"{\"a\":{\"$type\":\"00\",\"$binary\":\"AAAA\"}}", "10000000056100030000000000000000"},
+    {"{\"a\":{\"$binary\":\"AQID\",\"$type\":\" 5\"}}", "10000000056100030000000501020300"},
+    {"{\"a\":{\"$type\":\"string\",\"b\":1}}", "260000000361001E0000000224747970650007000000737472696E6700106200010000000000"},
+    {"{\"a\":{\"$binary\":\"AAAA\",\"$type\":0}}", NULL},
     {"{\"a\":{\"$regex\":{\"$regularExpression\":{\"pattern\":\"a\",\"options\":\"\"}},\"$options\":\"i\"}}",
      "28000000036100200000000B2472656765780061000002246F7074696F6E73000200000069000000"},
     {"{\"a\":{\"$unknown\":1}}",
@@ -405,7 +408,10 @@ static const struct refusal {
     {"{\"a\": {\"$numberLong\": \"1\", \"b\": 1}}", 1, 26, BSONRAW_JSON_MALFORMED, BSONRAW_JSON_NUMBER_LONG},
     {"{\"a\": {\"$numberDecimal\": \"1e\"}}", 1, 26, BSONRAW_JSON_MALFORMED, BSONRAW_JSON_NUMBER_DECIMAL},
     {"{\"a\": {\"$numberDecimal\": \"1E+6145\"}}", 1, 26, BSONRAW_JSON_INEXACT_DECIMAL, 0},
-    {"{\"a\": {\"$binary\": \"\", \"$type\": \"00\"}}", 1, 19, BSONRAW_JSON_MALFORMED, BSONRAW_JSON_BINARY},
+    {"{\"a\": {\"$binary\": \"\", \"$type\": \"0z\"}}", 1, 32, BSONRAW_JSON_MALFORMED, BSONRAW_JSON_BINARY},
+    {"{\"a\": {\"$binary\": \"A\", \"$type\": \"00\"}}", 1, 19, BSONRAW_JSON_MALFORMED, BSONRAW_JSON_BINARY},
+    {"{\"a\": {\"$type\": \"00\", \"$binary\": \"\", \"b\": 1}}", 1, 36, BSONRAW_JSON_MALFORMED, BSONRAW_JSON_BINARY},
+    {"{\"a\": {\"$type\": 0, \"$binary\": \"\"}}", 1, 20, BSONRAW_JSON_MALFORMED, BSONRAW_JSON_BINARY},
     {"{\"a\": {\"$type\": \"\", \"$binary\": \"\"}}", 1, 21, BSONRAW_JSON_MALFORMED, BSONRAW_JSON_BINARY},
     {"{\"a\": {\"$date\": 0.5}}", 1, 17, BSONRAW_JSON_MALFORMED, BSONRAW_JSON_DATE},
     {"{\"a\": {\"$date\": \"2023-02-29T00:00:00Z\"}}", 1, 17, BSONRAW_JSON_MALFORMED, BSONRAW_JSON_DATE},
@@ -472,7 +478,7 @@ static const struct refusal {
     {"{\"a\":{\"$dbPointer\":{\"$id\":1,\"$ref\":\"b\"}}}", 1, 27, BSONRAW_JSON_MALFORMED, BSONRAW_JSON_DB_POINTER},
     {"{\"a\":{\"$scope\":{}}}", 1, 18, BSONRAW_JSON_MALFORMED, BSONRAW_JSON_SCOPE},
     {"{\"a\":{\"$code\":\"b\",\"c\":1}}", 1, 19, BSONRAW_JSON_MALFORMED, BSONRAW_JSON_CODE},
-    {"{\"a\":{\"$binary\":\"AQ==\",\"$type\":\"00\"}}", 1, 17, BSONRAW_JSON_MALFORMED, BSONRAW_JSON_BINARY},
+    {"{\"a\":{\"$binary\":\"AQ==\",\"$kind\":\"00\"}}", 1, 24, BSONRAW_JSON_MALFORMED, BSONRAW_JSON_BINARY},
 };
 
 /* Texts that end too early. */

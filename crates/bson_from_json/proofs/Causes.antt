@@ -17,7 +17,7 @@ use Rattle.bson_from_json.specs.Depths.{entries_depth}
 use Rattle.bson_from_json.specs.Ends.{Excuses, HaveLength, StopsDocument, StopsWhole, size_of}
 use Rattle.bson_from_json.specs.Levels.{SaysBytes}
 use Rattle.bson_from_json.specs.Texts.{IsCause, IsJsonText, Says, capped}
-use Rattle.bson_from_json.proofs.Ends.{same_value}
+use Rattle.values_from_json.proofs.Face.{same_value}
 use Rattle.bson_from_json.proofs.OneDepth.{one_depth}
 use Rattle.bson_from_json.proofs.Refusals.{exceeds_more}
 

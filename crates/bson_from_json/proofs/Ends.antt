@@ -1,12 +1,11 @@
 -- The tokens that remain of a level, a value or a wrapper after its first ones were taken, and how many levels and bytes they write.
-use Rattle.std.proofs.Common.{◌≡◌, ◌≤◌, ◌⊎◌, ◌||◌, ◌+◌, ℕ, max, suc, Bool, true, false, List, [], ◌∷◌, ◌++◌, Option, Some, None, codes, decimal, length, refl, sym, ap, subst, ◌∙◌, inl, inr, append_assoc, arith}
+use Rattle.std.proofs.Common.{◌≡◌, ◌≤◌, ◌⊎◌, ◌||◌, ◌+◌, ℕ, max, suc, Bool, true, false, List, [], ◌∷◌, ◌++◌, codes, decimal, length, refl, sym, ap, subst, ◌∙◌, inl, inr, append_assoc, arith}
 use Rattle.std.proofs.Math.Nat.{le-max_left, le-max_right}
 use Rattle.std.proofs.lemmas.Bool.{false≢true}
-use Rattle.json.specs.Json.{Json, Members, no_items, item, no_members, member, value}
+use Rattle.json.specs.Json.{Json, Members, no_items, item, no_members, member}
 use Rattle.json.specs.Json as json
 use Rattle.json.specs.Token.{Token}
-use Rattle.json.specs.Tree.{json_tokens, items_tokens, members_tokens, depth}
-use Rattle.json.proofs.Printed.Trees.{value-json_tokens}
+use Rattle.json.specs.Tree.{json_tokens, items_tokens, members_tokens}
 use Rattle.bson_model.specs.Bytes.{NulFree}
 use Rattle.bson_model.specs.Leaf.{Leaf, boolean, string}
 use Rattle.bson_model.specs.Tree.{Tree, Trees, Entries, code_with_scope, document, entry_then, no_entry}
@@ -14,8 +13,8 @@ use Rattle.raw_tree.specs.Encoding.{encoded_len, entries_len, items_len}
 use Rattle.raw_view.specs.Frame.Format.{leaf_payload}
 use Rattle.values_from_json.specs.Numbers.{IsPlain}
 use Rattle.values_from_json.specs.Meaning.{IsWhole, Means, has_wrapper_key, is_wrapper_key}
-use Rattle.values_from_json.specs.Taken.{LacksToken}
-use Rattle.values_from_json.specs.Wrapped.{IsWrapped}
+use Rattle.values_from_json.specs.Taken.{LacksToken, TakesRest}
+use Rattle.values_from_json.specs.Wrapped.{IsOldBinary, IsWrapped}
 use Rattle.bson_from_json.specs.Depths.{entries_depth, items_depth, tree_depth}
 use Rattle.bson_from_json.specs.Levels.{HasMembers, MayBeIn}
 use Rattle.values_from_json.specs.Keys.{wrapper_key}
@@ -24,25 +23,7 @@ use Rattle.bson_from_json.specs.declared.levels.Holder.{Holder}
 use Rattle.bson_from_json.specs.declared.levels.Holder.TheVariants as holder
 use Rattle.values_from_json.specs.declared.wrapper.Wrapper.{Wrapper}
 use Rattle.values_from_json.specs.declared.wrapper.Wrapper.TheVariants as wrapper
-use Rattle.values_from_json.proofs.Face.{is_of_wrapper, named, wrapped_key}
-
--- the tokens of a value don't begin with those of another
-
-abbrev first_or : Option (Json × List Token) → Json → Json
-first_or None j = j
-first_or (Some p) j = p.0
-
-abbrev second_or : Option (Json × List Token) → List Token → List Token
-second_or None ts = ts
-second_or (Some p) ts = p.1
-
-pub same_value : (j k : Json) (a b : List Token) → json_tokens j ++ a ≡ json_tokens k ++ b → (j ≡ k) × (a ≡ b)
-same_value j k a b e =
-    let d = depth j + depth k in
-    let x = value-json_tokens j d a (omega arith) in
-    let y = value-json_tokens k d b (omega arith) in
-    let is = sym x ∙ ap (value d) e ∙ y in
-    (ap (λ (o : Option (Json × List Token)). first_or o j) is, ap (λ (o : Option (Json × List Token)). second_or o a) is)
+use Rattle.values_from_json.proofs.Face.{is_of_wrapper, named, old_binary_first, wrapped_key}
 
 -- the size of a tree that equals another
 
@@ -158,6 +139,7 @@ level_starts : (h : Holder) → HasMembers h → (d n : ℕ) (ts behind : List T
 level_starts holder.Text has d n ts behind inside = of_members holder.Text (λ k free. free) (λ e m x y i. i) d n ts behind inside
 level_starts holder.Document has d n ts behind inside = of_ordinary d n ts behind inside
 level_starts (holder.Begun first) has d n ts behind inside = absurd has
+level_starts holder.Typed has d n ts behind inside = absurd has
 level_starts (holder.Array items) has d n ts behind inside = absurd has
 level_starts (holder.Scope start) has d n ts behind inside = of_members (holder.Scope start) (λ k free. free) (λ e m x y i. i) d n ts behind inside
 level_starts (holder.ScopeBeforeCode start) has d n ts behind inside = of_members (holder.ScopeBeforeCode start) (λ k free. free) (λ e m x y i. i) d n ts behind inside
@@ -240,10 +222,27 @@ module _ {d n : ℕ} (items : ℕ) (ts behind : List Token) where
 
 -- objects
 
+-- what follows the first key of an object that writes one value
+abbrev pub AloneThen : List ℕ → ℕ → List Token → List Token → Type 0
+AloneThen first n ts behind = (l : Leaf) × TakesRest first ts behind l × (length (leaf_payload l) ≡ n)
+
+no_old_binary : {l : Leaf} → IsOldBinary no_members l → ⊥
+no_old_binary {l} (text, digits, bytes, subtype, inl e, decoded, of_digits, is) = cc
+no_old_binary {l} (text, digits, bytes, subtype, inr e, decoded, of_digits, is) = cc
+
+-- the first of its keys that is no wrapper's
+type_first : {k : List ℕ} → is_wrapper_key k ≡ false → (k ≡ codes "$binary") ⊎ (k ≡ codes "$type") → k ≡ codes "$type"
+type_first {k} plain (inl e) = absurd (false≢true (sym plain ∙ ap is_wrapper_key e))
+type_first {k} plain (inr e) = e
+
+alone_type : {k : List ℕ} {ts behind : List Token} {l : Leaf} → is_wrapper_key k ≡ false → TakesRest k ts behind l → k ≡ codes "$type"
+alone_type {k} {ts} {behind} {l} plain (j, no_members, e, w) = absurd (false≢true (sym plain ∙ wrapped_key k j l w))
+alone_type {k} {ts} {behind} {l} plain (j, member m i ms, e, w) = type_first plain (old_binary_first w)
+
 pub empty_object : {d n : ℕ} (ts behind new : List Token) → ObjectThen d n ts behind → ts ≡ Token.end_object ∷ new → (new ≡ behind) × (1 ≤ d) × (5 ≡ n)
 empty_object {d} {n} ts behind new (no_members, t, inl (es, none, are, says), e, deep, long) f =
     let whole : t ≡ document no_entry = says ∙ ap document are in (behind_token f e, deep_as whole deep, long_as whole long)
-empty_object {d} {n} ts behind new (no_members, t, inr (inl w), e, deep, long) f = absurd w
+empty_object {d} {n} ts behind new (no_members, t, inr (inl (l, w, says)), e, deep, long) f = absurd (no_old_binary w)
 empty_object {d} {n} ts behind new (no_members, t, inr (inr w), e, deep, long) f = absurd w
 empty_object {d} {n} ts behind new (member k j ms, t, means, e, deep, long) f = absurd (unlike_key f e)
 
@@ -269,11 +268,12 @@ module _ (k : List ℕ) (new ts behind : List Token) (e : ts ≡ Token.key k ∷
     no_wrapper k' j ms f is = false≢true (sym plain ∙ ap is_wrapper_key (sym (first_key k' j ms f)) ∙ is)
 
     module _ {d n : ℕ} where
-      pub ordinary : ObjectThen d n ts behind → BegunThen k d n new behind
-      ordinary (no_members, t, means, f, deep, long) = absurd (unlike_key f e)
-      ordinary (member k' j ms, t, inl (es, none, (first, others, free, means, are, is), says), f, deep, long) =
+      -- a document, or one value
+      pub plain_object : ObjectThen d n ts behind → BegunThen k d n new behind ⊎ AloneThen k n new behind
+      plain_object (no_members, t, means, f, deep, long) = absurd (unlike_key f e)
+      plain_object (member k' j ms, t, inl (es, none, (first, others, free, means, are, is), says), f, deep, long) =
           let whole : t ≡ document (entry_then k' first others) = says ∙ ap document is in
-          let size : ℕ = (2 + length k' + encoded_len first) + entries_len others in (
+          let size : ℕ = (2 + length k' + encoded_len first) + entries_len others in inl (
             max (tree_depth first) (entries_depth others),
             size,
             (
@@ -287,20 +287,32 @@ module _ (k : List ℕ) (new ts behind : List Token) (e : ts ≡ Token.key k ∷
             deep_as whole deep,
             long_as whole long,
           )
-      ordinary (member k' j no_members, t, inr (inl (l, is, says)), f, deep, long) = absurd (no_wrapper k' j no_members f (wrapped_key k' j l is))
-      ordinary (member k' j (member m i ms), t, inr (inl is), f, deep, long) = absurd is
-      ordinary (member k' j no_members, t, inr (inr is), f, deep, long) = absurd is
-      ordinary (member k' j (member m i no_members), t, inr (inr (inl (code, es, is, second, other, whole, says))), f, deep, long) =
+      plain_object (member k' j no_members, t, inr (inl (l, is, says)), f, deep, long) = absurd (no_wrapper k' j no_members f (wrapped_key k' j l is))
+      plain_object (member k' j (member m i ms), t, inr (inl (l, is, says)), f, deep, long) =
+          let others = member m i ms in
+          inr (l, (j, others, value_behind k' j others f, subst (λ (x : List ℕ). IsOldBinary (member x j others) l) (first_key k' j others f) is), long_as says long)
+      plain_object (member k' j no_members, t, inr (inr is), f, deep, long) = absurd is
+      plain_object (member k' j (member m i no_members), t, inr (inr (inl (code, es, is, second, other, whole, says))), f, deep, long) =
           absurd (no_wrapper k' j (member m i no_members) f (ap is_wrapper_key is))
-      ordinary (member k' j (member m i no_members), t, inr (inr (inr (code, es, is, second, whole, other, says))), f, deep, long) =
+      plain_object (member k' j (member m i no_members), t, inr (inr (inr (code, es, is, second, whole, other, says))), f, deep, long) =
           absurd (no_wrapper k' j (member m i no_members) f (ap is_wrapper_key is))
-      ordinary (member k' j (member m i (member o h ms)), t, inr (inr is), f, deep, long) = absurd is
+      plain_object (member k' j (member m i (member o h ms)), t, inr (inr is), f, deep, long) = absurd is
+
+    -- .. nor $type
+    module _ {d n : ℕ} (other : k ≡ codes "$type" → ⊥) where
+      not_alone : BegunThen k d n new behind ⊎ AloneThen k n new behind → BegunThen k d n new behind
+      not_alone (inl is) = is
+      not_alone (inr (l, takes, len)) = absurd (other (alone_type plain takes))
+
+      pub ordinary : ObjectThen d n ts behind → BegunThen k d n new behind
+      ordinary is = not_alone (plain_object is)
 
       pub free_first : ObjectThen d n ts behind → NulFree k
       free_first (no_members, t, means, f, deep, long) = absurd (unlike_key f e)
       free_first (member k' j ms, t, inl (es, none, (first, others, free, means, are, is), says), f, deep, long) = subst NulFree (first_key k' j ms f) free
       free_first (member k' j no_members, t, inr (inl (l, is, says)), f, deep, long) = absurd (no_wrapper k' j no_members f (wrapped_key k' j l is))
-      free_first (member k' j (member m i ms), t, inr (inl is), f, deep, long) = absurd is
+      free_first (member k' j (member m i ms), t, inr (inl (l, is, says)), f, deep, long) =
+          let same = first_key k' j (member m i ms) f in absurd (other (sym same ∙ type_first (ap is_wrapper_key same ∙ plain) (old_binary_first is)))
       free_first (member k' j no_members, t, inr (inr is), f, deep, long) = absurd is
       free_first (member k' j (member m i no_members), t, inr (inr (inl (code, es, is, second, other, whole, says))), f, deep, long) =
           absurd (no_wrapper k' j (member m i no_members) f (ap is_wrapper_key is))
@@ -326,7 +338,9 @@ ScopeThen d n ts behind = (code : List ℕ) × (rest : List Token) × (ts ≡ To
     × ScopeSized code d n rest (Token.key (codes "$code") ∷ Token.string code ∷ Token.end_object ∷ behind)
 
 abbrev pub WrapperValueThen : Wrapper → ℕ → ℕ → List Token → List Token → Type 0
-WrapperValueThen w d n ts behind = LeafThen w n ts behind ⊎ ((wrapper.Code ≡ w) × CodeThen d n ts behind) ⊎ ((wrapper.Scope ≡ w) × ScopeThen d n ts behind)
+WrapperValueThen w d n ts behind =
+    LeafThen w n ts behind ⊎ ((wrapper.Code ≡ w) × CodeThen d n ts behind) ⊎ ((wrapper.Scope ≡ w) × ScopeThen d n ts behind)
+    ⊎ ((wrapper.Binary ≡ w) × AloneThen (codes "$binary") n ts behind)
 
 -- a code with this scope, in either order
 module _ {d n : ℕ} {t : Tree} {code : List ℕ} {es : Entries} (says : t ≡ code_with_scope code es) (deep : tree_depth t ≤ d) (long : encoded_len t ≡ n) {ts behind : List Token} where
@@ -368,18 +382,27 @@ module _ (w : Wrapper) (new ts behind : List Token) (e : ts ≡ Token.key (wrapp
   key_of : (k : List ℕ) (j : Json) (ms : Members) → ts ≡ members_tokens (member k j ms) ++ behind → k ≡ wrapper_key w
   key_of k j ms f = first_key (wrapper_key w) new ts behind e k j ms f
 
+  -- an old binary
+  old_value : {n : ℕ} {k : List ℕ} → (k ≡ codes "$binary") ⊎ (k ≡ codes "$type") → k ≡ wrapper_key w
+      → (k ≡ codes "$binary" → AloneThen (codes "$binary") n new behind) → (wrapper.Binary ≡ w) × AloneThen (codes "$binary") n new behind
+  old_value {n} {k} (inl e) at is = (named w wrapper.Binary (sym at ∙ e), is e)
+  old_value {n} {k} (inr e) at is = absurd (false≢true (ap is_wrapper_key (sym e ∙ at) ∙ is_of_wrapper w))
+
   pub wrapper_value : {d n : ℕ} → ObjectThen d n ts behind → WrapperValueThen w d n new behind
   wrapper_value {d} {n} (no_members, t, means, f, deep, long) = absurd (unlike_key f e)
   wrapper_value {d} {n} (member k j ms, t, inl (es, none, are, says), f, deep, long) =
       absurd (false≢true (sym (left_false (is_wrapper_key k) (has_wrapper_key ms) none) ∙ ap is_wrapper_key (key_of k j ms f) ∙ is_of_wrapper w))
   wrapper_value {d} {n} (member k j no_members, t, inr (inl (l, is, says)), f, deep, long) =
       inl (j, l, subst (λ (x : List ℕ). IsWrapped x j l) (key_of k j no_members f) is, value_of k j no_members f, long_as says long)
-  wrapper_value {d} {n} (member k j (member m i ms), t, inr (inl is), f, deep, long) = absurd is
+  wrapper_value {d} {n} (member k j (member m i ms), t, inr (inl (l, is, says)), f, deep, long) =
+      let others = member m i ms in
+      inr (inr (inr (old_value (old_binary_first is) (key_of k j others f)
+      (λ e. (l, (j, others, value_of k j others f, subst (λ (x : List ℕ). IsOldBinary (member x j others) l) e is), long_as says long)))))
   wrapper_value {d} {n} (member k j no_members, t, inr (inr is), f, deep, long) = absurd is
   wrapper_value {d} {n} (member k j (member m i no_members), t, inr (inr (inl (code, es, first, second, is, whole, says))), f, deep, long) =
       let ms = member m i no_members in
       inr (inl (named w wrapper.Code (sym (key_of k j ms f) ∙ first), code_then says deep long m j i is whole second (value_of k j ms f)))
   wrapper_value {d} {n} (member k j (member m i no_members), t, inr (inr (inr (code, es, first, second, whole, is, says))), f, deep, long) =
       let ms = member m i no_members in
-      inr (inr (named w wrapper.Scope (sym (key_of k j ms f) ∙ first), scope_then says deep long m j i whole is second (value_of k j ms f)))
+      inr (inr (inl (named w wrapper.Scope (sym (key_of k j ms f) ∙ first), scope_then says deep long m j i whole is second (value_of k j ms f))))
   wrapper_value {d} {n} (member k j (member m i (member o h ms)), t, inr (inr is), f, deep, long) = absurd is

@@ -35,8 +35,8 @@ use Rattle.bson_from_json.specs.declared.reading.Reader.{Reader}
 use Rattle.values_from_json.specs.declared.source.Source.{Source}
 use Rattle.values_from_json.specs.declared.wrapper.Wrapper.{Wrapper}
 use Rattle.values_from_json.specs.declared.wrapper.Wrapper.TheVariants as wrapper
-use Rattle.bson_from_json.proofs.Ends.{LeafThen, ObjectThen, ScopeSized, ScopeThen, Starts, WrapperValueThen, array_end_taken, empty_object, end_taken, free_first, item_next, key_taken, no_object, none_taken, ordinary, same_value, starts, wrapper_value}
-use Rattle.values_from_json.proofs.Face.{Writes, writes}
+use Rattle.bson_from_json.proofs.Ends.{LeafThen, ObjectThen, ScopeSized, ScopeThen, Starts, WrapperValueThen, array_end_taken, empty_object, end_taken, free_first, item_next, key_taken, no_object, none_taken, ordinary, starts, wrapper_value}
+use Rattle.values_from_json.proofs.Face.{Writes, same_value, writes}
 use Rattle.bson_from_json.proofs.Moments.{Whole}
 use Rattle.bson_from_json.proofs.Refusals.{exceeds_more, refused_later}
 use Rattle.bson_from_json.proofs.Sizes.{one_plain_size, one_wrapped_size}
@@ -70,7 +70,7 @@ pub no_token : {ts : List Token} → NoToken ts → (t : Token) → (t ≡ Token
 no_token (inl e) t good rest f = no_first_of_none e f
 no_token (inr (more, e)) t good rest f = good (same_first f e)
 
-same_behind : {ts a b : List Token} {t : Token} → ts ≡ t ∷ a → ts ≡ t ∷ b → a ≡ b
+pub same_behind : {ts a b : List Token} {t : Token} → ts ≡ t ∷ a → ts ≡ t ∷ b → a ≡ b
 same_behind e f = cc
 
 same_text : {ts a b : List Token} {s t : List ℕ} → ts ≡ Token.string s ∷ a → ts ≡ Token.string t ∷ b → s ≡ t
@@ -134,7 +134,7 @@ can_end size r ls b ts e f g can =
     let two = subst (λ (x : ℕ). CanEnd size (reverse ls) x r.source.tokens) (sym f) one in
     subst (λ (x : List Level). CanEnd size (reverse x) (len_of r) r.source.tokens) (sym e) two
 
-levels_within : (r : Reader) (ls : List Level) (l : Level) → r.document.levels.items ≡ ls ++ l ∷ [] → levels_of r ≡ l ∷ reverse ls
+pub levels_within : (r : Reader) (ls : List Level) (l : Level) → r.document.levels.items ≡ ls ++ l ∷ [] → levels_of r ≡ l ∷ reverse ls
 levels_within r ls l e = ap (λ (x : List Level). reverse x) e ∙ innermost ls l
 
 within : (size : Size) (r : Reader) (ls : List Level) (l : Level) (b : ℕ) (ts : List Token) → r.document.levels.items ≡ ls ++ l ∷ [] → len_of r ≡ b → r.source.tokens ≡ ts
@@ -149,6 +149,7 @@ plain_wrapper : (h : Holder) → ((start : ℕ) → h ≡ holder.Scope start →
 plain_wrapper holder.Text a b n ts behind e = (e.0, sym e.1)
 plain_wrapper holder.Document a b n ts behind e = (e.0, sym e.1)
 plain_wrapper (holder.Begun first) a b n ts behind e = (e.0, sym e.1)
+plain_wrapper holder.Typed a b n ts behind e = (e.0, sym e.1)
 plain_wrapper (holder.Array items) a b n ts behind e = (e.0, sym e.1)
 plain_wrapper (holder.Scope start) a b n ts behind e = absurd (a start refl)
 plain_wrapper (holder.ScopeBeforeCode start) a b n ts behind e = absurd (b start refl)
@@ -225,7 +226,7 @@ pub record IsWithin (old mid : Reader) (l : Level) : Type 0 where
 
 module _ (old mid : Reader) (size : Size) where
   -- a value, then the rest of this level
-  value_within : {d n m others : ℕ} {next : List Token} (k : List ℕ) (behind : List Token) (l : Level) (taken : List Token) → IsWithin old mid l → ValueThen d m (taken ++ mid.source.tokens) next
+  pub value_within : {d n m others : ℕ} {next : List Token} (k : List ℕ) (behind : List Token) (l : Level) (taken : List Token) → IsWithin old mid l → ValueThen d m (taken ++ mid.source.tokens) next
       → LevelThen l.holder d others next behind → (2 + length k + m) + others ≡ n → (suc (d + length (levels_of old)) ≤ size.depth) × CanEnd size (levels_of old) (len_of old + n) behind
       → ValueNext size mid k taken
   value_within {d} {n} {m} {others} {next} k behind l taken is value level sum (deep, outer) =
@@ -365,33 +366,34 @@ pub no_value : {ts : List Token} → NoToken ts → LacksValue ts
 no_value {ts} (inl e) d n behind value = subst (λ (x : List Token). Starts d n x behind) e (starts ts behind value)
 no_value {ts} (inr (more, e)) d n behind value = subst (λ (x : List Token). Starts d n x behind) e (starts ts behind value)
 
-as_object : {d n : ℕ} (ts behind : List Token) → ValueThen d n (Token.begin_object ∷ ts) behind → ObjectThen d n ts behind
+pub as_object : {d n : ℕ} (ts behind : List Token) → ValueThen d n (Token.begin_object ∷ ts) behind → ObjectThen d n ts behind
 as_object ts behind value = starts (Token.begin_object ∷ ts) behind value
 
 pub no_key : {ts : List Token} → LacksToken ts Token.end_object → ((k : List ℕ) → LacksToken ts (Token.key k)) → LacksValue (Token.begin_object ∷ ts)
 no_key {ts} end key d n behind value = no_object ts behind end key (as_object ts behind value)
 
-end_is_good : Token.end_object ≡ Token.bad → ⊥
+pub end_is_good : Token.end_object ≡ Token.bad → ⊥
 end_is_good e = cc
 
 array_end_is_good : Token.end_array ≡ Token.bad → ⊥
 array_end_is_good e = cc
 
-key_is_good : (k : List ℕ) → Token.key k ≡ Token.bad → ⊥
+pub key_is_good : (k : List ℕ) → Token.key k ≡ Token.bad → ⊥
 key_is_good k e = cc
 
 pub no_first : {ts : List Token} → NoToken ts → LacksValue (Token.begin_object ∷ ts)
 no_first {ts} none = no_key (no_token none Token.end_object end_is_good) (λ k. no_token none (Token.key k) (key_is_good k))
 
-pub no_free_key : {ts new : List Token} {first : List ℕ} → is_wrapper_key first ≡ false → ts ≡ Token.key first ∷ new → (NulFree first → ⊥) → LacksValue (Token.begin_object ∷ ts)
-no_free_key {ts} {new} {first} plain e none d n behind value = none (free_first first new ts behind e plain (as_object ts behind value))
+pub no_free_key : {ts new : List Token} {first : List ℕ} → is_wrapper_key first ≡ false → (first ≡ codes "$type" → ⊥) → ts ≡ Token.key first ∷ new → (NulFree first → ⊥)
+    → LacksValue (Token.begin_object ∷ ts)
+no_free_key {ts} {new} {first} plain other e none d n behind value = none (free_first first new ts behind e plain other (as_object ts behind value))
 
 -- the lengths of what was written
 
 headed_len : (b k more : List ℕ) (tag : ℕ) → length (headed b tag k ++ more) ≡ length b + (2 + length k + length more)
 headed_len b k more tag = omega (arith, length-append (headed b tag k) more, length-append b (tag ∷ (k ++ 0 ∷ [])), length-append k (0 ∷ []))
 
-puts_len : {old new : Reader} {k : List ℕ} {l : Leaf} → Puts old new k (single l) → len_of new ≡ len_of old + (2 + length k + length (leaf_payload l))
+pub puts_len : {old new : Reader} {k : List ℕ} {l : Leaf} → Puts old new k (single l) → len_of new ≡ len_of old + (2 + length k + length (leaf_payload l))
 puts_len {old} {new} {k} {l} puts =
     omega (arith, ap length puts.bytes, length-append (bytes_of old) (element_bytes k (single l)), length-append k (0 ∷ leaf_payload l))
 
@@ -407,7 +409,7 @@ opened_more {new} old e = ap length e ∙ length-append old unset
 -- documents and arrays that are opened
 
 -- the header of a level
-opened_len : (old new : Reader) (k : List ℕ) (tag : ℕ) → bytes_of new ≡ headed (bytes_of old) tag k ++ unset → len_of new ≡ len_of old + (2 + length k + 4)
+pub opened_len : (old new : Reader) (k : List ℕ) (tag : ℕ) → bytes_of new ≡ headed (bytes_of old) tag k ++ unset → len_of new ≡ len_of old + (2 + length k + 4)
 opened_len old new k tag bytes = ap length bytes ∙ headed_len (bytes_of old) k unset tag
 
 module _ (old new : Reader) {k : List ℕ} where
@@ -425,13 +427,14 @@ module _ (old new : Reader) {k : List ℕ} where
       let (e, inside, items, fewer, five) = starts (Token.begin_array ∷ old.source.tokens) behind value in
       (e, inside + 1 + 0, (behind, inside, 0, subst (λ (x : List Token). ItemsThen 0 e inside x behind) (sym same) items, (refl, refl), refl), fewer, omega (arith, five)))
 
-  pub begun_opens : {ts : List Token} (first : Bor (List ℕ)) (start : ℕ) → is_wrapper_key first.now ≡ false → old.source.tokens ≡ Token.key first.now ∷ ts → new.source.tokens ≡ ts
+  pub begun_opens : {ts : List Token} (first : Bor (List ℕ)) (start : ℕ) → is_wrapper_key first.now ≡ false → (first.now ≡ codes "$type" → ⊥) → old.source.tokens ≡ Token.key first.now ∷ ts
+      → new.source.tokens ≡ ts
       → new.document.limits ≡ old.document.limits → new.document.levels.items ≡ old.document.levels.items ++ level_at (holder.Begun first) start ∷ []
       → bytes_of new ≡ headed (bytes_of old) 3 k ++ unset → KeepsValue old new k (Token.begin_object ∷ [])
-  begun_opens {ts} first start plain e same limits levels bytes =
+  begun_opens {ts} first start plain other e same limits levels bytes =
       open_keeps old new (holder.Begun first) start (2 + length k + 4) limits refl levels (opened_len old new k 3 bytes)
       (λ d m behind value.
-      let (f, inside, members, fewer, five) = ordinary first.now ts old.source.tokens behind e plain (as_object old.source.tokens behind value) in
+      let (f, inside, members, fewer, five) = ordinary first.now ts old.source.tokens behind e plain other (as_object old.source.tokens behind value) in
       (f, inside + 1 + 0, (behind, inside, 0, subst (λ (x : List Token). FirstThen first.now f inside x behind) (sym same) members, (refl, refl), refl), fewer, omega (arith, five)))
 
 module _ {old : Reader} {k : List ℕ} (r : JsonReason) where
@@ -444,11 +447,12 @@ module _ {old : Reader} {k : List ℕ} (r : JsonReason) where
   array_refused over = value_refused r (2 + length k + 4) 1
       (λ d n behind value. let (e, inside, items, fewer, five) = starts (Token.begin_array ∷ old.source.tokens) behind value in (omega (arith, five), omega (arith, fewer))) over
 
-  pub begun_refused : {first : List ℕ} {ts : List Token} → is_wrapper_key first ≡ false → old.source.tokens ≡ Token.key first ∷ ts → Refuses old.document (2 + length k + 4) 1 r
+  pub begun_refused : {first : List ℕ} {ts : List Token} → is_wrapper_key first ≡ false → (first ≡ codes "$type" → ⊥) → old.source.tokens ≡ Token.key first ∷ ts
+      → Refuses old.document (2 + length k + 4) 1 r
       → StopsValue old k (Token.begin_object ∷ []) r
-  begun_refused {first} {ts} plain e over = value_refused r (2 + length k + 4) 1
+  begun_refused {first} {ts} plain other e over = value_refused r (2 + length k + 4) 1
       (λ d n behind value.
-      let (f, inside, members, fewer, five) = ordinary first ts old.source.tokens behind e plain (as_object old.source.tokens behind value) in
+      let (f, inside, members, fewer, five) = ordinary first ts old.source.tokens behind e plain other (as_object old.source.tokens behind value) in
       (omega (arith, five), omega (arith, fewer))) over
 
 -- values that hold no others
@@ -514,10 +518,6 @@ module _ {old : Reader} {k : List ℕ} (r : JsonReason) where
   pub leaf_lacks : {wrapper : List ℕ} → LacksLeaf wrapper old.source.tokens → StopsLeaf old wrapper k r
   leaf_lacks {wrapper} none = record { refused = λ j l rest is e. absurd (none.none j l is rest e) }
 
-  pub memory_or_lacks : {P : Type 0} {wrapper : List ℕ} → (P → LacksLeaf wrapper old.source.tokens) → (r ≡ OutOfMemory) ⊎ P → StopsLeaf old wrapper k r
-  memory_or_lacks {P} {wrapper} f (inl e) = record { refused = λ j l rest is g. subst (λ (x : JsonReason). Refuses old.document (2 + length k + length (leaf_payload l)) 0 x) (sym e) tt }
-  memory_or_lacks {P} {wrapper} f (inr p) = leaf_lacks (f p)
-
   pub leaf_refused : {ts : List Token} {l : Leaf} (w : Wrapper) → Takes (Writes w) old.source.tokens ts l → RefusesValue old.document k (single l) r → StopsLeaf old (wrapper_key w) k r
   leaf_refused {ts} {l} w (j, e, wrote) over = record {
     refused = λ i other rest is f.
@@ -532,14 +532,15 @@ refused_as {u} {k} {v} {w} {r} over e = subst (λ (x : RawValue). RefusesValue u
 
 -- wrappers
 
-as_wrapper : {d n : ℕ} (w : Wrapper) (ts behind : List Token) → ValueThen d n (Token.begin_object ∷ Token.key (wrapper_key w) ∷ ts) behind → WrapperValueThen w d n ts behind
+pub as_wrapper : {d n : ℕ} (w : Wrapper) (ts behind : List Token) → ValueThen d n (Token.begin_object ∷ Token.key (wrapper_key w) ∷ ts) behind → WrapperValueThen w d n ts behind
 as_wrapper w ts behind value = wrapper_value w ts (Token.key (wrapper_key w) ∷ ts) behind refl (as_object (Token.key (wrapper_key w) ∷ ts) behind value)
 
-module _ (w : Wrapper) (not_code : w ≡ wrapper.Code → ⊥) (not_scope : w ≡ wrapper.Scope → ⊥) where
+module _ (w : Wrapper) (not_code : w ≡ wrapper.Code → ⊥) (not_scope : w ≡ wrapper.Scope → ⊥) (not_binary : w ≡ wrapper.Binary → ⊥) where
   leaf_then : {d n : ℕ} (ts behind : List Token) → WrapperValueThen w d n ts behind → LeafThen w n ts behind
   leaf_then {d} {n} ts behind (inl is) = is
   leaf_then {d} {n} ts behind (inr (inl (same, is))) = absurd (not_code (sym same))
-  leaf_then {d} {n} ts behind (inr (inr (same, is))) = absurd (not_scope (sym same))
+  leaf_then {d} {n} ts behind (inr (inr (inl (same, is)))) = absurd (not_scope (sym same))
+  leaf_then {d} {n} ts behind (inr (inr (inr (same, is)))) = absurd (not_binary (sym same))
 
   leaf_of : {d n : ℕ} (ts behind : List Token) → ValueThen d n (Token.begin_object ∷ Token.key (wrapper_key w) ∷ ts) behind → LeafThen w n ts behind
   leaf_of ts behind value = leaf_then ts behind (as_wrapper w ts behind value)
@@ -600,15 +601,23 @@ of_code {d} {n} ts behind (json.object ms) l is e len = absurd is
 scope_is_no_code : wrapper.Scope ≡ wrapper.Code → ⊥
 scope_is_no_code e = cc
 
+pub binary_is_no_code : wrapper.Binary ≡ wrapper.Code → ⊥
+binary_is_no_code e = cc
+
+pub binary_is_no_scope : wrapper.Binary ≡ wrapper.Scope → ⊥
+binary_is_no_scope e = cc
+
 code_of : {d n : ℕ} (ts behind : List Token) → WrapperValueThen wrapper.Code d n ts behind → CodeStarts d n ts behind
 code_of {d} {n} ts behind (inl (j, l, is, e, len)) = of_code ts behind j l (writes wrapper.Code j l is) e len
 code_of {d} {n} ts behind (inr (inl (same, (code, rest, e, scope)))) = (code, inr (rest, e, scope))
-code_of {d} {n} ts behind (inr (inr (same, is))) = absurd (scope_is_no_code same)
+code_of {d} {n} ts behind (inr (inr (inl (same, is)))) = absurd (scope_is_no_code same)
+code_of {d} {n} ts behind (inr (inr (inr (same, is)))) = absurd (binary_is_no_code same)
 
 scope_of : {d n : ℕ} (ts behind : List Token) → WrapperValueThen wrapper.Scope d n ts behind → ScopeThen d n ts behind
 scope_of {d} {n} ts behind (inl (j, l, is, e, len)) = absurd (writes wrapper.Scope j l is)
 scope_of {d} {n} ts behind (inr (inl (same, is))) = absurd (scope_is_no_code (sym same))
-scope_of {d} {n} ts behind (inr (inr (same, is))) = is
+scope_of {d} {n} ts behind (inr (inr (inl (same, is)))) = is
+scope_of {d} {n} ts behind (inr (inr (inr (same, is)))) = absurd (binary_is_no_scope same)
 
 code_starts : {d n : ℕ} (ts behind : List Token) → ValueThen d n (Token.begin_object ∷ Token.key (codes "$code") ∷ ts) behind → CodeStarts d n ts behind
 code_starts ts behind value = code_of ts behind (as_wrapper wrapper.Code ts behind value)

@@ -7,5 +7,6 @@ mod OneDepth
 mod Refusals
 mod Causes
 mod Keeps
+mod TypeKeys
 mod Placing
 mod Sound

@@ -35,17 +35,17 @@ pub record IsAt (r : Reader) (ls : List Level) (b : List ℕ) (ts : List Token) 
   pub bytes : bytes_of r ≡ b
   pub tokens : r.source.tokens ≡ ts
 
-rest_at : {r : Reader} {ls : List Level} {b : List ℕ} {ts : List Token} (out : List ℕ) → IsAt r ls b ts → RestOf out r → Rest out (reverse ls) b ts
+pub rest_at : {r : Reader} {ls : List Level} {b : List ℕ} {ts : List Token} (out : List ℕ) → IsAt r ls b ts → RestOf out r → Rest out (reverse ls) b ts
 rest_at {r} {ls} {b} {ts} out is rest =
     let one = subst (λ (x : List Level). Rest out (reverse x) (bytes_of r) r.source.tokens) is.levels rest in
     let two = subst (λ (x : List ℕ). Rest out (reverse ls) x r.source.tokens) is.bytes one in
     subst (λ (x : List Token). Rest out (reverse ls) b x) is.tokens two
 
 -- .. one more level innermost
-rest_within : {r : Reader} {b : List ℕ} {ts : List Token} (ls : List Level) (l : Level) (out : List ℕ) → IsAt r (ls ++ l ∷ []) b ts → RestOf out r → Rest out (l ∷ reverse ls) b ts
+pub rest_within : {r : Reader} {b : List ℕ} {ts : List Token} (ls : List Level) (l : Level) (out : List ℕ) → IsAt r (ls ++ l ∷ []) b ts → RestOf out r → Rest out (l ∷ reverse ls) b ts
 rest_within {r} {b} {ts} ls l out is rest = subst (λ (x : List Level). Rest out x b ts) (innermost ls l) (rest_at {r = r} out is rest)
 
-value_at : {r : Reader} {b : List ℕ} {ts : List Token} (ls : List Level) (l : Level) (out k : List ℕ) (taken : List Token) → IsAt r (ls ++ l ∷ []) b ts
+pub value_at : {r : Reader} {b : List ℕ} {ts : List Token} (ls : List Level) (l : Level) (out k : List ℕ) (taken : List Token) → IsAt r (ls ++ l ∷ []) b ts
     → ValueIn (Rest out (levels_of r)) k (bytes_of r) (taken ++ r.source.tokens) → ValueIn (Rest out (l ∷ reverse ls)) k b (taken ++ ts)
 value_at {r} {b} {ts} ls l out k taken is value =
     let one = subst (λ (x : List Level). ValueIn (Rest out (reverse x)) k (bytes_of r) (taken ++ r.source.tokens)) is.levels value in
@@ -59,6 +59,7 @@ plain_holder : (h : Holder) → ((start : ℕ) → h ≡ holder.Scope start → 
 plain_holder holder.Text a c start b = (refl, refl)
 plain_holder holder.Document a c start b = (refl, refl)
 plain_holder (holder.Begun first) a c start b = (refl, refl)
+plain_holder holder.Typed a c start b = (refl, refl)
 plain_holder (holder.Array items) a c start b = (refl, refl)
 plain_holder (holder.Scope outer) a c start b = absurd (a outer refl)
 plain_holder (holder.ScopeBeforeCode outer) a c start b = absurd (c outer refl)

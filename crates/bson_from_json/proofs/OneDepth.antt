@@ -1,18 +1,18 @@
 -- What a JSON value means is always as deep.
-use Rattle.std.proofs.Common.{◌≡◌, ◌||◌, ℕ, max, suc, Bool, true, false, List, codes, get_or, refl, sym, ap, ◌∙◌, inl, inr, arith}
+use Rattle.std.proofs.Common.{◌≡◌, ◌⊎◌, ◌||◌, ℕ, max, suc, Bool, true, false, List, codes, get_or, refl, sym, ap, ◌∙◌, inl, inr, arith}
 use Rattle.std.proofs.lemmas.Bool.{false≢true}
 use Rattle.json.specs.Json.{Json, Items, Members, no_items, item, no_members, member}
 use Rattle.json.specs.Json as json
 use Rattle.bson_model.specs.Tree.{Tree, Trees, Entries}
 use Rattle.values_from_json.specs.Meaning.{AreItems, AreMembers, IsWhole, Means, WrapsOne, WrapsScope, has_wrapper_key, is_wrapper_key}
-use Rattle.values_from_json.proofs.Face.{wrapped_key}
+use Rattle.values_from_json.proofs.Face.{old_binary_first, old_binary_key, wrapped_key}
 use Rattle.bson_from_json.specs.Depths.{entries_depth, items_depth, tree_depth}
 
 -- an object that is a wrapper has the key of one
 pub wraps_one_key : (ms : Members) (t : Tree) → WrapsOne ms t → has_wrapper_key ms ≡ true
-wraps_one_key no_members t w = absurd w
+wraps_one_key no_members t (l, is, e) = old_binary_key no_members l is
 wraps_one_key (member k j no_members) t (l, is, e) = ap (λ (b : Bool). b || false) (wrapped_key k j l is)
-wraps_one_key (member k j (member k' j' ms)) t w = absurd w
+wraps_one_key (member k j (member k' j' ms)) t (l, is, e) = old_binary_key (member k j (member k' j' ms)) l is
 
 pub wraps_scope_key : (ms : Members) (t : Tree) → WrapsScope ms t → has_wrapper_key ms ≡ true
 wraps_scope_key no_members t w = absurd w
@@ -21,11 +21,18 @@ wraps_scope_key (member k j (member k' j' no_members)) t (inl w) = ap (λ (x : L
 wraps_scope_key (member k j (member k' j' no_members)) t (inr w) = ap (λ (x : List ℕ). is_wrapper_key x || (is_wrapper_key k' || false)) w.2
 wraps_scope_key (member k j (member k' j' (member k'' j'' ms))) t w = absurd w
 
--- no object is both an object of one member and one of two
+-- the first key of a binary is none of a code with scope
+binary_or_code : (k code : List ℕ) → (k ≡ codes "$binary") ⊎ (k ≡ codes "$type") → k ≡ code → (get_or code 1 0 ≡ 98 → ⊥) × (get_or code 1 0 ≡ 116 → ⊥) → ⊥
+binary_or_code k code (inl e) f unlike = unlike.0 (ap (λ (x : List ℕ). get_or x 1 0) (sym f ∙ e))
+binary_or_code k code (inr e) f unlike = unlike.1 (ap (λ (x : List ℕ). get_or x 1 0) (sym f ∙ e))
+
+-- no object is both one value that holds no others and a code with scope
 one_or_scope : (ms : Members) (t u : Tree) → WrapsOne ms t → WrapsScope ms u → ⊥
-one_or_scope no_members t u w v = absurd w
+one_or_scope no_members t u w v = absurd v
 one_or_scope (member k j no_members) t u w v = absurd v
-one_or_scope (member k j (member k' j' ms)) t u w v = absurd w
+one_or_scope (member k j (member k' j' no_members)) t u (l, is, e) (inl v) = binary_or_code k (codes "$code") (old_binary_first is) v.2 (λ x. omega (arith, x), λ x. omega (arith, x))
+one_or_scope (member k j (member k' j' no_members)) t u (l, is, e) (inr v) = binary_or_code k (codes "$scope") (old_binary_first is) v.2 (λ x. omega (arith, x), λ x. omega (arith, x))
+one_or_scope (member k j (member k' j' (member k'' j'' ms))) t u w v = absurd v
 
 code_or_scope : (k : List ℕ) → k ≡ codes "$code" → k ≡ codes "$scope" → ⊥
 code_or_scope k e f = omega (arith, ap (λ (x : List ℕ). get_or x 1 0) (sym e ∙ f))
@@ -33,6 +40,9 @@ code_or_scope k e f = omega (arith, ap (λ (x : List ℕ). get_or x 1 0) (sym e 
 -- as deep as another
 deep_as : {t u : Tree} {a b : Tree} → t ≡ a → u ≡ b → tree_depth a ≡ tree_depth b → tree_depth t ≡ tree_depth u
 deep_as e f same = ap tree_depth e ∙ same ∙ sym (ap tree_depth f)
+
+one_same : (ms : Members) (t u : Tree) → WrapsOne ms t → WrapsOne ms u → tree_depth t ≡ tree_depth u
+one_same ms t u (l, is, e) (l', also, f) = deep_as e f refl
 
 mutual
   value_depth : (j : Json) (t u : Tree) → Means j t → Means j u → tree_depth t ≡ tree_depth u
@@ -71,11 +81,6 @@ mutual
   whole_same (json.string s) es fs h k = absurd h
   whole_same (json.array js) es fs h k = absurd h
   whole_same (json.object ms) es fs h k = one_depth ms es fs h k
-
-  one_same : (ms : Members) (t u : Tree) → WrapsOne ms t → WrapsOne ms u → tree_depth t ≡ tree_depth u
-  one_same no_members t u w v = absurd w
-  one_same (member k j no_members) t u (l, is, e) (l', also, f) = deep_as e f refl
-  one_same (member k j (member k' j' ms)) t u w v = absurd w
 
   scope_same : (ms : Members) (t u : Tree) → WrapsScope ms t → WrapsScope ms u → tree_depth t ≡ tree_depth u
   scope_same no_members t u w v = absurd w

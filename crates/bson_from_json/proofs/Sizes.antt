@@ -2,7 +2,7 @@
 use Rattle.std.proofs.Common.{◌≡◌, ℕ, ℤ, FitsSigned, List, Result, Ok, Option, Some, get_or, codes, length, refl, sym, ap, subst, ◌∙◌, inl, inr, arith}
 use Rattle.std.proofs.lemmas.Bool.{false≢true}
 use Rattle.std.specs.Int.{w32}
-use Rattle.json.specs.Json.{Json, Members, member}
+use Rattle.json.specs.Json.{Json, Members, no_members, member}
 use Rattle.json.specs.Json as json
 use Rattle.bson_model.specs.Leaf.{Leaf, binary, db_pointer, decimal128, object_id, regular_expression}
 use Rattle.bson_model.specs.Options.{sorted_options}
@@ -11,7 +11,7 @@ use Rattle.bson_model.specs.declared.binaries.BinarySubtype.TheVariants.{Uuid}
 use Rattle.raw_view.specs.Frame.Format.{leaf_payload}
 use Rattle.values_from_json.specs.Keys.{wrapper_key}
 use Rattle.values_from_json.specs.Numbers.{IsPlain}
-use Rattle.values_from_json.specs.Wrapped.{AreTwo, InString, IsBinary, IsDate, IsDbPointer, IsOid, IsRegex, IsTimestamp, IsUuid, IsWrapped}
+use Rattle.values_from_json.specs.Wrapped.{AreTwo, InString, IsBinary, IsDate, IsDbPointer, IsOid, IsOldBinary, IsRegex, IsTimestamp, IsUuid, IsWrapped, WritesOne}
 use Rattle.values_from_json.specs.declared.wrapper.Wrapper.{Wrapper}
 use Rattle.values_from_json.specs.declared.wrapper.Wrapper.TheVariants as wrapper
 use Rattle.values_from_json.proofs.Face.{Writes, integer_only, wider, writes, written_once}
@@ -76,6 +76,22 @@ module _ (l m : Leaf) where
       let same_bytes : bytes ≡ bytes' = cc in
       let same_subtype : subtype ≡ subtype' = cc in
       same_len e f (ap (λ (x : List ℕ). len (binary (subtype_of subtype) x)) same_bytes ∙ ap (λ (x : ℕ). len (binary (subtype_of x) bytes')) same_subtype)
+
+  -- one of version 1
+  old_size : (ms : Members) → IsOldBinary ms l → IsOldBinary ms m → len l ≡ len m
+  old_size ms (text, digits, bytes, subtype, two, decoded, of_digits, e) (text', digits', bytes', subtype', two', decoded', of_digits', f) =
+      let both = two_same (codes "$binary") (codes "$type") 1 (λ e. omega arith) two two' in
+      let same_text : text ≡ text' = same_string both.0 in
+      let same_digits : digits ≡ digits' = same_string both.1 in
+      let same_bytes : bytes ≡ bytes' = cc in
+      let same_subtype : subtype ≡ subtype' = cc in
+      same_len e f (ap (λ (x : List ℕ). len (binary (subtype_of subtype) x)) same_bytes ∙ ap (λ (x : ℕ). len (binary (subtype_of x) bytes')) same_subtype)
+
+  -- an object that writes one value
+  pub one_alone_size : (first : List ℕ) (j : Json) (ms : Members) → (IsWrapped first j l → IsWrapped first j m → len l ≡ len m) → WritesOne (member first j ms) l → WritesOne (member first j ms) m
+      → len l ≡ len m
+  one_alone_size first j no_members one h k = one h k
+  one_alone_size first j (member name i ms) one h k = old_size (member first j (member name i ms)) h k
 
   regex_size : (j : Json) → IsRegex j l → IsRegex j m → len l ≡ len m
   regex_size json.null h k = absurd h

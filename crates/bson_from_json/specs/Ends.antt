@@ -1,7 +1,7 @@
 -- The tokens with which a text with open levels may continue and end, so that it writes a document of a size. No public contract cites this file.
 use Rattle.std.specs.Prelude.{◌≡◌, ◌≤◌, ◌<◌, ◌+◌, ℕ, false, suc, List, [], ◌∷◌, ◌++◌, codes, length}
 use Rattle.json.specs.Json.{Json, Items, Members, object}
-use Rattle.json.specs.Token.{Token, end_object, key, string}
+use Rattle.json.specs.Token.{Token, begin_object, end_object, key, string}
 use Rattle.json.specs.Tree.{json_tokens, items_tokens, members_tokens}
 use Rattle.bson_model.specs.Leaf.{Leaf}
 use Rattle.bson_model.specs.Proper.{InEntries}
@@ -59,6 +59,7 @@ abbrev pub InsideThen : Holder → ℕ → ℕ → List Token → List Token →
 InsideThen holder.Text d n ts behind = MembersThen d n ts behind
 InsideThen holder.Document d n ts behind = OrdinaryThen d n ts behind
 InsideThen (holder.Begun first) d n ts behind = FirstThen first.now d n ts behind
+InsideThen holder.Typed d n ts behind = FirstThen (codes "$type") d n (begin_object ∷ ts) behind
 InsideThen (holder.Array items) d n ts behind = ItemsThen items d n ts behind
 InsideThen (holder.Scope start) d n ts behind = MembersThen d n ts behind
 InsideThen (holder.ScopeBeforeCode start) d n ts behind = MembersThen d n ts behind
@@ -68,6 +69,7 @@ abbrev pub WrapperThen : Holder → ℕ → List Token → List Token → Type 0
 WrapperThen holder.Text n ts behind = (ts ≡ behind) × (n ≡ 0)
 WrapperThen holder.Document n ts behind = (ts ≡ behind) × (n ≡ 0)
 WrapperThen (holder.Begun first) n ts behind = (ts ≡ behind) × (n ≡ 0)
+WrapperThen holder.Typed n ts behind = (ts ≡ behind) × (n ≡ 0)
 WrapperThen (holder.Array items) n ts behind = (ts ≡ behind) × (n ≡ 0)
 WrapperThen (holder.Scope start) n ts behind = (ts ≡ end_object ∷ behind) × (n ≡ 0)
 WrapperThen (holder.ScopeBeforeCode start) n ts behind = (text : List ℕ) × (ts ≡ key (codes "$code") ∷ string text ∷ end_object ∷ behind) × (n ≡ 5 + length text)

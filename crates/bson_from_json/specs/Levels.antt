@@ -2,10 +2,10 @@
 use Rattle.std.specs.Prelude.{◌≡◌, ◌⊎◌, ℕ, pos, ◌+◌, ◌-◌, false, List, [], ◌∷◌, ◌++◌, codes, drop, length, reverse, take}
 use Rattle.std.specs.Str.{IsUtf8}
 use Rattle.json.specs.Json.{Json, Items, Members, object}
-use Rattle.json.specs.Token.{Token, end_object, end_array, key, string}
+use Rattle.json.specs.Token.{Token, begin_object, end_object, end_array, key, string}
 use Rattle.json.specs.Tree.{json_tokens, items_tokens, members_tokens}
 use Rattle.bson_model.specs.Bytes.{NulFree}
-use Rattle.bson_model.specs.Leaf.{Leaf}
+use Rattle.bson_model.specs.Leaf.{Leaf, string as text_of}
 use Rattle.bson_model.specs.Proper.{Everywhere, InEntries, InTrees, IsLeafInRange, IsLeafNulFree, IsLeafSubtypeProper, OfParts, Whatever}
 use Rattle.bson_model.specs.Tree.{Tree, Trees, Entries, document}
 use Rattle.raw_tree.specs.Encoding.{encoding, entries_bytes, items_bytes, kind_of_tree, tree_payload}
@@ -42,6 +42,10 @@ headed b tag k = b ++ tag ∷ (k ++ 0 ∷ [])
 abbrev pub with_string : ℕ → List ℕ → List ℕ → List ℕ
 with_string at text b = take at b ++ (string_payload text ++ drop at b)
 
+-- the bytes followed by a document under this key, whose one element is a string with the key $type
+abbrev pub typed_bytes : List ℕ → List ℕ → List ℕ → List ℕ
+typed_bytes b k text = with_len (length (headed b 3 k)) (((headed b 3 k ++ unset) ++ element_bytes (codes "$type") (single (text_of text))) ++ 0 ∷ [])
+
 -- the bytes up to the scope of a code
 abbrev pub before_scope : List ℕ → List ℕ → List ℕ → List ℕ
 before_scope b k code = (headed b 15 k ++ unset) ++ string_payload code
@@ -51,6 +55,7 @@ abbrev pub HasMembers : Holder → Type 0
 HasMembers holder.Text = Unit {0}
 HasMembers holder.Document = Unit {0}
 HasMembers (holder.Begun first) = ⊥
+HasMembers holder.Typed = ⊥
 HasMembers (holder.Array items) = ⊥
 HasMembers (holder.Scope start) = Unit {0}
 HasMembers (holder.ScopeBeforeCode start) = Unit {0}
@@ -110,6 +115,7 @@ abbrev pub HasRestOfLevel : Holder → List Token → List ℕ → Type 0
 HasRestOfLevel holder.Text ts bytes = HasPairs ts bytes
 HasRestOfLevel holder.Document ts bytes = HasOrdinaryPairs ts bytes
 HasRestOfLevel (holder.Begun first) ts bytes = HasFirstOf HasOrdinaryPairs first.now ts bytes
+HasRestOfLevel holder.Typed ts bytes = HasFirstOf HasOrdinaryPairs (codes "$type") (begin_object ∷ ts) bytes
 HasRestOfLevel (holder.Array items) ts bytes = HasItems items ts bytes
 HasRestOfLevel (holder.Scope start) ts bytes = HasPairs ts bytes
 HasRestOfLevel (holder.ScopeBeforeCode start) ts bytes = HasPairs ts bytes
@@ -120,6 +126,7 @@ bracket (holder.Array items) = end_array
 bracket holder.Text = end_object
 bracket holder.Document = end_object
 bracket (holder.Begun first) = end_object
+bracket holder.Typed = end_object
 bracket (holder.Scope start) = end_object
 bracket (holder.ScopeBeforeCode start) = end_object
 
@@ -129,6 +136,7 @@ IsClosed (holder.Array items) start b ts closed = (ts ≡ []) × (closed ≡ wit
 IsClosed holder.Text start b ts closed = (ts ≡ []) × (closed ≡ with_len start b)
 IsClosed holder.Document start b ts closed = (ts ≡ []) × (closed ≡ with_len start b)
 IsClosed (holder.Begun first) start b ts closed = (ts ≡ []) × (closed ≡ with_len start b)
+IsClosed holder.Typed start b ts closed = (ts ≡ []) × (closed ≡ with_len start b)
 IsClosed (holder.Scope outer) start b ts closed = (ts ≡ end_object ∷ []) × (closed ≡ with_len outer (with_len start b))
 IsClosed (holder.ScopeBeforeCode outer) start b ts closed =
     (code : List ℕ) × IsUtf8 code × (ts ≡ key (codes "$code") ∷ string code ∷ end_object ∷ [])

@@ -3,15 +3,17 @@
 
 ghost use Rattle.std.specs.Prelude.{◌≡◌, ◌≤◌, ◌+◌, ◌++◌, ◌∷◌, [], length, vec_capacity, vec_len, IfErr, IfOk, IfSome, OnOk, MatchOption};
 ghost use Rattle.std.specs.Str.{IsUtf8};
-ghost use Rattle.raw_view.specs.Frame.Format.{c_string as text_then, framed, string_payload};
+ghost use Rattle.raw_view.specs.Frame.Format.{c_string as text_then, framed, leaf_payload, string_payload};
 ghost use Rattle.raw_view.specs.Document.{bytes_of};
 ghost use Rattle.raw_view.specs.Frame.Kind.{tag_of};
 ghost use Rattle.raw_view.specs.Frame.Number.{max_length};
 ghost use Rattle.raw_tree.specs.Payload.{IsRawInRange, element_bytes, payload_of, unset};
+ghost use Rattle.bson_model.specs.Leaf.{string};
 ghost use Rattle.bson_model.specs.Tree.{Tree};
+ghost use Rattle.raw_view.specs.Meaning.{single};
 ghost use Rattle.raw_view.specs.Meaning.Value.{value_of};
 ghost use Rattle.raw_tree.specs.WithinLimits.{ReadsWithin};
-ghost use Rattle.bson_from_json.specs.Levels.{IsReadAgain, IsReadableDocument, headed, level_at, with_len, with_string};
+ghost use Rattle.bson_from_json.specs.Levels.{IsReadAgain, IsReadableDocument, headed, level_at, typed_bytes, with_len, with_string};
 ghost use Rattle.bson_from_json.specs.Placed.{IsPlaced, code_start};
 ghost use Rattle.bson_from_json.specs.Ends.{Refuses, StopsDocument};
 ghost use Rattle.bson_from_json.specs.Texts.{capped};
@@ -35,8 +37,10 @@ pub(crate) enum Holder<'a> {
     /// the text
     Text,
     Document,
-    /// a document whose first key was taken, and whose value is next
+    /// a document a key of which was taken, and whose value is next
     Begun(&'a str),
+    /// a document whose first key, `$type`, was taken, and the opening brace of an object that is its value
+    Typed,
     /// an array with this many items so far
     Array(usize),
     /// the scope of a code that came before it; the payload starts there
@@ -189,6 +193,26 @@ impl<'a> Unfinished<'a> {
         self.put_head(ElementType::EmbeddedDocument, key)?;
         self.check_depth()?;
         self.put(&[5, 0, 0, 0, 0])
+    }
+
+    /// Appends a document whose one element is a string with the key `$type`, under a key.
+    pub(crate) fn put_typed(&mut self, key: &str, text: &str) -> Result<(), JsonReason>
+        ensures bytes { OnOk result (self.new.bytes.items ≡ typed_bytes self.old.bytes.items key.now text.now) }
+        ensures len { OnOk result (length self.new.bytes.items ≡ length self.old.bytes.items + (2 + length key.now + (12 + length (leaf_payload (string text.now))))) }
+        ensures in_range { OnOk result (IsRawInRange (single (string text.now))) }
+        ensures levels { self.new.levels.items ≡ self.old.levels.items }
+        ensures limits { self.new.limits ≡ self.old.limits }
+        ensures refused { IfErr result (Refuses self.old (2 + length key.now + (12 + length (leaf_payload (string text.now)))) 1) }
+    {
+        self.put_head(ElementType::EmbeddedDocument, key)?;
+        self.check_depth()?;
+        let level = Level {
+            holder: Holder::Document,
+            start: self.bytes.len(),
+        };
+        self.put(&[0; 4])?;
+        self.put_element("$type", RawBsonRef::String(text))?;
+        self.close(level)
     }
 
     /// Opens a level under a key.

@@ -1,9 +1,10 @@
 //! Documents from text: one loop over the members of the innermost level.
 #![tactic(auto, using(crate::proofs::Left::one_taken, crate::proofs::Left::some_taken))]
 
-ghost use Rattle.std.specs.Prelude.{◌≡◌, ◌+◌, ◌<◌, ◌≤◌, ◌∷◌, [], length, IfErr, IfOk, OnErr, OnOk};
+ghost use Rattle.std.specs.Prelude.{◌≡◌, ◌≢◌, ◌+◌, ◌<◌, ◌≤◌, ◌∷◌, [], length, IfErr, IfOk, OnErr, OnOk};
 ghost use Rattle.std.specs.Str.{IsUtf8};
 ghost use Rattle.json.specs.Reads.{token_of};
+ghost use Rattle.json.specs.declared.token.Token.TheVariants.{BeginObject};
 ghost use Rattle.json.specs.Token.{begin_object};
 ghost use Rattle.bson_model.specs.Bytes.{NulFree};
 ghost use Rattle.bson_model.specs.Tree.{Tree};
@@ -38,12 +39,13 @@ pub(crate) struct Reader<'a> {
 /// The document that a text of MongoDB Extended JSON v2 writes, canonical or relaxed. An integer without a wrapper
 /// is an Int32 if it fits, otherwise an Int64, and may have up to 64 bits. Any other number without a wrapper is
 /// the nearest double. An object with the keys of a wrapper, in any order, is the value of the wrapper; one with
-/// the key of a wrapper and other keys is an error. The whole text and a scope are documents whatever their keys
-/// are. A decimal must equal a Decimal128. Members are in the order of the text, even with repeated keys; options
-/// are sorted. The document has a tree within the limits, so it has no fault at any level. The error is about the
-/// first token that is wrong, with its place; or it is out of memory. The reason is `TooDeep` or `TooManyBytes` only
-/// where every document that the text writes is over that limit, or has more bytes than BSON allows. With any other
-/// reason but `OutOfMemory` the text writes no document. BSON 1.1, `document`.
+/// the key of a wrapper and other keys is an error. A binary may be as in version 1, with the keys `$binary` and
+/// `$type`. The whole text and a scope are documents whatever their keys are. A decimal must equal a Decimal128.
+/// Members are in the order of the text, even with repeated keys; options are sorted. The document has a tree
+/// within the limits, so it has no fault at any level. The error is about the first token that is wrong, with its
+/// place; or it is out of memory. The reason is `TooDeep` or `TooManyBytes` only where every document that the text
+/// writes is over that limit, or has more bytes than BSON allows. With any other reason but `OutOfMemory` the text
+/// writes no document. BSON 1.1, `document`.
 ///
 /// Not in the contract: no depth of the text takes stack, the time is linear, and memory is taken for as many
 /// bytes as the text has, besides the document. A code after its scope is written before it: the bytes of the scope
@@ -117,6 +119,13 @@ impl<'a> Reader<'a> {
                     start: level.start,
                 })?;
                 self.value_of(key)
+            }
+            Holder::Typed => {
+                self.document.push(Level {
+                    holder: Holder::Document,
+                    start: level.start,
+                })?;
+                self.object("$type")
             }
             _ => self.member(level),
         }
@@ -210,11 +219,31 @@ impl<'a> Reader<'a> {
         ensures stops { IfErr result (StopsValue self.old key.now (token_of token.entry ∷ [])) }
     {
         match token {
+            Token::BeginObject => self.object(key),
+            _ => self.plain(token, key, wanted),
+        }
+    }
+
+    /// The same of a token that isn't the opening brace of an object.
+    #[inline(always)]
+    pub(crate) fn plain(
+        &mut self,
+        token: Token<'a>,
+        key: &str,
+        wanted: Wanted,
+    ) -> Result<(), JsonReason>
+        requires { token ≢ BeginObject }
+        ensures less { OnOk result (left_of self.new ≤ left_of self.old) }
+        ensures rest { OnOk result (TakesValue self.old self.new key.now (token_of token.entry ∷ [])) }
+        ensures keeps { OnOk result (KeepsValue self.old self.new key.now (token_of token.entry ∷ [])) }
+        ensures stops { IfErr result (StopsValue self.old key.now (token_of token.entry ∷ [])) }
+    {
+        match token {
             Token::String(text) => self.put(key, RawBsonRef::String(text)),
             Token::Number(text) => self.number(key, text),
             Token::Bool(value) => self.put(key, RawBsonRef::Boolean(value)),
             Token::Null => self.put(key, RawBsonRef::Null),
-            Token::BeginObject => self.object(key),
+            Token::BeginObject => unreachable!(),
             Token::BeginArray => self
                 .document
                 .open_under(ElementType::Array, key, Holder::Array(0)),
@@ -225,7 +254,7 @@ impl<'a> Reader<'a> {
 
     /// Takes the first key of an object, which decides whether the object is a wrapper, or its end.
     fn object(&mut self, key: &str) -> Result<(), JsonReason>
-        ensures less { OnOk result (left_of self.new ≤ left_of self.old) }
+        ensures less { OnOk result (left_of self.new < left_of self.old) }
         ensures rest { OnOk result (TakesValue self.old self.new key.now (begin_object ∷ [])) }
         ensures keeps { OnOk result (KeepsValue self.old self.new key.now (begin_object ∷ [])) }
         ensures stops { IfErr result (StopsValue self.old key.now (begin_object ∷ [])) }
@@ -239,6 +268,9 @@ impl<'a> Reader<'a> {
             Token::Key(first) => match wrapper_of_key(first) {
                 Some(wrapper) => self.wrapped(wrapper, key),
                 None => {
+                    if first == "$type" {
+                        return self.typed(key, brace);
+                    }
                     check_free(first)?;
                     self.source.place = brace;
                     self.document
@@ -261,7 +293,7 @@ impl<'a> Reader<'a> {
 }
 
 /// A key contains no U+0000, which would end it. In a document it isn't the key of a wrapper either.
-fn check_key(key: &str, holder: Holder<'_>) -> Result<(), JsonReason>
+pub(crate) fn check_key(key: &str, holder: Holder<'_>) -> Result<(), JsonReason>
     ensures text { IsUtf8 key.now }
     ensures some { OnOk result (MayBeIn holder.entry key.now) }
     ensures none { OnErr result (¬ MayBeIn holder.entry key.now) }

@@ -1,13 +1,16 @@
 //! The values of wrappers, each after its first key, as bytes of the document.
 #![tactic(auto, using(crate::proofs::Left::one_taken, crate::proofs::Left::some_taken, crate::proofs::Left::leaf_less))]
 
-ghost use Rattle.std.specs.Prelude.{◌≢◌, ◌≤◌, ◌∷◌, [], IfErr, OnOk, codes};
+ghost use Rattle.std.specs.Prelude.{◌≡◌, ◌≢◌, ◌≤◌, ◌∷◌, [], IfErr, OnOk, codes};
+ghost use Rattle.bson_model.specs.Leaf.{binary};
+ghost use Rattle.bson_model.specs.Subtype.{subtype_of};
+ghost use Rattle.raw_view.specs.Meaning.{single};
 ghost use Rattle.json.specs.Token.{begin_object, key as key_token, string};
-ghost use Rattle.bson_from_json.specs.Ends.{KeepsValue, StopsLeaf, StopsValue};
+ghost use Rattle.bson_from_json.specs.Ends.{KeepsValue, RefusesValue, StopsLeaf, StopsValue};
 ghost use Rattle.bson_from_json.specs.Left.{left_of};
-ghost use Rattle.bson_from_json.specs.Levels.{TakesLeaf, TakesValue};
+ghost use Rattle.bson_from_json.specs.Levels.{Puts, TakesLeaf, TakesValue};
 ghost use Rattle.values_from_json.specs.Keys.{wrapper_key};
-ghost use Rattle.values_from_json.specs.declared.wrapper.Wrapper.TheVariants.{Code, Scope};
+ghost use Rattle.values_from_json.specs.declared.wrapper.Wrapper.TheVariants.{Binary, Code, Scope};
 
 use crate::levels::Holder;
 use crate::reading::Reader;
@@ -27,6 +30,7 @@ impl Reader<'_> {
         match wrapper {
             Wrapper::Code => return self.code(key),
             Wrapper::Scope => return self.scope_before_code(key),
+            Wrapper::Binary => return self.binary(key),
             _ => self.leaf(wrapper, key)?,
         }
         self.source.end(wrapper)
@@ -36,6 +40,7 @@ impl Reader<'_> {
     fn leaf(&mut self, wrapper: Wrapper, key: &str) -> Result<(), JsonReason>
         requires no_code { wrapper ≢ Code }
         requires no_scope { wrapper ≢ Scope }
+        requires no_binary { wrapper ≢ Binary }
         ensures some { OnOk result (TakesLeaf self.old self.new (wrapper_key wrapper) key.now) }
         ensures stops { IfErr result (StopsLeaf self.old (wrapper_key wrapper) key.now) }
     {
@@ -45,7 +50,6 @@ impl Reader<'_> {
             Wrapper::NumberLong => self.int64(key),
             Wrapper::NumberDouble => self.double(key),
             Wrapper::NumberDecimal => self.decimal(key),
-            Wrapper::Binary => self.binary(key),
             Wrapper::Uuid => self.uuid(key),
             Wrapper::Date => self.date(key),
             Wrapper::RegularExpression => self.regular_expression(key),
@@ -55,7 +59,7 @@ impl Reader<'_> {
             Wrapper::Undefined => self.undefined(key),
             Wrapper::MinKey => self.min_key(key),
             Wrapper::MaxKey => self.max_key(key),
-            Wrapper::Code | Wrapper::Scope => unreachable!(),
+            Wrapper::Code | Wrapper::Scope | Wrapper::Binary => unreachable!(),
         }
     }
 
@@ -159,14 +163,38 @@ impl Reader<'_> {
         self.put(key, RawBsonRef::Timestamp(Timestamp { time, increment }))
     }
 
+    /// Takes what follows the key `$binary`, the first of an object, and puts the binary under a key.
     fn binary(&mut self, key: &str) -> Result<(), JsonReason>
-        ensures some { OnOk result (TakesLeaf self.old self.new (codes "$binary") key.now) }
-        ensures stops { IfErr result (StopsLeaf self.old (codes "$binary") key.now) }
+        ensures less { OnOk result (left_of self.new ≤ left_of self.old) }
+        ensures rest { OnOk result (TakesValue self.old self.new key.now (begin_object ∷ key_token (codes "$binary") ∷ [])) }
+        ensures keeps { OnOk result (KeepsValue self.old self.new key.now (begin_object ∷ key_token (codes "$binary") ∷ [])) }
+        ensures stops { IfErr result (StopsValue self.old key.now (begin_object ∷ key_token (codes "$binary") ∷ [])) }
     {
         let (bytes, subtype) = self.source.binary(self.alloc)?;
+        self.put_binary(key, &bytes, subtype)
+    }
+
+    /// Takes what follows the key `$binary`, the second of an object after `$type` and these digits, and puts the
+    /// binary under a key.
+    pub(crate) fn binary_behind_type(&mut self, key: &str, digits: &str) -> Result<(), JsonReason>
+        ensures less { OnOk result (left_of self.new ≤ left_of self.old) }
+        ensures rest { OnOk result (TakesValue self.old self.new key.now (begin_object ∷ key_token (codes "$type") ∷ string digits.now ∷ key_token (codes "$binary") ∷ [])) }
+        ensures keeps { OnOk result (KeepsValue self.old self.new key.now (begin_object ∷ key_token (codes "$type") ∷ string digits.now ∷ key_token (codes "$binary") ∷ [])) }
+        ensures stops { IfErr result (StopsValue self.old key.now (begin_object ∷ key_token (codes "$type") ∷ string digits.now ∷ key_token (codes "$binary") ∷ [])) }
+    {
+        let (bytes, subtype) = self.source.binary_behind_type(self.alloc, digits)?;
+        self.put_binary(key, &bytes, subtype)
+    }
+
+    /// Puts a binary under a key.
+    fn put_binary(&mut self, key: &str, bytes: &[u8], subtype: u8) -> Result<(), JsonReason>
+        ensures source { self.new.source ≡ self.old.source }
+        ensures puts { OnOk result (Puts self.old self.new key.now (single (binary (subtype_of subtype) bytes.now))) }
+        ensures refused { IfErr result (RefusesValue self.old.document key.now (single (binary (subtype_of subtype) bytes.now))) }
+    {
         let binary = RawBinaryRef {
             subtype: BinarySubtype::from_u8(subtype),
-            bytes: &bytes,
+            bytes,
         };
         self.put(key, RawBsonRef::Binary(binary))
     }

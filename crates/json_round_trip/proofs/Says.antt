@@ -1,5 +1,5 @@
 -- The meaning of the JSON values that are printed of documents, arrays and scopes: each means one tree alone.
-use Rattle.std.proofs.Common.{◌≡◌, ◌||◌, ℕ, Bool, true, false, not, List, ◌∷◌, ◌++◌, codes, inl, inr, refl, sym, ap, ◌∙◌}
+use Rattle.std.proofs.Common.{◌≡◌, ◌⊎◌, ◌||◌, ℕ, Bool, true, false, not, List, ◌∷◌, ◌++◌, codes, inl, inr, refl, sym, ap, ◌∙◌}
 use Rattle.std.proofs.lemmas.Bool.{false≢true}
 use Rattle.std.specs.List.{list_any}
 use Rattle.std.specs.Str.{bytes_eq}
@@ -14,6 +14,7 @@ use Rattle.raw_tree.specs.Reading.{as_document, as_array}
 use Rattle.bson_to_json.specs.Json.{before_scope, end_text, head_text}
 use Rattle.bson_to_json.specs.declared.style.Layout.{Layout}
 use Rattle.bson_from_json.specs.Meaning.{AreItems, AreMembers, Means, has_wrapper_key, is_wrapper_key}
+use Rattle.values_from_json.proofs.Face.{old_binary_first}
 use Rattle.json_round_trip.specs.Printed.{IsPrintedAs}
 use Rattle.json_round_trip.specs.Returning.{HasNoWrapperKey}
 use Rattle.json_round_trip.proofs.Spaced.{IsSpaced, printed}
@@ -113,10 +114,14 @@ same_string a b e = cc
 not_the_key : {P : Type 0} → codes "$code" ≡ codes "$scope" → P
 not_the_key e = absurd (false≢true (sym (ap (bytes_eq (codes "$code")) e)))
 
+code_unlike : (codes "$code" ≡ codes "$binary") ⊎ (codes "$code" ≡ codes "$type") → ⊥
+code_unlike (inl e) = false≢true (sym (ap (bytes_eq (codes "$code")) e))
+code_unlike (inr e) = false≢true (sym (ap (bytes_eq (codes "$code")) e))
+
 only_scoped : (code : List ℕ) (es : Entries) (text : List ℕ) (ms : Members) → IsObjectPrinted es text ms → (other : Tree) → Means (scoped_json code (json.object ms)) other
     → other ≡ code_with_scope code es
 only_scoped code es text ms h other (inl (rest, no_key, are, e)) = absurd (false≢true (sym no_key))
-only_scoped code es text ms h other (inr (inl w)) = absurd w
+only_scoped code es text ms h other (inr (inl (l, is, e))) = absurd (code_unlike (old_binary_first is))
 only_scoped code es text ms h other (inr (inr (inl (code', rest, k, k', is, whole, e)))) =
     e ∙ (λ i. code_with_scope (same_string code' code (sym is) i) (h.only rest whole i))
 only_scoped code es text ms h other (inr (inr (inr (code', rest, k, k', whole, is, e)))) = not_the_key k

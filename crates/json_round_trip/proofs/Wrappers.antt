@@ -9,13 +9,13 @@ use Rattle.bson_from_json.specs.Keys.{wrapper_key}
 use Rattle.bson_from_json.specs.Meaning.{Means, WrapsOne, WrapsScope, has_wrapper_key, is_wrapper_key}
 use Rattle.bson_from_json.specs.Wrapped.{one_member}
 use Rattle.bson_from_json.specs.Wrapper.{Wrapper}
-use Rattle.values_from_json.proofs.Face.{Writes, is_of_wrapper, wrapped_key, writes}
+use Rattle.values_from_json.proofs.Face.{Writes, is_of_wrapper, old_binary_key, wrapped_key, writes}
 
 -- an object that is a wrapper has the key of one
 pub wraps_one_key : (ms : Members) (t : Tree) → WrapsOne ms t → has_wrapper_key ms ≡ true
-wraps_one_key no_members t w = absurd w
+wraps_one_key no_members t (l, is, e) = old_binary_key no_members l is
 wraps_one_key (member k j no_members) t (l, is, e) = ap (λ (b : Bool). b || false) (wrapped_key k j l is)
-wraps_one_key (member k j (member k' j' ms)) t w = absurd w
+wraps_one_key (member k j (member k' j' ms)) t (l, is, e) = old_binary_key (member k j (member k' j' ms)) l is
 
 pub wraps_scope_key : (ms : Members) (t : Tree) → WrapsScope ms t → has_wrapper_key ms ≡ true
 wraps_scope_key no_members t w = absurd w

@@ -9,5 +9,7 @@ mod Only
 mod Lacks
 mod Plain
 mod Wrappers
+mod Tokens
+mod OldBinary
 mod NoLeaf
 pub mod Face

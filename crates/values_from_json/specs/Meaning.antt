@@ -8,7 +8,7 @@ use Rattle.bson_model.specs.Bytes.{NulFree}
 use Rattle.bson_model.specs.Leaf.{Leaf, boolean, null, string}
 use Rattle.bson_model.specs.Tree.{Tree, Trees, Entries, leaf, array, document, code_with_scope, no_tree, tree_then, no_entry, entry_then}
 use Rattle.values_from_json.specs.Numbers.{IsPlain}
-use Rattle.values_from_json.specs.Wrapped.{IsWrapped}
+use Rattle.values_from_json.specs.Wrapped.{WritesOne}
 
 -- the keys of type wrappers
 abbrev pub wrapper_keys : List (List ℕ)
@@ -26,10 +26,14 @@ abbrev pub has_wrapper_key : Members → Bool
 has_wrapper_key no_members = false
 has_wrapper_key (member key j ms) = is_wrapper_key key || has_wrapper_key ms
 
+-- an object that writes a value, where the value holds no others
+abbrev pub WrapsOne : Members → Tree → Type 0
+WrapsOne ms t = (l : Leaf) × WritesOne ms l × (t ≡ leaf l)
+
 -- These say what a value, the items of an array and the members of an object mean.
 abbrev mutual
-  -- The value means this tree. An object without a wrapper's key is a document: so are {"$ref": .., "$id": ..} (a DBRef) and {"$regex": ..,
-  -- "$options": ..}. Any other object has to be a wrapper, with its keys in any order and no others.
+  -- The value means this tree. An object without a wrapper's key is a document: so are {"$ref": .., "$id": ..} (a DBRef), {"$regex": ..,
+  -- "$options": ..} and {"$type": ..} without "$binary". Any other object has to be a wrapper, with its keys in any order and no others.
   pub Means : Json → Tree → Type 0
   Means json.null t = t ≡ leaf null
   Means (json.boolean b) t = t ≡ leaf (boolean b)
@@ -53,11 +57,6 @@ abbrev mutual
   pub IsWhole : Json → Entries → Type 0
   IsWhole (json.object ms) es = AreMembers ms es
   IsWhole _ es = ⊥
-
-  -- an object of one member that writes a value, where the value holds no others
-  pub WrapsOne : Members → Tree → Type 0
-  WrapsOne (member key j no_members) t = (l : Leaf) × IsWrapped key j l × (t ≡ leaf l)
-  WrapsOne _ t = ⊥
 
   -- Code with scope: {"$code": <string>, "$scope": <document object>}, in either order
   pub WrapsScope : Members → Tree → Type 0

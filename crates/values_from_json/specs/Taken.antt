@@ -1,10 +1,10 @@
 -- What was taken of the tokens of a text.
 use Rattle.std.specs.Prelude.{◌≡◌, ◌⊎◌, [], ◌∷◌, ◌++◌, ℕ, List, codes}
 use Rattle.bson_model.specs.Leaf.{Leaf}
-use Rattle.json.specs.Json.{Json, Members, object, string}
+use Rattle.json.specs.Json.{Json, Members, member, object, string}
 use Rattle.json.specs.Token.{Token, bad}
-use Rattle.json.specs.Tree.{json_tokens}
-use Rattle.values_from_json.specs.Wrapped.{AreTwo, IsWrapped, one_member}
+use Rattle.json.specs.Tree.{json_tokens, members_tokens}
+use Rattle.values_from_json.specs.Wrapped.{AreTwo, IsWrapped, WritesOne, one_member}
 
 -- one token
 abbrev pub TakesToken : List Token → List Token → Token → Type 0
@@ -17,6 +17,10 @@ Takes Writes old new l = (j : Json) × (old ≡ json_tokens j ++ new) × Writes 
 -- the tokens of an object of two members in either order
 abbrev pub TakesTwo : List Token → List Token → List ℕ → Json → List ℕ → Json → Type 0
 TakesTwo old new key j key' j' = (ms : Members) × (old ≡ json_tokens (object ms) ++ new) × AreTwo key j key' j' ms
+
+-- what follows the first key of an object that writes this value, to its brace
+abbrev pub TakesRest : List ℕ → List Token → List Token → Leaf → Type 0
+TakesRest first old new l = (j : Json) × (ms : Members) × (old ≡ json_tokens j ++ (members_tokens ms ++ new)) × WritesOne (member first j ms) l
 
 -- JSON has no such tokens at the front
 abbrev pub NoToken : List Token → Type 0
@@ -33,6 +37,10 @@ LacksJson ts j = (rest : List Token) → ¬ (ts ≡ json_tokens j ++ rest)
 -- no JSON value that writes a value is first
 abbrev pub TakesNone : (Json → Leaf → Type 0) → List Token → Type 0
 TakesNone Writes ts = (j : Json) (l : Leaf) → Writes j l → LacksJson ts j
+
+-- nothing that follows the first key of such an object is first
+abbrev pub TakesNoRest : List ℕ → List Token → Type 0
+TakesNoRest first ts = (l : Leaf) (rest : List Token) → ¬ TakesRest first ts rest l
 
 -- nor an object of these two members, in either order
 abbrev pub TakesNoTwo : List Token → List ℕ → Json → List ℕ → Json → Type 0

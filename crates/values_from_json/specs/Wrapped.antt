@@ -14,7 +14,7 @@ use Rattle.bson_model.specs.Subtype.{subtype_of}
 use Rattle.bson_model.specs.declared.binaries.BinarySubtype.TheVariants.{Uuid}
 use Rattle.values_from_json.specs.Numbers.{WritesInteger, WritesQuotedInteger, IsQuotedInt32, IsQuotedInt64, IsQuotedDouble}
 use Rattle.values_from_json.specs.DecimalTexts.{IsQuotedDecimal}
-use Rattle.values_from_json.specs.Spaces.{is_space, without_spaces}
+use Rattle.values_from_json.specs.Spaces.{is_space, trimmed, without_spaces}
 use Rattle.values_from_json.specs.Times.{WritesTime}
 
 -- an object of this one member
@@ -50,6 +50,14 @@ IsBinary (object ms) l =
     × (decode_of standard (without_spaces text) ≡ Ok bytes) × (decode_sized (two_hex_digits digits) 1 ≡ Ok (subtype ∷ []))
     × (l ≡ binary (subtype_of subtype) bytes)
 IsBinary _ l = ⊥
+
+-- Binary in version 1 of Extended JSON: {"$binary": <base64-encoded payload as a string>, "$type": <BSON binary type as a one- or two-character
+-- hex string>}. White space around the digits counts for nothing.
+abbrev pub IsOldBinary : Members → Leaf → Type 0
+IsOldBinary ms l =
+    (text digits bytes : List ℕ) × (subtype : ℕ) × AreTwo (codes "$binary") (string text) (codes "$type") (string digits) ms
+    × (decode_of standard (without_spaces text) ≡ Ok bytes) × (decode_sized (two_hex_digits (trimmed digits)) 1 ≡ Ok (subtype ∷ []))
+    × (l ≡ binary (subtype_of subtype) bytes)
 
 -- {"$uuid": <canonical textual representation of a UUID: hex digits in groups of 8, 4, 4, 4 and 12 with hyphens>}, a Binary
 -- of subtype 4
@@ -120,3 +128,8 @@ IsWrapped key j l =
     ⊎ ((b : Bool) × Under (codes "$undefined") (boolean b) key j × (l ≡ undefined))
     ⊎ (Under (codes "$minKey") (number (codes "1")) key j × (l ≡ min_key))
     ⊎ (Under (codes "$maxKey") (number (codes "1")) key j × (l ≡ max_key))
+
+-- an object that writes one value: of one member, or of the two of an old binary
+abbrev pub WritesOne : Members → Leaf → Type 0
+WritesOne (member key j no_members) l = IsWrapped key j l
+WritesOne ms l = IsOldBinary ms l

@@ -1,7 +1,8 @@
 //! Single values from MongoDB Extended JSON v2: its numbers, its wrappers that hold no other values, and why a
 //! text can't be read. `bson_from_json` puts the values into documents.
 //!
-//! Begin at `Source` in `source.rt`, which takes the value of each wrapper from the tokens of a text.
+//! Begin at `Source` in `source.rt`, which takes the value of each wrapper from the tokens of a text; `binary.rt` has
+//! those of `$binary`.
 //! `decimal.rt`, `date.rt` and `leaves.rt` read the text of a string; `fault.rt` finds what is wrong at a place.
 //!
 //! In `specs/`, `Meaning.antt` says which tree a JSON value means, `Wrapped.antt` has a line for each wrapper, and
@@ -12,6 +13,7 @@
 //! crates above may cite.
 #![tactic(auto)]
 
+mod binary;
 mod date;
 mod decimal;
 mod error;

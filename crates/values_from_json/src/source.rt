@@ -1,7 +1,5 @@
 //! The tokens of a text, and the values of wrappers that hold no others.
-ghost use Rattle.std.specs.Prelude.{◌≡◌, ◌≢◌, ◌↔◌, ◌⊎◌, IsTrue, ◌∷◌, [], ℕ, ℤ, List, Bool, Ok, IfErr, IfOk, OnErr, OnOk, if◌then◌else◌, codes, ◌++◌, FitsSigned};
-ghost use Rattle.base64.specs.Engines.{standard};
-ghost use Rattle.base64.specs.GeneralPurpose.{decode_of};
+ghost use Rattle.std.specs.Prelude.{◌≡◌, ◌≢◌, ◌↔◌, IsTrue, ◌∷◌, [], ℕ, ℤ, List, Bool, Ok, IfOk, OnErr, OnOk, if◌then◌else◌, codes, ◌++◌, FitsSigned};
 ghost use Rattle.hex.specs.Hex.{decode_sized};
 ghost use Rattle.json.specs.Json.{string as JsonString};
 ghost use Rattle.json.specs.Reads.{token_of};
@@ -10,26 +8,20 @@ ghost use Rattle.std.specs.Int.{w64};
 ghost use Rattle.std.specs.Str.{IsUtf8};
 ghost use Rattle.json.specs.Token.{Token as Taken, begin_object, end_object, key, string, number, boolean};
 ghost use Rattle.bson_model.specs.Leaf.{binary, date_time, db_pointer, decimal128, double, int32, int64, timestamp};
-ghost use Rattle.bson_model.specs.Subtype.{subtype_of};
 ghost use Rattle.bson_model.specs.declared.binaries.BinarySubtype.TheVariants.{Uuid as UuidSubtype};
 ghost use Rattle.values_from_json.specs.DecimalTexts.{IsQuotedDecimal};
 ghost use Rattle.values_from_json.specs.Numbers.{WritesQuotedInteger, IsQuotedInt32, IsQuotedInt64, IsQuotedDouble};
-ghost use Rattle.values_from_json.specs.Spaces.{without_spaces};
 ghost use Rattle.values_from_json.specs.Taken.{Takes, TakesToken, TakesTwo, LacksJson, LacksToken, NoToken, TakesNone, TakesNoTwo, pointed};
-ghost use Rattle.values_from_json.specs.Wrapped.{InString, IsBinary, IsDate, IsDbPointer, IsTimestamp, IsUuid, WritesUnsigned, two_hex_digits};
+ghost use Rattle.values_from_json.specs.Wrapped.{InString, IsDate, IsDbPointer, IsTimestamp, IsUuid, WritesUnsigned};
 ghost use Rattle.bson_model.specs.Bytes.{NulFree};
-ghost use Rattle.values_from_json.specs.declared.error.JsonReason.TheVariants.{OutOfMemory};
 
 use crate::date::millis_of;
 use crate::decimal::decimal_of;
 use crate::error::JsonReason;
 use crate::fault::{Wanted, fault_at};
-use crate::leaves::{
-    base64_of, integer_of, oid_of, quoted_double_of, quoted_integer_of, subtype_of_digits, uuid_of,
-};
+use crate::leaves::{integer_of, oid_of, quoted_double_of, quoted_integer_of, uuid_of};
 use crate::wrapper::Wrapper;
 use json::{Reader as Tokens, Token};
-use std::alloc::Global;
 
 /// A text whose tokens are read.
 #[derive(Drop)]
@@ -110,7 +102,7 @@ impl<'a> Source<'a> {
 
     /// The error for a token that a wrapper doesn't have there. A token before a colon is a key.
     #[cold]
-    fn other(&mut self, wrapper: Wrapper, token: Token<'a>, is_key: bool) -> JsonReason
+    pub(crate) fn other(&mut self, wrapper: Wrapper, token: Token<'a>, is_key: bool) -> JsonReason
         ensures { self.new.tokens ≡ self.old.tokens }
     {
         match token {
@@ -178,7 +170,7 @@ impl<'a> Source<'a> {
     }
 
     /// Takes the first of two keys of a wrapper. Returns whether it is the second of these.
-    fn is_swapped(
+    pub(crate) fn is_swapped(
         &mut self,
         wrapper: Wrapper,
         first: &str,
@@ -310,51 +302,6 @@ impl<'a> Source<'a> {
         match uuid_of(text) {
             Some(bytes) => Ok(bytes),
             None => Err(JsonReason::Malformed(Wrapper::Uuid)),
-        }
-    }
-
-    /// Takes text in base64.
-    fn base64(&mut self, alloc: Global) -> Result<Vec<u8>, JsonReason>
-        ensures some { IfOk result (λ bytes. (s : List ℕ) × TakesToken self.old.tokens self.new.tokens (string s) × (decode_of standard (without_spaces s) ≡ Ok bytes.items)) }
-        ensures none { IfErr result (λ reason. (reason ≡ OutOfMemory) ⊎ ((s bytes : List ℕ) → decode_of standard (without_spaces s) ≡ Ok bytes → LacksToken self.old.tokens (string s))) }
-    {
-        let text = self.text(Wrapper::Binary)?;
-        let bytes = base64_of(alloc, text.as_bytes())?;
-        Ok(bytes)
-    }
-
-    /// Takes the digits of a subtype.
-    fn subtype(&mut self) -> Result<u8, JsonReason>
-        ensures some { IfOk result (λ b. (s : List ℕ) × TakesToken self.old.tokens self.new.tokens (string s) × (decode_sized (two_hex_digits s) 1 ≡ Ok (b ∷ []))) }
-        ensures none { OnErr result ((s b : List ℕ) → decode_sized (two_hex_digits s) 1 ≡ Ok b → LacksToken self.old.tokens (string s)) }
-    {
-        let text = self.text(Wrapper::Binary)?;
-        match subtype_of_digits(text.as_bytes()) {
-            Some(subtype) => Ok(subtype),
-            None => Err(JsonReason::Malformed(Wrapper::Binary)),
-        }
-    }
-
-    /// Takes the value of `$binary`: its bytes and its subtype.
-    pub fn binary(&mut self, alloc: Global) -> Result<(Vec<u8>, u8), JsonReason>
-        ensures some { IfOk result (λ p. Takes IsBinary self.old.tokens self.new.tokens (binary (subtype_of p.1) p.0.items)) }
-        ensures none { IfErr result (λ reason. (reason ≡ OutOfMemory) ⊎ TakesNone IsBinary self.old.tokens) }
-    {
-        let wrapper = Wrapper::Binary;
-        self.begin(wrapper)?;
-        let is_swapped = self.is_swapped(wrapper, "base64", "subType")?;
-        if is_swapped {
-            let subtype = self.subtype()?;
-            self.named(wrapper, "base64")?;
-            let bytes = self.base64(alloc)?;
-            self.end(wrapper)?;
-            Ok((bytes, subtype))
-        } else {
-            let bytes = self.base64(alloc)?;
-            self.named(wrapper, "subType")?;
-            let subtype = self.subtype()?;
-            self.end(wrapper)?;
-            Ok((bytes, subtype))
         }
     }
 

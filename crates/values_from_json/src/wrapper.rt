@@ -17,7 +17,8 @@ pub enum Wrapper {
     NumberDouble,
     /// `{"$numberDecimal": a decimal, as a string}`
     NumberDecimal,
-    /// `{"$binary": {"base64": text, "subType": one or two hex digits}}`
+    /// `{"$binary": {"base64": text, "subType": one or two hex digits}}`, or in version 1
+    /// `{"$binary": text, "$type": one or two hex digits}`
     Binary,
     /// `{"$uuid": hex digits with hyphens}`
     Uuid,

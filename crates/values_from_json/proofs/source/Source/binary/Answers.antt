@@ -1,50 +1,64 @@
-use Rattle.std.proofs.Common.{arith, codes}
+use Rattle.std.proofs.Common.{◌≡◌, ℕ, List, Ok, refl, rules, subst, sym}
 use Rattle.std.proofs.lemmas.Result.{err_from_is_err_and}
-use Rattle.values_from_json.proofs.Lacks.{differ_at_1, no_binary, no_err_or, no_first, no_key, no_second, or_else, other_way}
-use Rattle.values_from_json.proofs.Takes.{base64_then_subtype, first_key, second_key, subtype_then_base64}
+use Rattle.base64.specs.Engines.{standard}
+use Rattle.base64.specs.GeneralPurpose.{decode_of}
+use Rattle.json.specs.Token.{Token}
+use Rattle.values_from_json.specs.Spaces.{without_spaces}
+use Rattle.values_from_json.specs.Taken.{TakesToken}
+use Rattle.values_from_json.proofs.Lacks.{no_err_or, or_else}
+use Rattle.values_from_json.proofs.OldBinary.{no_binary_value, no_object_end, no_object_value, no_text_bytes, no_type_digits, no_type_end, no_type_key, object_taken, text_taken}
 use Rattle.values_from_json.proofs.source.Source.binary.Goals as goal
 
-pub returns-in_ok-end-clause-some : goal.returns-in_ok-end-clause-some
-returns-in_ok-end-clause-some c =
-    let key = second_key _ c.if-is_swapped.true c.in_ok-is_swapped.ensures.some in
-    subtype_then_base64 c.in_ok-begin.ensures.some key c.in_ok-subtype.ensures.some.1 c.in_ok-named.ensures.some c.in_ok-bytes.ensures.some.1 c.in_ok-end.ensures.some
-    (c.in_ok-bytes.ensures.some.2, c.in_ok-subtype.ensures.some.2)
+pub returns-in_err-brace_or_text-clause-none : goal.returns-in_err-brace_or_text-clause-none
+returns-in_err-brace_or_text-clause-none c = no_err_or c.from_residual.result _ (no_binary_value c.in_err-brace_or_text.ensures.none)
 
-pub returns-in_ok-end-2-clause-some : goal.returns-in_ok-end-2-clause-some
-returns-in_ok-end-2-clause-some c =
-    let key = first_key _ c.if-is_swapped.false c.in_ok-is_swapped.ensures.some in
-    base64_then_subtype c.in_ok-begin.ensures.some key c.in_ok-bytes-2.ensures.some.1 c.in_ok-named-2.ensures.some c.in_ok-subtype-2.ensures.some.1 c.in_ok-end-2.ensures.some
-    (c.in_ok-bytes-2.ensures.some.2, c.in_ok-subtype-2.ensures.some.2)
+-- an object
 
-pub returns-in_err-is_swapped-clause-none : goal.returns-in_err-is_swapped-clause-none
-returns-in_err-is_swapped-clause-none c =
-    no_err_or c.from_residual-in_err-is_swapped.result _ (no_binary c.args.self.now.tokens (λ text digits bytes subtype decoded digit ms two.
-    no_key c.in_ok-begin.ensures.some _ _ c.in_err-is_swapped.ensures.none _ _ ms two))
+pub returns-in_ok-end-in-None-clause-some : goal.returns-in_ok-end-in-None-clause-some
+returns-in_ok-end-in-None-clause-some c =
+    let begin : TakesToken c.args.self.now.tokens c.brace_or_text.new.self.tokens Token.begin_object = search rules in
+    object_taken begin c.in_ok-bytes-in-None.ensures.some c.in_ok-end-in-None.ensures.some
 
-pub returns-in_err-subtype-clause-none : goal.returns-in_err-subtype-clause-none
-returns-in_err-subtype-clause-none c =
-    let key = second_key _ c.if-is_swapped.true c.in_ok-is_swapped.ensures.some in
-    no_err_or c.from_residual-in_err-subtype.result _ (no_binary c.args.self.now.tokens (λ text digits bytes subtype decoded digit ms two.
-    no_first c.in_ok-begin.ensures.some (codes "subType") (codes "base64") (differ_at_1 _ _ (λ e. omega (arith, e))) key _ _ (c.in_err-subtype.ensures.none digits _ digit) ms (other_way two)))
+pub returns-in_err-bytes-in-None-clause-none : goal.returns-in_err-bytes-in-None-clause-none
+returns-in_err-bytes-in-None-clause-none c =
+    let begin : TakesToken c.args.self.now.tokens c.brace_or_text.new.self.tokens Token.begin_object = search rules in
+    let e = err_from_is_err_and c.from_residual-in_err-bytes-in-None.result c.from_residual-in_err-bytes-in-None.ensures.1 in
+    rw (e.1, e.2) (or_else (λ none. no_object_value begin none) c.in_err-bytes-in-None.ensures.none)
 
-pub returns-in_err-bytes-clause-none : goal.returns-in_err-bytes-clause-none
-returns-in_err-bytes-clause-none c =
-    let key = second_key _ c.if-is_swapped.true c.in_ok-is_swapped.ensures.some in
-    let e = err_from_is_err_and c.from_residual-in_err-bytes.result c.from_residual-in_err-bytes.ensures.1 in
-    rw (e.1, e.2) (or_else (λ none. no_binary c.args.self.now.tokens (λ text digits bytes subtype decoded digit ms two.
-    no_second c.in_ok-begin.ensures.some (codes "subType") (codes "base64") (differ_at_1 _ _ (λ e. omega (arith, e))) key c.in_ok-subtype.ensures.some.1 c.in_ok-named.ensures.some
-    digits _ (none text bytes decoded) ms (other_way two))) c.in_err-bytes.ensures.none)
+pub returns-in_err-end-in-None-clause-none : goal.returns-in_err-end-in-None-clause-none
+returns-in_err-end-in-None-clause-none c =
+    let begin : TakesToken c.args.self.now.tokens c.brace_or_text.new.self.tokens Token.begin_object = search rules in
+    no_err_or c.from_residual-in_err-end-in-None.result _ (no_object_end begin c.in_ok-bytes-in-None.ensures.some c.in_err-end-in-None.ensures.none)
 
-pub returns-in_err-bytes-2-clause-none : goal.returns-in_err-bytes-2-clause-none
-returns-in_err-bytes-2-clause-none c =
-    let key = first_key _ c.if-is_swapped.false c.in_ok-is_swapped.ensures.some in
-    let e = err_from_is_err_and c.from_residual-in_err-bytes-2.result c.from_residual-in_err-bytes-2.ensures.1 in
-    rw (e.1, e.2) (or_else (λ none. no_binary c.args.self.now.tokens (λ text digits bytes subtype decoded digit ms two.
-    no_first c.in_ok-begin.ensures.some (codes "base64") (codes "subType") (differ_at_1 _ _ (λ e. omega (arith, e))) key _ _ (none text bytes decoded) ms two)) c.in_err-bytes-2.ensures.none)
+-- base64
 
-pub returns-in_err-subtype-2-clause-none : goal.returns-in_err-subtype-2-clause-none
-returns-in_err-subtype-2-clause-none c =
-    let key = first_key _ c.if-is_swapped.false c.in_ok-is_swapped.ensures.some in
-    no_err_or c.from_residual-in_err-subtype-2.result _ (no_binary c.args.self.now.tokens (λ text digits bytes subtype decoded digit ms two.
-    no_second c.in_ok-begin.ensures.some (codes "base64") (codes "subType") (differ_at_1 _ _ (λ e. omega (arith, e))) key c.in_ok-bytes-2.ensures.some.1 c.in_ok-named-2.ensures.some
-    text _ (c.in_err-subtype-2.ensures.none digits _ digit) ms two))
+pub returns-in_ok-end-in-Some-clause-some : goal.returns-in_ok-end-in-Some-clause-some
+returns-in_ok-end-in-Some-clause-some c =
+    let first : TakesToken c.args.self.now.tokens c.brace_or_text.new.self.tokens (Token.string c.in-Some.text.now) = search rules in
+    let decoded : decode_of standard (without_spaces c.in-Some.text.now) ≡ Ok c.in_ok-bytes-in-Some.bytes.items = search rules in
+    let digits = c.in_ok-subtype-in-Some.ensures.some in
+    text_taken first c.in_ok-named-in-Some.ensures.some digits.1 c.in_ok-end-in-Some.ensures.some (_, _, decoded, digits.2, refl)
+
+pub returns-in_err-bytes-in-Some-clause-none : goal.returns-in_err-bytes-in-Some-clause-none
+returns-in_err-bytes-in-Some-clause-none c =
+    let first : TakesToken c.args.self.now.tokens c.brace_or_text.new.self.tokens (Token.string c.in-Some.text.now) = search rules in
+    let e = err_from_is_err_and c.from_residual-in_err-bytes-in-Some.result c.from_residual-in_err-bytes-in-Some.ensures.1 in
+    let same = c.as_bytes.ensures.value in
+    rw (e.1, e.2) (or_else (λ none. no_text_bytes first (λ bytes d. none bytes (subst (λ (s : List ℕ). decode_of standard (without_spaces s) ≡ Ok bytes) (sym same) d)))
+    c.in_err-bytes-in-Some.ensures.none)
+
+pub returns-in_err-named-in-Some-clause-none : goal.returns-in_err-named-in-Some-clause-none
+returns-in_err-named-in-Some-clause-none c =
+    let first : TakesToken c.args.self.now.tokens c.brace_or_text.new.self.tokens (Token.string c.in-Some.text.now) = search rules in
+    no_err_or c.from_residual-in_err-named-in-Some.result _ (no_type_key first c.in_err-named-in-Some.ensures.none)
+
+pub returns-in_err-subtype-in-Some-clause-none : goal.returns-in_err-subtype-in-Some-clause-none
+returns-in_err-subtype-in-Some-clause-none c =
+    let first : TakesToken c.args.self.now.tokens c.brace_or_text.new.self.tokens (Token.string c.in-Some.text.now) = search rules in
+    no_err_or c.from_residual-in_err-subtype-in-Some.result _ (no_type_digits first c.in_ok-named-in-Some.ensures.some c.in_err-subtype-in-Some.ensures.none)
+
+pub returns-in_err-end-in-Some-clause-none : goal.returns-in_err-end-in-Some-clause-none
+returns-in_err-end-in-Some-clause-none c =
+    let first : TakesToken c.args.self.now.tokens c.brace_or_text.new.self.tokens (Token.string c.in-Some.text.now) = search rules in
+    no_err_or c.from_residual-in_err-end-in-Some.result _
+    (no_type_end first c.in_ok-named-in-Some.ensures.some c.in_ok-subtype-in-Some.ensures.some.1 c.in_err-end-in-Some.ensures.none)
