@@ -2,6 +2,7 @@ mod BuildReads
 mod Building
 mod Counting
 mod Descending
+mod Enough
 mod Filling
 mod Finding
 mod Iterating

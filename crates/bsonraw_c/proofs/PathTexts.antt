@@ -4,7 +4,7 @@ use Rattle.std.proofs.lemmas.Bool.{cases_eq, cases_lt, cond-false, cond-true, co
 use Rattle.std.proofs.lemmas.List.{drop-append-le, drop_all, drop_more, flat_map_more, take-append-le, take_all}
 use Rattle.raw_bson.specs.Holder.{Holder}
 use Rattle.raw_bson.specs.Holder.TheVariants as holder
-use Rattle.raw_bson.specs.Meaning.{Meaning, Means, RawValue, array, document, scoped, single, value}
+use Rattle.raw_bson.specs.Meaning.{RawValue, array, document, scoped, single, value}
 use Rattle.raw_bson.specs.Value.{IsSingle, holding}
 use Rattle.raw_form.specs.Places.{Step}
 use Rattle.bsonraw_c.specs.PathTexts.{AreSteps, Leads, level_of, path_text, piece, points, step_text}

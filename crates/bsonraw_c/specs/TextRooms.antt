@@ -12,7 +12,7 @@ most = 18446744073709551615
 abbrev pub HasFront : List ℕ → List ℕ → List ℕ → Type 0
 HasFront text before after = ((0 < length before) × HasText (take (length before - 1) text) before after) ⊎ ((before ≡ []) × (after ≡ []))
 
--- and how many bytes the whole text has is returned
+-- and how many bytes the whole text has is returned, or the greatest number where they are more
 abbrev pub PutsFront : List ℕ → List ℕ → List ℕ → ℕ → Type 0
 PutsFront text before after count = HasFront text before after × (count ≡ min (length text) most)
 

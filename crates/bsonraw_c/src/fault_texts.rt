@@ -1,6 +1,6 @@
 //! Faults as texts.
 
-ghost use Rattle.std.specs.Prelude.{◌≡◌, ◌++◌, ℕ, List, Option, codes, decimal};
+ghost use Rattle.std.specs.Prelude.{◌≡◌, ◌<◌, ◌^◌, ◌++◌, ℕ, List, Option, codes, decimal};
 ghost use Rattle.raw_bson.specs.Reason.{Reason};
 ghost use Rattle.bsonraw_c.specs.FaultTexts.{IsFaultText, NamesReason, PutsFault, numbers_text};
 ghost use Rattle.bsonraw_c.specs.FaultTexts as says;
@@ -14,7 +14,8 @@ use raw_bson::Reason;
 /// Puts the text of a fault into the room, as far as it fits, with a 0 after it. Returns how many bytes the text has.
 #[unsafe(no_mangle)]
 pub extern "C" fn bsonraw_fault_text(fault: &Fault, text: &mut [u8]) -> usize
-    ensures { PutsFault fault.now.why text.old text.new result }
+    ensures text { PutsFault fault.now.why text.old text.new result }
+    ensures enough { result < 150 }
 {
     let count = put_fault(text, fault.why);
     end_text(text, count);
@@ -23,7 +24,8 @@ pub extern "C" fn bsonraw_fault_text(fault: &Fault, text: &mut [u8]) -> usize
 
 /// Puts the text of a fault. Returns how many bytes it has.
 fn put_fault(room: &mut [u8], told: FaultCode) -> usize
-    ensures { (text : List ℕ) × IsFaultText told text × Grows text room.old 0 room.new result }
+    ensures text { (text : List ℕ) × IsFaultText told text × Grows text room.old 0 room.new result }
+    ensures sizes { (told.number < 2 ^ 64) × (told.left < 2 ^ 64) }
 {
     match told.kind {
         0 => put_words(room, 0, "no fault"),

@@ -1,6 +1,6 @@
 //! Why a text of JSON isn't read, as text.
 
-ghost use Rattle.std.specs.Prelude.{◌≡◌, ◌≢◌, ◌⊎◌, IfNone, IfSome};
+ghost use Rattle.std.specs.Prelude.{◌≡◌, ◌<◌, ◌≢◌, ◌⊎◌, IfNone, IfSome};
 ghost use Rattle.bson_from_json.specs.Wrapper.{Wrapper};
 ghost use Rattle.bsonraw_c.specs.FromJson.{wrapper_number};
 ghost use Rattle.bsonraw_c.specs.JsonFaultTexts.{IsJsonFaultText, IsNoJsonReason, NamesJsonReason, NamesNoWrapper, PutsJsonFault};
@@ -13,7 +13,8 @@ use bson_from_json::{JsonReason, Wrapper};
 /// many bytes the text has.
 #[unsafe(no_mangle)]
 pub extern "C" fn bsonraw_json_fault_text(report: &JsonReport, text: &mut [u8]) -> usize
-    ensures { PutsJsonFault report.now text.old text.new result }
+    ensures text { PutsJsonFault report.now text.old text.new result }
+    ensures enough { result < 100 }
 {
     let count = put_words(text, 0, report.words());
     end_text(text, count);
