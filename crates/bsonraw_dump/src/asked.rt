@@ -1,9 +1,10 @@
-//! What is wrong with what is asked, as the files that are there show.
+//! What is asked, as far as the files that are there decide it.
 #![tactic(auto)]
 
 use crate::command_line::Task;
-use crate::files::inputs::node_of;
-use dump_commands::command::Command;
+use crate::files::inputs::{is_there, node_of, size_of};
+use dump_commands::command::{Command, Measure};
+use dump_commands::job::Job;
 use dump_runs::Reading;
 
 /// What is wrong with the arguments, if the files that are there show it.
@@ -18,6 +19,45 @@ pub fn wrong_with(rt: &HostRuntime, task: &Task<'_>) -> Option<&'static str> {
                     "no PATHS: the only argument is a FILE; PATHS come before it, and - after PATHS is standard input",
                 )
             }
+        Command::Measure(Measure::Parts(_)) if !may_be_divided(rt, &task.inputs) => {
+            Some("not one FILE: split divides a file, and no pipe, folder or several files")
+        }
         _ => None,
     }
+}
+
+/// The only input; `-` where none is named.
+fn only<'a>(inputs: &[&'a str]) -> Option<&'a str> {
+    match inputs {
+        [] => Some("-"),
+        [name] => Some(*name),
+        _ => None,
+    }
+}
+
+/// Whether there is one input, which is a file, or isn't there.
+fn may_be_divided(rt: &HostRuntime, inputs: &[&str]) -> bool {
+    match only(inputs) {
+        Some(name) => size_of(rt, &[name]).is_some() || !is_there(rt, name),
+        None => false,
+    }
+}
+
+/// What is asked of the inputs, where the number of parts that a file is divided into became the number of bytes of each.
+pub fn divided<'a>(rt: &HostRuntime, task: &Task<'a>) -> Reading<'a> {
+    let Reading::Dumps(job) = task.reading else {
+        return task.reading;
+    };
+    let Command::Measure(Measure::Parts(parts)) = job.command else {
+        return task.reading;
+    };
+    let size = match only(&task.inputs) {
+        Some(name) => size_of(rt, &[name]).unwrap_or(0),
+        None => 0,
+    };
+    let stretch = size.div_ceil(parts.max(1)).max(1);
+    Reading::Dumps(Job {
+        command: Command::Measure(Measure::Parts(stretch)),
+        ..job
+    })
 }

@@ -1,7 +1,7 @@
 //! Runs a command over files.
 #![tactic(auto)]
 
-use crate::asked::wrong_with;
+use crate::asked::{divided, wrong_with};
 use crate::command_line::{
     Task, Words, copied, expanded, given_words, parsed, printing_of, refusal,
 };
@@ -149,7 +149,7 @@ fn with_names(rt: &HostRuntime, task: &Task<'_>, words: &Words) -> Result<Status
     Ok(start(
         rt,
         &Run {
-            reading: task.reading,
+            reading: divided(rt, task),
             output: task.output,
             alone: task.alone,
             inputs,

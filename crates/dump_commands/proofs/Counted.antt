@@ -1,21 +1,27 @@
--- A document whose elements are counted.
-use Rattle.std.proofs.Common.{ℕ, List, [], ◌∷◌, inl, inr, refl, subst, sym}
-use Rattle.raw_form.specs.Tokens.{HasTokens}
-use Rattle.raw_form.specs.declared.token.Token.{Token}
+-- A document of which something is gathered.
+use Rattle.std.proofs.Common.{◌≡◌, ◌⊎◌, ℕ, List, [], ◌∷◌, inl, inr, refl}
 use Rattle.raw_tree.specs.declared.reader.limits.Limits.{Limits}
 use Rattle.dump_io.specs.lines.Origins.{Origin}
 use Rattle.dump_io.specs.declared.lines.find.Finding.{Finding}
-use Rattle.dump_commands.specs.state.Fields.{Document, fields_of, outermost}
-use Rattle.dump_commands.specs.Counted.{HasFields, IsCounted}
+use Rattle.dump_io.specs.declared.lines.find.Finding.TheVariants as finding
+use Rattle.dump_commands.specs.Counted.{AreFields, CountsFields}
+use Rattle.dump_commands.specs.state.Gathered.{Document, IsMeasured, tabled, with_document}
+use Rattle.dump_commands.specs.declared.state.kept.Kept.{Kept}
 use Rattle.dump_commands.specs.declared.command.Command.{Command}
 use Rattle.dump_commands.specs.declared.command.Command.TheVariants as command
+use Rattle.dump_commands.specs.declared.command.Measure.{Measure}
 
--- the elements of this one are counted
-pub counted : (limits : Limits) (c : Command) (place : Origin) (b : List ℕ) (f : Finding) (ts : List Token) → IsCounted c f → HasTokens limits.depth 0 0 b ts
-    → HasFields limits c place b f (record { place = place; fields = fields_of b (outermost ∷ []) ts } ∷ [])
-counted limits c place b f ts (is, inl canonical) has =
-    let ds : List Document = record { place = place; fields = fields_of b (outermost ∷ []) ts } ∷ [] in
-    subst (λ (x : Command). HasFields limits x place b f ds) (sym is) (subst (λ (x : Finding). HasFields limits command.Fields place b x ds) (sym canonical) (ts, has, refl))
-counted limits c place b f ts (is, inr breached) has =
-    let ds : List Document = record { place = place; fields = fields_of b (outermost ∷ []) ts } ∷ [] in
-    subst (λ (x : Command). HasFields limits x place b f ds) (sym is) (subst (λ (x : Finding). HasFields limits command.Fields place b x ds) (sym breached) (ts, has, refl))
+-- no damage is found
+abbrev pub IsClean : Finding → Type 0
+IsClean f = (f ≡ finding.Canonical) ⊎ (f ≡ finding.Breached)
+
+-- its elements
+pub counts_fields : (limits : Limits) (c : Command) (place : Origin) (b : List ℕ) (f : Finding) (d : Document) (k k' : Kept) → c ≡ command.Fields → IsClean f
+    → AreFields limits place b d → tabled k' ≡ with_document (tabled k) d → CountsFields limits c place b f k k'
+counts_fields limits c place b f d k k' is (inl canonical) fields added = (d ∷ [], rw (is, canonical) (d, fields, refl), added)
+counts_fields limits c place b f d k k' is (inr breached) fields added = (d ∷ [], rw (is, breached) (d, fields, refl), added)
+
+-- its length
+pub counts_length : (limits : Limits) (c : Command) (place : Origin) (b : List ℕ) (f : Finding) (measure : Measure) (k k' : Kept) → c ≡ command.Measure measure
+    → (d : Document) × IsMeasured measure place b d × (tabled k' ≡ with_document (tabled k) d) → CountsFields limits c place b f k k'
+counts_length limits c place b f measure k k' is (d, measured, added) = (d ∷ [], rw is (d, measured, refl), added)

@@ -12,6 +12,7 @@ use Rattle.dump_commands.specs.Making.{IsPrinted}
 use Rattle.dump_commands.specs.state.Forms.{Made, plain}
 use Rattle.dump_commands.specs.declared.command.Command.{Command}
 use Rattle.dump_commands.specs.declared.command.Command.TheVariants as command
+use Rattle.dump_commands.specs.declared.command.Measure.{Measure}
 use Rattle.dump_commands.specs.declared.command.Spelling.{Spelling}
 use Rattle.dump_commands.specs.declared.command.Picking.{Picking}
 
@@ -58,6 +59,9 @@ count_makes_none b d form e = let n : 1 ≡ 0 = ap length e in omega (arith, n)
 sizes_makes_none : MakesNoBson command.Sizes
 sizes_makes_none b d form e = let n : 1 ≡ 0 = ap length e in omega (arith, n)
 
+measure_makes_none : (measure : Measure) → MakesNoBson (command.Measure measure)
+measure_makes_none measure b d form e = let n : 1 ≡ 0 = ap length e in omega (arith, n)
+
 fields_makes_none : MakesNoBson command.Fields
 fields_makes_none b d form e = let n : 1 ≡ 0 = ap length e in omega (arith, n)
 
@@ -94,14 +98,16 @@ bson_made c (inl e) = subst MakesBson (sym e) canon_makes
 bson_made c (inr (inl e)) = subst MakesBson (sym e) sound_makes
 bson_made c (inr (inr (spelling, e))) = subst MakesBson (sym e) (unique_makes spelling)
 
-pub none_made : (c : Command) → (c ≡ command.Check) ⊎ (c ≡ command.List) ⊎ (c ≡ command.Count) ⊎ (c ≡ command.Sizes) ⊎ (c ≡ command.Fields) ⊎ ((style : json.Style) × (c ≡ command.Json style))
-    → MakesNoBson c
+pub none_made : (c : Command)
+    → (c ≡ command.Check) ⊎ (c ≡ command.List) ⊎ (c ≡ command.Count) ⊎ (c ≡ command.Sizes) ⊎ ((measure : Measure) × (c ≡ command.Measure measure))
+    ⊎ (c ≡ command.Fields) ⊎ ((style : json.Style) × (c ≡ command.Json style)) → MakesNoBson c
 none_made c (inl e) = subst MakesNoBson (sym e) check_makes_none
 none_made c (inr (inl e)) = subst MakesNoBson (sym e) list_makes_none
 none_made c (inr (inr (inl e))) = subst MakesNoBson (sym e) count_makes_none
 none_made c (inr (inr (inr (inl e)))) = subst MakesNoBson (sym e) sizes_makes_none
-none_made c (inr (inr (inr (inr (inl e))))) = subst MakesNoBson (sym e) fields_makes_none
-none_made c (inr (inr (inr (inr (inr (style, e)))))) = subst MakesNoBson (sym e) (json_makes_none style)
+none_made c (inr (inr (inr (inr (inl (measure, e)))))) = subst MakesNoBson (sym e) (measure_makes_none measure)
+none_made c (inr (inr (inr (inr (inr (inl e)))))) = subst MakesNoBson (sym e) fields_makes_none
+none_made c (inr (inr (inr (inr (inr (inr (style, e))))))) = subst MakesNoBson (sym e) (json_makes_none style)
 
 is_none_is : (style : Option json.Style) (r : Bool) → is_some style ≡ not r → is_none style ≡ r
 is_none_is None true e = refl

@@ -1,6 +1,7 @@
 pub mod Repeating
 pub mod Writing
 mod Listed
+mod Rowing
 mod Counted
 mod Endings
 pub mod Face

@@ -11,7 +11,7 @@ use Rattle.bson_to_json.specs.declared.style.Style as json
 use Rattle.raw_tree.specs.CanonicalForm.{IsCanonicalForm}
 use Rattle.raw_tree.specs.declared.reader.limits.Limits.{Limits}
 use Rattle.dump_commands.proofs.state.Known.{known_same}
-use Rattle.dump_commands.specs.state.Fields.{KeepsWritten}
+use Rattle.dump_commands.specs.state.Gathered.{KeepsWritten}
 use Rattle.dump_io.specs.lines.Fronts.{AppendsFront, WritesFront}
 use Rattle.dump_commands.specs.Making.{IsMade, IsPickedAs, IsPrinted, Emits, Makes, MakesJson, MakesPicked, Writes, spelled}
 use Rattle.dump_io.proofs.Face.{front_behind, front_first}

@@ -1,4 +1,6 @@
 mod Digesting
+mod Ranking
+mod Sharing
 mod Tabled
 mod Prefixes
 pub mod Known

@@ -1,26 +1,29 @@
--- The elements that a command counts.
-use Rattle.std.specs.Prelude.{◌≡◌, ◌⊎◌, ℕ, List, [], fold}
+-- What a command gathers of a document.
+use Rattle.std.specs.Prelude.{◌≡◌, ℕ, List, [], ◌∷◌, fold}
+use Rattle.raw_form.specs.Tokens.{HasTokens}
+use Rattle.raw_form.specs.declared.token.Token.{Token}
 use Rattle.raw_tree.specs.declared.reader.limits.Limits.{Limits}
 use Rattle.dump_io.specs.lines.Origins.{Origin}
 use Rattle.dump_io.specs.declared.lines.find.Finding.{Finding}
 use Rattle.dump_io.specs.declared.lines.find.Finding.TheVariants as finding
-use Rattle.dump_commands.specs.state.Fields.{AreFields, Document, tabled, with_document}
+use Rattle.dump_commands.specs.state.Fields.{fields_of, outermost}
+use Rattle.dump_commands.specs.state.Gathered.{Document, IsMeasured, of_fields, tabled, with_document}
 use Rattle.dump_commands.specs.declared.state.kept.Kept.{Kept}
 use Rattle.dump_commands.specs.declared.command.Command.{Command}
 use Rattle.dump_commands.specs.declared.command.Command.TheVariants as command
 
--- the elements that a command counts of a piece b in which this is found: fields all, unless it is damaged or too deep; the others none
+-- these are the elements of the document b, which begins there
+abbrev pub AreFields : Limits → Origin → List ℕ → Document → Type 0
+AreFields limits place b d = (ts : List Token) × HasTokens limits.depth 0 0 b ts × (d ≡ of_fields place (fields_of b (outermost ∷ []) ts))
+
+-- What a command gathers of a piece b in which this is found: fields its elements, unless it is damaged or too deep; those that measure its length,
+-- whatever is found; the others nothing.
 abbrev pub HasFields : Limits → Command → Origin → List ℕ → Finding → List Document → Type 0
-HasFields limits command.Fields place b finding.Canonical ds = AreFields limits place b ds
-HasFields limits command.Fields place b finding.Breached ds = AreFields limits place b ds
+HasFields limits command.Fields place b finding.Canonical ds = (d : Document) × AreFields limits place b d × (ds ≡ d ∷ [])
+HasFields limits command.Fields place b finding.Breached ds = (d : Document) × AreFields limits place b d × (ds ≡ d ∷ [])
+HasFields limits (command.Measure measure) place b found ds = (d : Document) × IsMeasured measure place b d × (ds ≡ d ∷ [])
 HasFields limits _ place b found ds = ds ≡ []
 
--- the elements that a command counts of a piece b at this place, in which this is found, are put to those that were counted
+-- what a command gathers of a piece b at this place, in which this is found, is put to what was gathered
 abbrev pub CountsFields : Limits → Command → Origin → List ℕ → Finding → (kept_old kept_new : Kept) → Type 0
 CountsFields limits c place b found old new = (ds : List Document) × HasFields limits c place b found ds × (tabled new ≡ fold with_document (tabled old) ds)
-
--- What the code tells of a document that is counted. No public contract cites what follows.
-
--- a command counts the elements of a document in which this is found
-abbrev pub IsCounted : Command → Finding → Type 0
-IsCounted c found = (c ≡ command.Fields) × ((found ≡ finding.Canonical) ⊎ (found ≡ finding.Breached))

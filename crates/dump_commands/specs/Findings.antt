@@ -7,8 +7,9 @@ use Rattle.dump_io.specs.declared.lines.find.Finding.{Finding}
 use Rattle.dump_io.specs.declared.lines.find.Finding.TheVariants as finding
 use Rattle.dump_io.specs.lines.Find.{Account, Finds}
 
--- what a command finds in a piece b, and what is told of it: count and sizes look into none
+-- what a command finds in a piece b, and what is told of it: those that go by lengths look into none
 abbrev pub FindsFor : Limits → Command → List ℕ → Finding → Option Account → Type 0
 FindsFor limits command.Count b found told = (found ≡ finding.Unvalidated) × (told ≡ None)
 FindsFor limits command.Sizes b found told = (found ≡ finding.Unvalidated) × (told ≡ None)
+FindsFor limits (command.Measure measure) b found told = (found ≡ finding.Unvalidated) × (told ≡ None)
 FindsFor limits _ b found told = Finds limits b found told

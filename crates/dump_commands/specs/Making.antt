@@ -52,13 +52,14 @@ MakesPicked picking b finding.TooDeep made = made ≡ []
 MakesPicked picking b finding.Unvalidated made = made ≡ []
 MakesPicked picking b _ made = (picked : List ℕ) × IsPickedAs picking b picked × (made ≡ plain picked ∷ [])
 
--- what a command makes of a piece b in which this is found: check, list, count, sizes and fields nothing; sound the piece itself, unless it is damaged or too deep; canon
+-- what a command makes of a piece b in which this is found: those that print lines nothing; sound the piece itself, unless it is damaged or too deep; canon
 -- and unique its canonical form, or unique the piece itself, where it is asked for; json its line; pick the document of some of its elements
 abbrev pub Makes : Command → List ℕ → Finding → List Made → Type 0
 Makes command.Check b found made = made ≡ []
 Makes command.List b found made = made ≡ []
 Makes command.Count b found made = made ≡ []
 Makes command.Sizes b found made = made ≡ []
+Makes (command.Measure measure) b found made = made ≡ []
 Makes command.Fields b found made = made ≡ []
 Makes command.Sound b finding.Damaged made = made ≡ []
 Makes command.Sound b finding.TooDeep made = made ≡ []

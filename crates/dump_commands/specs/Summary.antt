@@ -18,12 +18,13 @@ Count = List ℕ × ℕ
 abbrev pub count_of : summary.Count → Count
 count_of count = (count.name.now, count.number)
 
--- whether a command keeps documents: check, list, count, sizes and fields keep none
+-- whether a command keeps documents: those that print lines keep none
 abbrev pub keeps : Command → Bool
 keeps command.Check = false
 keeps command.List = false
 keeps command.Count = false
 keeps command.Sizes = false
+keeps (command.Measure measure) = false
 keeps command.Fields = false
 keeps _ = true
 
@@ -42,10 +43,11 @@ breached_counts command.Check n = (codes "not canonical", n.breached) ∷ []
 breached_counts command.Canon n = (codes "not canonical", n.breached) ∷ []
 breached_counts _ n = []
 
--- how many documents are damaged or too deep; count and sizes don't know
+-- how many documents are damaged or too deep; those that go by lengths don't know
 abbrev pub damaged_counts : Command → Counts → List Count
 damaged_counts command.Count n = []
 damaged_counts command.Sizes n = []
+damaged_counts (command.Measure measure) n = []
 damaged_counts _ n = (codes "damaged", n.damaged) ∷ (codes "too deep", n.too_deep) ∷ []
 
 -- the bytes of which no document is made, and the files of which they are some

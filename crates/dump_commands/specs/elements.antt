@@ -1,2 +1,3 @@
 pub mod Pick
+pub mod Id
 pub mod Listing

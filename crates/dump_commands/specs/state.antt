@@ -1,2 +1,4 @@
 pub mod Forms
 pub mod Fields
+pub mod Measures
+pub mod Gathered

@@ -25,6 +25,17 @@ pub struct Picking<'a> {
     pub style: Option<Style>,
 }
 
+/// What is gathered of the lengths of documents.
+#[derive(Clone, Copy)]
+pub enum Measure {
+    /// how many documents have a length from one power of two to the next
+    Histogram,
+    /// the longest documents, this many at most
+    Largest(usize),
+    /// in which stretches of this many bytes documents begin: the first of each, and how many there are
+    Parts(u64),
+}
+
 /// What is asked of the documents of an input.
 #[derive(Clone, Copy)]
 pub enum Command<'a> {
@@ -36,6 +47,8 @@ pub enum Command<'a> {
     Count,
     /// where each begins, and how many bytes it has, by its length alone
     Sizes,
+    /// what is gathered of their lengths, each by its length alone
+    Measure(Measure),
     /// the canonical form of each without damage
     Canon,
     /// each without damage, unchanged
@@ -61,8 +74,12 @@ impl Command<'_> {
             | Command::Unique(_)
             | Command::Json(_)
             | Command::Pick(_) => true,
-            Command::Check | Command::List | Command::Count | Command::Sizes | Command::Fields =>
-                false,
+            Command::Check
+            | Command::List
+            | Command::Count
+            | Command::Sizes
+            | Command::Measure(_)
+            | Command::Fields => false,
         }
     }
 
@@ -77,6 +94,7 @@ impl Command<'_> {
             | Command::List
             | Command::Count
             | Command::Sizes
+            | Command::Measure(_)
             | Command::Fields
             | Command::Json(_) => false,
         }

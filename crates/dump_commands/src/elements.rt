@@ -1,5 +1,6 @@
 //! The elements of a document: those of every level, a line each, and the document of those that paths name.
 #![tactic(auto)]
 
+pub mod id;
 pub mod listing;
 pub mod pick;

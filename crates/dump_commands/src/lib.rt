@@ -3,7 +3,7 @@
 //! - `command` names the commands, and `job` what is asked of one.
 //! - `reporting` says what is found in a document, and `summary` what was counted. `elements` lists the elements, and picks those at paths.
 //! - `making` writes the document, its canonical form, or its JSON.
-//! - `state` is what is carried from one document to the next: how many were written, the forms that were seen, the counts of elements.
+//! - `state` is what is carried from one document to the next: how many were written, the forms that were seen, the counts of elements, what lengths show.
 //!
 //! Begin at `judge` in `finding.rt` and `emit` in `making.rt`. To change what a command writes, change `Makes` in
 //! `specs/Making.antt` or `Reports` in `specs/Reporting.antt` first. Nothing is read here: a document comes as a slice with its

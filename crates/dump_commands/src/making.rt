@@ -1,13 +1,13 @@
-//! Makes what a command gives of a document: writes it, or counts its elements.
+//! Makes what a command gives of a document: writes it, or gathers its elements or its length.
 #![tactic(auto)]
 
-ghost use Rattle.std.specs.Prelude.{◌≡◌, ℕ, List, Option, [], ◌∷◌, ◌++◌, codes, IfOk, IfErr, MatchBool, OnErr, OnOk};
+ghost use Rattle.std.specs.Prelude.{◌≡◌, ℕ, List, Option, [], ◌∷◌, ◌++◌, codes, IfOk, IfErr, OnErr, OnOk};
 ghost use Rattle.std.specs.Io.KnownBytes.{Appends};
 ghost use Rattle.dump_commands.specs.Findings.{FindsFor};
 ghost use Rattle.dump_io.specs.lines.Fronts.{AppendsFront, WritesFront};
 ghost use Rattle.dump_commands.specs.Making.{IsMade, IsPickedAs, Emits, Puts};
-ghost use Rattle.dump_commands.specs.Counted.{CountsFields, IsCounted};
-ghost use Rattle.dump_commands.specs.state.Fields.{KeepsCounted, KeepsWritten};
+ghost use Rattle.dump_commands.specs.Counted.{CountsFields};
+ghost use Rattle.dump_commands.specs.state.Gathered.{KeepsCounted, KeepsWritten};
 ghost use Rattle.dump_io.specs.lines.Find.{Account};
 ghost use Rattle.dump_commands.specs.state.Forms.{CountsOne, knows, made_as};
 ghost use Rattle.dump_commands.specs.Unique.{written_of};
@@ -55,7 +55,15 @@ pub fn emit<'a, D: Write>(
     ensures failed { IfErr result (λ failure. ¬ IsReading failure) }
 {
     match (command, finding) {
-        (Command::Check | Command::List | Command::Count | Command::Sizes | Command::Fields, _)
+        (
+            Command::Check
+            | Command::List
+            | Command::Count
+            | Command::Sizes
+            | Command::Measure(_)
+            | Command::Fields,
+            _,
+        )
         | (_, Finding::Damaged | Finding::TooDeep | Finding::Unvalidated) => Ok(None),
         (Command::Sound, Finding::Canonical | Finding::Breached) => {
             put_document(command, origin, bytes, bytes, out, kept)
@@ -122,6 +130,7 @@ fn spelled<'a>(command: Command<'_>, bytes: &'a [u8], form: &'a [u8]) -> &'a [u8
         | Command::List
         | Command::Count
         | Command::Sizes
+        | Command::Measure(_)
         | Command::Canon
         | Command::Sound
         | Command::Fields
@@ -210,6 +219,7 @@ fn put_document<'a, D: Write>(
         | Command::List
         | Command::Count
         | Command::Sizes
+        | Command::Measure(_)
         | Command::Canon
         | Command::Sound
         | Command::Fields
@@ -257,7 +267,7 @@ fn put_new<'a, D: Write>(
     }
 }
 
-/// Counts the elements of a document in which this was found, where the command counts them.
+/// Gathers what the command gathers of a document in which this was found.
 pub fn count_fields<'a>(
     alloc: Global,
     command: Command<'_>,
@@ -271,19 +281,12 @@ pub fn count_fields<'a>(
     ensures written { KeepsWritten kept.old kept.new }
     ensures failed { IfErr result (λ failure. ¬ IsReading failure) }
 {
-    if !counts_elements(command, finding) {
-        return Ok(());
+    match (command, finding) {
+        (Command::Fields, Finding::Canonical | Finding::Breached) => {
+            let tokens = tokens_of(alloc, bytes, limits)?;
+            kept.add_document(alloc, origin, bytes, &tokens)
+        }
+        (Command::Measure(measure), _) => kept.measure(alloc, measure, origin, bytes),
+        _ => Ok(()),
     }
-    let tokens = tokens_of(alloc, bytes, limits)?;
-    kept.add_document(alloc, origin, bytes, &tokens)
-}
-
-/// Whether a command counts the elements of a document in which this was found.
-fn counts_elements(command: Command<'_>, finding: Finding) -> bool
-    ensures { MatchBool result (IsCounted command.entry finding) (¬ IsCounted command.entry finding) }
-{
-    matches!(
-        (command, finding),
-        (Command::Fields, Finding::Canonical | Finding::Breached)
-    )
 }

@@ -60,6 +60,7 @@ pub fn first_line(
             | Command::Json(_)
             | Command::Pick(_)
             | Command::Count
+            | Command::Measure(_)
             | Command::Fields,
             Finding::Canonical | Finding::Breached | Finding::Unvalidated,
         ) => Ok(Vec::new(alloc)),
@@ -101,6 +102,7 @@ pub fn put_listing<W: Write>(
         Command::Check
         | Command::Count
         | Command::Sizes
+        | Command::Measure(_)
         | Command::Canon
         | Command::Sound
         | Command::Unique(_)

@@ -61,6 +61,7 @@ fn push_breached(
         Command::List
         | Command::Count
         | Command::Sizes
+        | Command::Measure(_)
         | Command::Sound
         | Command::Unique(_)
         | Command::Fields
@@ -78,7 +79,7 @@ fn push_damaged(
     ensures { OnOk result (map count_of all.new.items ≡ map count_of all.old.items ++ damaged_counts command.entry counts.now) }
 {
     match command {
-        Command::Count | Command::Sizes => Ok(()),
+        Command::Count | Command::Sizes | Command::Measure(_) => Ok(()),
         Command::Check
         | Command::List
         | Command::Canon

@@ -9,7 +9,7 @@ use Rattle.dump_io.specs.declared.input.done.Lack.{Lack}
 use Rattle.dump_io.specs.declared.input.done.Lack.TheVariants as lack
 use Rattle.dump_io.specs.declared.input.status.Status.{Status}
 use Rattle.dump_commands.specs.Counting.{count_left, no_counts, plus, AreInRange}
-use Rattle.dump_commands.specs.state.Fields.{no_table, tabled}
+use Rattle.dump_commands.specs.state.Gathered.{nothing, tabled}
 use Rattle.dump_commands.specs.state.Forms.{firsts_of, knows, no_firsts, written_count}
 use Rattle.dump_commands.specs.declared.counts.Counts.{Counts}
 use Rattle.dump_commands.specs.declared.state.kept.Kept.{Kept}
@@ -71,12 +71,12 @@ abbrev pub paths_of : Reading → ℕ
 paths_of (reading.Dumps job) = job.paths
 paths_of (reading.Texts job) = 0
 
--- no document was written, no digest is known, and no element was counted
+-- no document was written, no digest is known, and nothing was gathered
 pub record KeepsNothing (r : Reading) (kept : Kept) : Type 0 where
   pub none : written_count kept ≡ 0
   pub unknown : (d : List ℕ) → knows kept d ≡ false
   pub firsts : firsts_of kept ≡ no_firsts (repeats_of r)
-  pub uncounted : tabled kept ≡ no_table (paths_of r)
+  pub ungathered : tabled kept ≡ nothing (paths_of r)
 
 -- An input of which these bytes are known is opened, and run over, as far as it is asked for. This came of the inputs before it.
 pub record IsRun (r : Reading) (name : List ℕ) (input : Option (List ℕ)) (before : State) (came : Held) (could : Option Bool) : Type 0 where

@@ -1,19 +1,19 @@
 //! Writes what was counted: after one input, and after all.
 #![tactic(auto)]
 
-ghost use Rattle.std.specs.Prelude.{◌≡◌, None, IfErr, OnErr, OnOk};
+ghost use Rattle.std.specs.Prelude.{◌++◌, IfErr, OnErr, OnOk};
 ghost use Rattle.std.specs.Io.KnownBytes.{Appends};
 ghost use Rattle.dump_io.specs.lines.Failing.{IsReading};
 ghost use Rattle.dump_io.specs.lines.Fronts.{AppendsFront};
-ghost use Rattle.dump_runs.specs.Sums.{all_line, input_line, line_of_all, line_of_input};
-ghost use Rattle.dump_commands.specs.declared.command.Command.TheVariants.{Fields};
+ghost use Rattle.dump_runs.specs.Sums.{all_line, count_line, gathered_lines, input_line, line_of_all, line_of_input};
 
 use crate::batch::Totals;
 use crate::reading::Reading;
-use dump_commands::command::Command;
+use dump_commands::command::{Command, Measure};
 use dump_commands::counts::Counts;
 use dump_commands::job::Job;
 use dump_commands::reporting::{put_summary, put_text_summary};
+use dump_commands::state::kept::Kept;
 use dump_io::lines::failure::Failure;
 use dump_io::lines::write::put;
 use std::alloc::Global;
@@ -77,12 +77,13 @@ fn put_input<W: Write>(
     ensures failed { IfErr result (λ failure. ¬ IsReading failure) }
 {
     match job.command {
-        Command::Check | Command::Count => {
+        Command::Check | Command::Count | Command::Measure(Measure::Histogram) => {
             let job = Job { limit: None, ..job };
             put_summary(alloc, job, Some(name), counts, 0, report)
         }
         Command::List
         | Command::Sizes
+        | Command::Measure(Measure::Largest(_) | Measure::Parts(_))
         | Command::Canon
         | Command::Sound
         | Command::Unique(_)
@@ -92,7 +93,7 @@ fn put_input<W: Write>(
     }
 }
 
-/// Writes what was counted of all dumps, but of a list and of sizes. Of fields, the lines of the paths come before it.
+/// Writes what was counted of all dumps, but of a list, of sizes and of parts. The lines of what was gathered come before it.
 fn put_all<W: Write>(
     alloc: Global,
     job: Job<'_>,
@@ -108,7 +109,10 @@ fn put_all<W: Write>(
     let kept = &totals.tally.kept;
     match job.command {
         Command::List | Command::Sizes => Ok(()),
-        Command::Fields => put_fields(alloc, job, totals, report),
+        Command::Measure(Measure::Parts(_)) => put_gathered(alloc, job, kept, report),
+        Command::Fields | Command::Measure(Measure::Histogram | Measure::Largest(_)) => {
+            put_both(alloc, job, totals, report)
+        }
         Command::Check
         | Command::Count
         | Command::Canon
@@ -119,22 +123,35 @@ fn put_all<W: Write>(
     }
 }
 
-/// Writes the lines of the paths that were counted, and what was counted of all dumps.
-fn put_fields<W: Write>(
+/// Writes the lines of what was gathered of all dumps.
+fn put_gathered<W: Write>(
+    alloc: Global,
+    job: Job<'_>,
+    kept: &Kept<'_>,
+    report: &mut W,
+) -> Result<(), Failure>
+    ensures written { OnOk result (Appends (W.contents report.old) (W.contents report.new) (gathered_lines job.entry kept.now)) }
+    ensures front { OnErr result (AppendsFront (W.contents report.old) (W.contents report.new) (gathered_lines job.entry kept.now)) }
+    ensures failed { IfErr result (λ failure. ¬ IsReading failure) }
+{
+    let lines = kept.lines(alloc, job.style, job.command)?;
+    put(report, &lines)
+}
+
+/// Writes these lines, and what was counted of all dumps.
+fn put_both<W: Write>(
     alloc: Global,
     job: Job<'_>,
     totals: &Totals<'_>,
     report: &mut W,
 ) -> Result<(), Failure>
-    requires { job.command ≡ Fields }
-    ensures written { OnOk result
-        (Appends (W.contents report.old) (W.contents report.new) (all_line job.entry Fields totals.now.counts totals.now.tally.kept)) }
-    ensures front { OnErr result
-        (AppendsFront (W.contents report.old) (W.contents report.new) (all_line job.entry Fields totals.now.counts totals.now.tally.kept)) }
+    ensures written { OnOk result (Appends (W.contents report.old) (W.contents report.new)
+        (gathered_lines job.entry totals.now.tally.kept ++ count_line job.entry totals.now.counts totals.now.tally.kept)) }
+    ensures front { OnErr result (AppendsFront (W.contents report.old) (W.contents report.new)
+        (gathered_lines job.entry totals.now.tally.kept ++ count_line job.entry totals.now.counts totals.now.tally.kept)) }
     ensures failed { IfErr result (λ failure. ¬ IsReading failure) }
 {
     let kept = &totals.tally.kept;
-    let lines = kept.paths().lines(alloc)?;
-    put(report, &lines)?;
+    put_gathered(alloc, job, kept, report)?;
     put_summary(alloc, job, None, &totals.counts, kept.count(), report)
 }

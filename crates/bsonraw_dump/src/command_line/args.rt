@@ -50,6 +50,9 @@ fn switch<'a>(alloc: Global, name: &'a str, help: &'a str) -> Arg<'a> {
         .action(ArgAction::SetTrue)
 }
 
+/// How many of the longest documents are named at most.
+const MOST_NAMED: u64 = 1000;
+
 /// The most that a limit can be: no length of a document is over it.
 const LARGEST: u64 = 2_147_483_647;
 
@@ -225,9 +228,30 @@ fn lists<'a>(alloc: Global) -> CommandBuilder<'a> {
 /// The command that counts documents.
 fn counts<'a>(alloc: Global) -> CommandBuilder<'a> {
     let about = "Counts documents and bytes by their lengths alone, and checks none";
+    let sizes = "Also counts the documents from each power of two bytes to the next";
+    let command = CommandBuilder::new(alloc, "count", about).arg(switch(alloc, "sizes", sizes));
+    reading(alloc, findings(alloc, command))
+}
+
+/// The command that names the longest documents.
+fn largest<'a>(alloc: Global) -> CommandBuilder<'a> {
+    let about = "Prints where the longest documents begin, with their lengths and _id";
+    let most = "Prints at most N documents; 10 if it isn't given";
+    let command = CommandBuilder::new(alloc, "largest", about);
     reading(
         alloc,
-        findings(alloc, CommandBuilder::new(alloc, "count", about)),
+        command.arg(number(alloc, "most", "N", 1, MOST_NAMED, most).short('n')),
+    )
+}
+
+/// The command that divides a dump.
+fn splits<'a>(alloc: Global) -> CommandBuilder<'a> {
+    let about = "Prints --at OFFSET --take N for each of the parts of a FILE";
+    let parts = "Divides it into at most N parts, of about as many bytes each";
+    let command = CommandBuilder::new(alloc, "split", about);
+    reading(
+        alloc,
+        command.arg(number(alloc, "parts", "N", 1, LARGEST, parts).required(true)),
     )
 }
 
@@ -255,6 +279,8 @@ fn with_reports<'a>(alloc: Global, line: CommandBuilder<'a>) -> CommandBuilder<'
         .subcommand(lists(alloc))
         .subcommand(counts(alloc))
         .subcommand(sizes(alloc))
+        .subcommand(largest(alloc))
+        .subcommand(splits(alloc))
         .subcommand(fields(alloc))
 }
 

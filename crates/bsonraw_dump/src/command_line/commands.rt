@@ -3,7 +3,7 @@
 
 use bson_to_json::{Format, Layout, Style as JsonStyle};
 use clap::ArgMatches;
-use dump_commands::command::{Command, Picking, Spelling};
+use dump_commands::command::{Command, Measure, Picking, Spelling};
 
 /// What a command prints, and where.
 #[derive(Clone, Copy)]
@@ -19,8 +19,12 @@ pub struct Printing {
 /// What this command prints.
 pub fn printing_of(command: Command<'_>) -> Printing {
     let (documents, soon, findings) = match command {
-        Command::Check | Command::Count => (false, true, true),
-        Command::Fields => (false, true, false),
+        Command::Check | Command::Count | Command::Measure(Measure::Histogram) => {
+            (false, true, true)
+        }
+        Command::Fields | Command::Measure(Measure::Largest(_) | Measure::Parts(_)) => {
+            (false, true, false)
+        }
         Command::List | Command::Sizes => (false, false, false),
         Command::Canon
         | Command::Sound
@@ -40,7 +44,9 @@ pub fn command_of<'a>(name: &str, matches: &ArgMatches<'a>) -> Option<Command<'a
     match name {
         "check" => Some(Command::Check),
         "list" => Some(Command::List),
-        "count" => Some(Command::Count),
+        "count" => Some(count_of(matches)),
+        "largest" => Some(Command::Measure(largest_of(matches))),
+        "split" => Some(Command::Measure(parts_of(matches))),
         "sizes" => Some(Command::Sizes),
         "fields" => Some(Command::Fields),
         "canon" => Some(Command::Canon),
@@ -65,6 +71,26 @@ fn json_style_of(matches: &ArgMatches<'_>) -> JsonStyle {
             Layout::OneLine
         },
     }
+}
+
+fn count_of<'a>(matches: &ArgMatches<'_>) -> Command<'a> {
+    if matches.get_flag("sizes") {
+        Command::Measure(Measure::Histogram)
+    } else {
+        Command::Count
+    }
+}
+
+/// How many of the longest documents are named where no number is given.
+const NAMED: usize = 10;
+
+fn largest_of(matches: &ArgMatches<'_>) -> Measure {
+    Measure::Largest(matches.get_one("most").unwrap_or(NAMED))
+}
+
+/// The number of parts, in place of which `divided` puts how many bytes each has.
+fn parts_of(matches: &ArgMatches<'_>) -> Measure {
+    Measure::Parts(matches.get_one("parts").unwrap_or(1))
 }
 
 fn spelling_of(matches: &ArgMatches<'_>) -> Spelling {

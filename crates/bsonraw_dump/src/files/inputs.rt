@@ -117,6 +117,11 @@ fn place_of(name: &str) -> &str {
     if name == "-" { "/dev/stdin" } else { name }
 }
 
+/// Whether something has this name; `-` is standard input.
+pub fn is_there(rt: &HostRuntime, name: &str) -> bool {
+    fs::metadata(rt, place_of(name)).is_ok()
+}
+
 /// Whether these are names of one file, pipe or device.
 pub fn are_one(rt: &HostRuntime, name: &str, other: &str) -> bool {
     match (fs::metadata(rt, name), fs::metadata(rt, other)) {

@@ -2,15 +2,12 @@
 use Rattle.std.specs.Prelude.{⊤, ◌≡◌, ◌+◌, ◌-◌, ◌≤◌, ℕ, List, [], ◌∷◌, ◌++◌, Bool, false, Option, None, Some, bytes_eq, codes, cond, decimal, drop, flat_map, fold, get_or, length, map, max, nat_eq, nat_lt, position, replicate, set, take}
 use Rattle.std.specs.List.{AllByRecursion}
 use Rattle.dump_io.specs.lines.Quoting.{quoted}
-use Rattle.raw_form.specs.Tokens.{HasTokens}
 use Rattle.raw_form.specs.declared.token.Token.{Token}
-use Rattle.raw_tree.specs.declared.reader.limits.Limits.{Limits}
 use Rattle.raw_view.specs.Frame.Kind.{kind_text, tag_of}
 use Rattle.raw_view.specs.declared.element_type.ElementType.{ElementType}
 use Rattle.raw_view.specs.declared.element_type.ElementType.TheVariants as kind
 use Rattle.dump_io.specs.lines.Origins.{Origin, origin_of}
 use Rattle.dump_commands.specs.declared.state.fields.Level.{Level}
-use Rattle.dump_commands.specs.declared.state.kept.Kept.{Kept}
 use Rattle.dump_commands.specs.declared.state.paths.Paths.{Paths}
 use Rattle.dump_commands.specs.declared.state.rows.Row.{Row}
 
@@ -58,15 +55,6 @@ levels_behind b levels t = cond (nat_lt 0 t.inside) (levels ++ inside_of (path_o
 abbrev pub fields_of : List ℕ → List Around → List Token → List Field
 fields_of b levels [] = []
 fields_of b levels (t ∷ ts) = field_of b (levels_around levels t) t ∷ fields_of b (levels_behind b (levels_around levels t) t) ts
-
--- the elements of a document, and where it begins
-pub record Document : Type 0 where
-  pub place : Origin
-  pub fields : List Field
-
--- these are the elements of the document b, which begins there
-abbrev pub AreFields : Limits → Origin → List ℕ → List Document → Type 0
-AreFields limits place b ds = (ts : List Token) × HasTokens limits.depth 0 0 b ts × (ds ≡ record { place = place; fields = fields_of b (outermost ∷ []) ts } ∷ [])
 
 -- What was counted: of a most of paths, in the order of their first elements, each with the first document that has it and its numbers;
 -- and how many elements were left out, whose paths are others.
@@ -123,9 +111,9 @@ with_field place t f = cond (nat_lt 4096 (length f.path)) (leave_out t) (with_va
 abbrev pub next_document : Table → Table
 next_document t = record t { documents = t.documents + 1 }
 
--- a document more
-abbrev pub with_document : Table → Document → Table
-with_document t d = fold (with_field d.place) (next_document t) d.fields
+-- a document more that begins there and has these elements
+abbrev pub with_fields : Origin → Table → List Field → Table
+with_fields place t fields = fold (with_field place) (next_document t) fields
 
 -- the kinds in the order of their places
 abbrev pub kinds : List ElementType
@@ -177,9 +165,6 @@ table_of p = record {
   left_out = p.left_out;
 }
 
-abbrev pub tabled : Kept → Table
-tabled kept = table_of kept.paths
-
 -- What the code tells of a document that is counted. No public contract cites what follows.
 
 -- a level of the code, where this is the path of an element in it or inside it
@@ -201,11 +186,3 @@ AreWithin len levels = AllByRecursion (λ level. level.prefix ≤ len) levels
 -- levels of the code one inside the other, whose prefixes this path begins with
 abbrev pub AreLevels : List ℕ → List Level → Type 0
 AreLevels path levels = IsAscending levels × AreWithin (length path) levels
-
--- what was counted doesn't change
-abbrev pub KeepsCounted : (old new : Kept) → Type 0
-KeepsCounted old new = tabled new ≡ tabled old
-
--- what was written doesn't change
-abbrev pub KeepsWritten : (old new : Kept) → Type 0
-KeepsWritten old new = (new.count ≡ old.count) × (new.forms ≡ old.forms)

@@ -81,7 +81,7 @@ fn element_at<'a>(document: RawDocument<'a>, path: &str) -> Option<RawElement<'a
 }
 
 /// The first element with this key.
-fn first_with<'a>(document: RawDocument<'a>, key: &str) -> Option<RawElement<'a>>
+pub fn first_with<'a>(document: RawDocument<'a>, key: &str) -> Option<RawElement<'a>>
     ensures { FindsFirst (bytes_of document.entry) key.now (option_map frame_of result) }
 {
     match document.get_element(key) {

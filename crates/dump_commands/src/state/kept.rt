@@ -6,10 +6,12 @@ ghost use Rattle.dump_commands.specs.state.Forms.{digest_of, first_at, first_of,
 ghost use Rattle.dump_io.specs.lines.Origins.{origin_of};
 ghost use Rattle.dump_commands.specs.declared.state.kept.Forms.TheVariants.{Digests, Firsts};
 
+use crate::command::{Command, Measure};
 use crate::state::fields::add_tokens;
-use crate::state::paths::Paths;
+use crate::state::gathered::Gathered;
 use dump_io::lines::failure::{Failure, in_range};
 use dump_io::lines::origin::Origin;
+use dump_io::lines::style::Style;
 use raw_form::Token;
 use sha2::{Digest, Sha256};
 use std::alloc::{AllocError, Global};
@@ -33,33 +35,34 @@ pub enum Added<'a> {
     Repeat(Option<Origin<'a>>),
 }
 
-/// What was written so far: how many documents, and of unique the digest of each form. Of fields, what was counted.
+/// What was written so far: how many documents, and of unique the digest of each form; and what was gathered of documents.
 #[derive(Drop)]
 pub struct Kept<'a> {
     count: u64,
     forms: Forms<'a>,
-    paths: Paths<'a>,
+    gathered: Gathered<'a>,
 }
 
 impl<'a> Kept<'a> {
     ghost use Rattle.std.specs.Prelude.{◌≡◌, ◌∷◌, [], ℕ, List, false, not, IfErr, IfOk, OnOk};
-    ghost use Rattle.dump_commands.specs.state.Fields.{KeepsCounted, KeepsWritten, fields_of, no_table, outermost, table_of, tabled, with_document};
+    ghost use Rattle.dump_commands.specs.state.Fields.{fields_of, outermost};
+    ghost use Rattle.dump_commands.specs.state.Gathered.{Document, IsMeasured, KeepsCounted, KeepsWritten, lines_of, nothing, of_fields, tabled, with_document};
     ghost use Rattle.dump_io.specs.lines.Failing.{IsReading};
     ghost use Rattle.dump_commands.specs.state.Forms.{CountsOne, written_count, digest_of, first_at, first_of, firsts_of, is_new, knows, no_firsts, placed, with_first, with_form};
     ghost use Rattle.dump_io.specs.lines.Origins.{origin_of};
 
-    /// Nothing was written, and nothing counted; at most `paths` paths will be. Places of first documents are kept where repeats are
+    /// Nothing was written, and nothing gathered; at most `paths` paths will be counted. Places of first documents are kept where repeats are
     /// asked for.
     pub fn new(alloc: Global, repeats: bool, paths: usize) -> Kept<'a>
         ensures none { written_count result ≡ 0 }
         ensures unknown { (d : List ℕ) → knows result d ≡ false }
         ensures firsts { firsts_of result ≡ no_firsts repeats }
-        ensures uncounted { tabled result ≡ no_table paths }
+        ensures ungathered { tabled result ≡ nothing paths }
     {
         Kept {
             count: 0,
             forms: no_forms(alloc, repeats),
-            paths: Paths::new(alloc, paths),
+            gathered: Gathered::new(alloc, paths),
         }
     }
 
@@ -70,11 +73,17 @@ impl<'a> Kept<'a> {
         self.count
     }
 
-    /// What was counted of each path.
-    pub fn paths(&self) -> &Paths<'a>
-        ensures { table_of result.now ≡ tabled self.now }
+    /// The lines that tell what the command gathered.
+    pub fn lines(
+        &self,
+        alloc: Global,
+        style: Style,
+        command: Command<'_>,
+    ) -> Result<Vec<u8>, Failure>
+        ensures lines { IfOk result (λ text. text.items ≡ lines_of style command.entry (tabled self.now)) }
+        ensures failed { IfErr result (λ failure. ¬ IsReading failure) }
     {
-        &self.paths
+        self.gathered.lines(alloc, style, command)
     }
 
     /// Puts the elements of a document with these tokens, which begins there, to those that were counted.
@@ -86,12 +95,28 @@ impl<'a> Kept<'a> {
         tokens: &[Token],
     ) -> Result<(), Failure>
         ensures added { OnOk result (tabled self.new
-            ≡ with_document (tabled self.old) (record { place = origin_of origin.entry; fields = fields_of bytes.now (outermost ∷ []) tokens.now })) }
+            ≡ with_document (tabled self.old) (of_fields (origin_of origin.entry) (fields_of bytes.now (outermost ∷ []) tokens.now))) }
         ensures written { KeepsWritten self.old self.new }
         ensures failed { IfErr result (λ failure. ¬ IsReading failure) }
     {
-        self.paths.begin()?;
-        add_tokens(alloc, &mut self.paths, origin, bytes, tokens)
+        self.gathered.paths.begin()?;
+        add_tokens(alloc, &mut self.gathered.paths, origin, bytes, tokens)
+    }
+
+    /// Puts the length of a document with these bytes, which begins there, to those that were gathered.
+    pub fn measure(
+        &mut self,
+        alloc: Global,
+        measure: Measure,
+        origin: Origin<'a>,
+        bytes: &[u8],
+    ) -> Result<(), Failure>
+        ensures added { OnOk result ((document : Document) × IsMeasured measure (origin_of origin.entry) bytes.now document
+            × (tabled self.new ≡ with_document (tabled self.old) document)) }
+        ensures written { KeepsWritten self.old self.new }
+        ensures failed { IfErr result (λ failure. ¬ IsReading failure) }
+    {
+        self.gathered.measure(alloc, measure, origin, bytes)
     }
 
     /// One document more was written. Fails if there would be too many to count.

@@ -24,6 +24,7 @@ sound_of b finding.Unvalidated told piece found clean = absurd found
 pub finds_sound : {limits : Limits} (c : Command) (b : List ℕ) (f : Finding) (told : Option Account) → IsPiece limits.bytes b → FindsFor limits c b f told → ¬ MayBeDamaged f → IsSound limits b
 finds_sound command.Count b f told piece found clean = absurd (clean (inr (inr found.0)))
 finds_sound command.Sizes b f told piece found clean = absurd (clean (inr (inr found.0)))
+finds_sound (command.Measure measure) b f told piece found clean = absurd (clean (inr (inr found.0)))
 finds_sound command.Check b f told piece found clean = sound_of b f told piece found clean
 finds_sound command.List b f told piece found clean = sound_of b f told piece found clean
 finds_sound command.Canon b f told piece found clean = sound_of b f told piece found clean

@@ -14,7 +14,7 @@ use Rattle.dump_commands.specs.Findings.{FindsFor}
 use Rattle.dump_commands.specs.Making.{IsMade, Makes, Puts, Writes}
 use Rattle.dump_commands.specs.Reporting.{Lists, ListsFront, Reports, first_line, lines_of_repeats}
 use Rattle.dump_commands.specs.Unique.{repeats_of, written_of}
-use Rattle.dump_commands.specs.state.Fields.{KeepsCounted, KeepsWritten, Table, with_document}
+use Rattle.dump_commands.specs.state.Gathered.{Gathered, KeepsCounted, KeepsWritten, with_document}
 use Rattle.dump_commands.specs.state.Forms.{Made, firsts_of, knows, origins_of, placed_at, repeat_at}
 use Rattle.dump_commands.specs.declared.counts.Counts.{Counts}
 use Rattle.dump_commands.specs.declared.job.Job.{Job}
@@ -144,7 +144,7 @@ module _ {job : Job} {p : Piece} {n : Counts} (j : IsFound job p n) where
                 known = λ (x : List ℕ). written.is_known x i;
                 firsts = (ap origins_of counts.written.1 ∙ m.puts.1.placed) i;
                 count = written.is_counted i;
-                table = (added ∙ ap (λ (t : Table). fold with_document t fields) counts.table) i;
+                gathered = (added ∙ ap (λ (t : Gathered). fold with_document t fields) counts.table) i;
               };
             },
             number ∙ ap (λ (x : ℕ). findings_in c p.judged.finding + x) (sym repeats),

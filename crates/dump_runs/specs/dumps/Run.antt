@@ -22,7 +22,7 @@ use Rattle.dump_commands.specs.Making.{Makes}
 use Rattle.dump_commands.specs.Reporting.{Reports, lines_of_repeats}
 use Rattle.dump_commands.specs.Summary.{keeps}
 use Rattle.dump_commands.specs.Unique.{firsts_behind, kept_of, known_behind, repeats_of, written_of}
-use Rattle.dump_commands.specs.state.Fields.{Document, Table, tabled, with_document}
+use Rattle.dump_commands.specs.state.Gathered.{Document, Gathered, tabled, with_document}
 use Rattle.dump_commands.specs.state.Forms.{Firsts, Made, firsts_of, knows, placed_at, written_count}
 use Rattle.dump_commands.specs.declared.command.Command.{Command}
 use Rattle.dump_commands.specs.declared.command.Command.TheVariants as command
@@ -32,8 +32,8 @@ use Rattle.dump_commands.specs.declared.state.kept.Kept.{Kept}
 use Rattle.dump_runs.specs.Limits.{style_at}
 use Rattle.dump_runs.specs.Plays.{Event, Held, Played, count_event, counted, given, reported, set_aside}
 
--- a document of an input, at its length: its bytes, what is found in it and what is told of that, what is made of it, what is reported of it, its
--- elements, if they are counted, and what searches cost then
+-- a document of an input, at its length: its bytes, what is found in it and what is told of that, what is made of it, what is reported of it, what
+-- is gathered of it, and what searches cost then
 pub record Entry : Type 0 where
   pub bytes : List ℕ
   pub finding : Finding
@@ -74,15 +74,15 @@ abbrev pub bytes_of_parts : List Part → List ℕ
 bytes_of_parts ps = flat_map bytes_of_part ps
 
 -- what is kept of documents: the digests of the forms that were written, the places of the first ones, how many were written, and what was
--- counted of their elements
+-- gathered of them
 pub record Memory : Type 0 where
   pub known : List ℕ → Bool
   pub firsts : Firsts
   pub count : ℕ
-  pub table : Table
+  pub gathered : Gathered
 
 abbrev pub memory_of : Kept → Memory
-memory_of kept = record { known = knows kept; firsts = firsts_of kept; count = written_count kept; table = tabled kept }
+memory_of kept = record { known = knows kept; firsts = firsts_of kept; count = written_count kept; gathered = tabled kept }
 
 -- where a part of an input begins, and what came before it: what searches cost, whether a gap is right before it or a document that stands alone, what was counted, and what is kept
 pub record Point : Type 0 where
@@ -187,7 +187,7 @@ with_entry job here e = record {
   known = known_behind job.command here.memory.known e.made;
   firsts = firsts_behind job.command here.memory.firsts (placed_at here.at e.made);
   count = here.memory.count + length (kept_of job.command here.memory.known e.made);
-  table = fold with_document here.memory.table e.fields;
+  gathered = fold with_document here.memory.gathered e.fields;
 }
 
 abbrev pub memory_behind : Job → Point → Part → Memory

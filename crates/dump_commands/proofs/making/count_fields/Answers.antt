@@ -1,13 +1,21 @@
-use Rattle.std.proofs.Common.{rules, subst, sym}
+use Rattle.std.proofs.Common.{refl, rules, subst, sym}
 use Rattle.raw_form.specs.Tokens.{HasTokens}
 use Rattle.dump_io.specs.lines.Origins.{origin_of}
 use Rattle.dump_io.proofs.Face.{on_ok}
-use Rattle.dump_commands.proofs.Counted.{counted}
+use Rattle.dump_commands.proofs.Counted.{counts_fields, counts_length}
 use Rattle.dump_commands.proofs.making.count_fields.Goals as goal
 
-pub returns-clause-counted : goal.returns-clause-counted
-returns-clause-counted c =
-    let has = subst (HasTokens c.args.limits.depth 0 0 c.args.bytes.now) (sym c.deref.ensures.value) c.in_ok-tokens.ensures.tokens in
+pub returns-in_ok-tokens-in-Fields-Canonical-clause-counted : goal.returns-in_ok-tokens-in-Fields-Canonical-clause-counted
+returns-in_ok-tokens-in-Fields-Canonical-clause-counted c =
+    let has = subst (HasTokens c.args.limits.depth 0 0 c.args.bytes.now) (sym c.deref.ensures.value) c.in_ok-tokens-in-Fields-Canonical.ensures.tokens in
     on_ok c.add_document.result _ _
-    (λ added. (_, counted c.args.limits c.args.command (origin_of c.args.origin) c.args.bytes.now c.args.finding c.deref.result.now (search rules) has, added))
+    (λ added. counts_fields c.args.limits c.args.command (origin_of c.args.origin) c.args.bytes.now c.args.finding _ c.args.kept.now c.add_document.new.self
+    (search rules) (search rules) (c.deref.result.now, has, refl) added)
     c.add_document.ensures.added
+
+pub returns-in-Measure-default-clause-counted : goal.returns-in-Measure-default-clause-counted
+returns-in-Measure-default-clause-counted c =
+    on_ok c.measure.result _ _
+    (λ added. counts_length c.args.limits c.args.command (origin_of c.args.origin) c.args.bytes.now c.args.finding c.in-Measure-default.measure c.args.kept.now
+    c.measure.new.self (search rules) added)
+    c.measure.ensures.added

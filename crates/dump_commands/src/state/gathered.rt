@@ -1,0 +1,93 @@
+//! What was gathered of documents: what the elements of all have under each path, and what their lengths show.
+#![tactic(auto)]
+
+ghost use Rattle.std.specs.Prelude.{◌≡◌, IfErr, IfOk, OnOk};
+ghost use Rattle.dump_commands.specs.state.Gathered.{Document, IsMeasured, gathered_of, lines_of, nothing, with_document};
+ghost use Rattle.dump_io.specs.lines.Failing.{IsReading};
+ghost use Rattle.dump_io.specs.lines.Origins.{origin_of};
+
+use crate::command::{Command, Measure};
+use crate::elements::id::shown_id;
+use crate::state::measure_lines::{largest_lines, range_lines, share_lines};
+use crate::state::measures::{Measures, Ranked, range_of};
+use crate::state::paths::Paths;
+use dump_io::lines::failure::Failure;
+use dump_io::lines::origin::Origin;
+use dump_io::lines::style::Style;
+use std::alloc::Global;
+
+/// What was gathered of documents.
+#[derive(Drop)]
+pub struct Gathered<'a> {
+    /// what was counted of each path
+    pub paths: Paths<'a>,
+    /// what was gathered of lengths
+    pub measures: Measures<'a>,
+}
+
+impl<'a> Gathered<'a> {
+    /// Nothing was gathered. At most `paths` paths will be counted.
+    pub fn new(alloc: Global, paths: usize) -> Gathered<'a>
+        ensures { gathered_of result ≡ nothing paths }
+    {
+        Gathered {
+            paths: Paths::new(alloc, paths),
+            measures: Measures::new(alloc),
+        }
+    }
+
+    /// Puts the length of a document with these bytes, which begins there, to those that were gathered.
+    pub fn measure(
+        &mut self,
+        alloc: Global,
+        measure: Measure,
+        place: Origin<'a>,
+        bytes: &[u8],
+    ) -> Result<(), Failure>
+        ensures added { OnOk result ((document : Document) × IsMeasured measure (origin_of place.entry) bytes.now document
+            × (gathered_of self.new ≡ with_document (gathered_of self.old) document)) }
+        ensures failed { IfErr result (λ failure. ¬ IsReading failure) }
+    {
+        match measure {
+            Measure::Histogram => self.measures.add_length(range_of(bytes.len())),
+            Measure::Largest(most) => {
+                let id = shown_id(alloc, bytes)?;
+                let size = bytes.len();
+                self.measures.add_ranked(most, Ranked { place, size, id })?;
+                Ok(())
+            }
+            Measure::Parts(stretch) => self.measures.add_divided(stretch, place),
+        }
+    }
+
+    /// The lines that tell what the command gathered.
+    pub fn lines(
+        &self,
+        alloc: Global,
+        style: Style,
+        command: Command<'_>,
+    ) -> Result<Vec<u8>, Failure>
+        ensures lines { IfOk result (λ text. text.items ≡ lines_of style command.entry (gathered_of self.now)) }
+        ensures failed { IfErr result (λ failure. ¬ IsReading failure) }
+    {
+        match command {
+            Command::Fields => self.paths.lines(alloc),
+            Command::Measure(Measure::Histogram) => {
+                Ok(range_lines(alloc, style, &self.measures.ranges)?)
+            }
+            Command::Measure(Measure::Largest(_)) => {
+                Ok(largest_lines(alloc, &self.measures.largest)?)
+            }
+            Command::Measure(Measure::Parts(_)) => Ok(share_lines(alloc, &self.measures.shares)?),
+            Command::Check
+            | Command::List
+            | Command::Count
+            | Command::Sizes
+            | Command::Canon
+            | Command::Sound
+            | Command::Unique(_)
+            | Command::Json(_)
+            | Command::Pick(_) => Ok(Vec::new(alloc)),
+        }
+    }
+}
