@@ -4,7 +4,8 @@
  *        beside DATA clock     a line of each pair: NAME, a tab, nanoseconds of the processor of ours, a tab, of theirs; the least of
  *                              samples that they take in turns
  *
- * DATA is where documents.py put its documents. Aborts where a call doesn't return what it has to. */
+ * DATA is where documents.py put its documents. Aborts where a call doesn't return what it has to. With PAD, a string, what follows in the
+ * program is as many bytes further on: a loop takes up to 1.3 times as long elsewhere. */
 #define _GNU_SOURCE
 #include <bson/bson.h>
 #include <bsonraw.h>
@@ -13,6 +14,10 @@
 #include <string.h>
 
 #include "clock.h"
+
+#ifdef PAD
+__asm__(".text\n.skip " PAD);
+#endif
 
 #define ALL ((size_t)2147483647)
 #define PAIR(name) __attribute__((noinline, used)) static void name(void)

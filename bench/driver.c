@@ -2,6 +2,7 @@
  *
  * usage: driver IMPL DATA                     measures; a line of TSV for each operation and document:
  *                                             IMPL  op  document  elements  bytes  ns per call, the least  samples
+ *                                             gauge beside that sample, in ns  page faults per call
  *        driver IMPL DATA check               each operation once on each document, with the checks
  *        driver IMPL DATA once OP DOCUMENT N  N calls and no clock, for callgrind --toggle-collect=bb_OP
  *
@@ -17,6 +18,7 @@
 #include <stdio.h>
 #include <stdlib.h>
 #include <string.h>
+#include <sys/resource.h>
 
 enum { APPENDS = 1000000 };
 
@@ -280,6 +282,12 @@ static bool named(const char *list, const char *name) {
     return list == NULL || *list == 0;
 }
 
+static long page_faults(void) {
+    struct rusage used;
+    getrusage(RUSAGE_SELF, &used);
+    return used.ru_minflt;
+}
+
 /* Returns whether the operation is supported. */
 static bool checked(const char *impl, const operation *op, const document *d) {
     bb_answer got = {0, 0, 0};
@@ -307,21 +315,29 @@ static void measure(const char *impl, const operation *op, const document *d) {
     op->run(d, &got);
     t = now() - t;
     long calls = t >= want ? 1 : (long)(want / (t < 20 ? 20 : t)) + 1;
-    double least = 1e300;
+    double least = 1e300, all_calls = 0, before, after = gauge(), gauged = 0;
+    long faults = page_faults();
     for (long s = 0; s < samples; s++) {
+        before = after;
         double t0 = now();
         for (long c = 0; c < calls; c++) {
             op->run(d, &got);
         }
         double each = (now() - t0) / calls;
-        least = each < least ? each : least;
+        after = gauge();
+        all_calls += calls;
+        if (each < least) {
+            least = each;
+            gauged = before > after ? before : after;
+        }
         if (s == 0) { /* the first call was cold, so the number of calls was too low */
             calls = each >= want ? 1 : (long)(want / (each < 5 ? 5 : each)) + 1;
         }
     }
     uint64_t elements = !op->on_docs ? APPENDS : op->all_levels ? d->all : d->top;
     size_t bytes = op->on_docs ? d->len : got.count;
-    printf("%s\t%s\t%s\t%llu\t%zu\t%.2f\t%ld\n", impl, op->name, d->name, (unsigned long long)elements, bytes, least, samples);
+    printf("%s\t%s\t%s\t%llu\t%zu\t%.2f\t%ld\t%.0f\t%.1f\n", impl, op->name, d->name, (unsigned long long)elements, bytes, least, samples, gauged,
+           (page_faults() - faults) / all_calls);
     fflush(stdout);
 }
 

@@ -4,8 +4,8 @@ and jq.
 
 usage: dumps.py PROGRAM CHECKED FOLDER      PROGRAM: bsonraw-dump; CHECKED: checked.c, compiled; FOLDER: for the dumps
 
-Prints a line a dump and way: dump, way, seconds of the processor, the least of ROUNDS, 12 if that isn't set, in which the
-ways take turns; those of others take part in every fourth.
+Prints a line a dump and way: dump, way, seconds of the processor of each of ROUNDS, 12 if that isn't set, in which the ways take turns;
+those of others take part in every fourth.
 """
 import os
 import random
@@ -83,13 +83,13 @@ def in_memory(checked, file):
     return float(subprocess.run([checked, file], stdout=subprocess.PIPE, text=True, check=True).stdout)
 
 
-def least_of(ways, others):
-    """The least time of each way."""
-    least = dict.fromkeys([*ways, *others], float("inf"))
+def times_of(ways, others):
+    """The times of each way."""
+    times = {way: [] for way in [*ways, *others]}
     for number in range(int(os.environ.get("ROUNDS", "12"))):
         for way, run in [*ways.items(), *(() if number % 4 else others.items())]:
-            least[way] = min(least[way], run())
-    return least
+            times[way].append(run())
+    return times
 
 
 def main(program, checked, folder):
@@ -103,8 +103,8 @@ def main(program, checked, folder):
         if name == "great":
             ways["pick"] = lambda: by_program(program, file, "pick", PATHS)
             others["jq"] = lambda: by_jq(program, file)
-        for way, seconds in least_of(ways, others).items():
-            print(name, way, f"{seconds:.3f}", sep="\t", flush=True)
+        for way, times in times_of(ways, others).items():
+            print(name, way, *(f"{it:.3f}" for it in times), sep="\t", flush=True)
         file.unlink()
 
 

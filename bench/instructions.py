@@ -4,7 +4,7 @@
 usage: instructions.py BUILD DATA OUT IMPL..        BUILD/IMPL being executables of driver.c; writes lines of TSV to OUT:
        IMPL  op  document  elements  instructions per call
 
-Only what runs inside bb_OP is counted (--toggle-collect). BB_OPS as driver.c says.
+Only what runs inside bb_OP is counted (--toggle-collect). BB_OPS and BB_DOCS as driver.c says.
 """
 import os
 import re
@@ -48,8 +48,9 @@ def count(build, data, impl, op, doc, calls):
 def main(build, data, out, *impls):
     with open(f"{data}/manifest.tsv") as f:
         rows = {r[0]: r for r in (line.rstrip("\n").split("\t") for line in f)}
-    ops = [op for op in WANTED if op in (os.environ.get("BB_OPS") or ",".join(WANTED)).split(",")]
-    jobs = [(impl, op, *it.split(":")) for op in ops for it in WANTED[op].split() for impl in impls]
+    ops, docs = ([it for it in os.environ.get(name, "").split(",") if it] for name in ("BB_OPS", "BB_DOCS"))
+    counted = [(op, *it.split(":")) for op in WANTED if not ops or op in ops for it in WANTED[op].split()]
+    jobs = [(impl, *it) for it in counted if not docs or it[1] in docs or it[1].isdigit() for impl in impls]
     with ThreadPoolExecutor(max(1, (os.cpu_count() or 2) - 1)) as pool:
         made = list(pool.map(lambda j: count(build, data, *j), jobs))
     with open(out, "w") as f:

@@ -6,6 +6,8 @@
 #   PROJECT_LIB   the static library of this project's calls (rattle/build.sh, or the crate for Rust: see bin/bench)
 #   BSON_CRATE    the folder of bson 2.15.0, without which the Rust crate is left out
 #   NO_PYTHON     without pymongo
+#   NO_COUNTS     without instructions
+#   ONLY_CRATE    beside the Rust crate alone
 #   BB_OPS, BB_DOCS, BB_SAMPLES, BB_MICROS   as driver.c says
 set -eu
 here=$(cd "$(dirname "$0")" && pwd)
@@ -27,6 +29,7 @@ c=$(dirname "$(rt doc)")/c
 gcc $flags "$here/driver.c" "$here/absent.c" -Wl,--whole-archive "$PROJECT_LIB" -Wl,--no-whole-archive \
     "$c/liblibc_c.a" "$c/libos_c.a" -o "$build/project"
 names="libbson by_hand project"
+[ -z "${ONLY_CRATE:-}" ] || names=project
 if [ -n "${BSON_CRATE:-}" ]; then
     "$here/rust/build.sh" "$BSON_CRATE" "$bench/rust_crate"
     gcc $flags "$here/driver.c" "$bench/rust_crate/target/release/libffi.a" -lpthread -ldl -lm -o "$build/rust_crate"
@@ -52,5 +55,6 @@ for round in $(seq "$rounds"); do
         /usr/bin/python3 "$here/pymongo_trees.py" "$data" >>"$bench/times.tsv"
     fi
 done
+[ -z "${NO_COUNTS:-}" ] || exit 0
 log "counting instructions"
 python3 "$here/instructions.py" "$build" "$data" "$bench/instructions.tsv" $names

@@ -66,7 +66,7 @@ def main() -> int:
                     start = time.process_time()
                     call[name]()
                     least[number] = min(least[number], (time.process_time() - start) * 1e3)
-            print(f"| {name} | {lines[0][name]}; {lines[1][name]} | {least[0]:.1f}; {least[1]:.1f} | {least[0] / least[1]:.2f} |", flush=True)
+            print(f"| {name} | {lines[0][name]}; {lines[1][name]} | {least[0]:.2f}; {least[1]:.2f} | {least[0] / least[1]:.2f} |", flush=True)
     return 0
 
 
