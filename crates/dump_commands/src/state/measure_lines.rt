@@ -60,7 +60,7 @@ fn bounds_of(least: u64) -> [Count; 2]
     ]
 }
 
-/// The line of so many documents in a range.
+/// The line of a range and of how many documents are in it.
 fn range_text(
     alloc: Global,
     style: Style,
