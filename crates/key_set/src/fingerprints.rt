@@ -14,7 +14,7 @@ const MOST_PROBES: usize = 128;
 
 /// The number of keys that the first tables have room for. Each table after these has room for twice as many
 /// as the one before.
-const ROOMS: [usize; 4] = [128, 1024, 16384, 131072];
+const ROOMS: [usize; 5] = [128, 1024, 4096, 16384, 131072];
 
 /// How many keys may collide before there is room for twice as many keys. Each collision costs a look through
 /// all keys. Keys that nobody chose hardly ever collide.
