@@ -30,8 +30,8 @@ AreAsked take count (q ∷ qs) = IsRunOver q × IfSome take (λ n. count < n) ×
 abbrev pub IsEnough : Portion → List Part → Type 0
 IsEnough p ps = p.take ≡ Some (length (documents_of_parts ps))
 
--- These parts are what is in front of the documents that are asked for, and after that parts which the command is run over: none, unless it
--- is all that is in front.
+-- These parts are one for the bytes before the documents that are asked for, and then those that the command is run over. There are none of
+-- these unless that one is all that is before the documents that are asked for.
 pub record IsChosen (p : Portion) (most : ℕ) (input : Option (List ℕ)) (front : List ℕ) (ps : List Part) : Type 0 where
   pub in_front : IsInFront p most input front
   pub others : List Part
