@@ -18,7 +18,7 @@ use Rattle.dump_runs.specs.dumps.Portion.{IsChosen, IsEnough}
 use Rattle.dump_runs.specs.dumps.Run.{Passed, after_all, bytes_of_parts, start_of, style_here}
 
 -- What the rest of an input is: nothing, at its end; or bytes that no document begins with, where none are passed over. Unless reading
--- failed, they are all. Of a run that ends early anything may be left.
+-- failed, they are all that was left. Of a run that ends early anything may be left.
 abbrev pub EndsAs : Job → (early : Bool) → Option Ending → Ended → (rest : List ℕ) → (left : Option (List ℕ)) → Type 0
 EndsAs job true end ended rest left = IsNone end × (ended ≡ how.Whole)
 EndsAs job false None how.Whole rest left = (rest ≡ []) × IsAtEnd left

@@ -21,7 +21,7 @@ IsRunOver (lone a) = Unit {0}
 IsRunOver (gap g) = Unit {0}
 IsRunOver (skipped b) = ⊥
 
--- the command is run over each of these parts, after this number of documents, and fewer than are asked for are before it
+-- The command is run over each of these parts. `count` documents come before the first of them, and before each fewer than are asked for.
 abbrev pub AreAsked : Option ℕ → ℕ → List Part → Type 0
 AreAsked take count [] = Unit {0}
 AreAsked take count (q ∷ qs) = IsRunOver q × IfSome take (λ n. count < n) × AreAsked take (count + length (documents_of_part q)) qs
