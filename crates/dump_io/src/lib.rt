@@ -9,5 +9,6 @@
 //! isn't decided here but in `raw_resync`. No file is opened here, and no command is known.
 #![tactic(auto)]
 
+pub mod guarded;
 pub mod input;
 pub mod lines;
