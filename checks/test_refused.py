@@ -156,6 +156,10 @@ class Deep(Case):
                 # of json a brace, two quotes, a colon and a brace for each level but the innermost, that one's braces and a line feed
                 out = (self.work / "output").read_bytes()
                 self.assertTrue(out == holds or len(out) == holds, f"{command}: {len(out)} bytes")
+        # (what json wrote last is read back)
+        words = [DUMP, "bson", "--max-depth", "2000000", "-o", self.work / "back", self.work / "output"]
+        self.assertEqual(reported(self.shim, *words, stack=256)[0].status, 0)
+        self.assertEqual((self.work / "back").read_bytes(), data)
 
     def tried(self, name: str, stack: int = 256) -> Tuple[int, int]:
         """A test passes; returns how often it asked for memory, and how many blocks it never released."""

@@ -278,11 +278,7 @@ fn over_each<'a, D: Write, A: Write, W: Write>(
     };
     let progress = Progress::new(rt, shows, size);
     let inputs = files_of(&*rt, &*run, &progress);
-    let mut writers = Writers {
-        out: data,
-        alone,
-        report,
-    };
+    let mut writers = Writers::new(data, alone, report);
     run_all(rt.alloc(), run.reading, &inputs, &run.inputs, &mut writers)
 }
 
@@ -330,11 +326,18 @@ fn is_shown(rt: &HostRuntime, style: Style) -> bool {
 /// Tells why a run failed. A pipe whose reader is gone ends it quietly.
 fn tell_failure(rt: &HostRuntime, run: &Run<'_>, failure: &Failure) {
     let style = run.reading.style();
+    let output = run.output.unwrap_or("standard output");
     match failure {
         Failure::Memory => tell_words(rt, style, "not enough memory"),
+        Failure::TooLarge => tell(
+            rt,
+            style,
+            output,
+            None,
+            &io::Error::from(ErrorKind::FileTooLarge),
+        ),
         Failure::Writing(error) | Failure::Reading(error) => {
             if error.kind() != ErrorKind::BrokenPipe {
-                let output = run.output.unwrap_or("standard output");
                 tell(rt, style, output, None, error);
             }
         }

@@ -10,5 +10,6 @@
 //! what may be passed over of a damaged dump. No file is opened here, and no command is known.
 #![tactic(auto)]
 
+pub mod guarded;
 pub mod input;
 pub mod lines;

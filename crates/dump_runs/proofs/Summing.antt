@@ -2,6 +2,7 @@
 use Rattle.std.proofs.Common.{◌≡◌, ◌+◌, ◌<◌, ◌≤◌, ℕ, List, [], ◌∷◌, ◌++◌, IsSomeAnd, MatchOption, None, Option, Some, option_map, Result, Ok, Err, IfOk, OnErr, add-zero, drop, get_or, inl, inr, length, map, refl, sym, subst, ap, ◌∙◌, take}
 use Rattle.std.proofs.lemmas.List.{drop_all, drop_more, map-append, map_more, take-append-drop, take_all}
 use Rattle.std.specs.Io.KnownBytes.{Keeps}
+use Rattle.dump_io.specs.lines.Failing.{IsCaused}
 use Rattle.dump_io.specs.lines.Fronts.{AppendsFront}
 use Rattle.dump_runs.specs.Asked.{asked_after}
 use Rattle.dump_runs.specs.Batch.{CountsAnother, CountsMore, EndsAll, EndsInput, HaltsInput, RunsAll, RunsFront, RunsOver, State, HaltsBefore, HaltsWithin, next_of, start_of, state_of}
@@ -157,5 +158,6 @@ module _ {asked : Reading} {bytes_of : List ℕ → Option (List ℕ)} {names : 
   module _ {w : Written} {n : Counts} where
     pub ends_front : (failure : Failure) (ended : Status) → totals.counts ≡ no_counts → totals.cut ≡ None
         → RunsFront asked bytes_of names (state_of old totals) w n → IsFailureStatus asked n failure ended
-        → EndsAll asked bytes_of names (start_of old totals.tally.kept) w (Some (lack.Failed failure)) ended
-    ends_front failure ended none uncut front status = (n, subst (λ (s : State). RunsFront asked bytes_of names s w n) (start old totals none uncut) front, status)
+        → IsCaused w.has_failed failure → EndsAll asked bytes_of names (start_of old totals.tally.kept) w (Some (lack.Failed failure)) ended
+    ends_front failure ended none uncut front status caused =
+        (n, subst (λ (s : State). RunsFront asked bytes_of names s w n) (start old totals none uncut) front, status, caused)

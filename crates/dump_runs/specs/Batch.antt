@@ -3,6 +3,7 @@ use Rattle.std.specs.Prelude.{◌≡◌, ◌⊎◌, ◌++◌, ◌∷◌, ℕ, Li
 use Rattle.std.specs.Option.{option_map}
 use Rattle.std.specs.Io.KnownBytes.{Appends, Keeps}
 use Rattle.dump_io.specs.input.Done.{CutInput, cut_of, input_of}
+use Rattle.dump_io.specs.lines.Failing.{IsCaused}
 use Rattle.dump_io.specs.lines.Fronts.{AppendsFront}
 use Rattle.dump_io.specs.declared.input.done.Done.{Done}
 use Rattle.dump_io.specs.declared.input.done.Lack.{Lack}
@@ -168,10 +169,10 @@ EndsAll r bytes_of names first written None ended =
 EndsAll r bytes_of names first written (Some (lack.Cut cut)) ended =
     (last : State) × RunsAll r bytes_of names first last written × (last.cut ≡ Some (cut_of cut)) × IsStatus r last.counts ended
 EndsAll r bytes_of names first written (Some (lack.Failed failure)) ended =
-    (counts : Counts) × RunsFront r bytes_of names first written counts × IsFailureStatus r counts failure ended
+    (counts : Counts) × RunsFront r bytes_of names first written counts × IsFailureStatus r counts failure ended × IsCaused written.has_failed failure
 
 -- How a run over the inputs of these names ends, where nothing was kept before. Nothing lacks where each was read to its end. A failure
--- gives the status, but for a pipe that has no reader.
+-- gives the status, but for a pipe that has no reader; one of writing comes only where a write failed.
 pub record IsDone (r : Reading) (bytes_of : List ℕ → Option (List ℕ)) (names : List (List ℕ)) (old new : Written) (done : Done) : Type 0 where
   pub kept : Kept
   pub nothing : KeepsNothing r kept

@@ -1,19 +1,20 @@
 -- What a run writes to and counts, and what was given to that, in order. `Held` is what the run over one input changes. Of all inputs `State`
 -- (Batch.antt) also has the first that wasn't read to its end. `Point` (dumps/Run.antt) and `TextPoint` (texts/Run.antt) are what came before a
 -- part of an input.
-use Rattle.std.specs.Prelude.{◌≡◌, ℕ, List, [], Option, flat_map, fold}
+use Rattle.std.specs.Prelude.{◌≡◌, ℕ, List, [], Bool, Option, flat_map, fold}
 use Rattle.std.specs.Io.KnownBytes.{Appends}
 use Rattle.dump_commands.specs.declared.counts.Counts.{Counts}
 use Rattle.dump_commands.specs.declared.state.kept.Kept.{Kept}
 use Rattle.dump_runs.specs.declared.writers.Tally.{Tally}
 
--- what the writers hold, where it is known: the output, the documents that stand alone, and the findings
+-- what the writers hold, where it is known: the output, the documents that stand alone, and the findings; and whether a write to one of them failed
 pub record Written : Type 0 where
   pub out : Option (List ℕ)
   pub alone : Option (List ℕ)
   pub report : Option (List ℕ)
+  pub has_failed : Bool
 
--- the same, with what was counted and what is kept
+-- what they hold, with what was counted and what is kept
 pub record Held : Type 0 where
   pub out : Option (List ℕ)
   pub alone : Option (List ℕ)

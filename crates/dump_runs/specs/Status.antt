@@ -55,5 +55,6 @@ IsWritingStatus r n e ended = ((error_kind e ≡ BrokenPipe) × IsStatus r n end
 -- case doesn't come.
 abbrev pub IsFailureStatus : Reading → Counts → Failure → Status → Type 0
 IsFailureStatus r n failure.Memory ended = ended ≡ status.Memory
+IsFailureStatus r n failure.TooLarge ended = ended ≡ status.Output
 IsFailureStatus r n (failure.Writing e) ended = IsWritingStatus r n e ended
 IsFailureStatus r n (failure.Reading e) ended = IsWritingStatus r n e ended

@@ -14,6 +14,7 @@ ghost use Rattle.dump_runs.specs.Status.{goes_on};
 ghost use Rattle.dump_runs.specs.Sums.{line_of_all};
 
 use crate::dumps::run::run;
+use crate::dumps::source::Source;
 use crate::ends::{Ended, status_of, status_of_failure};
 use crate::reading::Reading;
 use crate::sums::{put_all_counts, put_counts};
@@ -21,6 +22,7 @@ use crate::texts::read_texts;
 use crate::writers::{Tally, Writers};
 use dump_commands::counts::Counts;
 use dump_commands::state::kept::Kept;
+use dump_io::guarded::Guarded;
 use dump_io::input::done::{Cut, Done, Lack, flush};
 use dump_io::input::inputs::Inputs;
 use dump_io::lines::failure::{Failure, in_range};
@@ -76,6 +78,7 @@ impl<'a> Totals<'a> {
 }
 
 /// Runs over the inputs of these names, in order, does what is asked with each, and writes what was counted. What is written is flushed.
+/// It is told that writing failed where a write did.
 pub fn run_all<'a, I: Inputs, D: Write + Drop, A: Write + Drop, W: Write + Drop>(
     alloc: Global,
     reading: Reading<'a>,
@@ -91,10 +94,13 @@ pub fn run_all<'a, I: Inputs, D: Write + Drop, A: Write + Drop, W: Write + Drop>
             status: status_of(reading, totals.counts),
             lack: totals.cut.map(Lack::Cut),
         },
-        Err(failure) => Done {
-            status: status_of_failure(reading, totals.counts, &failure),
-            lack: Some(Lack::Failed(failure)),
-        },
+        Err(failure) => {
+            let failure = writers.cause_of(failure);
+            Done {
+                status: status_of_failure(reading, totals.counts, &failure),
+                lack: Some(Lack::Failed(failure)),
+            }
+        }
     }
 }
 
@@ -242,7 +248,13 @@ fn run_over<'a, R: Read + Drop, D: Write + Drop, A: Write + Drop, W: Write + Dro
     ensures failed { IfErr result (λ failure. ¬ IsReading failure) }
 {
     match reading {
-        Reading::Dumps(job) => run(alloc, job, name, reader, writers, tally),
-        Reading::Texts(job) => read_texts(alloc, job, name, reader, writers, tally),
+        Reading::Dumps(job) => {
+            let mut source = Source::new(alloc, name, reader);
+            run(alloc, job, &mut source, writers, tally)
+        }
+        Reading::Texts(job) => {
+            let mut reader = Guarded::new(reader);
+            read_texts(alloc, job, name, &mut reader, writers, tally)
+        }
     }
 }

@@ -6,4 +6,4 @@ mod found;
 mod gap;
 mod piece;
 pub mod run;
-mod source;
+pub mod source;

@@ -43,6 +43,7 @@ pub fn status_of_failure(reading: Reading<'_>, counts: Counts, failure: &Failure
 {
     match failure {
         Failure::Memory => Status::Memory,
+        Failure::TooLarge => Status::Output,
         Failure::Writing(error) | Failure::Reading(error) => {
             if error.kind() == ErrorKind::BrokenPipe {
                 status_of(reading, counts)

@@ -12,6 +12,7 @@ use Rattle.dump_io.specs.declared.lines.failure.Failure.TheVariants as failure
 abbrev pub unwritten : Option Lack → Status → Status
 unwritten (Some (lack.Failed (failure.Writing _))) _ = status.Output
 unwritten (Some (lack.Failed (failure.Reading _))) _ = status.Output
+unwritten (Some (lack.Failed failure.TooLarge)) _ = status.Output
 unwritten _ s = s
 
 abbrev pub unwritten_status : Done → Status

@@ -152,7 +152,9 @@ fn status_of(done: &Done<'_>) -> Status
     ensures { result ≡ unwritten_status done.now }
 {
     match done.lack {
-        Some(Lack::Failed(Failure::Writing(_) | Failure::Reading(_))) => Status::Output,
+        Some(Lack::Failed(Failure::TooLarge | Failure::Writing(_) | Failure::Reading(_))) => {
+            Status::Output
+        }
         _ => done.status,
     }
 }

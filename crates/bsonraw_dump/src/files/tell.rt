@@ -175,7 +175,9 @@ fn why<'a>(way_on: &'a str, lack: &Lack<'_>) -> &'a str
             }
         }
         Lack::Failed(Failure::Memory) => "not enough memory",
-        Lack::Failed(Failure::Writing(_) | Failure::Reading(_)) => "writing failed",
+        Lack::Failed(Failure::TooLarge | Failure::Writing(_) | Failure::Reading(_)) => {
+            "writing failed"
+        }
     }
 }
 

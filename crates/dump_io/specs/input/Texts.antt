@@ -20,9 +20,9 @@ begins_level b = (b == 123) || (b == 91)
 abbrev pub ends_level : ℕ → Bool
 ends_level b = (b == 125) || (b == 93)
 
--- a level begins: at the front, or after a colon, a comma or the bracket of an array, and in fewer than 2,000 others
+-- A level begins: at the front, or after a colon, a comma or the bracket of an array. Each takes a byte of the 128 MiB that a text may have.
 abbrev pub opened : ℕ → Bool → Bool → Scan
-opened depth may_begin is_array = if may_begin && nat_lt depth 2000 then scan.Levels (depth + 1) is_array else scan.Torn
+opened depth may_begin is_array = if may_begin && nat_lt depth (2 ^ 27) then scan.Levels (depth + 1) is_array else scan.Torn
 
 -- a level ends; with the first one, the text
 abbrev pub closed : ℕ → Scan

@@ -14,7 +14,6 @@ use crate::lines::failure::{Failure, in_range};
 use raw_resync::{BEFORE_PLACE, Length, Part, Places, Sought, Work, explain_length, seek};
 use raw_tree::Limits;
 use std::alloc::Global;
-use std::io;
 use std::io::Read;
 
 /// What was passed over.
@@ -81,7 +80,7 @@ pub fn pass_over<R: Read>(
             Sought::Nowhere { all: _ } => unreachable!(),
         }
     }
-    Err(Failure::Reading(io::Error::from(io::ErrorKind::TimedOut)))
+    Err(Failure::TooLarge)
 }
 
 /// Places among the bytes ahead, counted from the end of the first `base` bytes. These aren't looked at.
@@ -226,5 +225,5 @@ fn see<R: Read>(
             }
         }
     }
-    Err(Failure::Reading(io::Error::from(io::ErrorKind::TimedOut)))
+    Err(Failure::TooLarge)
 }

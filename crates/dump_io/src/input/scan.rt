@@ -6,9 +6,6 @@ ghost use Rattle.dump_io.specs.input.Texts.{HasBegun, IsOpen, closed, in_levels,
 ghost use Rattle.dump_io.specs.input.Texts as says;
 ghost use Rattle.dump_io.specs.declared.input.scan.Scan.TheVariants.{Whole};
 
-/// The most levels in one another: more than a document within the limits has, with its wrappers.
-pub const DEEPEST: usize = 2000;
-
 /// The most bytes of the text of a document: 128 MiB.
 pub const MOST_TEXT: usize = 1 << 27;
 
@@ -171,7 +168,7 @@ fn behind_levels(depth: usize, may_begin: bool, byte: u8) -> Scan
 fn behind_begin(depth: usize, may_begin: bool, is_array: bool) -> Scan
     ensures { result ≡ opened depth may_begin is_array }
 {
-    if may_begin && depth < DEEPEST {
+    if may_begin && depth < MOST_TEXT {
         Scan::Levels(depth + 1, is_array)
     } else {
         Scan::Torn

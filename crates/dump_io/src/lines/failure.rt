@@ -1,5 +1,6 @@
 ghost use Rattle.std.specs.Prelude.{◌≡◌, IfErr, IfOk, IsNone, OnErr, Some};
 ghost use Rattle.dump_io.specs.lines.Failing.{IsReading};
+ghost use Rattle.dump_io.specs.declared.lines.failure.Failure.TheVariants.{TooLarge};
 
 use std::alloc::AllocError;
 use std::io;
@@ -9,6 +10,8 @@ use std::io;
 pub enum Failure {
     /// memory ran out
     Memory,
+    /// a number would be over its range: more is read or found than can be counted
+    TooLarge,
     /// reading failed
     Reading(io::Error),
     /// writing failed
@@ -39,9 +42,10 @@ pub fn in_range<T: Copy>(number: Option<T>) -> Result<T, Failure>
     ensures same { IfOk result (λ n. number ≡ Some n) }
     ensures none { OnErr result (IsNone number) }
     ensures failed { IfErr result (λ failure. ¬ IsReading failure) }
+    ensures large { IfErr result (λ failure. failure ≡ TooLarge) }
 {
     match number {
         Some(number) => Ok(number),
-        None => Err(Failure::Writing(io::Error::from(io::ErrorKind::FileTooLarge))),
+        None => Err(Failure::TooLarge),
     }
 }

@@ -172,7 +172,7 @@ pub stops_before : {job : Job} {z y : Place} {old : Held} (from : ℕ) (s : Stop
     → PassesSomeFront job.portion job.limits.bytes z y
     → PassesAll job z y old old s
 stops_before {job = job} {z = z} {y = y} {old = old} from s fails at unworked whole p =
-    let h = has_front p.named (p.work ∙ unworked) (p.same ∙ whole) p.has in
+    let h = has_front {y = y} p.named (p.work ∙ unworked) (p.same ∙ whole) p.has in
     let end : offset_of y.window ≡ length (bytes_of_parts h.passed.ps) = ap (λ (q : Point). q.at.offset) h.to ∙ offset_of_parts job z.name old h.passed.ps in
     record {
       named = p.named;

@@ -1,5 +1,5 @@
 -- A text that says a document is whole, where no front of it is: the scan of its bytes goes by the levels of its tokens.
-use Rattle.std.proofs.Common.{◌≡◌, ◌-◌, ◌+◌, ◌<◌, ◌⊎◌, ℕ, suc, Bool, true, false, ◌==◌, ◌||◌, if◌then◌else◌, List, [], ◌∷◌, ◌++◌, Option, Some, None, ap, append-nil, append_assoc, arith, drop, fold, inl, inr, length, length-take-le, nat_lt, refl, subst, sym, take, ◌∙◌}
+use Rattle.std.proofs.Common.{◌≡◌, ◌-◌, ◌+◌, ◌^◌, ◌<◌, ◌⊎◌, ℕ, suc, Bool, true, false, ◌==◌, ◌||◌, if◌then◌else◌, List, [], ◌∷◌, ◌++◌, Option, Some, None, ap, append-nil, append_assoc, arith, drop, fold, inl, inr, length, length-take-le, nat_lt, refl, subst, sym, take, ◌∙◌}
 use Rattle.std.proofs.lemmas.Bool.{eqb-true, false≢true, lt-ltb, or_cases, true≢false}
 use Rattle.std.proofs.lemmas.Grind.{fold-append}
 use Rattle.std.proofs.lemmas.List.{take-append-drop, take-take}
@@ -214,7 +214,7 @@ module _ (x : ℕ) (xs : List ℕ) (ih : (m : Mode) → Goes m xs) where
       ]
   level_begins p n true may inside fits begins may' h =
       let same : suc n ≡ n + 1 = omega arith in
-      either_scan (nat_lt n 2000) xs (scan.Levels (n + 1) inside) scan.Torn
+      either_scan (nat_lt n (2 ^ 27)) xs (scan.Levels (n + 1) inside) scan.Torn
       (ih between fresh (n + 1) inside inside tt (λ e. inr e) (subst (λ k. EndsLevels k inside (punctuate fresh (lex between xs))) same h))
       (torn_ends between xs fresh (suc n) inside h)
 

@@ -37,10 +37,12 @@ use Rattle.dump_runs.specs.declared.dumps.piece.Step.TheVariants as step
 use Rattle.dump_runs.specs.declared.dumps.run.Stop.{Stop}
 use Rattle.dump_runs.specs.declared.dumps.run.Stop.TheVariants as stop
 
--- an input that is read: its name, what its reader has left, what was read and isn't passed, what searches cost, and whether what is next may stand alone
+-- an input that is read: its name, what its reader has left, whether a read of it failed, what was read and isn't passed, what searches cost, and
+-- whether what is next may stand alone
 pub record Place : Type 0 where
   pub name : List ℕ
   pub left : Option (List ℕ)
+  pub has_failed : Bool
   pub window : Window
   pub work : Work
   pub broken : Bool
@@ -65,6 +67,7 @@ pub record Begins (name : List ℕ) (input : Option (List ℕ)) (x : Place) : Ty
   pub start : offset_of x.window ≡ 0
   pub unworked : x.work ≡ no_work
   pub whole : x.broken ≡ false
+  pub unfailed : x.has_failed ≡ false
 
 -- this number of the bytes ahead were passed, and what is next may stand alone or not
 pub record IsPassed (len : ℕ) (broken : Bool) (x y : Place) : Type 0 where

@@ -1,7 +1,7 @@
 //! Passes bytes of an input that no document begins with, or reads them to the end, and says so in a line.
 #![tactic(auto)]
 
-ghost use Rattle.std.specs.Prelude.{◌≡◌, ◌<◌, IfOk, IfErr, IsNone, OnErr, OnOk, length};
+ghost use Rattle.std.specs.Prelude.{◌≡◌, ◌<◌, IfOk, IfErr, IsNone, IsSome, OnErr, OnOk, length, true};
 ghost use Rattle.std.specs.Io.KnownBytes.{Appends};
 ghost use Rattle.dump_io.specs.input.Cut.{EndsWith};
 ghost use Rattle.dump_io.specs.input.Endings.{ending_line};
@@ -9,6 +9,7 @@ ghost use Rattle.dump_io.specs.input.Reading.{GoesAhead, IsReadBehind, IsWindow,
 ghost use Rattle.dump_io.specs.lines.Failing.{IsReading};
 ghost use Rattle.dump_io.specs.lines.Fronts.{AppendsFront};
 ghost use Rattle.dump_runs.specs.Plays.{held};
+ghost use Rattle.dump_runs.specs.Status.{FailsToRead};
 ghost use Rattle.dump_runs.specs.declared.ends.Ended.TheVariants.{Cut};
 ghost use Rattle.dump_runs.specs.dumps.Steps.{EndsAt, HaltsGap, HaltsLeaving, Leaves, PassesGap};
 ghost use Rattle.raw_resync.specs.Seeking.{IsWork};
@@ -40,6 +41,7 @@ pub fn leave<'a, R: Read + Drop, D: Write + Drop, A: Write + Drop, W: Write + Dr
 ) -> Result<Ended, Failure>
     requires { IsWindow source.old.window × EndsWith job.limits.bytes ending (ahead_of source.old.window) × IsReadBehind ending source.old.left }
     ensures left { IfOk result (Leaves job.entry ending source.old source.new (held writers.old tally.old) (held writers.new tally.new)) }
+    ensures read { IfOk result (λ ended. FailsToRead ended → source.new.has_failed ≡ true) }
     ensures halts { OnErr result (HaltsLeaving job.entry ending source.old (held writers.old tally.old) (held writers.new tally.new)) }
     ensures failed { IfErr result (λ failure. ¬ IsReading failure) }
 {
@@ -63,6 +65,7 @@ pub fn leave<'a, R: Read + Drop, D: Write + Drop, A: Write + Drop, W: Write + Dr
 /// How a run ends whose rest is read: before the end of the input; or reading failed after `at` bytes.
 fn ended_at(at: u64, error: Option<io::Error>) -> Ended
     ensures cut { result ≡ Cut → IsNone error }
+    ensures fails { FailsToRead result → IsSome error }
     ensures ended { EndsAt at result }
 {
     match error {

@@ -1,11 +1,12 @@
 //! Runs a command over an input.
 #![tactic(auto)]
 
-ghost use Rattle.std.specs.Prelude.{◌≡◌, ℕ, List, Option, IfOk, IfErr, OnErr};
-ghost use Rattle.dump_io.specs.lines.Failing.{IsReading};
+ghost use Rattle.std.specs.Prelude.{◌≡◌, ℕ, List, Option, IfOk, IfErr, OnErr, true};
+ghost use Rattle.dump_io.specs.lines.Failing.{IsCaused, IsReading};
 ghost use Rattle.dump_runs.specs.dumps.Ends.{EndsRun};
 ghost use Rattle.dump_runs.specs.dumps.Halting.{Halts};
 ghost use Rattle.dump_runs.specs.Plays.{held};
+ghost use Rattle.dump_runs.specs.Status.{FailsToRead};
 ghost use Rattle.dump_runs.specs.dumps.Steps.{Begins, FailsAt, PassesAll};
 
 use crate::dumps::gap::leave;
@@ -36,23 +37,49 @@ pub enum Stop {
 /// Reads an input, a document at a time, writes what the command gives of each, and reports in a line what is wrong with
 /// it. Where no document is at the front of what is left, or a damaged one whose length isn't believed, bytes are passed over until
 /// documents go on, if that is asked for; else what is left is counted, and the run ends.
+///
+/// It is told that reading failed where a read did, and that writing failed where a write did.
 pub fn run<'a, R: Read + Drop, D: Write + Drop, A: Write + Drop, W: Write + Drop>(
     alloc: Global,
     job: Job<'a>,
-    name: &'a str,
-    reader: R,
+    source: &mut Source<'a, R>,
     writers: &mut Writers<D, A, W>,
     tally: &mut Tally<'a>,
 ) -> Result<Ended, Failure>
-    ensures ends { IfOk result (EndsRun job.entry name.entry.now (R.remaining reader) (held writers.old tally.old) (held writers.new tally.new)) }
-    ensures halts { OnErr result (Halts job.entry name.entry.now (R.remaining reader) (held writers.old tally.old) (held writers.new tally.new)) }
+    requires { (left : Option (List ℕ)) × Begins source.old.name left source.old }
+    ensures ends { IfOk result (EndsRun job.entry source.old.name source.old.left (held writers.old tally.old) (held writers.new tally.new)) }
+    ensures read { IfOk result (λ ended. FailsToRead ended → source.new.has_failed ≡ true) }
+    ensures halts { OnErr result (Halts job.entry source.old.name source.old.left (held writers.old tally.old) (held writers.new tally.new)) }
+    ensures caused { IfErr result (IsCaused writers.new.has_failed) }
     ensures failed { IfErr result (λ failure. ¬ IsReading failure) }
 {
-    let mut source = Source::new(alloc, name, reader);
-    match pass_all(alloc, job, &mut source, writers, tally)? {
+    match run_through(alloc, job, source, writers, tally) {
+        Ok(ended) => Ok(ended),
+        Err(failure) => Err(writers.cause_of(failure)),
+    }
+}
+
+/// Does so; it may be told that writing failed where no write did.
+fn run_through<'a, R: Read + Drop, D: Write + Drop, A: Write + Drop, W: Write + Drop>(
+    alloc: Global,
+    job: Job<'a>,
+    source: &mut Source<'a, R>,
+    writers: &mut Writers<D, A, W>,
+    tally: &mut Tally<'a>,
+) -> Result<Ended, Failure>
+    requires { (left : Option (List ℕ)) × Begins source.old.name left source.old }
+    ensures ends { IfOk result (EndsRun job.entry source.old.name source.old.left (held writers.old tally.old) (held writers.new tally.new)) }
+    ensures read { IfOk result (λ ended. FailsToRead ended → source.new.has_failed ≡ true) }
+    ensures halts { OnErr result (Halts job.entry source.old.name source.old.left (held writers.old tally.old) (held writers.new tally.new)) }
+    ensures failed { IfErr result (λ failure. ¬ IsReading failure) }
+{
+    match pass_all(alloc, job, source, writers, tally)? {
         Stop::End | Stop::Enough => Ok(Ended::Whole),
-        Stop::Left(ending) => leave(alloc, job, ending, &mut source, writers, tally),
+        Stop::Left(ending) => leave(alloc, job, ending, source, writers, tally),
         Stop::Failed(from, error) => {
+            if !source.has_failed() {
+                return Err(Failure::Memory);
+            }
             let at = source.end()?;
             tally.counts = in_range(tally.counts.with_left(at.saturating_sub(from)))?;
             Ok(Ended::Failed(ReadFailure { at, error }))
@@ -92,7 +119,7 @@ fn pass_all<'a, R: Read + Drop, D: Write + Drop, A: Write + Drop, W: Write + Dro
             Step::Left(ending) => return Ok(Stop::Left(ending)),
         }
     }
-    Err(Failure::Writing(io::Error::from(io::ErrorKind::FileTooLarge)))
+    Err(Failure::TooLarge)
 }
 
 /// That reading failed, where it did; the last part ended at this offset.

@@ -1,7 +1,7 @@
 //! An input that is read, as far as it is passed.
 #![tactic(auto)]
 
-ghost use Rattle.std.specs.Prelude.{◌≡◌, ◌≤◌, ◌<◌, ℕ, List, Option, IfErr, IfOk, OnOk, length, take, true};
+ghost use Rattle.std.specs.Prelude.{◌≡◌, ◌≤◌, ◌<◌, ℕ, List, Option, IfErr, IfOk, IsSome, OnOk, length, take, true};
 ghost use Rattle.dump_io.specs.input.Cut.{EndsWith, IsPiece};
 ghost use Rattle.dump_io.specs.input.Reading.{GoesAhead, IsReadBehind, IsWindow, Stays, TellsNext, ahead_of};
 ghost use Rattle.dump_io.specs.input.Resync.{Doubts, LooksBehind, SkipsTo};
@@ -10,6 +10,7 @@ ghost use Rattle.dump_io.specs.lines.Origins.{origin_of};
 ghost use Rattle.dump_runs.specs.dumps.Steps.{Begins, IsLeft, IsPassed, PassesAllFront, PassesSomeFront, Place, end_of, place_of};
 ghost use Rattle.raw_resync.specs.Seeking.{IsWork};
 
+use dump_io::guarded::Guarded;
 use dump_io::input::ending::Ending;
 use dump_io::input::portion::Portion;
 use dump_io::input::resync::{Skip, is_doubted, pass_over, stands_alone};
@@ -28,7 +29,7 @@ pub struct Source<'a, R: Read + Drop> {
     /// its name, which begins each line
     name: &'a str,
     /// what gives its bytes
-    reader: R,
+    reader: Guarded<R>,
     /// what was read of it, and isn't passed
     window: Window,
     /// what was spent on searches in it
@@ -40,7 +41,7 @@ pub struct Source<'a, R: Read + Drop> {
 impl<'a, R: Read + Drop> Model for Source<'a, R> {
     ghost Value = { Place };
 
-    ghost view = { λ s. record { name = s.name.now; left = R.remaining s.reader; window = s.window; work = s.work; broken = s.is_broken } };
+    ghost view = { λ s. record { name = s.name.now; left = R.remaining s.reader.inner; has_failed = s.reader.failed; window = s.window; work = s.work; broken = s.is_broken } };
 }
 
 impl<'a, R: Read + Drop> Source<'a, R> {
@@ -50,11 +51,18 @@ impl<'a, R: Read + Drop> Source<'a, R> {
     {
         Source {
             name,
-            reader,
+            reader: Guarded::new(reader),
             window: Window::new(alloc),
             work: Work::new(),
             is_broken: false,
         }
+    }
+
+    /// Whether a read of it failed.
+    pub fn has_failed(&self) -> bool
+        ensures { result ≡ self.now.has_failed }
+    {
+        self.reader.has_failed()
     }
 
     /// Whether its next part may stand alone.
@@ -179,14 +187,19 @@ impl<'a, R: Read + Drop> Source<'a, R> {
         Ok(skip)
     }
 
-    /// Reads the rest, with which no document begins, and counts it.
+    /// Reads the rest, with which no document begins, and counts it. It isn't told that reading failed where no read did.
     pub fn drain(&mut self, ending: Ending) -> Result<Drained, Failure>
         requires { IsWindow self.old.window × ((most : ℕ) × EndsWith most ending (ahead_of self.old.window)) × IsReadBehind ending self.old.left }
         ensures left { IfOk result (λ rest. (most : ℕ) → EndsWith most ending (ahead_of self.old.window)
             → IsLeft most ending self.old.left self.new.left (ahead_of self.old.window) rest) }
+        ensures caused { IfOk result (λ rest. IsSome rest.failure → self.new.has_failed ≡ true) }
         ensures failed { IfErr result (λ failure. ¬ IsReading failure) }
     {
-        rest_of(ending, &mut self.reader, &mut self.window)
+        let rest = rest_of(ending, &mut self.reader, &mut self.window)?;
+        if rest.failure.is_some() && !self.reader.has_failed() {
+            return Err(Failure::Memory);
+        }
+        Ok(rest)
     }
 }
 

@@ -17,7 +17,6 @@ use dump_io::input::turn::Turn;
 use dump_io::input::window::Window;
 use dump_io::lines::failure::Failure;
 use std::alloc::Global;
-use std::io;
 use std::io::Read;
 
 /// A place in an input of texts.
@@ -106,7 +105,7 @@ impl Cursor {
             self.turn = behind;
             self.pass(1)?;
         }
-        Err(too_long())
+        Err(Failure::TooLarge)
     }
 
     /// Passes bytes up to the next line that begins with a brace, or to the end of the input.
@@ -125,7 +124,7 @@ impl Cursor {
             }
             self.pass(1)?;
         }
-        Err(too_long())
+        Err(Failure::TooLarge)
     }
 
     /// Reads on to the end of the text of a document, if it has one.
@@ -147,7 +146,7 @@ impl Cursor {
                 return Ok(found);
             }
         }
-        Err(too_long())
+        Err(Failure::TooLarge)
     }
 
     /// Passes what may be between documents, and looks what is next.
@@ -175,10 +174,4 @@ fn wrong(turn: Turn) -> TextReason
         Turn::Last => JsonReason::TextBehind,
     };
     TextReason::Json(reason)
-}
-
-fn too_long() -> Failure
-    ensures { ¬ IsReading result }
-{
-    Failure::Writing(io::Error::from(io::ErrorKind::FileTooLarge))
 }

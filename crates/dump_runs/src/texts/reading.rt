@@ -3,8 +3,9 @@
 
 ghost use Rattle.std.specs.Prelude.{◌≡◌, ◌≢◌, ◌⊎◌, ◌+◌, length, IfErr, IfOk, MatchBool, OnErr, OnOk, true, false};
 ghost use Rattle.dump_io.specs.input.Reading.{IsWindow, ahead_of, offset_of};
-ghost use Rattle.dump_io.specs.lines.Failing.{IsReading};
+ghost use Rattle.dump_io.specs.lines.Failing.{IsCaused, IsReading};
 ghost use Rattle.dump_runs.specs.Plays.{held};
+ghost use Rattle.dump_runs.specs.Status.{FailsToRead};
 ghost use Rattle.dump_runs.specs.texts.Reading.{GoesOnTo};
 ghost use Rattle.dump_runs.specs.texts.Run.{HaltsTexts, ReadsTexts};
 ghost use Rattle.dump_runs.specs.texts.Steps.{FailsAt, PassesBehind, PassesTexts};
@@ -15,33 +16,40 @@ use crate::reading::TextJob;
 use crate::texts::cursor::{Cursor, NextText};
 use crate::texts::piece::{TextInput, Went, pass_next};
 use crate::writers::{Tally, Writers};
+use dump_io::guarded::Guarded;
 use dump_io::lines::failure::{Failure, ReadFailure, in_range};
 use std::alloc::Global;
-use std::io;
 use std::io::{Read, Write};
 
 /// Reads the documents of an input of texts, one after the other or the items of one array, writes their bytes, and reports in a
 /// line what is wrong with a text. A fault ends the run, unless it is asked to go on: after the text, where that is whole, else at
 /// the next line that begins with a brace.
+///
+/// It is told that reading failed where a read did, and that writing failed where a write did.
 pub fn read_texts<R: Read + Drop, D: Write + Drop, A: Write + Drop, W: Write + Drop>(
     alloc: Global,
     job: TextJob,
     name: &str,
-    reader: R,
+    reader: &mut Guarded<R>,
     writers: &mut Writers<D, A, W>,
     tally: &mut Tally<'_>,
 ) -> Result<Ended, Failure>
-    ensures reads { IfOk result (ReadsTexts job name.now (R.remaining reader) (held writers.old tally.old) (held writers.new tally.new)) }
-    ensures halts { OnErr result (HaltsTexts job name.now (R.remaining reader) (held writers.old tally.old) (held writers.new tally.new)) }
+    ensures reads { IfOk result (ReadsTexts job name.now (R.remaining reader.old.inner) (held writers.old tally.old) (held writers.new tally.new)) }
+    ensures read { IfOk result (λ ended. FailsToRead ended → reader.new.failed ≡ true) }
+    ensures halts { OnErr result (HaltsTexts job name.now (R.remaining reader.old.inner) (held writers.old tally.old) (held writers.new tally.new)) }
+    ensures caused { IfErr result (IsCaused writers.new.has_failed) }
     ensures failed { IfErr result (λ failure. ¬ IsReading failure) }
 {
-    let mut reader = reader;
-    match pass_texts(alloc, job, name, &mut reader, writers, tally)? {
-        Ended::Failed(failure) => {
+    match pass_texts(alloc, job, name, reader, writers, tally) {
+        Ok(Ended::Failed(failure)) => {
+            if !reader.has_failed() {
+                return Err(Failure::Memory);
+            }
             tally.counts = in_range(tally.counts.with_left(0))?;
             Ok(Ended::Failed(failure))
         }
-        ended => Ok(ended),
+        Ok(ended) => Ok(ended),
+        Err(failure) => Err(writers.cause_of(failure)),
     }
 }
 
@@ -74,7 +82,7 @@ fn pass_texts<R: Read, D: Write + Drop, A: Write + Drop, W: Write + Drop>(
             return stopped(&cursor, failure);
         }
     }
-    Err(Failure::Writing(io::Error::from(io::ErrorKind::FileTooLarge)))
+    Err(Failure::TooLarge)
 }
 
 /// Whether a run stops after this.

@@ -3,3 +3,6 @@ use Rattle.dump_commands.proofs.reporting.put_repeat.Goals as goal
 
 pub returns-in_err-text-in-Words-clause-front : goal.returns-in_err-text-in-Words-clause-front
 returns-in_err-text-in-Words-clause-front g c = on_any _ _ (front_none (g.W.Write.contents c.args.report.now) _)
+
+pub returns-in_err-text-in-Json-clause-front : goal.returns-in_err-text-in-Json-clause-front
+returns-in_err-text-in-Json-clause-front g c = on_any _ _ (front_none (g.W.Write.contents c.args.report.now) _)

@@ -30,6 +30,6 @@ returns g c =
     record {
       kept = t.tally.kept;
       nothing = c.new-totals.ensures.kept;
-      ends = ends_front c.args.writers.now t c.in-Err.failure
-          c.status_of_failure.result c.new-totals.ensures.counts c.new-totals.ensures.cut c.in-Err.ensures.fails c.status_of_failure.ensures;
+      ends = ends_front c.args.writers.now t c.cause_of-failure.result
+          c.status_of_failure.result c.new-totals.ensures.counts c.new-totals.ensures.cut c.in-Err.ensures.fails c.status_of_failure.ensures c.cause_of-failure.ensures.caused;
     }

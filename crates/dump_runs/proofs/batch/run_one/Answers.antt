@@ -1,4 +1,4 @@
-use Rattle.std.proofs.Common.{inl, inr, refl, subst}
+use Rattle.std.proofs.Common.{false, inl, inr, refl, subst}
 use Rattle.std.specs.Io.KnownBytes.{Appends}
 use Rattle.dump_io.specs.lines.Fronts.{AppendsFront}
 use Rattle.dump_runs.specs.Sums.{line_of_input}
@@ -13,10 +13,10 @@ returns-clause-comes g c =
     let t' = c.count_one.new.totals in
     let mid = c.count_one.new.writers in
     let is = c.in_ok-count_one.ensures.counted in
-    let w' = g.W.Write.contents c.writers.inside.report in
-    let w'' = g.W.Write.contents c.put_counts.new.report in
+    let w' = g.W.Write.contents c.writers.inside.report.inner in
+    let w'' = g.W.Write.contents c.put_counts.new.report.inner in
     let line = line_of_input c.args.reading name t'.tally.counts in
-    let last : Written = record { out = g.D.Write.contents c.writers.inside.out; alone = g.A.Write.contents c.writers.inside.alone; report = w'' } in
+    let last : Written = record { out = g.D.Write.contents c.writers.inside.out.inner; alone = g.A.Write.contents c.writers.inside.alone.inner; report = w''; has_failed = false } in
     on_ok c.put_counts.result (Appends w' w'' line) _
     (λ told. record {
       came = held mid t'.tally;
@@ -36,8 +36,8 @@ returns-clause-halts g c =
     let t' = c.count_one.new.totals in
     let mid = c.count_one.new.writers in
     let is = c.in_ok-count_one.ensures.counted in
-    let w' = g.W.Write.contents c.writers.inside.report in
-    let w'' = g.W.Write.contents c.put_counts.new.report in
+    let w' = g.W.Write.contents c.writers.inside.report.inner in
+    let w'' = g.W.Write.contents c.put_counts.new.report.inner in
     let line = line_of_input c.args.reading name t'.tally.counts in
     on_err c.put_counts.result (AppendsFront w' w'' line) _
     (λ front. inr (record {

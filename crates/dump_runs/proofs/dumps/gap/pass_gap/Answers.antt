@@ -1,4 +1,4 @@
-use Rattle.std.proofs.Common.{refl, subst}
+use Rattle.std.proofs.Common.{false, refl, subst}
 use Rattle.dump_io.proofs.Face.{front_whole, on_any}
 use Rattle.dump_runs.specs.Plays.{Played, Written, held}
 use Rattle.dump_runs.specs.Limits.{style_at}
@@ -14,7 +14,7 @@ returns-clause-passed g c =
     let t = c.args.tally.now in
     let skip = c.in_ok-skip.skip in
     let new =
-    held (record { out = g.D.Write.contents c.writers.inside.out; alone = g.A.Write.contents c.writers.inside.alone; report = g.W.Write.contents c.put_ending.new.report })
+    held (record { out = g.D.Write.contents c.writers.inside.out.inner; alone = g.A.Write.contents c.writers.inside.alone.inner; report = g.W.Write.contents c.put_ending.new.report.inner; has_failed = false })
     (record t { counts = c.in_ok-tally.field-0 }) in
     record {
       skip = skip;
@@ -32,20 +32,20 @@ returns-in_err-skip-clause-halts g c = on_any _ _ (line_none _ refl)
 pub returns-in_err-put_ending-clause-halts : goal.returns-in_err-put_ending-clause-halts
 returns-in_err-put_ending-clause-halts g c =
     let t = c.args.tally.now in
-    let o = g.D.Write.contents c.writers.inside.out in
-    let l = g.A.Write.contents c.writers.inside.alone in
-    let w = g.W.Write.contents c.writers.inside.report in
-    let w' = g.W.Write.contents c.put_ending.new.report in
-    on_any _ _ (subst (λ (v : Written). HaltsGap c.args.job c.args.ending c.args.source.now (held v t) (held (record { out = o; alone = l; report = w' }) t)) c.writers.view_is
+    let o = g.D.Write.contents c.writers.inside.out.inner in
+    let l = g.A.Write.contents c.writers.inside.alone.inner in
+    let w = g.W.Write.contents c.writers.inside.report.inner in
+    let w' = g.W.Write.contents c.put_ending.new.report.inner in
+    on_any _ _ (subst (λ (v : Written). HaltsGap c.args.job c.args.ending c.args.source.now (held v t) (held (record { out = o; alone = l; report = w'; has_failed = false }) t)) c.writers.view_is
     (line_front _ o l w w' t.counts t.kept _ (gap_line c.pass_over.new.self c.in_ok-skip.skip c.in_ok-skip.ensures.skips c.style_at-style.ensures c.at-at.ensures) c.in_err-put_ending.ensures.front))
 
 pub returns-in_err-tally-clause-halts : goal.returns-in_err-tally-clause-halts
 returns-in_err-tally-clause-halts g c =
     let t = c.args.tally.now in
-    let o = g.D.Write.contents c.writers.inside.out in
-    let l = g.A.Write.contents c.writers.inside.alone in
-    let w = g.W.Write.contents c.writers.inside.report in
-    let w' = g.W.Write.contents c.put_ending.new.report in
-    on_any _ _ (subst (λ (v : Written). HaltsGap c.args.job c.args.ending c.args.source.now (held v t) (held (record { out = o; alone = l; report = w' }) t)) c.writers.view_is
+    let o = g.D.Write.contents c.writers.inside.out.inner in
+    let l = g.A.Write.contents c.writers.inside.alone.inner in
+    let w = g.W.Write.contents c.writers.inside.report.inner in
+    let w' = g.W.Write.contents c.put_ending.new.report.inner in
+    on_any _ _ (subst (λ (v : Written). HaltsGap c.args.job c.args.ending c.args.source.now (held v t) (held (record { out = o; alone = l; report = w'; has_failed = false }) t)) c.writers.view_is
     (line_front _ o l w w' t.counts t.kept _ (gap_line c.pass_over.new.self c.in_ok-skip.skip c.in_ok-skip.ensures.skips c.style_at-style.ensures c.at-at.ensures)
     (front_whole w w' _ c.in_ok-put_ending.ensures.written)))

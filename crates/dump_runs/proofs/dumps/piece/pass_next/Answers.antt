@@ -25,7 +25,7 @@ pass_gap-requires g c =
 
 pub returns-in-Document-clause-passed : goal.returns-in-Document-clause-passed
 returns-in-Document-clause-passed g c =
-    let b = looked c.in_ok-next.ensures.told c.next.ensures.same in
+    let b = looked {w = c.args.source.now} {x = c.next.new.self} c.in_ok-next.ensures.told c.next.ensures.same in
     let y = c.pass_document.new.source in
     let old = held c.args.writers.now c.args.tally.now in
     let new = held c.pass_document.new.writers c.pass_document.new.tally in
@@ -33,29 +33,29 @@ returns-in-Document-clause-passed g c =
 
 pub returns-in-Document-clause-halts : goal.returns-in-Document-clause-halts
 returns-in-Document-clause-halts g c =
-    let b = looked c.in_ok-next.ensures.told c.next.ensures.same in
+    let b = looked {w = c.args.source.now} {x = c.next.new.self} c.in_ok-next.ensures.told c.next.ensures.same in
     on_err c.pass_document.result _ _ (halts_since b) c.pass_document.ensures.halts
 
 pub returns-in-Document-clause-fails : goal.returns-in-Document-clause-fails
 returns-in-Document-clause-fails g c =
-    let b = looked c.in_ok-next.ensures.told c.next.ensures.same in
+    let b = looked {w = c.args.source.now} {x = c.next.new.self} c.in_ok-next.ensures.told c.next.ensures.same in
     fails_since c.pass_document.result _ _ (λ (goes, named, same). (goes_since b.stays goes, named ∙ b.named, same)) c.pass_document.ensures.fails
 
 pub returns-in-Nothing-clause-passed : goal.returns-in-Nothing-clause-passed
 returns-in-Nothing-clause-passed g c =
-    let b = looked c.in_ok-next.ensures.told c.next.ensures.same in
+    let b = looked {w = c.args.source.now} {x = c.next.new.self} c.in_ok-next.ensures.told c.next.ensures.same in
     let t = rw c.in-Nothing.is at c.in_ok-next.ensures.told in
     (record { named = b.named; stays = b.stays; same = refl }, t.is.0, t.is.1)
 
 pub returns-then-not-job-clause-passed : goal.returns-then-not-job-clause-passed
 returns-then-not-job-clause-passed g c =
-    let b = looked c.in_ok-next.ensures.told c.next.ensures.same in
+    let b = looked {w = c.args.source.now} {x = c.next.new.self} c.in_ok-next.ensures.told c.next.ensures.same in
     let t = rw c.in-End.is at c.in_ok-next.ensures.told in
     (record { named = b.named; stays = b.stays; same = refl }, t.is.0, t.is.1, c.if-not-job.true)
 
 pub returns-in_ok-pass_gap-in-End-clause-passed : goal.returns-in_ok-pass_gap-in-End-clause-passed
 returns-in_ok-pass_gap-in-End-clause-passed g c =
-    let b = looked c.in_ok-next.ensures.told c.next.ensures.same in
+    let b = looked {w = c.args.source.now} {x = c.next.new.self} c.in_ok-next.ensures.told c.next.ensures.same in
     let t = rw c.in-End.is at c.in_ok-next.ensures.told in
     let over : IsOver c.args.job c.next.new.self c.next.new.self c.in-End.ending = over_here c.args.source.now c.next.new.self t c.next.ensures.same c.requires.1 c.if-not-job.false in
     let old = held c.args.writers.now c.args.tally.now in
@@ -64,13 +64,13 @@ returns-in_ok-pass_gap-in-End-clause-passed g c =
 
 pub returns-in_err-pass_gap-in-End-clause-halts : goal.returns-in_err-pass_gap-in-End-clause-halts
 returns-in_err-pass_gap-in-End-clause-halts g c =
-    let b = looked c.in_ok-next.ensures.told c.next.ensures.same in
+    let b = looked {w = c.args.source.now} {x = c.next.new.self} c.in_ok-next.ensures.told c.next.ensures.same in
     let t = rw c.in-End.is at c.in_ok-next.ensures.told in
     let over : IsOver c.args.job c.next.new.self c.next.new.self c.in-End.ending = over_here c.args.source.now c.next.new.self t c.next.ensures.same c.requires.1 c.if-not-job.false in
     on_any _ _ (halts_since b (halts_over over c.in_err-pass_gap-in-End.ensures.halts))
 
 pub returns-in_err-pass_gap-in-End-clause-fails : goal.returns-in_err-pass_gap-in-End-clause-fails
 returns-in_err-pass_gap-in-End-clause-fails g c =
-    let b = looked c.in_ok-next.ensures.told c.next.ensures.same in
+    let b = looked {w = c.args.source.now} {x = c.next.new.self} c.in_ok-next.ensures.told c.next.ensures.same in
     fails_on c.from_residual-in_err-pass_gap-in-End.result _ _ c.from_residual-in_err-pass_gap-in-End.ensures.1
     (λ reading. let (goes, named, same) = c.in_err-pass_gap-in-End.ensures.fails reading in (goes_since b.stays goes, named ∙ b.named, same))

@@ -26,5 +26,8 @@ halts_failed {input = input} {left = left} {f = f} q = record {
   played = played_on q.played (played_none refl);
 }
 
-pub returns-in_err-tally-in-Failed-clause-halts : goal.returns-in_err-tally-in-Failed-clause-halts
-returns-in_err-tally-in-Failed-clause-halts g c = on_any _ _ (halts_failed (rw c.in-Failed.is at c.in_ok-ended.ensures.passed))
+pub returns-then-not-has_failed-clause-halts : goal.returns-then-not-has_failed-clause-halts
+returns-then-not-has_failed-clause-halts g c = halts_failed (rw c.in-Ok-Failed.field-0-is at c.in-Ok-Failed.ensures.passed)
+
+pub returns-in_err-tally-in-Ok-Failed-clause-halts : goal.returns-in_err-tally-in-Ok-Failed-clause-halts
+returns-in_err-tally-in-Ok-Failed-clause-halts g c = on_any _ _ (halts_failed (rw c.in-Ok-Failed.field-0-is at c.in-Ok-Failed.ensures.passed))
