@@ -3,6 +3,7 @@ use Rattle.std.specs.Prelude.{◌≡◌, ◌⊎◌, ◌≤◌, ◌++◌, ℕ, su
 use Rattle.std.specs.Global.{Global}
 use Rattle.std.specs.Str.{IsUtf8}
 use Rattle.std.specs.Str.Lossy.{utf8_lossy}
+use Rattle.bson_model.specs.Tree.{Tree}
 use Rattle.bson_model.specs.Leaf.{string, javascript_code, symbol, db_pointer}
 use Rattle.raw_view.specs.Frame.{Frame, IsDbPointer, IsString, IsWalk, Done}
 use Rattle.raw_view.specs.Frame.Envelope.{IsEnvelope}
@@ -13,6 +14,7 @@ use Rattle.raw_view.specs.Meaning as raw
 use Rattle.raw_view.specs.declared.element_type.ElementType.{ElementType}
 use Rattle.raw_view.specs.declared.element_type.ElementType.TheVariants as kind
 use Rattle.raw_tree.specs.Payload.{element_bytes}
+use Rattle.raw_tree.specs.WithinLimits.{ReadsWithin}
 use Rattle.raw_tree.specs.declared.reader.limits.Limits.{Limits}
 
 -- The payload p of this kind has this text, which isn't UTF-8, and then this rest: a string, a symbol or a code; the namespace of a pointer, and its
@@ -81,3 +83,8 @@ pub record IsReplaced (limits : Limits) (b a : List ℕ) : Type 0 where
 abbrev pub TellsReplaced : Limits → List ℕ → Option (Vec ℕ Global) → Type 0
 TellsReplaced limits b None = (a : List ℕ) → ¬ IsReplaced limits b a
 TellsReplaced limits b (Some made) = IsReplaced limits b made.items × ((a : List ℕ) → IsReplaced limits b a → a ≡ made.items)
+
+-- what is returned is a document that is read as a tree within the limits
+abbrev pub IsWithin : Limits → Option (Vec ℕ Global) → Type 0
+IsWithin limits None = Unit {0}
+IsWithin limits (Some made) = IsEnvelope made.items × ((t : Tree) × ReadsWithin limits made.items t)

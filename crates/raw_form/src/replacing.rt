@@ -3,7 +3,7 @@
 
 ghost use Rattle.std.specs.Prelude.{◌≡◌, ◌≤◌, IfErr, IfOk, IfSome, length, vec_len};
 ghost use Rattle.std.specs.Option.{option_map};
-ghost use Rattle.raw_form.specs.Replacing.{TellsReplaced};
+ghost use Rattle.raw_form.specs.Replacing.{IsWithin, TellsReplaced};
 ghost use Rattle.raw_form.specs.ReplacingSteps.{ExceedsAll, TellsMade};
 ghost use Rattle.raw_view.specs.Document.{bytes_of};
 ghost use Rattle.raw_view.specs.Frame.Number.{max_length};
@@ -77,7 +77,8 @@ pub fn with_replaced_texts(
     document: RawDocument<'_>,
     limits: Limits,
 ) -> std::result::Result<Option<Vec<u8>>, AllocError>
-    ensures { IfOk result (TellsReplaced limits (bytes_of document.entry)) }
+    ensures told { IfOk result (TellsReplaced limits (bytes_of document.entry)) }
+    ensures sound { IfOk result (IsWithin limits) }
 {
     match replaced_to(alloc, document, limits.depth) {
         Ok(Some(made)) if made.len() <= limits.bytes => Ok(Some(made)),
