@@ -2,7 +2,7 @@
 //! allows out of memory wherever a call takes memory, so a body that always gave up would be proved.
 
 use crate::fixtures::{ALL_KINDS, BOOLEAN_TWO, Checks, KEY_NOT_UTF8, NESTED_STOP, ONE_INT32, view};
-use crate::memory::{buffers, copies, errors, pairs, trees, validation, writing};
+use crate::memory::{buffers, copies, errors, pairs, replacing, trees, validation, writing};
 use crate::tables::{rows_of_getters, rows_to_a_key};
 use std::process::Abort;
 
@@ -62,6 +62,7 @@ fn places_and_forms_with_ample_memory(rt: HostRuntime) {
     let checks = Checks::ample(rt.alloc());
     validation::breaches(&rt, checks);
     validation::keys(&rt, checks);
+    replacing::replaced(&rt, checks);
     assert!(rt;
         validation::is_stopped(checks, view(&rt, NESTED_STOP))
             && validation::is_flattened(checks, view(&rt, ALL_KINDS))

@@ -11,6 +11,7 @@ mod look_ups;
 mod no_memory;
 pub(crate) mod pairs;
 mod parts;
+pub(crate) mod replacing;
 mod requests;
 mod shelf;
 mod to_json;

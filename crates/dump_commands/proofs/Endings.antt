@@ -15,6 +15,7 @@ use Rattle.dump_commands.specs.declared.command.Command.TheVariants as command
 use Rattle.dump_commands.specs.declared.command.Measure.{Measure}
 use Rattle.dump_commands.specs.declared.command.Spelling.{Spelling}
 use Rattle.dump_commands.specs.declared.command.Picking.{Picking}
+use Rattle.dump_commands.specs.declared.command.Texts.{Texts}
 
 -- no bytes end both ways
 both_ends : (x y : List ℕ) → x ++ 10 ∷ [] ≡ y ++ 0 ∷ [] → ⊥
@@ -38,8 +39,8 @@ bytes_first made = (get_or made 0 (plain [])).bytes
 keeps_bson : (made : List Made) (b : List ℕ) → IsEnvelope b → made ≡ plain b ∷ [] → (d : List ℕ) × (made ≡ plain (d ++ 0 ∷ []) ∷ [])
 keeps_bson made b is same = (front_of_framed (inside_of b), same ∙ ap one (document_framed b is ∙ framed_ends (inside_of b)))
 
-sound_makes : MakesBson command.Sound
-sound_makes b made is makes = keeps_bson made b is makes
+sound_makes : (texts : Texts) → MakesBson (command.Sound texts)
+sound_makes texts b made is makes = keeps_bson made b is makes
 
 canon_makes : MakesBson command.Canon
 canon_makes b made is makes = keeps_bson made b is makes
@@ -93,9 +94,9 @@ pick_makes picking e b made env (picked, is, same) =
 pick_makes_none : (picking : Picking) → is_none picking.style ≡ false → MakesNoBson (command.Pick picking)
 pick_makes_none picking e b d form (picked, is, same) = line_printed picking.style picking.paths.now b picked d e is (sym (ap bytes_first same))
 
-pub bson_made : (c : Command) → (c ≡ command.Canon) ⊎ (c ≡ command.Sound) ⊎ ((spelling : Spelling) × (c ≡ command.Unique spelling)) → MakesBson c
+pub bson_made : (c : Command) → (c ≡ command.Canon) ⊎ ((texts : Texts) × (c ≡ command.Sound texts)) ⊎ ((spelling : Spelling) × (c ≡ command.Unique spelling)) → MakesBson c
 bson_made c (inl e) = subst MakesBson (sym e) canon_makes
-bson_made c (inr (inl e)) = subst MakesBson (sym e) sound_makes
+bson_made c (inr (inl (texts, e))) = subst MakesBson (sym e) (sound_makes texts)
 bson_made c (inr (inr (spelling, e))) = subst MakesBson (sym e) (unique_makes spelling)
 
 pub none_made : (c : Command)

@@ -13,7 +13,7 @@ use Rattle.raw_tree.specs.declared.reader.limits.Limits.{Limits}
 use Rattle.dump_commands.proofs.state.Known.{known_same}
 use Rattle.dump_commands.specs.state.Gathered.{KeepsWritten}
 use Rattle.dump_io.specs.lines.Fronts.{AppendsFront, WritesFront}
-use Rattle.dump_commands.specs.Making.{IsMade, IsPickedAs, IsPrinted, Emits, Makes, MakesJson, MakesPicked, Writes, spelled}
+use Rattle.dump_commands.specs.Making.{IsMade, IsPickedAs, IsPrinted, Emits, Makes, MakesJson, MakesPicked, Puts, Writes, spelled}
 use Rattle.dump_io.proofs.Face.{front_behind, front_first}
 use Rattle.dump_commands.specs.elements.Pick.{IsPicked}
 use Rattle.dump_commands.specs.state.Forms.{CountsOne, Made, firsts_of, knows, made_as, origins_of, plain}
@@ -58,9 +58,11 @@ line_written style line d d' k k' put (counted, same) = record {
 }
 
 -- nothing is made of a document
+pub nothing_put : (c : Command) (at : Origin) (out : Option (List ℕ)) (k : Kept) → Puts c at [] out out k k None
+nothing_put c at out k = (writes_none c out k, record { placed = sym (firsts_none c (firsts_of k)); repeats = sym (repeats_none c (firsts_of k)) })
+
 pub nothing_emitted : (c : Command) (at : Origin) (b : List ℕ) (f : Finding) (out : Option (List ℕ)) (k : Kept) → Makes c b f [] → Emits c at b f out out k k None
-nothing_emitted c at b f out k nothing =
-    ([], nothing, (writes_none c out k, record { placed = sym (firsts_none c (firsts_of k)); repeats = sym (repeats_none c (firsts_of k)) }))
+nothing_emitted c at b f out k nothing = ([], nothing, nothing_put c at out k)
 
 makes_json : (style : json.Style) (b : List ℕ) (f : Finding) (text : List ℕ) → (f ≡ finding.Canonical) ⊎ (f ≡ finding.Breached) → IsJson style b text
     → MakesJson style b f (plain (text ++ codes "\n") ∷ [])

@@ -4,6 +4,7 @@ pub mod Counting
 pub mod Unique
 pub mod Counted
 pub mod Making
+pub mod Texts
 pub mod Reporting
 pub mod Binary
 pub mod elements

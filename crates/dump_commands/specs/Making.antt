@@ -8,6 +8,7 @@ use Rattle.bson_to_json.specs.declared.style.Style as json
 use Rattle.dump_commands.specs.elements.Pick.{IsPicked}
 use Rattle.dump_commands.specs.declared.command.Picking.{Picking}
 use Rattle.dump_commands.specs.state.Forms.{firsts_of, knows, Made, made_as, placed_at, plain, repeat_at, written_count}
+use Rattle.dump_commands.specs.Texts.{MakesKept}
 use Rattle.dump_commands.specs.Unique.{firsts_behind, kept_of, known_behind, repeats_of, written_of}
 use Rattle.dump_io.specs.lines.Origins.{Origin, origin_of}
 use Rattle.dump_commands.specs.declared.command.Command.{Command}
@@ -52,7 +53,7 @@ MakesPicked picking b finding.TooDeep made = made ≡ []
 MakesPicked picking b finding.Unvalidated made = made ≡ []
 MakesPicked picking b _ made = (picked : List ℕ) × IsPickedAs picking b picked × (made ≡ plain picked ∷ [])
 
--- what a command makes of a piece b in which this is found: those that print lines nothing; sound the piece itself, unless it is damaged or too deep; canon
+-- what a command makes of a piece b in which this is found: those that print lines nothing; sound the piece itself, or what a damaged one is kept as; canon
 -- and unique its canonical form, or unique the piece itself, where it is asked for; json its line; pick the document of some of its elements
 abbrev pub Makes : Command → List ℕ → Finding → List Made → Type 0
 Makes command.Check b found made = made ≡ []
@@ -61,10 +62,10 @@ Makes command.Count b found made = made ≡ []
 Makes command.Sizes b found made = made ≡ []
 Makes (command.Measure measure) b found made = made ≡ []
 Makes command.Fields b found made = made ≡ []
-Makes command.Sound b finding.Damaged made = made ≡ []
-Makes command.Sound b finding.TooDeep made = made ≡ []
-Makes command.Sound b finding.Unvalidated made = made ≡ []
-Makes command.Sound b _ made = made ≡ plain b ∷ []
+Makes (command.Sound texts) b finding.Damaged made = MakesKept texts b made
+Makes (command.Sound texts) b finding.TooDeep made = made ≡ []
+Makes (command.Sound texts) b finding.Unvalidated made = made ≡ []
+Makes (command.Sound texts) b _ made = made ≡ plain b ∷ []
 Makes command.Canon b found made = MakesForm command.Canon b found made
 Makes (command.Unique spelling) b found made = MakesForm (command.Unique spelling) b found made
 Makes (command.Json style) b found made = MakesJson style b found made

@@ -6,6 +6,7 @@ ghost use Rattle.dump_commands.specs.Binary.{MakesBson, MakesNoBson};
 ghost use Rattle.dump_commands.specs.Summary as says;
 
 use bson_to_json::Style;
+use raw_tree::Limits;
 
 /// What `unique` writes of a document.
 #[derive(Clone, Copy)]
@@ -14,6 +15,15 @@ pub enum Spelling {
     Canonical,
     /// its bytes, as they are
     Original,
+}
+
+/// What comes of a document whose only faults are texts that aren't UTF-8.
+#[derive(Clone, Copy)]
+pub enum Texts {
+    /// it is damaged, as any other with a fault
+    Checked,
+    /// it is kept with these texts replaced, within limits
+    Replaced(Limits),
 }
 
 /// Which elements are picked, and how they are written.
@@ -52,7 +62,7 @@ pub enum Command<'a> {
     /// the canonical form of each without damage
     Canon,
     /// each without damage, unchanged
-    Sound,
+    Sound(Texts),
     /// of each without damage the canonical form, or the bytes as they are, where its form is the first with its digest
     Unique(Spelling),
     /// what the elements of all have under each path
@@ -70,7 +80,7 @@ impl Command<'_> {
     {
         match self {
             Command::Canon
-            | Command::Sound
+            | Command::Sound(_)
             | Command::Unique(_)
             | Command::Json(_)
             | Command::Pick(_) => true,
@@ -88,7 +98,7 @@ impl Command<'_> {
         ensures { MatchBool result (MakesBson self.entry) (MakesNoBson self.entry) }
     {
         match self {
-            Command::Canon | Command::Sound | Command::Unique(_) => true,
+            Command::Canon | Command::Sound(_) | Command::Unique(_) => true,
             Command::Pick(picking) => picking.style.is_none(),
             Command::Check
             | Command::List

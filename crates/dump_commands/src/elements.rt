@@ -4,3 +4,4 @@
 pub mod id;
 pub mod listing;
 pub mod pick;
+pub mod text;

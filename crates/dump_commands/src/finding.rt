@@ -10,6 +10,7 @@ ghost use Rattle.dump_commands.specs.Reporting.{IsJudged};
 
 use crate::command::Command;
 use crate::reporting::first_line;
+use crate::texts::told_with;
 use dump_io::lines::find::{Finding, Found, find};
 use dump_io::lines::origin::Origin;
 use dump_io::lines::style::Style;
@@ -61,10 +62,13 @@ fn found_in<'a>(
             finding: Finding::Unvalidated,
             told: None,
         }),
+        Command::Sound(texts) => {
+            let found = find(alloc, limits, bytes)?;
+            told_with(alloc, texts, bytes, found)
+        }
         Command::Check
         | Command::List
         | Command::Canon
-        | Command::Sound
         | Command::Unique(_)
         | Command::Fields
         | Command::Json(_)

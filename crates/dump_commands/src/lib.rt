@@ -3,7 +3,7 @@
 //! - `command` names the commands, and `job` what is asked of one.
 //! - `finding` says what is found in a document, `reporting` writes the lines that tell it, and those of `summary`, which tell what was counted.
 //!   `elements` lists the elements, and picks those at paths.
-//! - `making` writes the document, its canonical form, or its JSON.
+//! - `making` writes the document, its canonical form, or its JSON; `texts` keeps a damaged one, with its texts replaced.
 //! - `state` is what is carried from one document to the next: how many were written, the forms that were seen, the counts of elements, what lengths show.
 //!
 //! Begin at `judge` in `finding.rt` and `emit` in `making.rt`. To change what a command writes, change `Makes` in
@@ -21,3 +21,4 @@ pub mod making;
 pub mod reporting;
 pub mod state;
 mod summary;
+mod texts;

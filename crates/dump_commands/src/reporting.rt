@@ -55,7 +55,7 @@ pub fn first_line(
         (Command::Check, Finding::Canonical | Finding::Unvalidated)
         | (
             Command::Canon
-            | Command::Sound
+            | Command::Sound(_)
             | Command::Unique(_)
             | Command::Json(_)
             | Command::Pick(_)
@@ -104,7 +104,7 @@ pub fn put_listing<W: Write>(
         | Command::Sizes
         | Command::Measure(_)
         | Command::Canon
-        | Command::Sound
+        | Command::Sound(_)
         | Command::Unique(_)
         | Command::Fields
         | Command::Json(_)

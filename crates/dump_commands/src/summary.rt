@@ -62,7 +62,7 @@ fn push_breached(
         | Command::Count
         | Command::Sizes
         | Command::Measure(_)
-        | Command::Sound
+        | Command::Sound(_)
         | Command::Unique(_)
         | Command::Fields
         | Command::Json(_)
@@ -83,7 +83,7 @@ fn push_damaged(
         Command::Check
         | Command::List
         | Command::Canon
-        | Command::Sound
+        | Command::Sound(_)
         | Command::Unique(_)
         | Command::Fields
         | Command::Json(_)

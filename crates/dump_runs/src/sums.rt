@@ -85,7 +85,7 @@ fn put_input<W: Write>(
         | Command::Sizes
         | Command::Measure(Measure::Largest(_) | Measure::Parts(_))
         | Command::Canon
-        | Command::Sound
+        | Command::Sound(_)
         | Command::Unique(_)
         | Command::Fields
         | Command::Json(_)
@@ -116,7 +116,7 @@ fn put_all<W: Write>(
         Command::Check
         | Command::Count
         | Command::Canon
-        | Command::Sound
+        | Command::Sound(_)
         | Command::Unique(_)
         | Command::Json(_)
         | Command::Pick(_) => put_summary(alloc, job, None, &totals.counts, kept.count(), report),

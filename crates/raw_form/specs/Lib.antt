@@ -1,3 +1,5 @@
+pub mod Replacing
+pub mod ReplacingSteps
 pub mod Staying
 pub mod Rewriting
 pub mod Forms

@@ -70,7 +70,7 @@ pub(crate) fn put_plain(out: &mut Vec<u8>, key: &str, element: RawElement<'_>) -
 }
 
 /// Appends the element with this key and this value.
-fn put_value(out: &mut Vec<u8>, key: &str, value: RawBsonRef<'_>) -> Result<()>
+pub(crate) fn put_value(out: &mut Vec<u8>, key: &str, value: RawBsonRef<'_>) -> Result<()>
     ensures items { OnOk result
         (out.new.items ≡ out.old.items ++ element_bytes key.now (value_of value.entry)) }
     ensures grows { OnOk result (vec_len out.old < vec_len out.new) }

@@ -17,12 +17,17 @@ mod code_len;
 mod flatten;
 mod held;
 mod last;
+mod replaced;
+mod replacing;
 mod rewriting;
 mod rewritten;
+mod texts;
 mod token;
 
 pub use canonical::canonical_within;
 pub use flatten::{FlattenError, flatten_within};
+pub use replacing::with_replaced_texts;
+pub use texts::{BadText, bad_text};
 pub use token::Token;
 
 // What users of this crate need of `raw_tree`.

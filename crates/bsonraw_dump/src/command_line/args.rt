@@ -270,7 +270,14 @@ fn forms<'a>(alloc: Global) -> CommandBuilder<'a> {
 /// The command that leaves out damaged documents.
 fn sounds<'a>(alloc: Global) -> CommandBuilder<'a> {
     let about = "Writes each document without damage, unchanged";
-    writing(alloc, CommandBuilder::new(alloc, "sound", about))
+    let replace =
+        "Also keeps documents with no fault but texts that aren't UTF-8, with U+FFFD in these";
+    let command = CommandBuilder::new(alloc, "sound", about).arg(switch(
+        alloc,
+        "replace-bad-text",
+        replace,
+    ));
+    writing(alloc, command)
 }
 
 /// A command line with the commands that print what they find.

@@ -1,9 +1,10 @@
 //! The table of the commands that read dumps: how each is named, what it prints, and where.
 #![tactic(auto)]
 
+use crate::command_line::task::limits_of;
 use bson_to_json::{Format, Layout, Style as JsonStyle};
 use clap::ArgMatches;
-use dump_commands::command::{Command, Measure, Picking, Spelling};
+use dump_commands::command::{Command, Measure, Picking, Spelling, Texts};
 
 /// What a command prints, and where.
 #[derive(Clone, Copy)]
@@ -27,7 +28,7 @@ pub fn printing_of(command: Command<'_>) -> Printing {
         }
         Command::List | Command::Sizes => (false, false, false),
         Command::Canon
-        | Command::Sound
+        | Command::Sound(_)
         | Command::Unique(_)
         | Command::Json(_)
         | Command::Pick(_) => (true, false, true),
@@ -50,7 +51,7 @@ pub fn command_of<'a>(name: &str, matches: &ArgMatches<'a>) -> Option<Command<'a
         "sizes" => Some(Command::Sizes),
         "fields" => Some(Command::Fields),
         "canon" => Some(Command::Canon),
-        "sound" => Some(Command::Sound),
+        "sound" => Some(Command::Sound(texts_of(matches))),
         "unique" => Some(Command::Unique(spelling_of(matches))),
         "json" => Some(Command::Json(json_style_of(matches))),
         "pick" => Some(Command::Pick(picking_of(matches))),
@@ -91,6 +92,15 @@ fn largest_of(matches: &ArgMatches<'_>) -> Measure {
 /// The number of parts, in place of which `divided` puts how many bytes each has.
 fn parts_of(matches: &ArgMatches<'_>) -> Measure {
     Measure::Parts(matches.get_one("parts").unwrap_or(1))
+}
+
+/// What comes of texts that aren't UTF-8.
+fn texts_of(matches: &ArgMatches<'_>) -> Texts {
+    if matches.get_flag("replace-bad-text") {
+        Texts::Replaced(limits_of(matches))
+    } else {
+        Texts::Checked
+    }
 }
 
 fn spelling_of(matches: &ArgMatches<'_>) -> Spelling {

@@ -54,7 +54,7 @@ fn style_of(matches: &ArgMatches<'_>) -> Style {
 }
 
 /// What a document may cost, as it was given.
-fn limits_of(matches: &ArgMatches<'_>) -> Limits {
+pub fn limits_of(matches: &ArgMatches<'_>) -> Limits {
     let usual = most_allowed();
     Limits {
         bytes: matches.get_one("max-bytes").unwrap_or(usual.bytes),

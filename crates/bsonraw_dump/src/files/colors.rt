@@ -29,6 +29,7 @@ const END: &[u8] = b"\x1b[m";
 /// Words with which the reason of a finding begins, or a fault in a list.
 const FAULTS: &[&[u8]] = &[
     b"damaged",
+    b"replaced",
     b"too deep",
     b"unsound length",
     b"wrong length",

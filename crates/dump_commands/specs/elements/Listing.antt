@@ -19,7 +19,9 @@ use Rattle.raw_view.specs.declared.error.Reason.{Reason}
 use Rattle.raw_view.specs.declared.level.RawLevel.{RawLevel}
 use Rattle.dump_io.specs.lines.Find as find
 use Rattle.dump_io.specs.lines.Fronts.{HasFront}
-use Rattle.dump_io.specs.lines.Values.{ShowsValue}
+use Rattle.dump_io.specs.lines.Values.{ShowsValue, sized_text}
+use Rattle.hex.specs.Hex.{encode_lower}
+use Rattle.raw_form.specs.Replacing.{HasBadText}
 use Rattle.dump_commands.specs.declared.elements.listing.Next.{Next}
 use Rattle.dump_commands.specs.declared.elements.listing.Next.TheVariants as next
 
@@ -34,6 +36,16 @@ element_line depth key text = indented depth (quoted key ++ codes ": " ++ text)
 -- these words say a fault, with its reason
 abbrev pub ShowsFault : Fault → List ℕ → Type 0
 ShowsFault fault text = (why : ErrorKind) × SaysFault why fault × IsReadingKind why × (text ≡ codes "damaged: " ++ find.kind_text why)
+
+-- after the reason of a fault: of a text that isn't UTF-8 how many bytes it has, and these as hex digits if they are few; nothing of another fault
+abbrev pub ShowsText : Frame → List ℕ → Type 0
+ShowsText f shown =
+    ((text rest : List ℕ) × HasBadText f.kind f.payload text rest × (shown ≡ sized_text text (encode_lower text)))
+    ⊎ (((text rest : List ℕ) → ¬ HasBadText f.kind f.payload text rest) × (shown ≡ []))
+
+-- these words say a fault of a frame, and show its text
+abbrev pub ShowsFrameFault : Frame → Fault → List ℕ → Type 0
+ShowsFrameFault f fault text = (words shown : List ℕ) × ShowsFault fault words × ShowsText f shown × (text ≡ words ++ shown)
 
 -- the line of a stop in a level, with its key where it has one
 abbrev pub stop_line : ℕ → Option (List ℕ) → List ℕ → List ℕ
@@ -53,7 +65,7 @@ module _ (Nested : List ℕ → List ℕ → Type 0) where
   abbrev pub ListsFrame : ℕ → Frame → List ℕ → Type 0
   ListsFrame depth f text =
       ((v : RawValue) × (shown inner : List ℕ) × Means f (value v) × ShowsValue v shown × ListsInside v inner × (text ≡ element_line depth f.key shown ++ inner))
-      ⊎ ((fault : KeyedFault) × (shown : List ℕ) × Means f (faulty fault) × ShowsFault fault.fault shown × (text ≡ element_line depth f.key (kind_text f.kind ++ codes ", " ++ shown)))
+      ⊎ ((fault : KeyedFault) × (shown : List ℕ) × Means f (faulty fault) × ShowsFrameFault f fault.fault shown × (text ≡ element_line depth f.key (kind_text f.kind ++ codes ", " ++ shown)))
 
   -- the lines of frames one after the other
   abbrev pub ListsFrames : ℕ → List Frame → List ℕ → Type 0
@@ -102,7 +114,7 @@ HasListingFront b text = (text ≡ []) ⊎ (IsEnvelope b × HasLinesFront 500 1 
 abbrev pub TellsElement : ℕ → Frame → List ℕ → Option RawLevel → Type 0
 TellsElement depth f line inner =
     ((v : RawValue) × (shown : List ℕ) × Means f (value v) × ShowsValue v shown × HoldsLevel v inner × (line ≡ element_line depth f.key shown))
-    ⊎ ((fault : KeyedFault) × (shown : List ℕ) × Means f (faulty fault) × ShowsFault fault.fault shown × (inner ≡ None)
+    ⊎ ((fault : KeyedFault) × (shown : List ℕ) × Means f (faulty fault) × ShowsFrameFault f fault.fault shown × (inner ≡ None)
     × (line ≡ element_line depth f.key (kind_text f.kind ++ codes ", " ++ shown)))
 
 -- this is the line of a stop with this error

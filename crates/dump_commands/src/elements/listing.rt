@@ -14,6 +14,7 @@ ghost use Rattle.dump_commands.specs.elements.Listing as says;
 ghost use Rattle.dump_io.specs.lines.Failing.{IsReading};
 ghost use Rattle.dump_io.specs.lines.Values.{ShowsValue};
 
+use crate::elements::text::shown_text;
 use dump_io::lines::failure::Failure;
 use dump_io::lines::quote::push_quoted;
 use dump_io::lines::reason::kind_of;
@@ -187,7 +188,8 @@ fn element_line<'a>(
             Ok(value.level())
         }
         Err(error) => {
-            fault_line(alloc, depth, element, &error, line)?;
+            let shown = shown_text(alloc, element)?;
+            fault_line(depth, element, &error, &shown, line)?;
             Ok(None)
         }
     }
@@ -210,21 +212,22 @@ fn value_line(
     push_words(line, "\n")
 }
 
-/// Makes the line of an element whose value is at fault.
+/// Makes the line of an element whose value is at fault, with what shows its text.
 fn fault_line(
-    alloc: Global,
     depth: usize,
     element: RawElement<'_>,
     error: &BorrowedError<'_>,
+    shown: &[u8],
     line: &mut Vec<u8>,
 ) -> Result<(), AllocError>
     requires { depth < 2 ^ 32 }
     ensures { OnOk result (line.new.items
-        ≡ says.element_line depth (frame_of element.entry).key (kind_text (frame_of element.entry).kind ++ codes ", " ++ (codes "damaged: " ++ find.kind_text error.now.kind))) }
+        ≡ says.element_line depth (frame_of element.entry).key (kind_text (frame_of element.entry).kind ++ codes ", " ++ (codes "damaged: " ++ find.kind_text error.now.kind ++ shown.now))) }
 {
     begin_element(depth, element.key(), line)?;
     push_kind(line, element.element_type())?;
     push_words(line, ", ")?;
     push_fault(line, error)?;
+    line.extend_from_slice(shown)?;
     push_words(line, "\n")
 }

@@ -84,7 +84,7 @@ impl<'a> Gathered<'a> {
             | Command::Count
             | Command::Sizes
             | Command::Canon
-            | Command::Sound
+            | Command::Sound(_)
             | Command::Unique(_)
             | Command::Json(_)
             | Command::Pick(_) => Ok(Vec::new(alloc)),

@@ -8,7 +8,7 @@ use Rattle.dump_commands.specs.Making.{IsMade, Emits, Makes, Puts}
 use Rattle.dump_io.proofs.Face.{on_any, on_err}
 use Rattle.dump_commands.proofs.Writing.{IsFormWritten, form_made, form_made_canon, form_made_unique, json_emitted, json_made, nothing_emitted, picked_emitted, picked_made}
 use Rattle.dump_commands.proofs.making.emit.Goals as goal
-use Rattle.dump_commands.proofs.making.emit.Goals.{in-Check-1, in-Sound+in-Damaged-1, in-Canon+in-Damaged-1, in-Unique+in-Damaged-1, in-Json+in-Damaged-1, in-Pick+in-Damaged-1}
+use Rattle.dump_commands.proofs.making.emit.Goals.{in-Check-1, in-Sound+in-TooDeep-1, in-Canon+in-Damaged-1, in-Unique+in-Damaged-1, in-Json+in-Damaged-1, in-Pick+in-Damaged-1}
 
 pub returns-in_ok-put_json-in-Json-Canonical-clause-written : goal.returns-in_ok-put_json-in-Json-Canonical-clause-written
 returns-in_ok-put_json-in-Json-Canonical-clause-written g c =
@@ -87,7 +87,7 @@ returns-in-Check-default-clause-written g c =
     let out = g.D.Write.contents c.args.out.now in
     let nothing : Makes command b f [] = elim c.in-Check-default-1.branch [
       | in-Check-1 w ↦ search rules
-      | in-Sound+in-Damaged-1 w ↦ search rules
+      | in-Sound+in-TooDeep-1 w ↦ search rules
       | in-Canon+in-Damaged-1 w ↦ search rules
       | in-Unique+in-Damaged-1 w ↦ search rules
       | in-Json+in-Damaged-1 w ↦ search rules

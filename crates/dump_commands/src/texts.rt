@@ -1,0 +1,62 @@
+//! Damaged documents that are kept, since all their faults are texts.
+#![tactic(auto)]
+
+ghost use Rattle.std.specs.Prelude.{◌≡◌, IfOk};
+ghost use Rattle.std.specs.Option.{option_map};
+ghost use Rattle.dump_commands.specs.Texts.{KeepsAs, TellsTexts, replaced_account};
+ghost use Rattle.dump_io.specs.lines.Find.{account_of};
+
+use crate::command::Texts;
+use dump_io::lines::find::{Finding, Found, Told};
+use raw_form::with_replaced_texts;
+use raw_view::RawDocument;
+use std::alloc::{AllocError, Global};
+
+/// What a damaged document is kept as; `None` if it isn't kept.
+pub fn kept_as(alloc: Global, texts: Texts, bytes: &[u8]) -> Result<Option<Vec<u8>>, AllocError>
+    ensures { IfOk result (λ kept. KeepsAs texts bytes.now (option_map (λ k. k.items) kept)) }
+{
+    let Texts::Replaced(limits) = texts else {
+        return Ok(None);
+    };
+    let Ok(document) = RawDocument::from_bytes(bytes) else {
+        return Ok(None);
+    };
+    with_replaced_texts(alloc, document, limits)
+}
+
+/// What is found in a document, and told of it: of a damaged one that is kept, that it is replaced.
+pub fn told_with<'a>(
+    alloc: Global,
+    texts: Texts,
+    bytes: &[u8],
+    found: Found<'a>,
+) -> Result<Found<'a>, AllocError>
+    ensures finding { IfOk result (λ new. new.finding ≡ found.entry.finding) }
+    ensures told { IfOk result (λ new. TellsTexts texts bytes.now found.entry.finding (option_map account_of found.entry.told) (option_map account_of new.told)) }
+{
+    let Finding::Damaged = found.finding else {
+        return Ok(found);
+    };
+    let None = kept_as(alloc, texts, bytes)? else {
+        return Ok(replaced(found));
+    };
+    Ok(found)
+}
+
+/// The same in place of damage.
+fn replaced<'a>(found: Found<'a>) -> Found<'a>
+    ensures finding { result.finding ≡ found.entry.finding }
+    ensures told { option_map account_of result.told ≡ option_map replaced_account (option_map account_of found.entry.told) }
+{
+    let Found { finding, told } = found;
+    let told = match told {
+        Some(told) => Some(Told {
+            word: "replaced",
+            place: told.place,
+            reason: told.reason,
+        }),
+        None => None,
+    };
+    Found { finding, told }
+}

@@ -1,0 +1,4 @@
+pub mod Chain
+pub mod Levels
+pub mod Lossless
+pub mod Sound
