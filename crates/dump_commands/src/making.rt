@@ -21,7 +21,7 @@ ghost use Rattle.dump_commands.specs.declared.command.Command.TheVariants.{Uniqu
 ghost use Rattle.dump_commands.specs.declared.command.Spelling as spells;
 
 use crate::command::{Command, Picking, Spelling};
-use crate::elements::pick::picked;
+use crate::elements::chosen::chosen;
 use crate::state::kept::{Added, Kept};
 use crate::state::tokens_of;
 use bson_to_json::{Style as JsonStyle, WriteJsonError, write_json};
@@ -186,7 +186,7 @@ fn put_picked<D: Write>(
     let Ok(document) = RawDocument::from_bytes(bytes) else {
         unreachable!()
     };
-    let picked = picked(alloc, document, picking.paths)?;
+    let picked = chosen(alloc, document, picking)?;
     let limits = Limits {
         bytes: picked.len(),
         depth: limits.depth,
