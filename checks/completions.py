@@ -22,6 +22,7 @@ WANTED: List[Tuple[str, Set[str]]] = [
     ("split --pa", {"--parts"}),
     ("json --c", {"--canonical", "--color"}),
     ("pick --pr", {"--pretty"}),
+    ("pick --w", {"--without"}),
     ("check --c", {"--color"}),
     ("list --color ", {"auto", "always", "never"}),
     ("check --max", {"--max-bytes", "--max-depth"}),

@@ -3,7 +3,7 @@
 
 use crate::command_line::Task;
 use crate::files::inputs::{is_there, node_of, size_of};
-use dump_commands::command::{Command, Measure};
+use dump_commands::command::{Choice, Command, Measure, Picking};
 use dump_commands::job::Job;
 use dump_runs::Reading;
 
@@ -19,11 +19,27 @@ pub fn wrong_with(rt: &HostRuntime, task: &Task<'_>) -> Option<&'static str> {
                     "no PATHS: the only argument is a FILE; PATHS come before it, and - after PATHS is standard input",
                 )
             }
+        Command::Pick(picking) if has_long_path(picking) => {
+            Some("PATHS has a path of more than 500 steps")
+        }
         Command::Measure(Measure::Parts(_)) if !may_be_divided(rt, &task.inputs) => {
             Some("not one FILE: split divides a file, and no pipe, folder or several files")
         }
         _ => None,
     }
+}
+
+/// How many steps a path may have that leads to all elements with its keys: there is a call of a function for each.
+const STEPS: usize = 500;
+
+/// Whether paths that lead to all elements with their keys have more steps than such a path may have.
+fn has_long_path(picking: Picking<'_>) -> bool {
+    let to_all = !matches!(picking.choice, Choice::Named);
+    to_all
+        && picking
+            .paths
+            .split(',')
+            .any(|path| path.split('.').count() > STEPS)
 }
 
 /// The only input; `-` where none is named.

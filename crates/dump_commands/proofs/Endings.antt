@@ -7,11 +7,13 @@ use Rattle.raw_view.specs.Frame.Number.{le32}
 use Rattle.raw_view.proofs.Face.{document_framed}
 use Rattle.bson_to_json.specs.declared.style.Style as json
 use Rattle.dump_commands.specs.Binary.{MakesBson, MakesNoBson}
-use Rattle.dump_commands.specs.elements.Pick.{IsPicked}
+use Rattle.dump_commands.specs.elements.Chosen.{IsChosen}
 use Rattle.dump_commands.specs.Making.{IsPrinted}
 use Rattle.dump_commands.specs.state.Forms.{Made, plain}
 use Rattle.dump_commands.specs.declared.command.Command.{Command}
 use Rattle.dump_commands.specs.declared.command.Command.TheVariants as command
+use Rattle.dump_commands.specs.declared.command.Choice.{Choice}
+use Rattle.dump_commands.specs.declared.command.Choice.TheVariants as choice
 use Rattle.dump_commands.specs.declared.command.Measure.{Measure}
 use Rattle.dump_commands.specs.declared.command.Spelling.{Spelling}
 use Rattle.dump_commands.specs.declared.command.Picking.{Picking}
@@ -69,30 +71,38 @@ fields_makes_none b d form e = let n : 1 ≡ 0 = ap length e in omega (arith, n)
 json_makes_none : (style : json.Style) → MakesNoBson (command.Json style)
 json_makes_none style b d form (text, is, e) = both_ends text d (sym (ap bytes_first e))
 
--- what is picked is a document, or its line
-printed : (style : Option json.Style) (paths b picked : List ℕ) → ((document : List ℕ) × IsPicked b paths document × IsPrinted style document picked)
+-- what is picked is a document
+chosen_framed : (choice : Choice) (b text document : List ℕ) → IsChosen choice b text document → (elements : List ℕ) × (document ≡ framed elements)
+chosen_framed choice.Named b text document (elements, each, is) = (elements, is)
+chosen_framed choice.InPlace b text document (frames, elements, walk, cut, is) = (elements, is)
+chosen_framed choice.Others b text document (frames, elements, walk, cut, is) = (elements, is)
+
+-- or its line
+printed : (style : Option json.Style) (choice : Choice) (paths b picked : List ℕ) → ((document : List ℕ) × IsChosen choice b paths document × IsPrinted style document picked)
     → MatchBool (is_none style) ((d : List ℕ) × (picked ≡ d ++ 0 ∷ [])) ((d : List ℕ) → ¬ (picked ≡ d ++ 0 ∷ []))
-printed None paths b picked (document, (elements, each, is), same) = (front_of_framed elements, same ∙ is ∙ framed_ends elements)
-printed (Some style) paths b picked (document, is, (text, json, same)) = λ d e. both_ends text d (sym same ∙ e)
+printed None choice paths b picked (document, is, same) =
+    let (elements, framed_is) = chosen_framed choice b paths document is in
+    (front_of_framed elements, same ∙ framed_is ∙ framed_ends elements)
+printed (Some style) choice paths b picked (document, is, (text, json, same)) = λ d e. both_ends text d (sym same ∙ e)
 
 -- what that says where it is one
-bson_printed : (style : Option json.Style) (paths b picked : List ℕ) → is_none style ≡ true
-    → ((document : List ℕ) × IsPicked b paths document × IsPrinted style document picked) → (d : List ℕ) × (picked ≡ d ++ 0 ∷ [])
-bson_printed None paths b picked e is = printed None paths b picked is
-bson_printed (Some style) paths b picked e is = absurd (false≢true e)
+bson_printed : (style : Option json.Style) (choice : Choice) (paths b picked : List ℕ) → is_none style ≡ true
+    → ((document : List ℕ) × IsChosen choice b paths document × IsPrinted style document picked) → (d : List ℕ) × (picked ≡ d ++ 0 ∷ [])
+bson_printed None choice paths b picked e is = printed None choice paths b picked is
+bson_printed (Some style) choice paths b picked e is = absurd (false≢true e)
 
-line_printed : (style : Option json.Style) (paths b picked d : List ℕ) → is_none style ≡ false
-    → ((document : List ℕ) × IsPicked b paths document × IsPrinted style document picked) → ¬ (picked ≡ d ++ 0 ∷ [])
-line_printed None paths b picked d e is same = absurd (false≢true (sym e))
-line_printed (Some style) paths b picked d e is same = printed (Some style) paths b picked is d same
+line_printed : (style : Option json.Style) (choice : Choice) (paths b picked d : List ℕ) → is_none style ≡ false
+    → ((document : List ℕ) × IsChosen choice b paths document × IsPrinted style document picked) → ¬ (picked ≡ d ++ 0 ∷ [])
+line_printed None choice paths b picked d e is same = absurd (false≢true (sym e))
+line_printed (Some style) choice paths b picked d e is same = printed (Some style) choice paths b picked is d same
 
 pick_makes : (picking : Picking) → is_none picking.style ≡ true → MakesBson (command.Pick picking)
 pick_makes picking e b made env (picked, is, same) =
-    let (d, ends) = bson_printed picking.style picking.paths.now b picked e is in
+    let (d, ends) = bson_printed picking.style picking.choice picking.paths.now b picked e is in
     (d, same ∙ ap one ends)
 
 pick_makes_none : (picking : Picking) → is_none picking.style ≡ false → MakesNoBson (command.Pick picking)
-pick_makes_none picking e b d form (picked, is, same) = line_printed picking.style picking.paths.now b picked d e is (sym (ap bytes_first same))
+pick_makes_none picking e b d form (picked, is, same) = line_printed picking.style picking.choice picking.paths.now b picked d e is (sym (ap bytes_first same))
 
 pub bson_made : (c : Command) → (c ≡ command.Canon) ⊎ ((texts : Texts) × (c ≡ command.Sound texts)) ⊎ ((spelling : Spelling) × (c ≡ command.Unique spelling)) → MakesBson c
 bson_made c (inl e) = subst MakesBson (sym e) canon_makes

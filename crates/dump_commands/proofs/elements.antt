@@ -1,2 +1,3 @@
 mod Levels
 mod Picked
+mod Cutting

@@ -5,7 +5,7 @@ use Rattle.std.specs.Option.{option_map}
 use Rattle.raw_tree.specs.CanonicalForm.{IsCanonicalForm}
 use Rattle.bson_to_json.specs.Json.{IsJson}
 use Rattle.bson_to_json.specs.declared.style.Style as json
-use Rattle.dump_commands.specs.elements.Pick.{IsPicked}
+use Rattle.dump_commands.specs.elements.Chosen.{IsChosen}
 use Rattle.dump_commands.specs.declared.command.Picking.{Picking}
 use Rattle.dump_commands.specs.state.Forms.{firsts_of, knows, Made, made_as, placed_at, plain, repeat_at, written_count}
 use Rattle.dump_commands.specs.Texts.{MakesKept}
@@ -44,7 +44,7 @@ IsPrinted (Some style) document made = (text : List ℕ) × IsJson style documen
 
 -- what is written of the document b
 abbrev pub IsPickedAs : Picking → List ℕ → List ℕ → Type 0
-IsPickedAs picking b made = (document : List ℕ) × IsPicked b picking.paths.now document × IsPrinted picking.style document made
+IsPickedAs picking b made = (document : List ℕ) × IsChosen picking.choice b picking.paths.now document × IsPrinted picking.style document made
 
 -- the document that is picked of a piece b in which this is found, unless it is damaged or too deep, or isn't judged; or its line
 abbrev pub MakesPicked : Picking → List ℕ → Finding → List Made → Type 0

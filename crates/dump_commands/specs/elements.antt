@@ -1,3 +1,5 @@
 pub mod Pick
+pub mod Cut
+pub mod Chosen
 pub mod Id
 pub mod Listing

@@ -26,11 +26,24 @@ pub enum Texts {
     Replaced(Limits),
 }
 
+/// Which elements of documents paths pick.
+#[derive(Clone, Copy)]
+pub enum Choice {
+    /// those to which they lead, each under its path
+    Named,
+    /// those that they name, where they are
+    InPlace,
+    /// all but those that they name, where they are
+    Others,
+}
+
 /// Which elements are picked, and how they are written.
 #[derive(Clone, Copy)]
 pub struct Picking<'a> {
     /// paths with commas between them; the steps of each have dots between them
     pub paths: &'a str,
+    /// which elements they pick
+    pub choice: Choice,
     /// how their document is printed as Extended JSON; `None`: as it is
     pub style: Option<Style>,
 }

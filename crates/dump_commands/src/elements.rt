@@ -1,6 +1,8 @@
 //! The elements of a document: those of every level, a line each, and the document of those that paths name.
 #![tactic(auto)]
 
+pub mod chosen;
+pub mod cut;
 pub mod id;
 pub mod listing;
 pub mod pick;

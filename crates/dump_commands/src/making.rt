@@ -22,7 +22,7 @@ ghost use Rattle.dump_commands.specs.declared.command.Command.TheVariants.{Sound
 ghost use Rattle.dump_commands.specs.declared.command.Spelling as spells;
 
 use crate::command::{Command, Picking, Spelling, Texts};
-use crate::elements::pick::picked;
+use crate::elements::chosen::chosen;
 use crate::state::kept::{Added, Kept};
 use crate::state::tokens_of;
 use crate::texts::kept_as;
@@ -215,7 +215,7 @@ fn put_picked<D: Write>(
     let Ok(document) = RawDocument::from_bytes(bytes) else {
         unreachable!()
     };
-    let picked = picked(alloc, document, picking.paths)?;
+    let picked = chosen(alloc, document, picking)?;
     let limits = Limits {
         bytes: picked.len(),
         depth: limits.depth,

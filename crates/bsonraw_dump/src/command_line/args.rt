@@ -177,8 +177,10 @@ fn picks<'a>(alloc: Global) -> CommandBuilder<'a> {
         .help("Keys with dots between them, as items.0.name, and commas between the paths")
         .required(true)
         .action(ArgAction::Set);
+    let without = "Writes each document without these elements, in place of them";
     let about = "Writes these elements of each document without damage, as json does";
     let command = CommandBuilder::new(alloc, "pick", about)
+        .arg(switch(alloc, "without", without))
         .arg(switch(alloc, "bson", "Writes them as a dump"))
         .arg(paths);
     writing(alloc, printing(alloc, command))

@@ -4,7 +4,7 @@
 use crate::command_line::task::limits_of;
 use bson_to_json::{Format, Layout, Style as JsonStyle};
 use clap::ArgMatches;
-use dump_commands::command::{Command, Measure, Picking, Spelling, Texts};
+use dump_commands::command::{Choice, Command, Measure, Picking, Spelling, Texts};
 
 /// What a command prints, and where.
 #[derive(Clone, Copy)]
@@ -111,9 +111,24 @@ fn spelling_of(matches: &ArgMatches<'_>) -> Spelling {
     }
 }
 
+/// Whether one of these paths has a step that stands for all items of an array.
+fn leads_to_items(paths: &str) -> bool {
+    paths
+        .split(',')
+        .any(|path| path.split('.').any(|step| step == "[]"))
+}
+
 fn picking_of<'a>(matches: &ArgMatches<'a>) -> Picking<'a> {
+    let paths = matches.get_str("PATHS").unwrap_or("");
     Picking {
-        paths: matches.get_str("PATHS").unwrap_or(""),
+        paths,
+        choice: if matches.get_flag("without") {
+            Choice::Others
+        } else if leads_to_items(paths) {
+            Choice::InPlace
+        } else {
+            Choice::Named
+        },
         style: if matches.get_flag("bson") {
             None
         } else {

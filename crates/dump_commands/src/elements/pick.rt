@@ -24,7 +24,7 @@ pub fn picked(alloc: Global, document: RawDocument<'_>, paths: &str) -> Result<V
 }
 
 /// A document with these elements. One that is over the range of lengths counts as out of memory.
-fn document_of(alloc: Global, elements: &[u8]) -> Result<Vec<u8>, AllocError>
+pub(crate) fn document_of(alloc: Global, elements: &[u8]) -> Result<Vec<u8>, AllocError>
     ensures framed { IfOk result (λ document. document.items ≡ framed elements.now) }
     ensures envelope { IfOk result (λ document. IsEnvelope document.items) }
 {

@@ -3,7 +3,7 @@ use Rattle.raw_view.specs.Document.{bytes_of}
 use Rattle.std.specs.Io.KnownBytes.{Appends}
 use Rattle.bson_to_json.specs.Json.{IsJson}
 use Rattle.dump_io.specs.lines.Fronts.{AppendsFront, WritesFront}
-use Rattle.dump_commands.specs.elements.Pick.{IsPicked}
+use Rattle.dump_commands.specs.elements.Chosen.{IsChosen}
 use Rattle.dump_commands.specs.Making.{IsPickedAs, IsPrinted}
 use Rattle.dump_commands.specs.state.Forms.{CountsOne}
 use Rattle.dump_io.proofs.Face.{on_err, on_ok}
@@ -19,8 +19,8 @@ returns-in-None g c =
     let new = g.D.Write.contents c.put_one.new.out in
     let k = c.args.kept.now in
     let k' = c.put_one.new.kept in
-    let is : IsPicked b picking.paths.now document = subst (λ (x : List ℕ). IsPicked x picking.paths.now document) c.in-Ok.ensures.same
-    (subst (λ (x : List ℕ). IsPicked (bytes_of c.in-Ok.document) picking.paths.now x) (sym c.deref.ensures.value) c.in_ok-picked.ensures.picked) in
+    let is : IsChosen picking.choice b picking.paths.now document = subst (λ (x : List ℕ). IsChosen picking.choice x picking.paths.now document) c.in-Ok.ensures.same
+    (subst (λ (x : List ℕ). IsChosen picking.choice (bytes_of c.in-Ok.document) picking.paths.now x) (sym c.deref.ensures.value) c.in_ok-picked.ensures.chosen) in
     record {
       written = on_ok c.put_one.result (Appends old new document × CountsOne k k') ((made : List ℕ) × IsPickedAs picking b made × Appends old new made × CountsOne k k')
           (λ (put, counted). (document, is_picked_as picking None b document document c.in-None.is is refl, put, counted)) c.put_one.ensures.written;
@@ -40,8 +40,8 @@ returns g c =
     let new = g.D.Write.contents c.put_json.new.out in
     let k = c.args.kept.now in
     let k' = c.put_json.new.kept in
-    let is : IsPicked b picking.paths.now document = subst (λ (x : List ℕ). IsPicked x picking.paths.now document) c.in-Ok.ensures.same
-    (subst (λ (x : List ℕ). IsPicked (bytes_of c.in-Ok.document) picking.paths.now x) (sym c.deref-in-Some.ensures.value) c.in_ok-picked.ensures.picked) in
+    let is : IsChosen picking.choice b picking.paths.now document = subst (λ (x : List ℕ). IsChosen picking.choice x picking.paths.now document) c.in-Ok.ensures.same
+    (subst (λ (x : List ℕ). IsChosen picking.choice (bytes_of c.in-Ok.document) picking.paths.now x) (sym c.deref-in-Some.ensures.value) c.in_ok-picked.ensures.chosen) in
     record {
       written = on_ok c.put_json.result ((text : List ℕ) × IsJson style document text × Appends old new (text ++ codes "\n") × CountsOne k k')
           ((made : List ℕ) × IsPickedAs picking b made × Appends old new made × CountsOne k k')
