@@ -3,3 +3,4 @@ pub mod Fronts
 pub mod Objects
 mod Naming
 mod Quoted
+mod Starting

@@ -1,11 +1,11 @@
 -- Events one after the other.
-use Rattle.std.proofs.Common.{◌≡◌, ℕ, List, [], ◌∷◌, ◌++◌, Option, ap, append-nil, flat_map, fold, refl, subst, sym, ◌∙◌}
+use Rattle.std.proofs.Common.{◌≡◌, ℕ, false, List, [], ◌∷◌, ◌++◌, Option, ap, append-nil, flat_map, fold, refl, subst, sym, ◌∙◌}
 use Rattle.std.proofs.KnownBytes.{Appends-nil, Appends-trans}
 use Rattle.std.proofs.lemmas.Grind.{flat_map-append, fold-append}
 use Rattle.std.specs.Io.KnownBytes.{Appends}
 use Rattle.dump_commands.specs.declared.counts.Counts.{Counts}
 use Rattle.dump_commands.specs.declared.state.kept.Kept.{Kept}
-use Rattle.dump_runs.specs.Plays.{Event, Held, Played, aside_of, count_event, counted, given, given_of, reported, reported_of, set_aside}
+use Rattle.dump_runs.specs.Plays.{Event, Held, Played, Written, aside_of, count_event, counted, given, given_of, reported, reported_of, set_aside}
 
 -- nothing
 pub played_none : {a b : Held} → b ≡ a → Played [] a b
@@ -24,6 +24,10 @@ played_on {a = a} {b = b} {c = c} {xs = xs} {ys = ys} h k = record {
   report = appends_on reported_of xs ys a.report b.report c.report h.report k.report;
   counts = k.counts ∙ ap (λ n. fold count_event n ys) h.counts ∙ sym (fold-append count_event a.counts xs ys);
 }
+
+-- what writers hold, to which no write failed
+abbrev pub written : (out alone report : Option (List ℕ)) → Written
+written out alone report = record { out = out; alone = alone; report = report; has_failed = false }
 
 -- a state of these parts
 abbrev pub holds : (out alone report : Option (List ℕ)) → Counts → Kept → Held

@@ -152,10 +152,8 @@ fn status_of(done: &Done<'_>) -> Status
     ensures { result ≡ unwritten_status done.now }
 {
     match done.lack {
-        Some(Lack::Failed(Failure::TooLarge | Failure::Writing(_) | Failure::Reading(_))) => {
-            Status::Output
-        }
-        _ => done.status,
+        Some(Lack::Failed(Failure::Memory) | Lack::Cut(_)) | None => done.status,
+        Some(Lack::Failed(_)) => Status::Output,
     }
 }
 

@@ -175,9 +175,7 @@ fn why<'a>(way_on: &'a str, lack: &Lack<'_>) -> &'a str
             }
         }
         Lack::Failed(Failure::Memory) => "not enough memory",
-        Lack::Failed(Failure::TooLarge | Failure::Writing(_) | Failure::Reading(_)) => {
-            "writing failed"
-        }
+        Lack::Failed(_) => "writing failed",
     }
 }
 

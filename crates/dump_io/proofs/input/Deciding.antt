@@ -1,5 +1,5 @@
 -- Whether a damaged document is taken at its length, where more may be read.
-use Rattle.std.proofs.Common.{◌≡◌, ℕ, ◌+◌, ◌-◌, ◌<◌, ◌≤◌, ◌⊎◌, List, [], ◌++◌, Option, Some, Bool, true, false, ◌&&◌, not, Result, Ok, Err, IfErr, arith, length, take, drop, sym, ap, ◌∙◌, subst, refl, inl, inr, length-append, length-drop, length-take-le}
+use Rattle.std.proofs.Common.{◌≡◌, ℕ, ◌+◌, ◌-◌, ◌<◌, ◌≤◌, List, [], ◌++◌, Option, Some, Bool, true, false, ◌&&◌, not, Result, Ok, Err, IfErr, arith, length, take, drop, sym, ap, ◌∙◌, subst, refl, inl, inr, length-append, length-drop, length-take-le}
 use Rattle.std.proofs.lemmas.List.{drop-append-le, take-append-le}
 use Rattle.std.proofs.Math.Seq.{take-length}
 use Rattle.std.specs.Io.KnownBytes.{Consumes, IsAtEnd}
@@ -17,7 +17,7 @@ use Rattle.raw_resync.proofs.Face.{and_false, and_true, believes_explained, doub
 use Rattle.raw_resync.proofs.Face as face
 use Rattle.dump_io.specs.input.Cut.{EndsWith, IsPiece}
 use Rattle.dump_io.specs.input.Reading.{IsReadBehind, IsWindow, ReadsAhead, SeesAhead, Stays, TellsNext, ahead_of}
-use Rattle.dump_io.specs.input.Resync.{BreaksWith, Doubts, GoesElsewhere, HasWrongLength, IsBelieved, IsDoubted, LooksBehind, Searches, Sees, TellsBehind, TellsElsewhere, TellsPart, TellsSeen}
+use Rattle.dump_io.specs.input.Resync.{BreaksWith, Doubts, GoesElsewhere, HasWrongLength, IsBelieved, IsDoubted, LooksBehind, Searches, Sees, TellsBehind, TellsElsewhere, TellsPart, TellsSeen, reached}
 use Rattle.dump_io.specs.declared.input.ending.Ending.{Ending}
 use Rattle.dump_io.specs.declared.input.ending.Ending.TheVariants as ending
 use Rattle.dump_io.specs.declared.input.resync.Search.{Search}
@@ -43,11 +43,12 @@ stays_on a b c x y z p q = record {
 }
 
 -- bytes are read, and nothing is charged
-pub searches_read : {limits : Limits} (a b : Option (List ℕ)) (x y : Window) (w : Work) → Stays a b x y → IsWork w → Searches limits a b x y w w
+pub searches_read : {limits : Limits} (a b : Option (List ℕ)) (x y : Window) (w : Work) → Stays a b x y → IsWork w → Searches limits (reached a x w) (reached b y w)
 searches_read a b x y w stays work = record { stays = stays; work = work; bounded = λ s read. keeps_same (x.offset + length s) w }
 
 -- two searches one after another
-pub searches_on : {limits : Limits} (a b c : Option (List ℕ)) (x y z : Window) (u v w : Work) → Searches limits a b x y u v → Searches limits b c y z v w → Searches limits a c x z u w
+pub searches_on : {limits : Limits} (a b c : Option (List ℕ)) (x y z : Window) (u v w : Work) → Searches limits (reached a x u) (reached b y v)
+    → Searches limits (reached b y v) (reached c z w) → Searches limits (reached a x u) (reached c z w)
 searches_on {limits} a b c x y z u v w p q = record {
   stays = stays_on a b c x y z p.stays q.stays;
   work = q.work;
@@ -60,13 +61,13 @@ stays_there : (a b : Option (List ℕ)) (x y : Window) (want : ℕ) (there : Boo
 stays_there a b x y want there sees = record { window = sees.window; offset = sees.offset; looks = sees.looks }
 
 -- a look at the bytes ahead
-module _ {limits : Limits} {r r' : Option (List ℕ)} {x y : Window} {v w : Work} (last : Bool) (p : Searches limits r r' x y v w) (ends : last ≡ true → IsAtEnd r') where
+module _ {limits : Limits} {r r' : Option (List ℕ)} {x y : Window} {v w : Work} (last : Bool) (p : Searches limits (reached r x v) (reached r' y w)) (ends : last ≡ true → IsAtEnd r') where
   -- all that is left, as the bytes ahead and what follows them
   whole : (s : List ℕ) → Consumes (Some s) r (ahead_of x) → (rest : List ℕ) × (s ≡ ahead_of y ++ rest) × MayFollow last rest
   whole s read = follows s (ahead_of y) r' last (p.stays.looks.is_read (Some s) read) ends
 
   -- what a look costs
-  pub searched : (w' : Work) (end : ℕ) → end ≤ y.offset + length (ahead_of y) → KeepsBound end w w' → IsWork w' → Searches limits r r' x y v w'
+  pub searched : (w' : Work) (end : ℕ) → end ≤ y.offset + length (ahead_of y) → KeepsBound end w w' → IsWork w' → Searches limits (reached r x v) (reached r' y w')
   searched w' end within bound work = record {
     stays = p.stays;
     work = work;
@@ -90,7 +91,7 @@ seeks_behind {limits} {b} {last} {at} {q} {v} {w} {told} {found} y base bytes is
 
 -- the invariant of the loop over places
 pub record IsSought (limits : Limits) (r r' : Option (List ℕ)) (x y : Window) (v w : Work) (p : Search) (from : ℕ) (last all : Bool) : Type 0 where
-  pub searches : Searches limits r r' x y v w
+  pub searches : Searches limits (reached r x v) (reached r' y w)
   pub ends : last ≡ true → IsAtEnd r'
   pub low : p.from ≤ from
   pub high : from ≤ p.until
@@ -118,7 +119,7 @@ module _ {limits : Limits} {r r' : Option (List ℕ)} {x y : Window} {v w w' : W
   size : length (drop p.base (ahead_of y)) ≡ length (ahead_of y) - p.base
   size = length-drop p.base (ahead_of y)
 
-  sought_here : Searches limits r r' x y v w'
+  sought_here : Searches limits (reached r x v) (reached r' y w')
   sought_here =
       let within = h.within in
       let len = size in
@@ -160,7 +161,7 @@ module _ {limits : Limits} {r r' : Option (List ℕ)} {x y : Window} {v w w' : W
       }
 
   -- documents go on at a place
-  pub sees_found : (place : ℕ) (more : Bool) (seen : Seen) → told ≡ sought.Found place more → seen.goes_on ≡ true → seen.all ≡ (all && more) → Sees limits r r' x y v w' p seen
+  pub sees_found : (place : ℕ) (more : Bool) (seen : Seen) → told ≡ sought.Found place more → seen.goes_on ≡ true → seen.all ≡ (all && more) → Sees limits (reached r x v) (reached r' y w') p seen
   sees_found place more seen is goes both = record {
     searches = sought_here;
     is = λ s read.
@@ -170,7 +171,7 @@ module _ {limits : Limits} {r r' : Option (List ℕ)} {x y : Window} {v w w' : W
   }
 
   -- documents go on at no place
-  pub sees_none : (more : Bool) (seen : Seen) → told ≡ sought.Nowhere more → seen.goes_on ≡ false → seen.all ≡ (all && more) → Sees limits r r' x y v w' p seen
+  pub sees_none : (more : Bool) (seen : Seen) → told ≡ sought.Nowhere more → seen.goes_on ≡ false → seen.all ≡ (all && more) → Sees limits (reached r x v) (reached r' y w') p seen
   sees_none more seen is goes both = record {
     searches = sought_here;
     is = λ s read.
@@ -191,7 +192,7 @@ no_offset at = omega arith
 
 -- what is seen inside a piece and right after it
 module _ {limits : Limits} {r r' : Option (List ℕ)} {x y : Window} {v w : Work} {len : ℕ} where
-  pub goes_inside : (seen : Seen) → seen.goes_on ≡ true → Sees limits r r' x y v w (inside_of len) seen → GoesElsewhere limits r r' x y v w len true
+  pub goes_inside : (seen : Seen) → seen.goes_on ≡ true → Sees limits (reached r x v) (reached r' y w) (inside_of len) seen → GoesElsewhere limits (reached r x v) (reached r' y w) len true
   goes_inside seen goes sees = record {
     searches = sees.searches;
     is = λ s read.
@@ -210,7 +211,7 @@ module _ {limits : Limits} {r r' : Option (List ℕ)} {x y : Window} {v w : Work
   }
 
   -- whether documents go on right after it
-  module _ (behind : Seen) (sees : Sees limits r r' x y v w (behind_of len) behind) where
+  module _ (behind : Seen) (sees : Sees limits (reached r x v) (reached r' y w) (behind_of len) behind) where
     found_there : (s : List ℕ) (all : Bool) → TellsSeen limits s x.offset (behind_of len) v w true all → TellsBehind limits s x.offset len v w false
     found_there s all (place, at, low, high, passed, found) =
         let here = one_found limits (drop len s) (x.offset + len) 0 place v at w all (omega (arith, high)) passed found in
@@ -222,11 +223,11 @@ module _ {limits : Limits} {r r' : Option (List ℕ)} {x y : Window} {v w : Work
     behind_it s false true passed = (passes_stop_all passed 0 (omega arith) (omega arith), one_looked passed)
     behind_it s false false passed = (false, λ looked. let impossible : ⊥ = cc in absurd impossible, one_left passed)
 
-    pub looks_behind : LooksBehind limits r r' x y v w len (behind.all && not behind.goes_on)
+    pub looks_behind : LooksBehind limits (reached r x v) (reached r' y w) len (behind.all && not behind.goes_on)
     looks_behind = record { searches = sees.searches; is = λ s read. behind_it s behind.goes_on behind.all (sees.is s read) }
 
-  module _ {r'' : Option (List ℕ)} {z : Window} {u : Work} {inside : Seen} {alone : Bool} (none : inside.goes_on ≡ false) (first : Sees limits r r' x y v w (inside_of len) inside)
-      (second : LooksBehind limits r' r'' y z w u len alone) where
+  module _ {r'' : Option (List ℕ)} {z : Window} {u : Work} {inside : Seen} {alone : Bool} (none : inside.goes_on ≡ false) (first : Sees limits (reached r x v) (reached r' y w) (inside_of len) inside)
+      (second : LooksBehind limits (reached r' y w) (reached r'' z u) len alone) where
     before : (s : List ℕ) → Consumes (Some s) r (ahead_of x) → PassesOver limits s x.offset 1 len v w inside.all
     before s read =
         subst (λ n. PassesOver limits s n 1 len v w inside.all) (no_offset x.offset)
@@ -241,7 +242,7 @@ module _ {limits : Limits} {r r' : Option (List ℕ)} {x y : Window} {v w : Work
     elsewhere s false over (true, goes, open') = (inside.all, (w, inside.all, true, over, open', and_true inside.all))
     elsewhere s false over (false, goes, open') = (false, (w, inside.all, false, over, open', and_false inside.all))
 
-    pub goes_behind : GoesElsewhere limits r r'' x z v u len alone
+    pub goes_behind : GoesElsewhere limits (reached r x v) (reached r'' z u) len alone
     goes_behind = record { searches = searches_on r r' r'' x y z v w u first.searches second.searches; is = λ s read. elsewhere s alone (before s read) (there s read) }
 
 -- the length of a piece at the front
@@ -301,19 +302,19 @@ shown r x v w len within told walks s read = walks_front x.offset len (ahead_of 
 
 module _ {limits : Limits} {r : Option (List ℕ)} {x : Window} {v w : Work} {len : ℕ} (is : IsWindow x) (work : IsWork v) (within : len ≤ length (ahead_of x))
     (piece : IsPiece limits.bytes (take len (ahead_of x))) (work' : IsWork w) (bound : KeepsBound (x.offset + len) v w) where
-  nothing_read : Searches limits r r x x v v
+  nothing_read : Searches limits (reached r x v) (reached r x v)
   nothing_read = searches_read r r x x v (stays_same r x is) work
 
-  walked : Searches limits r r x x v w
+  walked : Searches limits (reached r x v) (reached r x w)
   walked = searched false nothing_read (no_end r) w (x.offset + len) (omega (arith, within)) bound work'
 
-  pub doubts_explained : Walks x.offset (ahead_of x) len v w lengths.Explained → Doubts limits r r x x v w len false
+  pub doubts_explained : Walks x.offset (ahead_of x) len v w lengths.Explained → Doubts limits (reached r x v) (reached r x w) len false
   doubts_explained walks = record {
     searches = walked;
     is = λ s read. told_length limits s x.offset len v w true (inl (shown r x v w len within lengths.Explained walks s read, refl)) (walked.bounded s read);
   }
 
-  pub doubts_left : Walks x.offset (ahead_of x) len v w lengths.LeftOut → Doubts limits r r x x v w len false
+  pub doubts_left : Walks x.offset (ahead_of x) len v w lengths.LeftOut → Doubts limits (reached r x v) (reached r x w) len false
   doubts_left walks = record {
     searches = walked;
     is = λ s read. told_length limits s x.offset len v w false (inr (inl (shown r x v w len within lengths.LeftOut walks s read, refl))) (walked.bounded s read);
@@ -321,9 +322,9 @@ module _ {limits : Limits} {r : Option (List ℕ)} {x : Window} {v w : Work} {le
 
   -- what is inside the piece and after it decides
   pub doubts_inside : {r' : Option (List ℕ)} {y : Window} {w' : Work} (doubted : Bool) → Walks x.offset (ahead_of x) len v w lengths.Unexplained
-      → GoesElsewhere limits r r' x y w w' len doubted → Doubts limits r r' x y v w' len doubted
+      → GoesElsewhere limits (reached r x w) (reached r' y w') len doubted → Doubts limits (reached r x v) (reached r' y w') len doubted
   doubts_inside {r'} {y} {w'} doubted walks sees =
-      let all : Searches limits r r' x y v w' = searches_on r r r' x x y v w w' walked sees.searches in
+      let all : Searches limits (reached r x v) (reached r' y w') = searches_on r r r' x x y v w w' walked sees.searches in
       record {
         searches = all;
         is = λ s read.
@@ -345,7 +346,7 @@ breaks_all limits (ending.WrongLength len) s x at w r ends behind' read = absurd
 
 -- a document is at the front of the bytes ahead; it is sound if bytes may be passed over
 pub tells_document : {limits : Limits} (resync : Bool) (r r' : Option (List ℕ)) (x y : Window) (w : Work) (len : ℕ) → IsWork w → (resync ≡ true → IsSound limits (take len (ahead_of y)))
-    → TellsNext limits.bytes r r' x y 0 (next.Document len) → TellsPart limits resync r r' x y w w (next.Document len)
+    → TellsNext limits.bytes r r' x y 0 (next.Document len) → TellsPart limits resync (reached r x w) (reached r' y w) (next.Document len)
 tells_document {limits} resync r r' x y w len work sound t = record {
   searches = searches_read r r' x y w (record { window = t.window; offset = t.offset; looks = t.looks }) work;
   ahead = t.is;
@@ -359,7 +360,7 @@ tells_document {limits} resync r r' x y w len work sound t = record {
 
 -- what is next in the bytes ahead is no document
 pub tells_other : {limits : Limits} (resync : Bool) (r r' : Option (List ℕ)) (x y : Window) (w : Work) (told : Next) → IsWork w → ((len : ℕ) → told ≡ next.Document len → ⊥)
-    → TellsNext limits.bytes r r' x y 0 told → TellsPart limits resync r r' x y w w told
+    → TellsNext limits.bytes r r' x y 0 told → TellsPart limits resync (reached r x w) (reached r' y w) told
 tells_other resync r r' x y w (next.Document len) work none t = absurd (none len refl)
 tells_other resync r r' x y w next.Nothing work none t = record {
   searches = searches_read r r' x y w (record { window = t.window; offset = t.offset; looks = t.looks }) work;
@@ -374,10 +375,10 @@ tells_other {limits} resync r r' x y w (next.End e) work none t = record {
 
 -- a document is next; it is doubted or not
 module _ {limits : Limits} (r r' r'' : Option (List ℕ)) (x y z : Window) (w w' : Work) (len : ℕ) (work : IsWork w) (t : TellsNext limits.bytes r r' x y 0 (next.Document len)) where
-  reads : Searches limits r r' x y w w
+  reads : Searches limits (reached r x w) (reached r' y w)
   reads = searches_read r r' x y w (record { window = t.window; offset = t.offset; looks = t.looks }) work
 
-  pub tells_taken : Doubts limits r' r'' y z w w' len false → TellsPart limits true r r'' x z w w' (next.Document len)
+  pub tells_taken : Doubts limits (reached r' y w) (reached r'' z w') len false → TellsPart limits true (reached r x w) (reached r'' z w') (next.Document len)
   tells_taken d =
       let (within, piece) = t.is in
       let (rest, split) = front_kept (ahead_of y) (ahead_of z) d.searches.stays.looks.kept in
@@ -391,7 +392,7 @@ module _ {limits : Limits} (r r' r'' : Option (List ℕ)) (x y z : Window) (w w'
         );
       }
 
-  pub tells_doubted : Doubts limits r' r'' y z w w' len true → TellsPart limits true r r'' x z w w' (next.End (ending.WrongLength len))
+  pub tells_doubted : Doubts limits (reached r' y w) (reached r'' z w') len true → TellsPart limits true (reached r x w) (reached r'' z w') (next.End (ending.WrongLength len))
   tells_doubted d =
       let within : len ≤ length (ahead_of y) = t.is.0 in
       let some : 5 ≤ len = (piece_len (ahead_of y) len t.is.0 t.is.1).0 in

@@ -14,7 +14,7 @@ use Rattle.raw_resync.specs.declared.work.Work.{Work}
 use Rattle.raw_resync.proofs.Face.{found_further, found_goes_on, keeps_before, keeps_on, keeps_same, passes_after, passes_further, passes_stop_all}
 use Rattle.raw_resync.proofs.Face as face
 use Rattle.dump_io.specs.input.Reading.{GoesAhead, IsWindow, ReadsAhead, Consumed, SeesAhead, Stays, ahead_of}
-use Rattle.dump_io.specs.input.Resync.{IsNextPlace, SkipsTo}
+use Rattle.dump_io.specs.input.Resync.{IsNextPlace, SkipsTo, reached}
 use Rattle.dump_io.specs.declared.input.resync.Skip.{Skip}
 use Rattle.dump_io.specs.declared.input.window.Window.{Window}
 
@@ -223,7 +223,8 @@ module _ {limits : Limits} {r r' : Option (List ℕ)} {x y : Window} {old mid : 
   -- documents go on there
   module _ {z : Window} {new : Work} {place : ℕ} {more : Bool} {skip : Skip} where
     pub searched_to : Seeks limits (ahead_of y) last y.offset q mid new (sought.Found place more) → IsWork new
-        → IsWindow z → ahead_of z ≡ drop place (ahead_of y) → z.offset ≡ y.offset + place → skip.count ≡ is.n + place → skip.all ≡ (all && more) → SkipsTo limits r r' x z old new skip
+        → IsWindow z → ahead_of z ≡ drop place (ahead_of y) → z.offset ≡ y.offset + place
+        → skip.count ≡ is.n + place → skip.all ≡ (all && more) → SkipsTo limits (reached r x old) (reached r' z new) skip
     searched_to seeks work window passed at count both =
         let told = seeks.tells [] (λ yes. refl) in
         let low : from ≤ place = subst (λ m. m ≤ place) begin told.0 in

@@ -1,7 +1,7 @@
 -- Where the reading of an input goes on after bytes that no document begins with, and after lengths that aren't believed. In what
 -- follows s is the rest of the input, from the offset `at` on. `old` and `new` are what searches cost before and after. A place is left out where
 -- a look at it could cost too much (`IsLeftOut` of `raw_resync`); `all` says that none is.
-use Rattle.std.specs.Prelude.{◌≡◌, ◌⊎◌, ◌<◌, ◌≤◌, ◌+◌, ◌-◌, ℕ, List, [], Bool, true, false, Option, Some, drop, length, take}
+use Rattle.std.specs.Prelude.{◌≡◌, ◌⊎◌, ◌<◌, ◌≤◌, ◌+◌, ℕ, List, [], Bool, true, false, Option, Some, drop, length, take}
 use Rattle.std.specs.Io.KnownBytes.{Consumes, IsAtEnd}
 use Rattle.raw_resync.specs.Resync.{GoesOn, IsDisbelieved, IsSound}
 use Rattle.raw_resync.specs.Searches.{BelievesLength, DoubtsLength, GoesOnBehind, GoesOnElsewhere, IsFoundAt, IsOpen, IsShut, PassesOver}
@@ -60,19 +60,32 @@ IsBelieved limits s at len old new = (IsSound limits (take len s) × (new ≡ ol
 
 -- What the code tells of a search. No public contract cites what follows.
 
+-- How far an input is read: what its reader has left, what was read and isn't passed, and what searches cost so far.
+pub record Reached : Type 0 where
+  pub left : Option (List ℕ)
+  pub window : Window
+  pub work : Work
+
+abbrev pub reached : (left : Option (List ℕ)) → Window → Work → Reached
+reached left window work = record { left = left; window = window; work = work }
+
+-- this is all that is to be read from the bytes ahead on
+abbrev pub IsAll : Reached → List ℕ → Type 0
+IsAll x s = Consumes (Some s) x.left (ahead_of x.window)
+
 -- `to.count` bytes are passed over; after them documents go on in s, all that was to be read
-pub record SkipsTo (limits : Limits) (old new : Option (List ℕ)) (window_old window_new : Window) (work_old work_new : Work) (to : Skip) : Type 0 where
-  pub window : IsWindow window_new
-  pub offset : window_new.offset ≡ window_old.offset + to.count
-  pub work : IsWork work_new
-  pub passes : Consumed old new (ahead_of window_old) (ahead_of window_new) to.count
-  pub is : (s : List ℕ) → Consumes (Some s) old (ahead_of window_old) → IsNextPlace limits s window_old.offset work_old work_new to
+pub record SkipsTo (limits : Limits) (old new : Reached) (to : Skip) : Type 0 where
+  pub window : IsWindow new.window
+  pub offset : new.window.offset ≡ old.window.offset + to.count
+  pub work : IsWork new.work
+  pub passes : Consumed old.left new.left (ahead_of old.window) (ahead_of new.window) to.count
+  pub is : (s : List ℕ) → IsAll old s → IsNextPlace limits s old.window.offset old.work new.work to
 
 -- bytes were read, and none passed; what searches in all that was to be read cost stays within its bound
-pub record Searches (limits : Limits) (old new : Option (List ℕ)) (window_old window_new : Window) (work_old work_new : Work) : Type 0 where
-  pub stays : Stays old new window_old window_new
-  pub work : IsWork work_new
-  pub bounded : (s : List ℕ) → Consumes (Some s) old (ahead_of window_old) → KeepsBound (window_old.offset + length s) work_old work_new
+pub record Searches (limits : Limits) (old new : Reached) : Type 0 where
+  pub stays : Stays old.left new.left old.window new.window
+  pub work : IsWork new.work
+  pub bounded : (s : List ℕ) → IsAll old s → KeepsBound (old.window.offset + length s) old.work new.work
 
 -- whether documents go on at one of these places of s, the rest of an input from this offset on; `all` says that no place is left out
 abbrev pub TellsSeen : Limits → List ℕ → (at : ℕ) → Search → (old new : Work) → (goes_on all : Bool) → Type 0
@@ -82,9 +95,9 @@ TellsSeen limits s at p old new true all =
 TellsSeen limits s at p old new false all = PassesOver limits (drop p.base s) (at + p.base) p.from p.until old new all
 
 -- this holds of all that was to be read
-pub record Sees (limits : Limits) (old new : Option (List ℕ)) (window_old window_new : Window) (work_old work_new : Work) (p : Search) (seen : Seen) : Type 0 where
-  pub searches : Searches limits old new window_old window_new work_old work_new
-  pub is : (s : List ℕ) → Consumes (Some s) old (ahead_of window_old) → TellsSeen limits s window_old.offset p work_old work_new seen.goes_on seen.all
+pub record Sees (limits : Limits) (old new : Reached) (p : Search) (seen : Seen) : Type 0 where
+  pub searches : Searches limits old new
+  pub is : (s : List ℕ) → IsAll old s → TellsSeen limits s old.window.offset p old.work new.work seen.goes_on seen.all
 
 -- Whether the piece of this length at the front of s, the rest of an input from this offset on, is alone. It is if documents don't go on
 -- right after it, and that place isn't left out. It isn't if they are found to, or the place is left out.
@@ -93,9 +106,9 @@ TellsBehind limits s at len old new true = (¬ GoesOn limits (drop len s) 0) × 
 TellsBehind limits s at len old new false = (all : Bool) × (all ≡ true → GoesOn limits (drop len s) 0) × IsOpen limits (drop len s) (at + len) old new all
 
 -- this holds of all that was to be read
-pub record LooksBehind (limits : Limits) (old new : Option (List ℕ)) (window_old window_new : Window) (work_old work_new : Work) (len : ℕ) (alone : Bool) : Type 0 where
-  pub searches : Searches limits old new window_old window_new work_old work_new
-  pub is : (s : List ℕ) → Consumes (Some s) old (ahead_of window_old) → TellsBehind limits s window_old.offset len work_old work_new alone
+pub record LooksBehind (limits : Limits) (old new : Reached) (len : ℕ) (alone : Bool) : Type 0 where
+  pub searches : Searches limits old new
+  pub is : (s : List ℕ) → IsAll old s → TellsBehind limits s old.window.offset len old.work new.work alone
 
 -- whether documents go on inside the piece of this length at the front of s, the rest of an input from this offset on, or not right after it
 abbrev pub TellsElsewhere : Limits → List ℕ → (at len : ℕ) → (old new : Work) → Bool → Type 0
@@ -103,9 +116,9 @@ TellsElsewhere limits s at len old new true = GoesOnElsewhere limits s at len ol
 TellsElsewhere limits s at len old new false = (all : Bool) × GoesOnBehind limits s at len old new all
 
 -- this holds of all that was to be read
-pub record GoesElsewhere (limits : Limits) (old new : Option (List ℕ)) (window_old window_new : Window) (work_old work_new : Work) (len : ℕ) (elsewhere : Bool) : Type 0 where
-  pub searches : Searches limits old new window_old window_new work_old work_new
-  pub is : (s : List ℕ) → Consumes (Some s) old (ahead_of window_old) → TellsElsewhere limits s window_old.offset len work_old work_new elsewhere
+pub record GoesElsewhere (limits : Limits) (old new : Reached) (len : ℕ) (elsewhere : Bool) : Type 0 where
+  pub searches : Searches limits old new
+  pub is : (s : List ℕ) → IsAll old s → TellsElsewhere limits s old.window.offset len old.work new.work elsewhere
 
 -- whether the document of this length at the front of s isn't taken at its length
 abbrev pub IsDoubted : Limits → List ℕ → (at len : ℕ) → (old new : Work) → Bool → Type 0
@@ -113,9 +126,9 @@ IsDoubted limits s at len old new true = HasWrongLength limits s at len old new
 IsDoubted limits s at len old new false = IsBelieved limits s at len old new
 
 -- this holds of all that was to be read
-pub record Doubts (limits : Limits) (old new : Option (List ℕ)) (window_old window_new : Window) (work_old work_new : Work) (len : ℕ) (doubted : Bool) : Type 0 where
-  pub searches : Searches limits old new window_old window_new work_old work_new
-  pub is : (s : List ℕ) → Consumes (Some s) old (ahead_of window_old) → IsDoubted limits s window_old.offset len work_old work_new doubted
+pub record Doubts (limits : Limits) (old new : Reached) (len : ℕ) (doubted : Bool) : Type 0 where
+  pub searches : Searches limits old new
+  pub is : (s : List ℕ) → IsAll old s → IsDoubted limits s old.window.offset len old.work new.work doubted
 
 -- What is next in the bytes ahead: a document; nothing, at the end of the input; or why bytes are passed over. Without `resync`, none are
 -- passed over: it is why there is no document.
@@ -131,7 +144,7 @@ IsPartOf limits resync s at old new next.Nothing = new ≡ old
 IsPartOf limits resync s at old new (next.End end) = BreaksWith limits s at old new end
 
 -- what is next was told
-pub record TellsPart (limits : Limits) (resync : Bool) (old new : Option (List ℕ)) (window_old window_new : Window) (work_old work_new : Work) (told : Next) : Type 0 where
-  pub searches : Searches limits old new window_old window_new work_old work_new
-  pub ahead : IsPartAhead limits resync new (ahead_of window_new) told
-  pub is : (s : List ℕ) → Consumes (Some s) old (ahead_of window_old) → IsPartOf limits resync s window_old.offset work_old work_new told
+pub record TellsPart (limits : Limits) (resync : Bool) (old new : Reached) (told : Next) : Type 0 where
+  pub searches : Searches limits old new
+  pub ahead : IsPartAhead limits resync new.left (ahead_of new.window) told
+  pub is : (s : List ℕ) → IsAll old s → IsPartOf limits resync s old.window.offset old.work new.work told

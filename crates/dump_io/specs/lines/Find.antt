@@ -9,7 +9,6 @@ use Rattle.raw_view.specs.declared.error.ErrorKind.TheVariants as kind
 use Rattle.raw_view.specs.declared.error.Reason.{Reason}
 use Rattle.raw_view.specs.declared.error.Reason.TheVariants as reason
 use Rattle.raw_tree.specs.Breaches.{cause_text}
-use Rattle.raw_tree.specs.declared.validator.breach.Cause.{Cause}
 use Rattle.raw_tree.specs.WithinLimits.{Barrier, too_many_bytes, too_deep, fault_of, ReadsWithin}
 use Rattle.raw_tree.specs.declared.reader.limits.Limits.{Limits}
 use Rattle.raw_tree.specs.Barriers.{steps_of}
@@ -146,11 +145,6 @@ SaysBarrier (fault_of fault) spot told = (why : ErrorKind) × SaysFault why faul
 abbrev pub violation_word : Violation → List ℕ
 violation_word violation.too_deep = codes "too deep"
 violation_word (breach_of why) = cause_text why
-
--- the violation of this cause; of none, that a level is too deep
-abbrev pub violation_of : Option Cause → Violation
-violation_of None = violation.too_deep
-violation_of (Some why) = breach_of why
 
 -- what is found where this ends the reading: a level that is too deep; else damage
 abbrev pub finding_of : Barrier → Finding

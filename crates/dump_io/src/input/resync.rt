@@ -4,7 +4,7 @@
 ghost use Rattle.std.specs.Prelude.{◌≡◌, ◌≤◌, ◌<◌, ◌+◌, IfErr, IfOk, length, take};
 ghost use Rattle.dump_io.specs.input.Cut.{IsPiece};
 ghost use Rattle.dump_io.specs.input.Reading.{GoesAhead, IsWindow, Stays, ahead_of, offset_of};
-ghost use Rattle.dump_io.specs.input.Resync.{Doubts, GoesElsewhere, LooksBehind, Sees, SkipsTo};
+ghost use Rattle.dump_io.specs.input.Resync.{Doubts, GoesElsewhere, LooksBehind, Sees, SkipsTo, reached};
 ghost use Rattle.dump_io.specs.lines.Failing.{IsReading};
 ghost use Rattle.raw_resync.specs.Seeking.{IsWork};
 
@@ -50,7 +50,7 @@ pub fn pass_over<R: Read>(
     work: &mut Work,
 ) -> Result<Skip, Failure>
     requires { IsWindow window.old × IsWork work.old × (0 < length (ahead_of window.old)) }
-    ensures skips { IfOk result (SkipsTo limits (R.remaining reader.old) (R.remaining reader.new) window.old window.new work.old work.new) }
+    ensures skips { IfOk result (SkipsTo limits (reached (R.remaining reader.old) window.old work.old) (reached (R.remaining reader.new) window.new work.new)) }
     ensures fails { IfErr result (λ failure. IsReading failure → GoesAhead (R.remaining reader.old) (R.remaining reader.new) window.old window.new) }
 {
     let start = window.offset();
@@ -113,7 +113,7 @@ pub fn is_doubted<R: Read>(
     work: &mut Work,
 ) -> Result<bool, Failure>
     requires { IsWindow window.old × IsWork work.old × (len ≤ length (ahead_of window.old)) × IsPiece limits.bytes (take len (ahead_of window.old)) }
-    ensures doubts { IfOk result (Doubts limits (R.remaining reader.old) (R.remaining reader.new) window.old window.new work.old work.new len) }
+    ensures doubts { IfOk result (Doubts limits (reached (R.remaining reader.old) window.old work.old) (reached (R.remaining reader.new) window.new work.new) len) }
     ensures fails { IfErr result (λ _. Stays (R.remaining reader.old) (R.remaining reader.new) window.old window.new) }
 {
     match explain_length(part_of(window, false, limits), len, work) {
@@ -133,7 +133,7 @@ fn goes_on_elsewhere<R: Read>(
     work: &mut Work,
 ) -> Result<bool, Failure>
     requires { IsWindow window.old × IsWork work.old × (1 ≤ len) × (len ≤ length (ahead_of window.old)) }
-    ensures goes { IfOk result (GoesElsewhere limits (R.remaining reader.old) (R.remaining reader.new) window.old window.new work.old work.new len) }
+    ensures goes { IfOk result (GoesElsewhere limits (reached (R.remaining reader.old) window.old work.old) (reached (R.remaining reader.new) window.new work.new) len) }
     ensures fails { IfErr result (λ _. Stays (R.remaining reader.old) (R.remaining reader.new) window.old window.new) }
 {
     let inside = Search {
@@ -158,7 +158,7 @@ pub fn stands_alone<R: Read>(
     work: &mut Work,
 ) -> Result<bool, Failure>
     requires { IsWindow window.old × IsWork work.old × (len ≤ length (ahead_of window.old)) }
-    ensures looks { IfOk result (LooksBehind limits (R.remaining reader.old) (R.remaining reader.new) window.old window.new work.old work.new len) }
+    ensures looks { IfOk result (LooksBehind limits (reached (R.remaining reader.old) window.old work.old) (reached (R.remaining reader.new) window.new work.new) len) }
     ensures fails { IfErr result (λ _. Stays (R.remaining reader.old) (R.remaining reader.new) window.old window.new) }
 {
     let behind = Search {
@@ -187,7 +187,7 @@ fn see<R: Read>(
     work: &mut Work,
 ) -> Result<Seen, Failure>
     requires { IsWindow window.old × IsWork work.old × (search.from ≤ search.until) × (search.base + search.from ≤ length (ahead_of window.old)) }
-    ensures sees { IfOk result (Sees limits (R.remaining reader.old) (R.remaining reader.new) window.old window.new work.old work.new search) }
+    ensures sees { IfOk result (Sees limits (reached (R.remaining reader.old) window.old work.old) (reached (R.remaining reader.new) window.new work.new) search) }
     ensures fails { IfErr result (λ _. Stays (R.remaining reader.old) (R.remaining reader.new) window.old window.new) }
 {
     let at = offset_behind(window, search.base)?;

@@ -1,22 +1,24 @@
 //! What is found in one document.
 #![tactic(auto)]
 
-ghost use Rattle.std.specs.Prelude.{◌≡◌, ◌≤◌, ℕ, List, IfOk, MatchBool, length};
+ghost use Rattle.std.specs.Prelude.{◌≡◌, ◌≤◌, ℕ, List, IfOk, MatchBool, Some, length};
 ghost use Rattle.std.specs.Option.{option_copied, option_map};
 ghost use Rattle.raw_view.specs.Document.{bytes_of};
 ghost use Rattle.raw_view.specs.Frame.Envelope.{IsEnvelope, Refuses};
 ghost use Rattle.raw_view.specs.Errors.{IsMalformed};
 ghost use Rattle.raw_tree.specs.Barriers.{IsBarrier, steps_of};
+ghost use Rattle.raw_tree.specs.Looking.{HasNoneBefore};
 ghost use Rattle.raw_tree.specs.Places.{FirstBarrierAt};
-ghost use Rattle.raw_tree.specs.Violations.{FirstViolation};
+ghost use Rattle.raw_tree.specs.ValidationSteps.{TellsFound, TellsOutermost, violation_of};
 ghost use Rattle.raw_tree.specs.WithinLimits as within;
 ghost use Rattle.raw_tree.specs.declared.reader.limits.Limits.{Limits};
-ghost use Rattle.dump_io.specs.lines.Find.{account_at, account_of, Finds, MayBeDamaged, SaysBarrier, named_spot, spot_of, usual, violation_of, violation_word};
+ghost use Rattle.dump_io.specs.lines.Find.{account_at, account_of, Finds, MayBeDamaged, SaysBarrier, named_spot, spot_of, usual, violation_word};
 ghost use Rattle.dump_io.specs.lines.Find as says;
 
 use crate::lines::reason::{Why, kind_of};
 use raw_tree::{
-    Barrier, BarrierKind, Cause, Limits, Place, ValidateError, first_fault_within, validate_within,
+    Barrier, BarrierKind, Cause, FIRST, Found as Violation, Limits, Place, Start, first_behind,
+    validate_to_depth,
 };
 use raw_view::{ErrorKind, RawDocument};
 use std::alloc::{AllocError, Global};
@@ -114,44 +116,51 @@ fn validate(
     ensures { IfOk result
         (λ found. Finds limits (bytes_of document.entry) found.finding (option_map account_of found.told)) }
 {
-    match validate_within(alloc, document, limits) {
+    match validate_to_depth(alloc, document, limits.depth) {
         Ok(None) => Ok(Found {
             finding: Finding::Canonical,
             told: None,
         }),
-        Ok(Some(breach)) => not_canonical(
-            alloc,
-            limits,
-            document,
-            Some(breach.cause),
-            breach.place,
-        ),
-        Err(ValidateError::TooDeep(place)) => {
-            not_canonical(alloc, limits, document, None, place)
-        },
-        Err(ValidateError::OutOfMemory) => Err(AllocError),
-        Err(ValidateError::TooManyBytes) => unreachable!(),
+        Ok(Some(violation)) => not_canonical(alloc, limits, document, violation),
+        Err(_) => Err(AllocError),
     }
 }
 
-/// What is found in a document that isn't canonical: what ends its reading, if anything does; else this violation.
+/// What is found in a document that isn't canonical: what ends its reading, if anything does; else this violation. No element before the
+/// one of the outermost level that has it is read again.
 fn not_canonical<'a>(
     alloc: Global,
     limits: Limits,
     document: RawDocument<'a>,
-    cause: Option<Cause>,
-    place: Place<'a>,
+    violation: Violation<'a>,
 ) -> Result<Found<'a>, AllocError>
-    ensures { FirstViolation limits (bytes_of document.entry) (violation_of cause) (steps_of place.entry) place.entry.offset
-        → IfOk result (λ found. Finds limits (bytes_of document.entry) found.finding (option_map account_of found.told)) }
+    requires { (length (bytes_of document) ≤ limits.bytes) × TellsFound limits.depth (bytes_of document) (Some violation)
+        × TellsOutermost (bytes_of document) (Some violation) }
+    ensures { IfOk result
+        (λ found. Finds limits (bytes_of document.entry) found.finding (option_map account_of found.told)) }
 {
-    match first_fault_within(alloc, document, limits) {
+    match first_behind(alloc, document, start_of(&violation), limits.depth) {
         Ok(Some(barrier)) => Ok(barred(barrier)),
         Ok(None) => Ok(Found {
             finding: Finding::Breached,
-            told: Some(without_reason(cause_words(cause), place)),
+            told: Some(without_reason(cause_words(violation.cause), violation.place)),
         }),
         Err(_) => Err(AllocError),
+    }
+}
+
+/// Where the search for what ends the reading begins: at the element of the outermost level that has this violation.
+fn start_of(violation: &Violation<'_>) -> Start
+    ensures { (depth : ℕ) (b : List ℕ) → 5 ≤ length b → TellsFound depth b (Some violation.now) → TellsOutermost b (Some violation.now)
+        → HasNoneBefore depth b result.number result.offset }
+{
+    match violation.place.path.first() {
+        None => FIRST,
+        Some(step) => Start {
+            number: step.number,
+            offset: violation.outermost,
+            repeats: false,
+        },
     }
 }
 

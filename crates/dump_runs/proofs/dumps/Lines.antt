@@ -22,7 +22,7 @@ use Rattle.dump_commands.specs.declared.state.kept.Kept.{Kept}
 use Rattle.dump_runs.specs.Plays.{Held, Played, reported}
 use Rattle.dump_runs.specs.Limits.{style_at}
 use Rattle.dump_runs.specs.dumps.Run.{events_of_gap}
-use Rattle.dump_runs.specs.dumps.Steps.{HaltsLine, IsGapLine, IsLeft, IsRestLine, Place, place_of}
+use Rattle.dump_runs.specs.dumps.Steps.{HaltsLine, IsGapLine, IsLeft, IsRestLine, Place, place_of, reach_of}
 use Rattle.dump_runs.proofs.Plays.{holds, played_count, played_none, played_text}
 
 -- it is the same line where it is told in the same way of the same place
@@ -48,7 +48,7 @@ pub line_none : (Is : List ℕ → Type 0) {old new : Held} → new ≡ old → 
 line_none Is same = ([], played_none same, inl refl)
 
 -- the line of a gap, and that of the rest of an input
-pub gap_line : {job : Job} {end : Ending} {x : Place} {n : Counts} {s : Style} {a : Origin} (y : Place) (skip : Skip) → SkipsTo job.limits x.left y.left x.window y.window x.work y.work skip
+pub gap_line : {job : Job} {end : Ending} {x : Place} {n : Counts} {s : Style} {a : Origin} (y : Place) (skip : Skip) → SkipsTo job.limits (reach_of x) (reach_of y) skip
     → s ≡ style_at job.style job.limit n → a ≡ place_of x → IsGapLine job end x n (ending_line s a.name a.offset end (comes.PassedOver skip))
 gap_line {end = end} y skip skips style at = record { y = y; skip = skip; skips = skips; is = line_same end (comes.PassedOver skip) style at }
 

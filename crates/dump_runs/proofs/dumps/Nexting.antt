@@ -33,8 +33,8 @@ use Rattle.dump_runs.specs.dumps.Halting.{IsNextFront, IsNextPiece, IsPieceFront
 use Rattle.dump_runs.specs.Plays.{Held, Played}
 use Rattle.dump_runs.specs.dumps.Portion.{IsRunOver}
 use Rattle.dump_runs.specs.Limits.{style_at}
-use Rattle.dump_runs.specs.dumps.Run.{Entry, Gap, IsGap, IsGapOf, IsPart, IsTaken, Part, Point, TellsApart, after, events_of, events_of_gap, findings_in, gap, lone, memory_of, piece, repeats_in, style_here, texts_of}
-use Rattle.dump_runs.specs.dumps.Steps.{GivesEntry, GivesPiece, HaltsAside, HaltsGap, HaltsNext, HaltsPiece, IsPassed, IsPieceOf, Looks, LooksApart, Passes, PassesGap, PassesNext, Place, SetsAside, next_of, place_of, point_at, point_of}
+use Rattle.dump_runs.specs.dumps.Run.{Entry, Gap, IsGap, IsGapOf, IsPart, IsTaken, Part, Point, TellsApart, after, events_of, events_of_gap, findings_in, gap, lone, memory_of, piece, repeats_in, style_here, texts_of, MayBeAlone}
+use Rattle.dump_runs.specs.dumps.Steps.{GivesEntry, GivesPiece, HaltsAside, HaltsGap, HaltsNext, HaltsPiece, IsPassed, IsPieceOf, Looks, LooksApart, Passes, PassesGap, PassesNext, Place, SetsAside, next_of, place_of, point_at, point_of, reach_of}
 use Rattle.dump_runs.specs.declared.dumps.piece.Piece.{Piece}
 use Rattle.dump_runs.specs.declared.dumps.piece.Step.{Step}
 use Rattle.dump_runs.specs.declared.dumps.piece.Step.TheVariants as step
@@ -89,20 +89,21 @@ goes_since stays goes = record {
 -- the document of this length is next, and is taken at it, whether it stands alone or not
 pub record IsTakenAt (job : Job) (found : Finding) (alone : Bool) (x y : Place) (len : ℕ) : Type 0 where
   pub named : y.name ≡ x.name
-  pub searches : Searches job.limits x.left y.left x.window y.window x.work y.work
+  pub searches : Searches job.limits (reach_of x) (reach_of y)
   pub within : len ≤ length (ahead_of y.window)
   pub piece : IsPiece job.limits.bytes (take len (ahead_of y.window))
   pub is : (b : List ℕ) (old : Held) → length b ≡ len → (s : List ℕ) → Consumes (Some s) x.left (ahead_of x.window) → IsTaken job s (point_of x old) b found y.work alone
 
 -- its length is taken, and then whether it stands alone is found out
 module _ {job : Job} {found : Finding} {alone : Bool} {x y z : Place} {len : ℕ} where
-  pub taken_at : y.name ≡ x.name → y.broken ≡ x.broken → TellsPart job.limits job.resync x.left y.left x.window y.window x.work y.work (next.Document len) → z.name ≡ y.name
+  pub taken_at : y.name ≡ x.name → y.broken ≡ x.broken → TellsPart job.limits job.resync (reach_of x) (reach_of y) (next.Document len) → z.name ≡ y.name
       → LooksApart job found y z len alone → IsTakenAt job found alone x z len
   taken_at named broken tells named' looks =
       let (within, whole) = tells.ahead in
       let stays = looks.searches.stays in
       let (rest, split) = front_kept (ahead_of y.window) (ahead_of z.window) stays.looks.kept in
       let more : length (ahead_of y.window) ≤ length (ahead_of z.window) = stays.looks.len in
+      let may = λ (broken : Bool). MayBeAlone job.command broken found in
       record {
         named = named' ∙ named;
         searches = searches_on x.left y.left z.left x.window y.window z.window x.work y.work z.work tells.searches looks.searches;
@@ -112,9 +113,9 @@ module _ {job : Job} {found : Finding} {alone : Bool} {x y z : Place} {len : ℕ
           mid = y.work;
           believed = λ asked. subst (λ (m : ℕ). IsBelieved job.limits s (offset_of x.window) m x.work y.work) (sym size) ((tells.is s read).0 asked);
           free = λ not. (tells.is s read).1 not;
-          apart = subst (λ (m : ℕ). TellsApart job x.broken found s (offset_of x.window) m y.work z.work alone) (sym size)
-              (subst (λ (m : ℕ). TellsApart job x.broken found s m len y.work z.work alone) tells.searches.stays.offset
-              (subst (λ (broken : Bool). TellsApart job broken found s (offset_of y.window) len y.work z.work alone) broken
+          apart = subst (λ (m : ℕ). TellsApart job.limits (may x.broken) s (offset_of x.window) m y.work z.work alone) (sym size)
+              (subst (λ (m : ℕ). TellsApart job.limits (may x.broken) s m len y.work z.work alone) tells.searches.stays.offset
+              (subst (λ (broken : Bool). TellsApart job.limits (may broken) s (offset_of y.window) len y.work z.work alone) broken
               (looks.is s (tells.searches.stays.looks.is_read (Some s) read))));
         };
       }
@@ -284,7 +285,7 @@ halts_given {job = job} {p = p} {old = old} findings gives =
 pub record IsOver (job : Job) (x y : Place) (end : Ending) : Type 0 where
   pub named : y.name ≡ x.name
   pub asked : job.resync ≡ true
-  pub tells : TellsPart job.limits job.resync x.left y.left x.window y.window x.work y.work (next.End end)
+  pub tells : TellsPart job.limits job.resync (reach_of x) (reach_of y) (next.End end)
 
 -- the same of what was told of the bytes ahead
 pub over_here : {job : Job} (w x : Place) {end : Ending} → TellsNext job.limits.bytes w.left x.left w.window x.window 0 (next.End end) → (x.name ≡ w.name) × (x.work ≡ w.work) × (x.broken ≡ w.broken)
@@ -299,7 +300,7 @@ over_here {job = job} w x {end = end} t same work asked = record {
 place_is : {job : Job} {x y : Place} {end : Ending} → IsOver job x y end → place_of y ≡ place_of x
 place_is t = λ i. record { name = t.named i; offset = t.tells.searches.stays.offset i }
 
-gap_is : {job : Job} {x y : Place} {end : Ending} (old : Held) (z : Place) (skip : Skip) → IsOver job x y end → (s : SkipsTo job.limits y.left z.left y.window z.window y.work z.work skip)
+gap_is : {job : Job} {x y : Place} {end : Ending} (old : Held) (z : Place) (skip : Skip) → IsOver job x y end → (s : SkipsTo job.limits (reach_of y) (reach_of z) skip)
     → (rest : Option (List ℕ)) → Consumes rest x.left (ahead_of x.window) → IsGap job rest (point_of x old) (record { bytes = s.passes.bytes; end = end; skip = skip; work = z.work })
 gap_is {job = job} {x = x} {y = y} {end = end} old z skip t s rest read = record {
   asked = t.asked;
@@ -403,11 +404,11 @@ halts_none job x old = ([], played_none refl, λ rest read. inl refl)
 -- a document that may be damaged is doubted, or taken at its length
 pub doubted_or_taken : (x y : Place) (limits : Limits) (resync : Bool) (len : ℕ) → resync ≡ true
     → IsWindow x.window × IsWork x.work × (len ≤ length (ahead_of x.window)) × IsPiece limits.bytes (take len (ahead_of x.window))
-    → (doubted : Bool) → Doubts limits x.left y.left x.window y.window x.work y.work len doubted
-    → TellsPart limits resync x.left y.left x.window y.window x.work y.work (next_of len (not doubted))
+    → (doubted : Bool) → Doubts limits (reach_of x) (reach_of y) len doubted
+    → TellsPart limits resync (reach_of x) (reach_of y) (next_of len (not doubted))
 doubted_or_taken x y limits resync len asked (window, work, within, is) true d =
-    subst (λ (b : Bool). TellsPart limits b x.left y.left x.window y.window x.work y.work (next_of len false)) (sym asked)
+    subst (λ (b : Bool). TellsPart limits b (reach_of x) (reach_of y) (next_of len false)) (sym asked)
     (tells_doubted x.left x.left y.left x.window x.window y.window x.work y.work len work (document_here window within is) d)
 doubted_or_taken x y limits resync len asked (window, work, within, is) false d =
-    subst (λ (b : Bool). TellsPart limits b x.left y.left x.window y.window x.work y.work (next_of len true)) (sym asked)
+    subst (λ (b : Bool). TellsPart limits b (reach_of x) (reach_of y) (next_of len true)) (sym asked)
     (tells_taken x.left x.left y.left x.window x.window y.window x.work y.work len work (document_here window within is) d)

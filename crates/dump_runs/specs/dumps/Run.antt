@@ -4,6 +4,7 @@ use Rattle.std.specs.Io.KnownBytes.{Consumes}
 use Rattle.std.specs.Option.{option_map}
 use Rattle.raw_resync.specs.Seeking.{no_work}
 use Rattle.raw_resync.specs.declared.work.Work.{Work}
+use Rattle.raw_tree.specs.declared.reader.limits.Limits.{Limits}
 use Rattle.dump_io.specs.input.Cut.{IsPiece}
 use Rattle.dump_io.specs.input.Endings.{ending_line}
 use Rattle.dump_io.specs.input.Resync.{BreaksWith, IsBelieved, IsNextPlace, TellsBehind}
@@ -122,13 +123,14 @@ pub record IsEntry (job : Job) (here : Point) (e : Entry) : Type 0 where
 abbrev pub IsWritten : Command → Finding → Type 0
 IsWritten c found = (keeps c ≡ true) × ((found ≡ finding.Canonical) ⊎ (found ≡ finding.Breached))
 
--- Whether the document of this length at the front of s stands alone, in which this is found; s is the input from this offset on. Only one
--- that the command writes, and that has a gap or a lone document right before it, may. It does if documents don't go on after it, where that
--- is looked at.
-abbrev pub TellsApart : Job → (broken : Bool) → Finding → List ℕ → (at len : ℕ) → (old new : Work) → (alone : Bool) → Type 0
-TellsApart job broken found s at len old new alone =
-    ((broken ≡ true) × IsWritten job.command found × TellsBehind job.limits s at len old new alone)
-    ⊎ (¬ ((broken ≡ true) × IsWritten job.command found) × (alone ≡ false) × (new ≡ old))
+-- a document in which this is found may stand alone: the command writes it, and a gap or a lone document is right before it
+abbrev pub MayBeAlone : Command → (broken : Bool) → Finding → Type 0
+MayBeAlone c broken found = (broken ≡ true) × IsWritten c found
+
+-- Whether the document of this length at the front of s stands alone; s is the input from this offset on. Only one that may does, if documents
+-- don't go on after it, where that is looked at.
+abbrev pub TellsApart : Limits → (may : Type 0) → List ℕ → (at len : ℕ) → (old new : Work) → (alone : Bool) → Type 0
+TellsApart limits may s at len old new alone = (may × TellsBehind limits s at len old new alone) ⊎ ((¬ may) × (alone ≡ false) × (new ≡ old))
 
 -- The document b at the front of s, in which this is found, is taken at its length; s is the input from here on. Where bytes may be passed
 -- over, it is sound, or its length is believed. `alone` says whether it stands alone, `work` what searches cost then.
@@ -136,7 +138,7 @@ pub record IsTaken (job : Job) (s : List ℕ) (here : Point) (b : List ℕ) (fou
   pub mid : Work
   pub believed : job.resync ≡ true → IsBelieved job.limits s here.at.offset (length b) here.work mid
   pub free : job.resync ≡ false → mid ≡ here.work
-  pub apart : TellsApart job here.broken found s here.at.offset (length b) mid work alone
+  pub apart : TellsApart job.limits (MayBeAlone job.command here.broken found) s here.at.offset (length b) mid work alone
 
 -- what is so of a document in which this is found
 pub record HasFinding (job : Job) (b : List ℕ) (found : Finding) : Type 0 where

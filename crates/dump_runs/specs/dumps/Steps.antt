@@ -7,7 +7,7 @@ use Rattle.dump_io.specs.input.Cut.{EndsWith, IsPiece}
 use Rattle.dump_io.specs.input.Endings.{ending_line}
 use Rattle.dump_io.specs.input.InFront.{HasPassedFront, IsAllInFront, IsInFront}
 use Rattle.dump_io.specs.input.Reading.{IsReadBehind, IsWindow, Stays, ahead_of, offset_of}
-use Rattle.dump_io.specs.input.Resync.{Searches, SkipsTo}
+use Rattle.dump_io.specs.input.Resync.{IsAll, Reached, Searches, SkipsTo, reached}
 use Rattle.dump_io.specs.lines.Fronts.{HasFront}
 use Rattle.dump_io.specs.lines.Origins.{Origin, origin_at, origin_of}
 use Rattle.dump_io.specs.declared.input.ending.Ending.{Ending}
@@ -28,7 +28,7 @@ use Rattle.dump_runs.specs.dumps.Halting.{IsLoneFront, IsNextFront, IsPieceFront
 use Rattle.dump_runs.specs.Plays.{Event, Held, Played, reported}
 use Rattle.dump_runs.specs.dumps.Portion.{IsChosen, IsEnough, IsRunOver}
 use Rattle.dump_runs.specs.Limits.{style_at}
-use Rattle.dump_runs.specs.dumps.Run.{Entry, IsEntry, IsPart, Part, Passed, Point, TellsApart, after, bytes_of_part, bytes_of_parts, events_of, events_of_gap, events_of_lone, findings_in, memory_of, repeats_in, texts_of, with_entry}
+use Rattle.dump_runs.specs.dumps.Run.{Entry, IsEntry, IsPart, MayBeAlone, Part, Passed, Point, TellsApart, after, bytes_of_part, bytes_of_parts, events_of, events_of_gap, events_of_lone, findings_in, memory_of, repeats_in, texts_of, with_entry}
 use Rattle.dump_runs.specs.declared.ends.Ended.{Ended}
 use Rattle.dump_runs.specs.declared.ends.Ended.TheVariants as how
 use Rattle.dump_runs.specs.declared.dumps.piece.Piece.{Piece}
@@ -46,6 +46,10 @@ pub record Place : Type 0 where
   pub window : Window
   pub work : Work
   pub broken : Bool
+
+-- how far it is read
+abbrev pub reach_of : Place → Reached
+reach_of x = reached x.left x.window x.work
 
 -- how many of its bytes were read
 abbrev pub end_of : Place → ℕ
@@ -158,9 +162,9 @@ HaltsPiece job piece old new =
 
 -- whether the document of this length at the front of the bytes ahead stands alone, in which this is found
 pub record LooksApart (job : Job) (found : Finding) (x y : Place) (len : ℕ) (alone : Bool) : Type 0 where
-  pub searches : Searches job.limits x.left y.left x.window y.window x.work y.work
+  pub searches : Searches job.limits (reach_of x) (reach_of y)
   pub same : y.broken ≡ x.broken
-  pub is : (s : List ℕ) → Consumes (Some s) x.left (ahead_of x.window) → TellsApart job x.broken found s (offset_of x.window) len x.work y.work alone
+  pub is : (s : List ℕ) → IsAll (reach_of x) s → TellsApart job.limits (MayBeAlone job.command x.broken found) s (offset_of x.window) len x.work y.work alone
 
 -- it is set aside, counted and passed
 pub record SetsAside (len : ℕ) (x y : Place) (old new : Held) : Type 0 where
@@ -177,7 +181,7 @@ pub record PassesGap (job : Job) (end : Ending) (x y : Place) (old new : Held) :
   pub skip : Skip
   pub named : y.name ≡ x.name
   pub broken : y.broken ≡ true
-  pub skips : SkipsTo job.limits x.left y.left x.window y.window x.work y.work skip
+  pub skips : SkipsTo job.limits (reach_of x) (reach_of y) skip
   pub played : Played (events_of_gap (style_at job.style job.limit old.counts) (place_of x) end skip) old new
   pub kept : new.kept ≡ old.kept
 
@@ -185,7 +189,7 @@ pub record PassesGap (job : Job) (end : Ending) (x y : Place) (old new : Held) :
 pub record IsGapLine (job : Job) (end : Ending) (x : Place) (n : Counts) (text : List ℕ) : Type 0 where
   pub y : Place
   pub skip : Skip
-  pub skips : SkipsTo job.limits x.left y.left x.window y.window x.work y.work skip
+  pub skips : SkipsTo job.limits (reach_of x) (reach_of y) skip
   pub is : text ≡ ending_line (style_at job.style job.limit n) x.name (offset_of x.window) end (comes.PassedOver skip)
 
 -- nothing is played, or a front of a line that is so

@@ -9,7 +9,7 @@ ghost use Rattle.dump_io.specs.lines.Failing.{IsReading};
 ghost use Rattle.dump_io.specs.lines.Find.{Account};
 ghost use Rattle.dump_commands.specs.Findings.{FindsFor};
 ghost use Rattle.dump_runs.specs.Plays.{held};
-ghost use Rattle.dump_runs.specs.dumps.Steps.{GivesPiece, HaltsNext, HaltsPiece, IsPieceOf, PassesNext, next_of};
+ghost use Rattle.dump_runs.specs.dumps.Steps.{GivesPiece, HaltsNext, HaltsPiece, IsPieceOf, PassesNext, next_of, reach_of};
 ghost use Rattle.raw_resync.specs.Seeking.{IsWork};
 
 use crate::dumps::alone::{set_aside, stands_alone};
@@ -134,8 +134,7 @@ fn is_taken<R: Read + Drop>(
     requires { IsWindow source.old.window × IsWork source.old.work × (len ≤ length (ahead_of source.old.window))
         × IsPiece job.limits.bytes (take len (ahead_of source.old.window))
         × ((told : Option Account) × FindsFor job.limits job.command (take len (ahead_of source.old.window)) finding told) }
-    ensures told { IfOk result (λ taken. TellsPart job.entry.limits job.entry.resync source.old.left source.new.left source.old.window source.new.window
-        source.old.work source.new.work (next_of len taken)) }
+    ensures told { IfOk result (λ taken. TellsPart job.entry.limits job.entry.resync (reach_of source.old) (reach_of source.new) (next_of len taken)) }
     ensures asked { IfOk result (λ taken. taken ≡ false → job.entry.resync ≡ true) }
     ensures fails { IfErr result (λ _. Stays source.old.left source.new.left source.old.window source.new.window) }
     ensures same { (source.new.name ≡ source.old.name) × (source.new.broken ≡ source.old.broken) }

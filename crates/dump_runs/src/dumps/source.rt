@@ -7,7 +7,7 @@ ghost use Rattle.dump_io.specs.input.Reading.{GoesAhead, IsReadBehind, IsWindow,
 ghost use Rattle.dump_io.specs.input.Resync.{Doubts, LooksBehind, SkipsTo};
 ghost use Rattle.dump_io.specs.lines.Failing.{IsReading};
 ghost use Rattle.dump_io.specs.lines.Origins.{origin_of};
-ghost use Rattle.dump_runs.specs.dumps.Steps.{Begins, IsLeft, IsPassed, PassesAllFront, PassesSomeFront, Place, end_of, place_of};
+ghost use Rattle.dump_runs.specs.dumps.Steps.{Begins, IsLeft, IsPassed, PassesAllFront, PassesSomeFront, Place, end_of, place_of, reach_of};
 ghost use Rattle.raw_resync.specs.Seeking.{IsWork};
 
 use dump_io::guarded::Guarded;
@@ -132,7 +132,7 @@ impl<'a, R: Read + Drop> Source<'a, R> {
     /// Whether the first document ahead, of `len` bytes, is damaged and its length isn't believed.
     pub fn is_doubted(&mut self, alloc: Global, limits: Limits, len: usize) -> Result<bool, Failure>
         requires { IsWindow self.old.window × IsWork self.old.work × (len ≤ length (ahead_of self.old.window)) × IsPiece limits.bytes (take len (ahead_of self.old.window)) }
-        ensures doubts { IfOk result (Doubts limits self.old.left self.new.left self.old.window self.new.window self.old.work self.new.work len) }
+        ensures doubts { IfOk result (Doubts limits (reach_of self.old) (reach_of self.new) len) }
         ensures fails { IfErr result (λ _. Stays self.old.left self.new.left self.old.window self.new.window) }
         ensures same { (self.new.name ≡ self.old.name) × (self.new.broken ≡ self.old.broken) }
     {
@@ -154,7 +154,7 @@ impl<'a, R: Read + Drop> Source<'a, R> {
         len: usize,
     ) -> Result<bool, Failure>
         requires { IsWindow self.old.window × IsWork self.old.work × (len ≤ length (ahead_of self.old.window)) }
-        ensures looks { IfOk result (LooksBehind limits self.old.left self.new.left self.old.window self.new.window self.old.work self.new.work len) }
+        ensures looks { IfOk result (LooksBehind limits (reach_of self.old) (reach_of self.new) len) }
         ensures fails { IfErr result (λ _. Stays self.old.left self.new.left self.old.window self.new.window) }
         ensures same { (self.new.name ≡ self.old.name) × (self.new.broken ≡ self.old.broken) }
     {
@@ -171,7 +171,7 @@ impl<'a, R: Read + Drop> Source<'a, R> {
     /// Passes over bytes, at least one, until documents go on.
     pub fn pass_over(&mut self, alloc: Global, limits: Limits) -> Result<Skip, Failure>
         requires { IsWindow self.old.window × IsWork self.old.work × (0 < length (ahead_of self.old.window)) }
-        ensures skips { IfOk result (SkipsTo limits self.old.left self.new.left self.old.window self.new.window self.old.work self.new.work) }
+        ensures skips { IfOk result (SkipsTo limits (reach_of self.old) (reach_of self.new)) }
         ensures fails { IfErr result (λ failure. IsReading failure → GoesAhead self.old.left self.new.left self.old.window self.new.window) }
         ensures broken { OnOk result (self.new.broken ≡ true) }
         ensures same { self.new.name ≡ self.old.name }

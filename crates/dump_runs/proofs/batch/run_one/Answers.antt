@@ -1,9 +1,10 @@
-use Rattle.std.proofs.Common.{false, inl, inr, refl, subst}
+use Rattle.std.proofs.Common.{inl, inr, refl, subst}
 use Rattle.std.specs.Io.KnownBytes.{Appends}
 use Rattle.dump_io.specs.lines.Fronts.{AppendsFront}
 use Rattle.dump_runs.specs.Sums.{line_of_input}
 use Rattle.dump_runs.specs.Plays.{Written, held}
 use Rattle.dump_io.proofs.Face.{on_err, on_ok}
+use Rattle.dump_runs.proofs.Plays.{written}
 use Rattle.dump_runs.proofs.batch.run_one.Goals as goal
 
 pub returns-clause-comes : goal.returns-clause-comes
@@ -16,7 +17,7 @@ returns-clause-comes g c =
     let w' = g.W.Write.contents c.writers.inside.report.inner in
     let w'' = g.W.Write.contents c.put_counts.new.report.inner in
     let line = line_of_input c.args.reading name t'.tally.counts in
-    let last : Written = record { out = g.D.Write.contents c.writers.inside.out.inner; alone = g.A.Write.contents c.writers.inside.alone.inner; report = w''; has_failed = false } in
+    let last : Written = written (g.D.Write.contents c.writers.inside.out.inner) (g.A.Write.contents c.writers.inside.alone.inner) w'' in
     on_ok c.put_counts.result (Appends w' w'' line) _
     (λ told. record {
       came = held mid t'.tally;

@@ -1,6 +1,3 @@
-use Rattle.std.proofs.Common.{◌≡◌, refl, subst, sym}
-use Rattle.raw_resync.specs.Searches.{Walks}
-use Rattle.raw_resync.specs.Seeking.{KeepsBound}
 use Rattle.dump_io.proofs.input.Deciding.{doubts_explained, doubts_inside, doubts_left, walks_ahead}
 use Rattle.dump_io.proofs.lines.Cases.{if_ok}
 use Rattle.dump_io.proofs.input.resync.is_doubted.Goals as goal

@@ -1,4 +1,4 @@
-use Rattle.std.proofs.Common.{◌≡◌, ◌+◌, ◌-◌, ◌<◌, ◌≤◌, ◌∙◌, [], ◌&&◌, add_assoc, arith, ap, length, refl, subst, sym, not}
+use Rattle.std.proofs.Common.{◌≡◌, ◌+◌, ◌-◌, ◌<◌, ◌≤◌, ◌∙◌, ◌&&◌, add_assoc, arith, ap, length, refl, subst, sym, not}
 use Rattle.dump_io.specs.input.Reading.{ahead_of}
 use Rattle.raw_resync.specs.declared.search.Places.{Places}
 use Rattle.dump_io.proofs.lines.Cases.{if_err_reading}

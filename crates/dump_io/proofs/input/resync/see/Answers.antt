@@ -1,4 +1,4 @@
-use Rattle.std.proofs.Common.{◌≡◌, ◌+◌, ◌-◌, ◌≤◌, ◌∙◌, ◌&&◌, Bool, true, false, ap, arith, drop, length, length-drop, not, refl, subst, sym}
+use Rattle.std.proofs.Common.{◌≡◌, ◌+◌, ◌-◌, ◌∙◌, ◌&&◌, true, false, ap, arith, drop, length, length-drop, not, refl, subst, sym}
 use Rattle.dump_io.specs.input.Reading.{ahead_of}
 use Rattle.dump_io.proofs.input.Deciding.{IsSought, if_err, seeks_behind, sees_found, sees_none, sought_none, sought_on, stays_on}
 use Rattle.dump_io.proofs.input.Skipping.{not_true}

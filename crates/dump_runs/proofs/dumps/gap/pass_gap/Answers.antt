@@ -1,10 +1,11 @@
-use Rattle.std.proofs.Common.{false, refl, subst}
+use Rattle.std.proofs.Common.{refl, subst}
 use Rattle.dump_io.proofs.Face.{front_whole, on_any}
 use Rattle.dump_runs.specs.Plays.{Played, Written, held}
 use Rattle.dump_runs.specs.Limits.{style_at}
 use Rattle.dump_runs.specs.dumps.Run.{events_of_gap}
 use Rattle.dump_runs.specs.dumps.Steps.{HaltsGap, place_of}
 use Rattle.dump_runs.proofs.dumps.Lines.{gap_line, gap_played, line_front, line_none}
+use Rattle.dump_runs.proofs.Plays.{written}
 use Rattle.dump_runs.proofs.dumps.gap.pass_gap.Goals as goal
 
 pub returns-clause-passed : goal.returns-clause-passed
@@ -14,7 +15,7 @@ returns-clause-passed g c =
     let t = c.args.tally.now in
     let skip = c.in_ok-skip.skip in
     let new =
-    held (record { out = g.D.Write.contents c.writers.inside.out.inner; alone = g.A.Write.contents c.writers.inside.alone.inner; report = g.W.Write.contents c.put_ending.new.report.inner; has_failed = false })
+    held (written (g.D.Write.contents c.writers.inside.out.inner) (g.A.Write.contents c.writers.inside.alone.inner) (g.W.Write.contents c.put_ending.new.report.inner))
     (record t { counts = c.in_ok-tally.field-0 }) in
     record {
       skip = skip;
@@ -36,7 +37,7 @@ returns-in_err-put_ending-clause-halts g c =
     let l = g.A.Write.contents c.writers.inside.alone.inner in
     let w = g.W.Write.contents c.writers.inside.report.inner in
     let w' = g.W.Write.contents c.put_ending.new.report.inner in
-    on_any _ _ (subst (λ (v : Written). HaltsGap c.args.job c.args.ending c.args.source.now (held v t) (held (record { out = o; alone = l; report = w'; has_failed = false }) t)) c.writers.view_is
+    on_any _ _ (subst (λ (v : Written). HaltsGap c.args.job c.args.ending c.args.source.now (held v t) (held (written o l w') t)) c.writers.view_is
     (line_front _ o l w w' t.counts t.kept _ (gap_line c.pass_over.new.self c.in_ok-skip.skip c.in_ok-skip.ensures.skips c.style_at-style.ensures c.at-at.ensures) c.in_err-put_ending.ensures.front))
 
 pub returns-in_err-tally-clause-halts : goal.returns-in_err-tally-clause-halts
@@ -46,6 +47,6 @@ returns-in_err-tally-clause-halts g c =
     let l = g.A.Write.contents c.writers.inside.alone.inner in
     let w = g.W.Write.contents c.writers.inside.report.inner in
     let w' = g.W.Write.contents c.put_ending.new.report.inner in
-    on_any _ _ (subst (λ (v : Written). HaltsGap c.args.job c.args.ending c.args.source.now (held v t) (held (record { out = o; alone = l; report = w'; has_failed = false }) t)) c.writers.view_is
+    on_any _ _ (subst (λ (v : Written). HaltsGap c.args.job c.args.ending c.args.source.now (held v t) (held (written o l w') t)) c.writers.view_is
     (line_front _ o l w w' t.counts t.kept _ (gap_line c.pass_over.new.self c.in_ok-skip.skip c.in_ok-skip.ensures.skips c.style_at-style.ensures c.at-at.ensures)
     (front_whole w w' _ c.in_ok-put_ending.ensures.written)))

@@ -80,7 +80,8 @@ pub set_aside-requires : goal.set_aside-requires
 set_aside-requires g c =
     let tells = rw c.if-not-branch.false at c.in_ok-is_taken.ensures.told in
     let looks = rw c.if-branch.true at c.in_ok-stands_alone.ensures.looks in
-    let taken = taken_at {x = c.args.source.now} {y = c.is_taken.new.source} {z = c.stands_alone.new.source} c.is_taken.ensures.same.0 c.is_taken.ensures.same.1 tells c.stands_alone.ensures.same looks in
+    let taken =
+    taken_at {x = c.args.source.now} {y = c.is_taken.new.source} {z = c.stands_alone.new.source} c.is_taken.ensures.same.0 c.is_taken.ensures.same.1 tells c.stands_alone.ensures.same looks in
     (taken.searches.stays.window, taken.within)
 
 pub returns-in_err-set_aside-clause-halts : goal.returns-in_err-set_aside-clause-halts
@@ -88,7 +89,8 @@ returns-in_err-set_aside-clause-halts g c =
     let job = c.args.job in
     let tells = rw c.if-not-branch.false at c.in_ok-is_taken.ensures.told in
     let looks = rw c.if-branch.true at c.in_ok-stands_alone.ensures.looks in
-    let taken = taken_at {x = c.args.source.now} {y = c.is_taken.new.source} {z = c.stands_alone.new.source} c.is_taken.ensures.same.0 c.is_taken.ensures.same.1 tells c.stands_alone.ensures.same looks in
+    let taken =
+    taken_at {x = c.args.source.now} {y = c.is_taken.new.source} {z = c.stands_alone.new.source} c.is_taken.ensures.same.0 c.is_taken.ensures.same.1 tells c.stands_alone.ensures.same looks in
     let (window, work, within, is) = c.requires in
     let (told, found, line) = c.in_ok-judged.ensures in
     let finds = subst (λ (b : List ℕ). FindsFor job.limits job.command b c.in_ok-judged.judged.finding told) (c.front.ensures ∙ sym (same_front taken.searches.stays within)) found in
@@ -99,7 +101,8 @@ returns-then-branch-clause-passed g c =
     let job = c.args.job in
     let tells = rw c.if-not-branch.false at c.in_ok-is_taken.ensures.told in
     let looks = rw c.if-branch.true at c.in_ok-stands_alone.ensures.looks in
-    let taken = taken_at {x = c.args.source.now} {y = c.is_taken.new.source} {z = c.stands_alone.new.source} c.is_taken.ensures.same.0 c.is_taken.ensures.same.1 tells c.stands_alone.ensures.same looks in
+    let taken =
+    taken_at {x = c.args.source.now} {y = c.is_taken.new.source} {z = c.stands_alone.new.source} c.is_taken.ensures.same.0 c.is_taken.ensures.same.1 tells c.stands_alone.ensures.same looks in
     let (window, work, within, is) = c.requires in
     let (told, found, line) = c.in_ok-judged.ensures in
     let finds = subst (λ (b : List ℕ). FindsFor job.limits job.command b c.in_ok-judged.judged.finding told) (c.front.ensures ∙ sym (same_front taken.searches.stays within)) found in
@@ -109,7 +112,8 @@ pub front-requires-2 : goal.front-requires-2
 front-requires-2 g c =
     let tells = rw c.if-not-branch.false at c.in_ok-is_taken.ensures.told in
     let looks = rw c.if-branch.false at c.in_ok-stands_alone.ensures.looks in
-    let taken = taken_at {x = c.args.source.now} {y = c.is_taken.new.source} {z = c.stands_alone.new.source} c.is_taken.ensures.same.0 c.is_taken.ensures.same.1 tells c.stands_alone.ensures.same looks in
+    let taken =
+    taken_at {x = c.args.source.now} {y = c.is_taken.new.source} {z = c.stands_alone.new.source} c.is_taken.ensures.same.0 c.is_taken.ensures.same.1 tells c.stands_alone.ensures.same looks in
     (taken.searches.stays.window, taken.within)
 
 pub pass-requires : goal.pass-requires
@@ -117,7 +121,8 @@ pass-requires g c =
     let job = c.args.job in
     let tells = rw c.if-not-branch.false at c.in_ok-is_taken.ensures.told in
     let looks = rw c.if-branch.false at c.in_ok-stands_alone.ensures.looks in
-    let taken = taken_at {x = c.args.source.now} {y = c.is_taken.new.source} {z = c.stands_alone.new.source} c.is_taken.ensures.same.0 c.is_taken.ensures.same.1 tells c.stands_alone.ensures.same looks in
+    let taken =
+    taken_at {x = c.args.source.now} {y = c.is_taken.new.source} {z = c.stands_alone.new.source} c.is_taken.ensures.same.0 c.is_taken.ensures.same.1 tells c.stands_alone.ensures.same looks in
     let p : Piece = record { at = c.at-at.result; bytes = c.front-2.result; judged = c.in_ok-judged.judged } in
     let (window, work, within, is) = c.requires in
     let judged = subst (λ (b : List ℕ). IsJudged job.limits job.command c.style_at-style.result (origin_of c.at-at.result) b c.in_ok-judged.judged) c.front.ensures c.in_ok-judged.ensures in
@@ -127,7 +132,8 @@ pub returns-in_err-findings-clause-halts : goal.returns-in_err-findings-clause-h
 returns-in_err-findings-clause-halts g c =
     let tells = rw c.if-not-branch.false at c.in_ok-is_taken.ensures.told in
     let looks = rw c.if-branch.false at c.in_ok-stands_alone.ensures.looks in
-    let taken = taken_at {x = c.args.source.now} {y = c.is_taken.new.source} {z = c.stands_alone.new.source} c.is_taken.ensures.same.0 c.is_taken.ensures.same.1 tells c.stands_alone.ensures.same looks in
+    let taken =
+    taken_at {x = c.args.source.now} {y = c.is_taken.new.source} {z = c.stands_alone.new.source} c.is_taken.ensures.same.0 c.is_taken.ensures.same.1 tells c.stands_alone.ensures.same looks in
     let p : Piece = record { at = c.at-at.result; bytes = c.front-2.result; judged = c.in_ok-judged.judged } in
     let there : IsPieceAt c.args.source.now c.stands_alone.new.source p c.args.len = record { at = c.at-at.ensures; bytes = c.front-2.ensures } in
     on_any _ _ (halts_piece taken there c.in_err-findings.ensures.halts)
@@ -136,7 +142,8 @@ pub returns-in_err-counted-clause-halts : goal.returns-in_err-counted-clause-hal
 returns-in_err-counted-clause-halts g c =
     let tells = rw c.if-not-branch.false at c.in_ok-is_taken.ensures.told in
     let looks = rw c.if-branch.false at c.in_ok-stands_alone.ensures.looks in
-    let taken = taken_at {x = c.args.source.now} {y = c.is_taken.new.source} {z = c.stands_alone.new.source} c.is_taken.ensures.same.0 c.is_taken.ensures.same.1 tells c.stands_alone.ensures.same looks in
+    let taken =
+    taken_at {x = c.args.source.now} {y = c.is_taken.new.source} {z = c.stands_alone.new.source} c.is_taken.ensures.same.0 c.is_taken.ensures.same.1 tells c.stands_alone.ensures.same looks in
     let p : Piece = record { at = c.at-at.result; bytes = c.front-2.result; judged = c.in_ok-judged.judged } in
     let there : IsPieceAt c.args.source.now c.stands_alone.new.source p c.args.len = record { at = c.at-at.ensures; bytes = c.front-2.ensures } in
     on_any _ _ (halts_piece taken there (halts_given c.in_ok-findings.findings c.in_ok-findings.ensures.gives))
@@ -145,14 +152,16 @@ pub pass-requires-2 : goal.pass-requires-2
 pass-requires-2 g c =
     let tells = rw c.if-not-branch.false at c.in_ok-is_taken.ensures.told in
     let looks = rw c.if-branch.false at c.in_ok-stands_alone.ensures.looks in
-    let taken = taken_at {x = c.args.source.now} {y = c.is_taken.new.source} {z = c.stands_alone.new.source} c.is_taken.ensures.same.0 c.is_taken.ensures.same.1 tells c.stands_alone.ensures.same looks in
+    let taken =
+    taken_at {x = c.args.source.now} {y = c.is_taken.new.source} {z = c.stands_alone.new.source} c.is_taken.ensures.same.0 c.is_taken.ensures.same.1 tells c.stands_alone.ensures.same looks in
     (taken.searches.stays.window, taken.within)
 
 pub returns-in_err-pass-clause-halts : goal.returns-in_err-pass-clause-halts
 returns-in_err-pass-clause-halts g c =
     let tells = rw c.if-not-branch.false at c.in_ok-is_taken.ensures.told in
     let looks = rw c.if-branch.false at c.in_ok-stands_alone.ensures.looks in
-    let taken = taken_at {x = c.args.source.now} {y = c.is_taken.new.source} {z = c.stands_alone.new.source} c.is_taken.ensures.same.0 c.is_taken.ensures.same.1 tells c.stands_alone.ensures.same looks in
+    let taken =
+    taken_at {x = c.args.source.now} {y = c.is_taken.new.source} {z = c.stands_alone.new.source} c.is_taken.ensures.same.0 c.is_taken.ensures.same.1 tells c.stands_alone.ensures.same looks in
     let p : Piece = record { at = c.at-at.result; bytes = c.front-2.result; judged = c.in_ok-judged.judged } in
     let there : IsPieceAt c.args.source.now c.stands_alone.new.source p c.args.len = record { at = c.at-at.ensures; bytes = c.front-2.ensures } in
     on_any _ _ (halts_piece taken there (halts_given c.in_ok-findings.findings c.in_ok-findings.ensures.gives))
@@ -163,7 +172,8 @@ returns-clause-passed g c =
     let z = c.stands_alone.new.source in
     let tells = rw c.if-not-branch.false at c.in_ok-is_taken.ensures.told in
     let looks = rw c.if-branch.false at c.in_ok-stands_alone.ensures.looks in
-    let taken = taken_at {x = c.args.source.now} {y = c.is_taken.new.source} {z = c.stands_alone.new.source} c.is_taken.ensures.same.0 c.is_taken.ensures.same.1 tells c.stands_alone.ensures.same looks in
+    let taken =
+    taken_at {x = c.args.source.now} {y = c.is_taken.new.source} {z = c.stands_alone.new.source} c.is_taken.ensures.same.0 c.is_taken.ensures.same.1 tells c.stands_alone.ensures.same looks in
     let p : Piece = record { at = c.at-at.result; bytes = c.front-2.result; judged = c.in_ok-judged.judged } in
     let there : IsPieceAt x z p c.args.len = record { at = c.at-at.ensures; bytes = c.front-2.ensures } in
     let (e, worked, gives, found) = c.in_ok-findings.ensures.gives x.work z.work x.broken in

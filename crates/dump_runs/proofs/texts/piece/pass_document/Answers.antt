@@ -1,4 +1,4 @@
-use Rattle.std.proofs.Common.{false, rules, ◌≡◌, ℕ, List, length, subst, sym, take}
+use Rattle.std.proofs.Common.{rules, ◌≡◌, ℕ, List, length, subst, sym, take}
 use Rattle.std.proofs.lemmas.Result.{err_from_is_err_and}
 use Rattle.dump_commands.specs.Counting.{count_said}
 use Rattle.dump_io.specs.input.Reading.{ahead_of}
@@ -7,6 +7,7 @@ use Rattle.dump_runs.specs.texts.Run.{Gives}
 use Rattle.dump_runs.specs.texts.Steps.{HaltsText, PassesText}
 use Rattle.dump_runs.specs.declared.texts.piece.Went.TheVariants as went
 use Rattle.dump_runs.proofs.texts.Parts.{halts_document, halts_none, passes_document, said_front, said_played}
+use Rattle.dump_runs.proofs.Plays.{written}
 use Rattle.dump_runs.proofs.texts.piece.pass_document.Goals as goal
 
 pub returns : goal.returns
@@ -17,7 +18,7 @@ returns g c job name told gives =
     let is = subst (λ (b : List ℕ). Gives job.limits (take c.args.len (ahead_of y.window)) b) (sym c.as_bytes-bytes.ensures.bytes) gives in
     let counted : c.in_ok-counted.counted ≡ count_said t.counts (length bytes) = search rules in
     let new =
-    held (record { out = g.D.Write.contents c.put.new.writer.inner; alone = g.A.Write.contents c.writers.inside.alone.inner; report = g.W.Write.contents c.writers.inside.report.inner; has_failed = false })
+    held (written (g.D.Write.contents c.put.new.writer.inner) (g.A.Write.contents c.writers.inside.alone.inner) (g.W.Write.contents c.writers.inside.report.inner))
     (record t { counts = c.in_ok-counted.counted }) in
     subst (λ (v : Written). PassesText job name told y (record c.pass.new.self { turn = c.behind_document-cursor.result }) (held v t) new went.Document) c.writers.view_is
     (passes_document job name told y c.args.len bytes (record { fits = c.requires.3; is = c.in_ok-pass.ensures.passed }) (record { may = c.requires.1; brace = c.requires.2; whole = c.requires.4 })
@@ -39,7 +40,7 @@ returns-in_err-put g c job name told gives =
     let y = c.args.cursor.now in
     let t = c.args.tally.now in
     let is = subst (λ (b : List ℕ). Gives job.limits (take c.args.len (ahead_of y.window)) b) (sym c.as_bytes-bytes.ensures.bytes) gives in
-    let new = held (record { out = g.D.Write.contents c.put.new.writer.inner; alone = g.A.Write.contents c.writers.inside.alone.inner; report = g.W.Write.contents c.writers.inside.report.inner; has_failed = false }) t in
+    let new = held (written (g.D.Write.contents c.put.new.writer.inner) (g.A.Write.contents c.writers.inside.alone.inner) (g.W.Write.contents c.writers.inside.report.inner)) t in
     let e = err_from_is_err_and c.from_residual-in_err-put.result c.from_residual-in_err-put.ensures.1 in
     rw (e.1, e.2) (
       subst (λ (v : Written). HaltsText job name told y (held v t) new) c.writers.view_is

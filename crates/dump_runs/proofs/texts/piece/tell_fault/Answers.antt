@@ -1,4 +1,4 @@
-use Rattle.std.proofs.Common.{false, rules, ◌≡◌, ◌∙◌, ℕ, List, [], ap, inl, refl, subst, take}
+use Rattle.std.proofs.Common.{rules, ◌≡◌, ◌∙◌, ℕ, List, [], ap, inl, refl, subst, take}
 use Rattle.std.specs.Io.KnownBytes.{Appends}
 use Rattle.dump_commands.specs.Counting.{count_fault}
 use Rattle.dump_io.specs.input.Reading.{ahead_of}
@@ -12,7 +12,7 @@ use Rattle.dump_runs.specs.texts.Run.{events_of, refused}
 use Rattle.dump_runs.specs.texts.Steps.{HaltsSaid, line_of}
 use Rattle.dump_runs.specs.declared.texts.cursor.Cursor.{Cursor}
 use Rattle.dump_runs.specs.declared.texts.piece.Fault.{Fault}
-use Rattle.dump_runs.proofs.Plays.{played_none}
+use Rattle.dump_runs.proofs.Plays.{played_none, written}
 use Rattle.dump_runs.proofs.texts.Parts.{refused_front, refused_played}
 use Rattle.dump_runs.proofs.texts.piece.tell_fault.Goals as goal
 
@@ -30,7 +30,7 @@ returns-clause-told g c =
     let counted : c.in_ok-counted.counted ≡ count_fault t.counts = search rules in
     let same = c.deref.ensures.value ∙ c.in_ok-line.ensures.line ∙ ap (shown i.name.now c.args.cursor.now c.args.fault) c.style_at-style.ensures in
     let put = subst (Appends w w') same c.in_ok-put.ensures.written in
-    let new = held (record { out = g.D.Write.contents c.writers.inside.out.inner; alone = g.A.Write.contents c.writers.inside.alone.inner; report = w'; has_failed = false }) (record t { counts = c.in_ok-counted.counted }) in
+    let new = held (written (g.D.Write.contents c.writers.inside.out.inner) (g.A.Write.contents c.writers.inside.alone.inner) w') (record t { counts = c.in_ok-counted.counted }) in
     subst (λ (v : Written). Played (events_of (refused line)) (held v t) new) c.writers.view_is (refused_played line put counted)
 
 pub returns-in_err-line-clause-front : goal.returns-in_err-line-clause-front
@@ -57,5 +57,5 @@ returns-in_err-put-clause-front g c =
     let line = line_of i.job i.name.now c.args.cursor.now t.counts c.args.fault in
     let same = c.deref.ensures.value ∙ c.in_ok-line.ensures.line ∙ ap (shown i.name.now c.args.cursor.now c.args.fault) c.style_at-style.ensures in
     let put = subst (AppendsFront w w') same c.in_err-put.ensures.front in
-    let new = held (record { out = g.D.Write.contents c.writers.inside.out.inner; alone = g.A.Write.contents c.writers.inside.alone.inner; report = w'; has_failed = false }) t in
+    let new = held (written (g.D.Write.contents c.writers.inside.out.inner) (g.A.Write.contents c.writers.inside.alone.inner) w') t in
     on_any _ _ (subst (λ (v : Written). HaltsSaid (refused line) (held v t) new) c.writers.view_is (refused_front line put))
