@@ -28,6 +28,7 @@ WANTED: List[Tuple[str, Set[str]]] = [
     ("check --max", {"--max-bytes", "--max-depth"}),
     ("list --findings", set()),
     ("sound --findings ", {"words", "json"}),
+    ("sound --rep", {"--replace-bad-text"}),
     ("unique --repeats --a", {"--alone", "--as-is", "--at"}),
     ("bson --k", {"--keep-going"}),
     ("bson --max", {"--max-bytes", "--max-depth"}),

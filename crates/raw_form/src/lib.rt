@@ -3,10 +3,11 @@
 //!
 //! Begin at `form_within` in `canonical.rt`: it copies a canonical document and has `rewrite` write any other.
 //! `rewritten.rt` says which elements of a level stay and under which keys, `last.rt` finds the last element of
-//! each repeated key. `flatten.rt` makes tokens.
+//! each repeated key. `flatten.rt` makes tokens. `replacing.rt` writes a document with its texts replaced that
+//! aren't UTF-8, `replaced.rt` an element of it.
 //!
-//! In `specs/`, `FormsWithin.antt` and `Tokens.antt` are what users need; the other files are helpers of the
-//! proofs.
+//! In `specs/`, `FormsWithin.antt`, `Tokens.antt` and `Replacing.antt` are what users need; the other files are
+//! helpers of the proofs.
 //!
 //! `raw_bson` doesn't rest on this crate; `bsonraw_c` and the dump crates do. How a form is found may change
 //! freely, as long as the contracts of `canonical_within` and `flatten_within` stay.

@@ -84,10 +84,6 @@ scope_left kind.DbPointer p old text rest bad none = none (raw.single (db_pointe
 scope_left kind.JavaScriptCodeWithScope p old text rest bad none = refl
 scope_left _ p old text rest bad none = absurd bad
 
--- the identifier of a pointer
-pub pointer_rest : (k : ElementType) (p text rest : List ℕ) → HasBadText k p text rest → k ≡ kind.DbPointer → length rest ≡ 12
-pointer_rest k p text rest bad is = (subst (λ (x : ElementType). HasBadText x p text rest) is bad).0.id_len
-
 -- elements
 
 -- a value of an element is of its kind, and its payload is the element's

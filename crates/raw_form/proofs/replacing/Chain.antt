@@ -34,9 +34,18 @@ less n f s r x at (frames, walk, bytes) =
 none_left : (n : ℕ) (s x : List ℕ) → HasNoFrame s → RestBecomes (BecomesUpTo n) s x → (s ≡ 0 ∷ []) × (x ≡ [])
 none_left n s x none (frames, walk, bytes) = let over = walk_over s frames walk none in (rw over at walk, rw over at bytes)
 
--- the element at the front of a level is put: the level is the new one then
-module _ (n : ℕ) (levels : List Open) (out : List ℕ) {level new : Open} {s r : List ℕ} {f : Frame} (at : IsFrame s f r) (old_is : level.elements ≡ Some s) (new_is : new.elements ≡ Some r)
-    (start_is : new.start ≡ level.start) (code_is : new.code_len ≡ level.code_len) where
+-- past the frame at its front the level is the new one
+pub record Passes (level new : Open) (s : List ℕ) (f : Frame) (r : List ℕ) : Type 0 where
+  pub at : IsFrame s f r
+  pub old_is : level.elements ≡ Some s
+  pub new_is : new.elements ≡ Some r
+  pub start_is : new.start ≡ level.start
+  pub code_is : new.code_len ≡ level.code_len
+
+-- its element is put
+module _ (n : ℕ) (levels : List Open) (out : List ℕ) {level new : Open} {s r : List ℕ} {f : Frame} (step : Passes level new s f r) where
+  open step use {at, old_is, new_is, start_is, code_is}
+
   joined : (e x : List ℕ) → ended_level new ((out ++ e) ++ x) ≡ ended_level level (out ++ (e ++ x))
   joined e x = rw (start_is, code_is, append_assoc out e x) refl
 
@@ -102,18 +111,17 @@ closed : (key d out new y : List ℕ) (h : Holder) (inner : Open) → Opens key 
 closed key d out new y h inner o =
     rw (o.code_is, o.start_is, o.put) (closed_at h d (begun_with out key h d) y ∙ element_begun out key d (framed y) h)
 
-module _ (n : ℕ) (levels : List Open) {level behind inner : Open} {out new s r d : List ℕ} {f : Frame} {h : Holder} (at : IsFrame s f r) (old_is : level.elements ≡ Some s)
-    (behind_is : behind.elements ≡ Some r) (start_is : behind.start ≡ level.start) (code_is : behind.code_len ≡ level.code_len) (means : MeansKept f (holding h d))
-    (opens : Opens f.key h d out new inner) where
+module _ (n : ℕ) (levels : List Open) {level behind inner : Open} {out new s r d : List ℕ} {f : Frame} {h : Holder} (step : Passes level behind s f r)
+    (means : MeansKept f (holding h d)) (opens : Opens f.key h d out new inner) where
   pub enters : (a : List ℕ) → Completes n (inner ∷ behind ∷ levels) new a → Completes (suc n) (level ∷ levels) out a
   enters a (y, left, rest) =
       let inside : RestBecomes (BecomesUpTo n) (drop 4 d) y = rw opens.elements at left in
-      passes (suc n) levels out at old_is behind_is start_is code_is (holding h d) (holding h (framed y)) means (becomes_held (suc n) h d (framed y) (y, inside, refl)) a
+      passes (suc n) levels out step (holding h d) (holding h (framed y)) means (becomes_held (suc n) h d (framed y) (y, inside, refl)) a
       (subst (λ (b : List ℕ). Completes (suc n) (behind ∷ levels) b a) (closed f.key d out new y h inner opens) rest)
 
   pub entered : (a : List ℕ) → Completes (suc n) (level ∷ levels) out a → Completes n (inner ∷ behind ∷ levels) new a
   entered a whole =
-      let (v, w, also, becomes, rest) = returned (suc n) levels out at old_is behind_is start_is code_is a whole in
+      let (v, w, also, becomes, rest) = returned (suc n) levels out step a whole in
       let it : v ≡ holding h d = one_kept f v (holding h d) also means in
       let (e, (y, inside, e_is), w_is) = nested_of (suc n) h d w (subst (λ (x : RawValue). Becomes (BecomesUpTo (suc n)) x w) it becomes) in
       let whole_is : element_bytes f.key w ≡ element_bytes f.key (holding h (framed y)) = ap (element_bytes f.key) (w_is ∙ ap (holding h) e_is) in
@@ -121,10 +129,10 @@ module _ (n : ℕ) (levels : List Open) {level behind inner : Open} {out new s r
       (y, rw opens.elements inside, subst (λ (b : List ℕ). Completes (suc n) (behind ∷ levels) b a) same rest)
 
 -- the level in it is too deep
-pub too_deep : (levels : List Open) (out d : List ℕ) (h : Holder) {level behind : Open} {s r : List ℕ} {f : Frame} → IsFrame s f r → level.elements ≡ Some s → behind.elements ≡ Some r
-    → behind.start ≡ level.start → behind.code_len ≡ level.code_len → MeansKept f (holding h d) → (a : List ℕ) → Completes zero (level ∷ levels) out a → ⊥
-too_deep levels out d h {f = f} at old_is behind_is start_is code_is means a whole =
-    let (v, w, also, becomes, rest) = returned zero levels out at old_is behind_is start_is code_is a whole in
+pub too_deep : (levels : List Open) (out d : List ℕ) (h : Holder) {level behind : Open} {s r : List ℕ} {f : Frame} → Passes level behind s f r → MeansKept f (holding h d)
+    → (a : List ℕ) → Completes zero (level ∷ levels) out a → ⊥
+too_deep levels out d h {f = f} step means a whole =
+    let (v, w, also, becomes, rest) = returned zero levels out step a whole in
     let it : v ≡ holding h d = one_kept f v (holding h d) also means in
     (nested_of zero h d w (subst (λ (x : RawValue). Becomes (BecomesUpTo zero) x w) it becomes)).1
 

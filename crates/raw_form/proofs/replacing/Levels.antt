@@ -12,7 +12,7 @@ use Rattle.raw_form.specs.ReplacingSteps.{AreOpen, Completes, ExceedsAll, Exceed
 use Rattle.raw_form.specs.declared.replaced.Open.{Open}
 use Rattle.raw_form.proofs.canonical.Common.{Error, FailsFor, Frame, Holder, IsFrame, RawValue, held_opening, holding}
 use Rattle.raw_form.proofs.replaced.Kept.{one_kept}
-use Rattle.raw_form.proofs.replacing.Chain.{closed_first, ended_then, ends, entered, enters, length-completes, length-ended, opens_longer, opens_within, passes, returned, stopped, too_deep}
+use Rattle.raw_form.proofs.replacing.Chain.{Passes, closed_first, ended_then, ends, entered, enters, length-completes, length-ended, opens_longer, opens_within, passes, returned, stopped, too_deep}
 
 -- an open level has more bytes, so the others are still open
 begun_more : (levels : List Open) (n m : ℕ) → n ≤ m → AreOpen levels n → AreOpen levels m
@@ -81,29 +81,34 @@ module _ {levels : ℕ} {b : List ℕ} {waiting : List Open} {level : Open} {out
         }
 
   -- a frame is at the front
-  module _ (new : Open) {s r : List ℕ} {f : Frame} (elements : level.elements ≡ Some s) (at : IsFrame s f r) (new_is : new.elements ≡ Some r) (start_is : new.start ≡ level.start)
-      (code_is : new.code_len ≡ level.code_len) where
+  module _ {new : Open} {s r : List ℕ} {f : Frame} (step : Passes level new s f r) where
+    open step use {new_is, start_is, code_is}
+
     pub put_exceeds : {A : Type 0} (r : Result A Error) (e : Error) → IsErrAnd r (λ x. x ≡ e) → (m : ℕ) → m ≡ length out → ExceedsFor f m e → IfErr r (ExceedsAll levels b)
     put_exceeds (Ok x) e same m len fails = tt
     put_exceeds (Err x) e same m len (inl memory) = rw same (inl memory)
     put_exceeds (Err x) e same m len (inr long) = inr (λ a becomes.
-        let (v, w, means, is_w, rest) = returned is.inside (reverse waiting) out {new = new} at elements new_is start_is code_is a (is.back a becomes) in
-        omega (arith, len, long is.inside v w means is_w, length-completes is.inside (new ∷ reverse waiting) (out ++ element_bytes f.key w) a rest, length-append out (element_bytes f.key w)))
+        let (v, w, means, is_w, rest) = returned is.inside (reverse waiting) out step a (is.back a becomes) in
+        let whole = length-completes is.inside (new ∷ reverse waiting) (out ++ element_bytes f.key w) a rest in
+        omega (arith, len, long is.inside v w means is_w, whole, length-append out (element_bytes f.key w)))
 
     pub put_none : ((v : RawValue) → ¬ MeansKept f v) → (a : List ℕ) → ¬ BecomesUpTo levels b a
     put_none fault a becomes =
-        let (v, w, means, is_w, rest) = returned is.inside (reverse waiting) out {new = new} at elements new_is start_is code_is a (is.back a becomes) in
+        let (v, w, means, is_w, rest) = returned is.inside (reverse waiting) out step a (is.back a becomes) in
         fault v means
+
+    still_begun : AreOpen (new ∷ reverse waiting) (length out)
+    still_begun = ((r, new_is), rw (start_is, code_is) is.begun.1, is.begun.2)
 
     -- its element is put
     pub replacing_put : (more : List ℕ) (l : Leaf) → MeansKept f (single l) → more ≡ out ++ element_bytes f.key (single l) → IsReplacing levels b waiting new more
     replacing_put more l means more_is = record {
       inside = is.inside;
       depth_is = is.depth_is;
-      begun = begun_more (new ∷ reverse waiting) (length out) (length more) (omega (arith, ap length more_is, length-append out (element_bytes f.key (single l)))) ((r, new_is), rw (start_is, code_is) is.begun.1, is.begun.2);
-      forth = λ a rest. is.forth a (passes is.inside (reverse waiting) out {new = new} at elements new_is start_is code_is (single l) (single l) means refl a (rw (← more_is) rest));
+      begun = begun_more (new ∷ reverse waiting) (length out) (length more) (omega (arith, ap length more_is, length-append out (element_bytes f.key (single l)))) still_begun;
+      forth = λ a rest. is.forth a (passes is.inside (reverse waiting) out step (single l) (single l) means refl a (rw (← more_is) rest));
       back = λ a becomes.
-          let (v, w, also, is_w, rest) = returned is.inside (reverse waiting) out {new = new} at elements new_is start_is code_is a (is.back a becomes) in
+          let (v, w, also, is_w, rest) = returned is.inside (reverse waiting) out step a (is.back a becomes) in
           let it : v ≡ single l = one_kept f v (single l) also means in
           let w_is : w ≡ single l = subst (λ (x : RawValue). Becomes (BecomesUpTo is.inside) x w) it is_w in
           rw more_is (rw w_is at rest);
@@ -115,7 +120,7 @@ module _ {levels : ℕ} {b : List ℕ} {waiting : List Open} {level : Open} {out
       replacing_deep deep a becomes =
           let none : is.inside ≡ zero = omega (arith, deep, is.depth_is) in
           let whole : Completes zero (level ∷ reverse waiting) out a = subst (λ (n : ℕ). Completes n (level ∷ reverse waiting) out a) none (is.back a becomes) in
-          too_deep (reverse waiting) out d h {behind = new} at elements new_is start_is code_is means a whole
+          too_deep (reverse waiting) out d h step means a whole
 
       pub replacing_inside : (inner : Open) (more : List ℕ) → Opens f.key h d out more inner → length waiting + 1 ≢ levels → IsReplacing levels b (waiting ++ new ∷ []) inner more
       replacing_inside inner more opens room =
@@ -125,7 +130,7 @@ module _ {levels : ℕ} {b : List ℕ} {waiting : List Open} {level : Open} {out
           record {
             inside = n;
             depth_is = omega (arith, some, is.depth_is, length-append waiting (new ∷ []));
-            begun = rw same ((drop 4 d, opens.elements), opens_within f.key d out more h inner opens, begun_more (new ∷ reverse waiting) (length out) (length more) longer ((r, new_is), rw (start_is, code_is) is.begun.1, is.begun.2));
-            forth = λ a rest. is.forth a (rw some (enters n (reverse waiting) at elements new_is start_is code_is means opens a (rw same at rest)));
-            back = λ a becomes. rw same (entered n (reverse waiting) at elements new_is start_is code_is means opens a (rw some at (is.back a becomes)));
+            begun = rw same ((drop 4 d, opens.elements), opens_within f.key d out more h inner opens, begun_more (new ∷ reverse waiting) (length out) (length more) longer still_begun);
+            forth = λ a rest. is.forth a (rw some (enters n (reverse waiting) step means opens a (rw same at rest)));
+            back = λ a becomes. rw same (entered n (reverse waiting) step means opens a (rw some at (is.back a becomes)));
           }

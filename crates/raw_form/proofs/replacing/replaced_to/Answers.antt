@@ -1,6 +1,7 @@
 use Rattle.std.proofs.Common.{rules, ◌≡◌, ◌∙◌, ◌∷◌, ◌++◌, [], ℕ, List, Some, ap, arith, refl}
 use Rattle.std.specs.Option.{option_copied}
-use Rattle.raw_form.proofs.canonical.Common.{IsFrame, bytes_of, frame_of, held_opening}
+use Rattle.raw_form.proofs.canonical.Common.{bytes_of, frame_of, held_opening}
+use Rattle.raw_form.proofs.replacing.Chain.{Passes}
 use Rattle.raw_form.proofs.replacing.Levels.{end_exceeds, put_exceeds, put_none, replaces_none, replacing_begins, replacing_deep, replacing_done, replacing_ends, replacing_inside, replacing_put, suc_of}
 use Rattle.raw_form.specs.declared.replaced.Open.{Open}
 use Rattle.raw_view.specs.declared.level.Holder.TheVariants as holder
@@ -44,16 +45,18 @@ returns-in_default-next-clause-made c a becomes =
 abbrev next_level : In-Ok → Open
 next_level c = record { elements = c.next.new.self; start = c.levels.level.start; code_len = c.levels.level.code_len }
 
--- the element at the front
-frame_in : (c : In-Ok) → (r : List ℕ) × IsFrame c.levels.invariant.begun.0.0 (frame_of c.in-Ok.element) r × (c.next.new.self ≡ Some r)
-frame_in c = rw (c.in-Ok.is, c.levels.invariant.begun.0.1) at c.in-Some.ensures.steps
+-- past the element at the front
+step_of : (c : In-Ok) → (r : List ℕ) × Passes c.levels.level (next_level c) c.levels.invariant.begun.0.0 (frame_of c.in-Ok.element) r
+step_of c =
+    let elements = c.levels.invariant.begun.0.1 in
+    let (r, at, new_is) = rw (c.in-Ok.is, elements) at c.in-Some.ensures.steps in
+    (r, record { at = at; old_is = elements; new_is = new_is; start_is = refl; code_is = refl })
 
 pub returns-in_err-put_kept-clause-err : goal.returns-in_err-put_kept-clause-err
 returns-in_err-put_kept-clause-err c =
     let is = c.levels.invariant in
-    let place = (goal.at.returns-in_err-put_kept-clause-err c).In-Ok in
-    let (r, at, new_is) = frame_in place in
-    put_exceeds is (next_level place) is.begun.0.1 at new_is refl refl c.from_residual-in_err-put_kept.result c.in_err-put_kept.field-0.0
+    let (r, step) = step_of (goal.at.returns-in_err-put_kept-clause-err c).In-Ok in
+    put_exceeds is step c.from_residual-in_err-put_kept.result c.in_err-put_kept.field-0.0
     c.from_residual-in_err-put_kept.ensures.1 _ (omega (arith, c.levels.out.ok.0)) c.in_err-put_kept.ensures.err
 
 pub levels-smaller-in-Whole : goal.levels-smaller-in-Whole
@@ -62,25 +65,22 @@ levels-smaller-in-Whole c = let grows = rw c.in-Whole.is at c.in_ok-put_kept.ens
 pub levels-preserved-in-Whole : goal.levels-preserved-in-Whole
 levels-preserved-in-Whole c =
     let is = c.levels.invariant in
-    let place = (goal.at.levels-preserved-in-Whole c).In-Ok in
-    let (r, at, new_is) = frame_in place in
+    let (r, step) = step_of (goal.at.levels-preserved-in-Whole c).In-Ok in
     let (l, means, more_is) = rw c.in-Whole.is at c.in_ok-put_kept.ensures.put in
-    replacing_put is (next_level place) is.begun.0.1 at new_is refl refl _ l means more_is
+    replacing_put is step _ l means more_is
 
 pub returns-in-Fault-clause-made : goal.returns-in-Fault-clause-made
 returns-in-Fault-clause-made c a becomes =
     let is = c.levels.invariant in
-    let place = (goal.at.returns-in-Fault-clause-made c).In-Ok in
-    let (r, at, new_is) = frame_in place in
-    put_none is (next_level place) is.begun.0.1 at new_is refl refl (rw c.in-Fault.is at c.in_ok-put_kept.ensures.put) a becomes
+    let (r, step) = step_of (goal.at.returns-in-Fault-clause-made c).In-Ok in
+    put_none is step (rw c.in-Fault.is at c.in_ok-put_kept.ensures.put) a becomes
 
 pub returns-then-len-depth-clause-made : goal.returns-then-len-depth-clause-made
 returns-then-len-depth-clause-made c a becomes =
     let is = c.levels.invariant in
-    let place = (goal.at.returns-then-len-depth-clause-made c).In-Ok in
-    let (r, at, new_is) = frame_in place in
+    let (r, step) = step_of (goal.at.returns-then-len-depth-clause-made c).In-Ok in
     let (h, d, means, opens) = rw c.in-Inside.is at c.in_ok-put_kept.ensures.put in
-    replacing_deep is (next_level place) is.begun.0.1 at new_is refl refl h d means (omega (arith, c.if-len-depth.true, c.len.ensures, c.levels.waiting.ok.0)) a becomes
+    replacing_deep is step h d means (omega (arith, c.if-len-depth.true, c.len.ensures, c.levels.waiting.ok.0)) a becomes
 
 pub levels-smaller : goal.levels-smaller
 levels-smaller c = let grows = rw c.in-Inside.is at c.in_ok-put_kept.ensures.grows in omega (arith, grows.0, grows.1)
@@ -88,7 +88,6 @@ levels-smaller c = let grows = rw c.in-Inside.is at c.in_ok-put_kept.ensures.gro
 pub levels-preserved : goal.levels-preserved
 levels-preserved c =
     let is = c.levels.invariant in
-    let place = (goal.at.levels-preserved c).In-Ok in
-    let (r, at, new_is) = frame_in place in
+    let (r, step) = step_of (goal.at.levels-preserved c).In-Ok in
     let (h, d, means, opens) = rw c.in-Inside.is at c.in_ok-put_kept.ensures.put in
-    search (rules, replacing_inside is (next_level place) is.begun.0.1 at new_is refl refl h d means c.in-Inside.inner _ opens)
+    search (rules, replacing_inside is step h d means c.in-Inside.inner _ opens)

@@ -8,4 +8,5 @@ returns-in_ok-fault_line-in-Err c =
     let shown = c.in_ok-shown-in-Err.shown.items in
     let why = c.in-Err.error.kind in
     let words = codes "damaged: " ++ find.kind_text why in
-    inr (fault, words ++ shown, means, (words, shown, (why, tells.says, c.in-Err.error.reading, refl), c.in_ok-shown-in-Err.ensures, refl), refl, rw c.deref.ensures.value at c.in_ok-fault_line-in-Err.ensures)
+    let line = rw c.deref.ensures.value at c.in_ok-fault_line-in-Err.ensures in
+    inr (fault, words ++ shown, means, (words, shown, (why, tells.says, c.in-Err.error.reading, refl), c.in_ok-shown-in-Err.ensures, refl), refl, line)
