@@ -782,7 +782,7 @@ BSONRAW_USE BSONRAW_INLINE int32_t bsonraw_iter_regex(const struct bsonraw_iter 
 
 /* ---- building --------------------------------------------------------------------------------------------------------
  *
- * bsonraw_builder_begin, _end, bsonraw_append, _iter, _begin, _end and _cancel are proved; the others, which call bsonraw_append for a kind
+ * bsonraw_builder_begin, _end, bsonraw_append, _number, _iter, _begin, _end and _cancel are proved; the others, which call these for a kind
  * each, are tested.
  * A builder puts a document into memory of the caller, which is its room. It keeps no pointer: each call is given the room
  * anew, and whatever the builder holds, nothing outside of the room is written. Up to the end of the document only its builder and its
@@ -878,6 +878,19 @@ int32_t bsonraw_append_iter(struct bsonraw_builder *builder, uint8_t *BSONRAW_RE
  */
 int32_t bsonraw_append(struct bsonraw_builder *builder, uint8_t *BSONRAW_RESTRICT room, size_t room_len, uint32_t tag, const uint8_t *key,
                        size_t key_len, const uint8_t *one, size_t one_len, const uint8_t *two, size_t two_len);
+
+/* Appends an element whose payload is the lowest bytes of a number, least first, as many as its kind has: eight of a double, which are its
+ * bits, of a datetime, of an int64 and of a timestamp, whose time is in the upper four; four of an int32; one of a boolean, 0 or 1; and none
+ * of the kinds without a payload. Other tags are BSONRAW_OTHER_KIND.
+ *
+ *     uint8_t room[64];
+ *     struct bsonraw_builder b;
+ *     bsonraw_builder_begin(&b, room, sizeof room);
+ *     bsonraw_append_number(&b, room, sizeof room, BSONRAW_TAG_INT32, BSONRAW_KEY("born"), 1882);
+ *     if (bsonraw_builder_end(&b, room, sizeof room) == BSONRAW_OK) fwrite(room, 1, b.len, stdout);
+ */
+int32_t bsonraw_append_number(struct bsonraw_builder *builder, uint8_t *BSONRAW_RESTRICT room, size_t room_len, uint32_t tag,
+                              const uint8_t *key, size_t key_len, uint64_t number);
 
 /* The builder takes no more, for this reason, where it took more before. */
 BSONRAW_LOCAL int32_t bsonraw_refuse(struct bsonraw_builder *builder, int32_t status) {
@@ -975,6 +988,16 @@ BSONRAW_INLINE int32_t bsonraw_checked_append(struct bsonraw_builder *builder, u
                           one_len, bsonraw_some_bytes(two), two_len);
 }
 #define bsonraw_append bsonraw_checked_append
+
+BSONRAW_WRITES(2, 3) BSONRAW_READS(5, 6)
+BSONRAW_INLINE int32_t bsonraw_checked_append_number(struct bsonraw_builder *builder, uint8_t *BSONRAW_RESTRICT room, size_t room_len,
+                                                     uint32_t tag, const uint8_t *key, size_t key_len, uint64_t number) {
+    if (!builder) return BSONRAW_NULL;
+    if (BSONRAW_LACKS(room, room_len) || BSONRAW_LACKS(key, key_len)) return bsonraw_refuse(builder, BSONRAW_NULL);
+    if (builder->status < 0) return bsonraw_refuse(builder, BSONRAW_MISUSE);
+    return bsonraw_append_number(builder, bsonraw_some_room(room), room_len, tag, bsonraw_some_bytes(key), key_len, number);
+}
+#define bsonraw_append_number bsonraw_checked_append_number
 #endif
 
 /* The bytes of a number, least first. */
@@ -998,76 +1021,68 @@ BSONRAW_LOCAL struct bsonraw_number bsonraw_number_of(uint64_t number) {
 BSONRAW_WRITES(2, 3) BSONRAW_READS(4, 5)
 BSONRAW_INLINE int32_t bsonraw_append_int32(struct bsonraw_builder *builder, uint8_t *BSONRAW_RESTRICT room, size_t room_len,
                                             const uint8_t *key, size_t key_len, int32_t number) {
-    const struct bsonraw_number one = bsonraw_number_of(BSONRAW_UINT32(number));
-    return bsonraw_append(builder, room, room_len, BSONRAW_TAG_INT32, key, key_len, one.bytes, 4, key, 0);
+    return bsonraw_append_number(builder, room, room_len, BSONRAW_TAG_INT32, key, key_len, BSONRAW_UINT32(number));
 }
 
 BSONRAW_WRITES(2, 3) BSONRAW_READS(4, 5)
 BSONRAW_INLINE int32_t bsonraw_append_int64(struct bsonraw_builder *builder, uint8_t *BSONRAW_RESTRICT room, size_t room_len,
                                             const uint8_t *key, size_t key_len, int64_t number) {
-    const struct bsonraw_number one = bsonraw_number_of(BSONRAW_UINT64(number));
-    return bsonraw_append(builder, room, room_len, BSONRAW_TAG_INT64, key, key_len, one.bytes, 8, key, 0);
+    return bsonraw_append_number(builder, room, room_len, BSONRAW_TAG_INT64, key, key_len, BSONRAW_UINT64(number));
 }
 
 /* Milliseconds from 1970 on. */
 BSONRAW_WRITES(2, 3) BSONRAW_READS(4, 5)
 BSONRAW_INLINE int32_t bsonraw_append_date_time(struct bsonraw_builder *builder, uint8_t *BSONRAW_RESTRICT room, size_t room_len,
                                                 const uint8_t *key, size_t key_len, int64_t millis) {
-    const struct bsonraw_number one = bsonraw_number_of(BSONRAW_UINT64(millis));
-    return bsonraw_append(builder, room, room_len, BSONRAW_TAG_DATETIME, key, key_len, one.bytes, 8, key, 0);
+    return bsonraw_append_number(builder, room, room_len, BSONRAW_TAG_DATETIME, key, key_len, BSONRAW_UINT64(millis));
 }
 
 BSONRAW_WRITES(2, 3) BSONRAW_READS(4, 5)
 BSONRAW_INLINE int32_t bsonraw_append_double(struct bsonraw_builder *builder, uint8_t *BSONRAW_RESTRICT room, size_t room_len,
                                              const uint8_t *key, size_t key_len, double number) {
-    struct bsonraw_number one;
     union {
         double number;
         uint64_t bits;
     } same;
     same.number = number;
-    one = bsonraw_number_of(same.bits);
-    return bsonraw_append(builder, room, room_len, BSONRAW_TAG_DOUBLE, key, key_len, one.bytes, 8, key, 0);
+    return bsonraw_append_number(builder, room, room_len, BSONRAW_TAG_DOUBLE, key, key_len, same.bits);
 }
 
 BSONRAW_WRITES(2, 3) BSONRAW_READS(4, 5)
 BSONRAW_INLINE int32_t bsonraw_append_timestamp(struct bsonraw_builder *builder, uint8_t *BSONRAW_RESTRICT room, size_t room_len,
                                                 const uint8_t *key, size_t key_len, uint32_t time, uint32_t increment) {
-    const struct bsonraw_number one = bsonraw_number_of(BSONRAW_UINT64(time) << 32 | increment);
-    return bsonraw_append(builder, room, room_len, BSONRAW_TAG_TIMESTAMP, key, key_len, one.bytes, 8, key, 0);
+    return bsonraw_append_number(builder, room, room_len, BSONRAW_TAG_TIMESTAMP, key, key_len, BSONRAW_UINT64(time) << 32 | increment);
 }
 
 /* True unless it is 0. */
 BSONRAW_WRITES(2, 3) BSONRAW_READS(4, 5)
 BSONRAW_INLINE int32_t bsonraw_append_bool(struct bsonraw_builder *builder, uint8_t *BSONRAW_RESTRICT room, size_t room_len,
                                            const uint8_t *key, size_t key_len, int32_t is_true) {
-    uint8_t one[1];
-    one[0] = is_true != 0;
-    return bsonraw_append(builder, room, room_len, BSONRAW_TAG_BOOLEAN, key, key_len, one, 1, key, 0);
+    return bsonraw_append_number(builder, room, room_len, BSONRAW_TAG_BOOLEAN, key, key_len, is_true != 0);
 }
 
 BSONRAW_WRITES(2, 3) BSONRAW_READS(4, 5)
 BSONRAW_INLINE int32_t bsonraw_append_null(struct bsonraw_builder *builder, uint8_t *BSONRAW_RESTRICT room, size_t room_len,
                                            const uint8_t *key, size_t key_len) {
-    return bsonraw_append(builder, room, room_len, BSONRAW_TAG_NULL, key, key_len, key, 0, key, 0);
+    return bsonraw_append_number(builder, room, room_len, BSONRAW_TAG_NULL, key, key_len, 0);
 }
 
 BSONRAW_WRITES(2, 3) BSONRAW_READS(4, 5)
 BSONRAW_INLINE int32_t bsonraw_append_undefined(struct bsonraw_builder *builder, uint8_t *BSONRAW_RESTRICT room, size_t room_len,
                                                 const uint8_t *key, size_t key_len) {
-    return bsonraw_append(builder, room, room_len, BSONRAW_TAG_UNDEFINED, key, key_len, key, 0, key, 0);
+    return bsonraw_append_number(builder, room, room_len, BSONRAW_TAG_UNDEFINED, key, key_len, 0);
 }
 
 BSONRAW_WRITES(2, 3) BSONRAW_READS(4, 5)
 BSONRAW_INLINE int32_t bsonraw_append_minkey(struct bsonraw_builder *builder, uint8_t *BSONRAW_RESTRICT room, size_t room_len,
                                              const uint8_t *key, size_t key_len) {
-    return bsonraw_append(builder, room, room_len, BSONRAW_TAG_MIN_KEY, key, key_len, key, 0, key, 0);
+    return bsonraw_append_number(builder, room, room_len, BSONRAW_TAG_MIN_KEY, key, key_len, 0);
 }
 
 BSONRAW_WRITES(2, 3) BSONRAW_READS(4, 5)
 BSONRAW_INLINE int32_t bsonraw_append_maxkey(struct bsonraw_builder *builder, uint8_t *BSONRAW_RESTRICT room, size_t room_len,
                                              const uint8_t *key, size_t key_len) {
-    return bsonraw_append(builder, room, room_len, BSONRAW_TAG_MAX_KEY, key, key_len, key, 0, key, 0);
+    return bsonraw_append_number(builder, room, room_len, BSONRAW_TAG_MAX_KEY, key, key_len, 0);
 }
 
 BSONRAW_WRITES(2, 3) BSONRAW_READS(4, 5) BSONRAW_READS(6, 7)
@@ -1684,8 +1699,8 @@ BSONRAW_INLINE size_t bsonraw_checked_path_text(const uint8_t *bytes, size_t len
 /* ---- daily use -------------------------------------------------------------------------------------------------------
  *
  * What follows is written in C over the calls above, and tested, not proved; elements of the usual kinds with ASCII keys and texts are
- * looked through by bsonraw_find_many, and put by a buffer, without these calls. Keys, paths and texts are const char *, which a 0
- * ends; the steps of a path have a dot between them, as "authors.0.name" (see bsonraw_iter_find_descendant).
+ * looked through by bsonraw_find_many without these calls. Keys, paths and texts are const char *, which a 0 ends; the steps of a path
+ * have a dot between them, as "authors.0.name" (see bsonraw_iter_find_descendant).
  *
  * A key that has a dot is no step of such a path. bsonraw_iter_find_descendant goes there with another separator, as 0, which is in no key.
  * Where a digit follows it, the literal is split, as "authors\0" "0\0name".
@@ -1894,6 +1909,8 @@ BSONRAW_USE int32_t bsonraw_from_json_next(const char *text, size_t len, size_t 
  * else BSONRAW_MISUSE, and a text in a document, else BSONRAW_NULL. So a level whose end was forgotten is seen: by the next key, or by
  * bsonraw_buffer_finish, which finishes the document, and returns BSONRAW_MISUSE while a level is open. With BSONRAW_OK the document is
  * buffer->len bytes at buffer->bytes, up to the next call; len is 0 before. BSONRAW_MISUSE, too, where the document is finished.
+ * What a call puts there is put by calls of a builder that are proved: bsonraw_append, _number, _iter, _begin and _end, and
+ * bsonraw_builder_end. C takes the memory, looks for NULL, and keeps the builders of the levels.
  *
  *     struct bsonraw_buffer b;
  *     bsonraw_buffer_init(&b);

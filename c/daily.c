@@ -523,14 +523,14 @@ int32_t bsonraw_set_date_time(uint8_t *bytes, size_t len, const char *path, int6
     return overwrite(bytes, len, path, BSONRAW_TAG_DATETIME, payload.bytes, 8);
 }
 
-static struct bsonraw_number number_of_double(double number) {
+static uint64_t bits_of(double number) {
     uint64_t bits;
     memcpy(&bits, &number, sizeof bits);
-    return bsonraw_number_of(bits);
+    return bits;
 }
 
 int32_t bsonraw_set_double(uint8_t *bytes, size_t len, const char *path, double number) {
-    const struct bsonraw_number payload = number_of_double(number);
+    const struct bsonraw_number payload = bsonraw_number_of(bits_of(number));
     return overwrite(bytes, len, path, BSONRAW_TAG_DOUBLE, payload.bytes, 8);
 }
 
@@ -1187,8 +1187,8 @@ int32_t bsonraw_buffer_finish(struct bsonraw_buffer *buffer) {
 }
 
 /* Appends an element, whose parts have these lengths. In an array its key is at most eleven bytes longer than the one that is given. */
-static int32_t add(struct bsonraw_buffer *buffer, uint32_t tag, const char *key, const uint8_t *one, size_t one_len,
-                   const uint8_t *two, size_t two_len) {
+static int32_t add_parts(struct bsonraw_buffer *buffer, uint32_t tag, const char *key, const uint8_t *one, size_t one_len,
+                         const uint8_t *two, size_t two_len) {
     size_t key_len = bsonraw_str_len(key);
     if (buffer == NULL) return BSONRAW_NULL;
     if (!goes_on(buffer) || !takes_key(buffer, key)) return buffer->status;
@@ -1199,97 +1199,63 @@ static int32_t add(struct bsonraw_buffer *buffer, uint32_t tag, const char *key,
                                            bsonraw_some_bytes(one), one_len, bsonraw_some_bytes(two), two_len);
 }
 
-/* The decimal of a number, as the key of an array's element. */
-static size_t put_decimal(uint32_t number, char *key) {
-    char digits[10];
-    size_t count = 0, at;
-    do digits[count++] = (char)('0' + number % 10);
-    while ((number /= 10) > 0);
-    for (at = 0; at < count; at++) key[at] = digits[count - 1 - at];
-    key[count] = 0;
-    return count;
+/* The same of one part. */
+static int32_t add(struct bsonraw_buffer *buffer, uint32_t tag, const char *key, const uint8_t *part, size_t len) {
+    size_t key_len = bsonraw_str_len(key);
+    if (buffer == NULL) return BSONRAW_NULL;
+    if (!goes_on(buffer) || !takes_key(buffer, key)) return buffer->status;
+    if (BSONRAW_LACKS(part, len)) return take(buffer, BSONRAW_NULL);
+    if (len > LONGEST || key_len > LONGEST) return take(buffer, BSONRAW_TOO_LONG);
+    if (!reserve(buffer, key_len + len + 32)) return buffer->status;
+    part = bsonraw_some_bytes(part);
+    return buffer->status = bsonraw_append(&buffer->level, buffer->bytes, buffer->room, tag, bsonraw_str_bytes(key), key_len, part, len, part, 0);
 }
 
-/* Puts an element up to its payload, of this many bytes, where nothing can be refused: its key is ASCII, or made, and its level can be
- * ended after it. Returns where the payload goes; else NULL, and the call of a builder has to do it. */
-static uint8_t *put_front(struct bsonraw_buffer *buffer, uint32_t tag, const char *key, size_t payload_len) {
-    struct bsonraw_builder *level;
-    char number[11];
-    size_t key_len, size;
-    uint8_t *to;
-    if (buffer == NULL || buffer->begun != BEGUN || buffer->status != BSONRAW_OK || buffer->is_ended) return NULL;
-    level = &buffer->level;
-    if ((level->tag == BSONRAW_TAG_ARRAY) != (key == NULL)) return NULL;
-    if (key == NULL) key = number, key_len = put_decimal(level->count, number);
-    else key_len = strlen(key);
-    if (key_len > LONGEST || payload_len > LONGEST || !is_ascii(BSONRAW_BYTES(key), key_len)) return NULL;
-    size = key_len + payload_len + 2;
-    if (level->len + size >= LONGEST || level->count >= LONGEST || !reserve(buffer, size)) return NULL;
-    to = buffer->bytes + level->len;
-    *to = (uint8_t)tag;
-    memcpy(to + 1, key, key_len + 1);
-    level->len += (uint32_t)size;
-    level->count++;
-    return to + key_len + 2;
-}
-
-/* Appends an element whose payload is these bytes, as many as its kind has. */
-static int32_t add_fixed(struct bsonraw_buffer *buffer, uint32_t tag, const char *key, const uint8_t *payload, size_t len) {
-    uint8_t *to = BSONRAW_LACKS(payload, len) ? NULL : put_front(buffer, tag, key, len);
-    if (to == NULL) return add(buffer, tag, key, payload, len, NULL, 0);
-    if (len > 0) memcpy(to, payload, len);
-    return BSONRAW_OK;
+/* The same of the lowest bytes of a number, as many as the kind has. */
+static int32_t add_number(struct bsonraw_buffer *buffer, uint32_t tag, const char *key, uint64_t number) {
+    size_t key_len = bsonraw_str_len(key);
+    if (buffer == NULL) return BSONRAW_NULL;
+    if (!goes_on(buffer) || !takes_key(buffer, key)) return buffer->status;
+    if (key_len > LONGEST) return take(buffer, BSONRAW_TOO_LONG);
+    if (!reserve(buffer, key_len + 32)) return buffer->status;
+    return buffer->status = bsonraw_append_number(&buffer->level, buffer->bytes, buffer->room, tag, bsonraw_str_bytes(key), key_len, number);
 }
 
 int32_t bsonraw_buffer_append(struct bsonraw_buffer *buffer, uint32_t tag, const char *key, const void *one, size_t one_len,
                               const void *two, size_t two_len) {
-    return add(buffer, tag, key, one, one_len, two, two_len);
+    return add_parts(buffer, tag, key, one, one_len, two, two_len);
 }
 
 int32_t bsonraw_buffer_int32(struct bsonraw_buffer *buffer, const char *key, int32_t number) {
-    const struct bsonraw_number one = bsonraw_number_of((uint32_t)number);
-    return add_fixed(buffer, BSONRAW_TAG_INT32, key, one.bytes, 4);
+    return add_number(buffer, BSONRAW_TAG_INT32, key, (uint32_t)number);
 }
 
 int32_t bsonraw_buffer_int64(struct bsonraw_buffer *buffer, const char *key, int64_t number) {
-    const struct bsonraw_number one = bsonraw_number_of((uint64_t)number);
-    return add_fixed(buffer, BSONRAW_TAG_INT64, key, one.bytes, 8);
+    return add_number(buffer, BSONRAW_TAG_INT64, key, (uint64_t)number);
 }
 
 int32_t bsonraw_buffer_double(struct bsonraw_buffer *buffer, const char *key, double number) {
-    const struct bsonraw_number one = number_of_double(number);
-    return add_fixed(buffer, BSONRAW_TAG_DOUBLE, key, one.bytes, 8);
+    return add_number(buffer, BSONRAW_TAG_DOUBLE, key, bits_of(number));
 }
 
 int32_t bsonraw_buffer_bool(struct bsonraw_buffer *buffer, const char *key, int32_t is_true) {
-    const uint8_t one = is_true != 0;
-    return add_fixed(buffer, BSONRAW_TAG_BOOLEAN, key, &one, 1);
+    return add_number(buffer, BSONRAW_TAG_BOOLEAN, key, is_true != 0);
 }
 
 int32_t bsonraw_buffer_date_time(struct bsonraw_buffer *buffer, const char *key, int64_t millis) {
-    const struct bsonraw_number one = bsonraw_number_of((uint64_t)millis);
-    return add_fixed(buffer, BSONRAW_TAG_DATETIME, key, one.bytes, 8);
+    return add_number(buffer, BSONRAW_TAG_DATETIME, key, (uint64_t)millis);
 }
 
 int32_t bsonraw_buffer_timestamp(struct bsonraw_buffer *buffer, const char *key, uint32_t time, uint32_t increment) {
-    const struct bsonraw_number one = bsonraw_number_of((uint64_t)time << 32 | increment);
-    return add_fixed(buffer, BSONRAW_TAG_TIMESTAMP, key, one.bytes, 8);
+    return add_number(buffer, BSONRAW_TAG_TIMESTAMP, key, (uint64_t)time << 32 | increment);
 }
 
 int32_t bsonraw_buffer_null(struct bsonraw_buffer *buffer, const char *key) {
-    return add_fixed(buffer, BSONRAW_TAG_NULL, key, NULL, 0);
+    return add_number(buffer, BSONRAW_TAG_NULL, key, 0);
 }
 
 int32_t bsonraw_buffer_text(struct bsonraw_buffer *buffer, const char *key, const char *text, size_t text_len) {
-    const struct bsonraw_number head = bsonraw_number_of(text_len + 1);
-    uint8_t *to = NULL;
-    if (text != NULL && text_len < LONGEST && is_ascii(BSONRAW_BYTES(text), text_len))
-        to = put_front(buffer, BSONRAW_TAG_STRING, key, text_len + 5);
-    if (to == NULL) return add(buffer, BSONRAW_TAG_STRING, key, BSONRAW_BYTES(text), text_len, NULL, 0);
-    memcpy(to, head.bytes, 4);
-    memcpy(to + 4, text, text_len);
-    to[4 + text_len] = 0;
-    return BSONRAW_OK;
+    return add(buffer, BSONRAW_TAG_STRING, key, BSONRAW_BYTES(text), text_len);
 }
 
 int32_t bsonraw_buffer_utf8(struct bsonraw_buffer *buffer, const char *key, const char *text) {
@@ -1297,28 +1263,28 @@ int32_t bsonraw_buffer_utf8(struct bsonraw_buffer *buffer, const char *key, cons
 }
 
 int32_t bsonraw_buffer_oid(struct bsonraw_buffer *buffer, const char *key, const uint8_t id[12]) {
-    return add_fixed(buffer, BSONRAW_TAG_OBJECT_ID, key, id, 12);
+    return add(buffer, BSONRAW_TAG_OBJECT_ID, key, id, 12);
 }
 
 int32_t bsonraw_buffer_decimal128(struct bsonraw_buffer *buffer, const char *key, const uint8_t decimal[16]) {
-    return add_fixed(buffer, BSONRAW_TAG_DECIMAL128, key, decimal, 16);
+    return add(buffer, BSONRAW_TAG_DECIMAL128, key, decimal, 16);
 }
 
 int32_t bsonraw_buffer_binary(struct bsonraw_buffer *buffer, const char *key, uint8_t subtype, const void *data, size_t data_len) {
-    return add(buffer, BSONRAW_TAG_BINARY, key, data, data_len, &subtype, 1);
+    return add_parts(buffer, BSONRAW_TAG_BINARY, key, data, data_len, &subtype, 1);
 }
 
 int32_t bsonraw_buffer_regex(struct bsonraw_buffer *buffer, const char *key, const char *pattern, const char *options) {
     size_t pattern_len = pattern == NULL ? 1 : strlen(pattern);
-    return add(buffer, BSONRAW_TAG_REGEX, key, BSONRAW_BYTES(pattern), pattern_len, bsonraw_str_bytes(options), bsonraw_str_len(options));
+    return add_parts(buffer, BSONRAW_TAG_REGEX, key, BSONRAW_BYTES(pattern), pattern_len, bsonraw_str_bytes(options), bsonraw_str_len(options));
 }
 
 int32_t bsonraw_buffer_document(struct bsonraw_buffer *buffer, const char *key, const uint8_t *document, size_t document_len) {
-    return add(buffer, BSONRAW_TAG_DOCUMENT, key, document, document_len, NULL, 0);
+    return add(buffer, BSONRAW_TAG_DOCUMENT, key, document, document_len);
 }
 
 int32_t bsonraw_buffer_array(struct bsonraw_buffer *buffer, const char *key, const uint8_t *array, size_t array_len) {
-    return add(buffer, BSONRAW_TAG_ARRAY, key, array, array_len, NULL, 0);
+    return add(buffer, BSONRAW_TAG_ARRAY, key, array, array_len);
 }
 
 int32_t bsonraw_buffer_iter(struct bsonraw_buffer *buffer, const struct bsonraw_iter *iter, const uint8_t *bytes, size_t len) {

@@ -19,7 +19,8 @@ s/^ \* Tested\./ * It has no contract./
 s/^ \* bsonraw_iter_value, bsonraw_value_at and bsonraw_overwrite are proved; the others, which call the first, are tested\./ * bsonraw_iter_value, bsonraw_value_at and bsonraw_overwrite have contracts, whose proof was not seen; the others call the first./
 s/ Each is one call that is proved,$/ Each is one call whose proof was not seen,/
 s/ Each is bsonraw_overwrite, which is proved\. \*\/$/ Each is bsonraw_overwrite, whose proof was not seen. *\//
-s/ and _cancel are proved; the others, which call bsonraw_append for a kind$/ and _cancel have contracts, whose proof was not seen; the others call bsonraw_append for a kind/
+s/ and _cancel are proved; the others, which call these for a kind$/ and _cancel have contracts, whose proof was not seen; the others call these for a kind/
 s/^ \* each, are tested\./ * each./
 s/ one after the other: proved -/ one after the other -/
 s/ from text: proved, but where and why a text is refused, which is tested -/ from text -/
+s/^ \* What a call puts there is put by calls of a builder that are proved: bsonraw_append/ * What a call puts there is put by calls of a builder, whose proof was not seen: bsonraw_append/

@@ -8,6 +8,6 @@ s/, and what was proved of it;/, what was proved of it, and that no test was run
 s/^ \* Proved, but \(bsonraw_[a-z_]*\), which is tested\./ * Proved, but \1, of which no test was run./
 s/^ \* Tested\./ * Nothing of it is proved, and no test was run./
 s/^ \* bsonraw_iter_value, bsonraw_value_at and bsonraw_overwrite are proved; the others, which call the first, are tested\./ * bsonraw_iter_value, bsonraw_value_at and bsonraw_overwrite are proved; the others call the first, and no test of them was run./
-s/ and _cancel are proved; the others, which call bsonraw_append for a kind$/ and _cancel are proved; the others call bsonraw_append for a kind/
+s/ and _cancel are proved; the others, which call these for a kind$/ and _cancel are proved; the others call these for a kind/
 s/^ \* each, are tested\./ * each, and no test of them was run./
 s/ a text is refused, which is tested -/ a text is refused, of which no test was run -/

@@ -55,6 +55,21 @@ static void bare_elements(uint8_t *to, size_t len) {
     said(bsonraw_append_maxkey(&b, to, len, BSONRAW_KEY("M")));
 }
 
+/* {"i": 7, "t": true, "n": null, "l": -1}, of numbers with more bytes than the kinds have. */
+static void number_elements(uint8_t *to, size_t len) {
+    said(bsonraw_append_number(&b, to, len, BSONRAW_TAG_INT32, BSONRAW_KEY("i"), 0x8182838400000007));
+    said(bsonraw_append_number(&b, to, len, BSONRAW_TAG_BOOLEAN, BSONRAW_KEY("t"), 0x8182838485868701));
+    said(bsonraw_append_number(&b, to, len, BSONRAW_TAG_NULL, BSONRAW_KEY("n"), 0x8182838485868788));
+    said(bsonraw_append_number(&b, to, len, BSONRAW_TAG_INT64, BSONRAW_KEY("l"), (uint64_t)-1));
+}
+
+/* {"i": 7, "t": true, "n": null}, by their payloads */
+static void payload_elements(uint8_t *to, size_t len) {
+    said(bsonraw_append(&b, to, len, BSONRAW_TAG_INT32, BSONRAW_KEY("i"), BSONRAW_KEY("\7\0\0\0"), BSONRAW_KEY("")));
+    said(bsonraw_append(&b, to, len, BSONRAW_TAG_BOOLEAN, BSONRAW_KEY("t"), BSONRAW_KEY("\1"), BSONRAW_KEY("")));
+    said(bsonraw_append(&b, to, len, BSONRAW_TAG_NULL, BSONRAW_KEY("n"), BSONRAW_KEY(""), BSONRAW_KEY("")));
+}
+
 static void text_elements(uint8_t *to, size_t len) {
     said(bsonraw_append_utf8(&b, to, len, BSONRAW_KEY("\xc3\xa9"), BSONRAW_KEY("a\0b")));
     said(bsonraw_append_code(&b, to, len, BSONRAW_KEY("c"), BSONRAW_KEY("x")));
@@ -136,6 +151,8 @@ static const struct example examples[] = {
     EXAMPLE(timestamp_element, "\20\0\0\0\21a\0\5\0\0\0\4\3\2\1\0"),
     EXAMPLE(bool_elements, "\15\0\0\0\10a\0\1\10b\0\0\0"),
     EXAMPLE(bare_elements, "\20\0\0\0\12\0\6u\0\377m\0\177M\0\0"),
+    EXAMPLE(number_elements, "\36\0\0\0\20i\0\7\0\0\0\10t\0\1\12n\0\22l\0\377\377\377\377\377\377\377\377\0"),
+    EXAMPLE(payload_elements, "\23\0\0\0\20i\0\7\0\0\0\10t\0\1\12n\0\0"),
     EXAMPLE(text_elements, "\42\0\0\0\2\303\251\0\4\0\0\0a\0b\0\15c\0\2\0\0\0x\0\16s\0\1\0\0\0\0\0"),
     EXAMPLE(document_elements, "\30\0\0\0\3d\0\5\0\0\0\0\4l\0\10\0\0\0\12\60\0\0\0"),
     EXAMPLE(id_elements, "\75\0\0\0\7i\0abcdefghijkl\23n\0abcdefghijklmnop\14p\0\3\0\0\0ns\0abcdefghijkl\0"),
@@ -218,12 +235,16 @@ static void look_at_refusals(void) {
             bsonraw_append_code_with_scope(&b, to, len, BSONRAW_KEY("a"), BSONRAW_KEY(""), BSONRAW_KEY("\5\0\0\0\1")));
     for (tag = 0; tag < 300; tag++) {
         int is_one = (tag >= 1 && tag <= 19) || tag == 127 || tag == 255;
+        int is_number = tag == 1 || tag == 6 || (tag >= 8 && tag <= 10) || (tag >= 16 && tag <= 18) || tag == 127 || tag == 255;
+        if (!is_number) refused("no number", BSONRAW_OTHER_KIND, bsonraw_append_number(&b, to, len, tag, parts, 0, 1));
         if (!is_one) refused("no kind", BSONRAW_OTHER_KIND, bsonraw_append(&b, to, len, tag, parts, 0, parts, 0, parts, 0));
     }
     refused("short number", BSONRAW_OTHER_KIND,
             bsonraw_append(&b, to, len, BSONRAW_TAG_INT64, parts, 0, parts, 7, parts, 0));
     refused("boolean", BSONRAW_OTHER_KIND,
             bsonraw_append(&b, to, len, BSONRAW_TAG_BOOLEAN, parts, 0, (const uint8_t *)"\2", 1, parts, 0));
+    refused("boolean of a number", BSONRAW_OTHER_KIND, bsonraw_append_number(&b, to, len, BSONRAW_TAG_BOOLEAN, parts, 0, 2));
+    refused("0 in the key of a number", BSONRAW_FAULT, bsonraw_append_number(&b, to, len, BSONRAW_TAG_INT32, BSONRAW_KEY("\0a"), 2));
     refused("level of another kind", BSONRAW_OTHER_KIND,
             (bsonraw_append_begin(&b, to, len, BSONRAW_TAG_NULL, parts, 0, &level), bsonraw_append_end(&b, to, len, &level)));
     refused("0 in the key of a level", BSONRAW_FAULT,
@@ -248,6 +269,44 @@ static void look_at_refusals(void) {
     b.len = 2147483647 - 3;
     expect(bsonraw_append_null(&b, to, len, BSONRAW_KEY("")) == BSONRAW_SMALL_BUFFER, "longest", "it is refused");
     expect(bsonraw_builder_end(&b, to, len) == BSONRAW_SMALL_BUFFER && b.len == 2147483647, "longest", "it isn't counted");
+}
+
+/* One element with this key and this text, which is as long; status is what is to be returned. */
+static void append_both(const uint8_t *key, const uint8_t *text, size_t len, int32_t status) {
+    static const uint8_t head[] = {BSONRAW_TAG_STRING};
+    bsonraw_builder_begin(&b, room, sizeof room);
+    said(bsonraw_append_utf8(&b, room, sizeof room, key, len, text, len));
+    expect(b.status == status, "a key and a text", "another status");
+    if (status != BSONRAW_OK) return;
+    expect(memcmp(room + 4, head, 1) == 0 && memcmp(room + 5, key, len) == 0 && room[5 + len] == 0, "a key and a text", "another key");
+    expect(room[6 + len] == len + 1 && memcmp(room + 10 + len, text, len) == 0 && room[10 + 2 * len] == 0, "a key and a text", "another text");
+    expect(b.len == 11 + 2 * len, "a key and a text", "another length");
+}
+
+/* Keys and texts of each length: plain ones; and such with a 0, a byte that isn't UTF-8, or a character of two bytes at each place. */
+static void look_at_lengths(void) {
+    uint8_t plain[101], other[101];
+    memset(plain, 'k', sizeof plain);
+    for (size_t len = 0; len <= 100; len++) {
+        append_both(plain, plain, len, BSONRAW_OK);
+        for (size_t at = 0; at < len; at++) {
+            memset(other, 'k', sizeof other);
+            other[at] = 0;
+            append_both(other, plain, len, BSONRAW_FAULT);
+            append_both(plain, other, len, BSONRAW_OK);
+            other[at] = 0x80;
+            append_both(other, plain, len, BSONRAW_FAULT);
+            append_both(plain, other, len, BSONRAW_FAULT);
+            if (at + 1 == len) continue;
+            other[at] = 0xc3, other[at + 1] = 0xa9;
+            append_both(other, other, len, BSONRAW_OK);
+        }
+    }
+}
+
+static void look_at_bytes(void) {
+    const struct bsonraw_number number = bsonraw_number_of(0x0807060504030201);
+    expect(memcmp(number.bytes, "\1\2\3\4\5\6\7\10", 8) == 0, "the bytes of a number", "others");
 }
 
 /* Each element of each document in turn, as it is, makes the document again. */
@@ -301,7 +360,8 @@ static void look_at_any(void) {
         uint8_t *to = i % 2 ? pages + 2 * 4096 - len : pages + 4096;
         struct bsonraw_builder any = any_builder(), level = any_builder();
         if (random_number() % 2) level.begins = level.len - random_number() % 16;
-        switch (random_number() % 6) {
+        switch (random_number() % 7) {
+        case 6: bsonraw_append(&any, to, len, BSONRAW_TAG_OBJECT_ID, BSONRAW_KEY("abcdefg"), BSONRAW_KEY("abcdefghijkl"), BSONRAW_KEY("")); break;
         case 0: bsonraw_append_int32(&any, to, len, BSONRAW_KEY("abcdefg"), i); break;
         case 1: bsonraw_append_binary(&any, to, len, BSONRAW_KEY("a"), 2, BSONRAW_KEY("abcdefghijk")); break;
         case 2: bsonraw_append_begin(&any, to, len, BSONRAW_TAG_ARRAY, BSONRAW_KEY("a"), &level); break;
@@ -318,6 +378,8 @@ int main(void) {
     read_documents(&all);
     look_at_examples();
     look_at_refusals();
+    look_at_lengths();
+    look_at_bytes();
     look_at_iter(&all);
     look_at_any();
     return result("build");

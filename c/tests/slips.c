@@ -62,7 +62,7 @@ static void look_at_slips(void) {
     begin();
     stays(bsonraw_append_null(&b, room, len, BSONRAW_KEY("n")), BSONRAW_MISUSE, "an append while a level is open");
     begin();
-    is(bsonraw_append_int32(&b, room, len, BSONRAW_KEY("n"), 1), BSONRAW_MISUSE, "the builder around a level");
+    is(bsonraw_append_utf8(&b, room, len, BSONRAW_KEY("n"), BSONRAW_KEY("ok")), BSONRAW_MISUSE, "the builder around a level");
     is(bsonraw_append_end(&outer, room, len, &inner), BSONRAW_OK, "a level in it");
     stays(bsonraw_append_end(&b, room, len, &outer), BSONRAW_MISUSE, "the end of the level");
     begin();

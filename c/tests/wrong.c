@@ -220,6 +220,8 @@ int32_t right_builder_begin(struct bsonraw_builder *builder, uint8_t *room, size
 int32_t right_builder_end(struct bsonraw_builder *builder, uint8_t *room, size_t room_len);
 int32_t right_append(struct bsonraw_builder *builder, uint8_t *room, size_t room_len, uint32_t tag, const uint8_t *key,
                      size_t key_len, const uint8_t *one, size_t one_len, const uint8_t *two, size_t two_len);
+int32_t right_append_number(struct bsonraw_builder *builder, uint8_t *room, size_t room_len, uint32_t tag, const uint8_t *key,
+                            size_t key_len, uint64_t number);
 int32_t right_append_iter(struct bsonraw_builder *builder, uint8_t *room, size_t room_len, const struct bsonraw_iter *iter,
                           const uint8_t *bytes, size_t len);
 int32_t right_append_begin(struct bsonraw_builder *builder, uint8_t *room, size_t room_len, uint32_t tag,
@@ -246,6 +248,13 @@ int32_t bsonraw_append(struct bsonraw_builder *builder, uint8_t *room, size_t ro
     int32_t status = right_append(builder, room, room_len, tag, key, key_len, one, one_len, two, two_len);
     if (MISTAKE == 16 && status == BSONRAW_FAULT) builder->status = was;
     return status;
+}
+
+/* 52: a boolean has the number as it is. */
+int32_t bsonraw_append_number(struct bsonraw_builder *builder, uint8_t *room, size_t room_len, uint32_t tag, const uint8_t *key,
+                              size_t key_len, uint64_t number) {
+    if (MISTAKE == 52 && tag == BSONRAW_TAG_BOOLEAN && number > 1) return builder->status = BSONRAW_OTHER_KIND;
+    return right_append_number(builder, room, room_len, tag, key, key_len, number);
 }
 
 /* 30: an element that is copied isn't counted. */

@@ -1,5 +1,5 @@
 -- What the calls of a builder leave, where it held elements.
-use Rattle.std.proofs.Common.{◌≡◌, ◌≤◌, ◌+◌, ◌-◌, inl, inr, ℕ, ℤ, pos, List, [], ◌∷◌, ◌++◌, length, take, drop, ap, sym, ◌∙◌, refl, subst, arith, append_assoc, length-append}
+use Rattle.std.proofs.Common.{◌≡◌, ◌≤◌, ◌+◌, ◌-◌, inl, inr, ℕ, ℤ, pos, Some, List, [], ◌∷◌, ◌++◌, length, take, drop, ap, sym, ◌∙◌, refl, subst, arith, append_assoc, length-append}
 use Rattle.std.proofs.lemmas.List.{append-nil, drop_at, drop-take, length-take-le, take_at, take-take}
 use Rattle.std.proofs.Math.Seq.{take-append-add}
 use Rattle.std.specs.Int.Signed.{mag}
@@ -13,13 +13,13 @@ use Rattle.raw_bson.specs.Envelope.{IsEnvelope}
 use Rattle.raw_bson.specs.Number.{le32, max_length}
 use Rattle.raw_view.proofs.Face.{framed_is_envelope}
 use Rattle.bsonraw_c.specs.Build.{Adds, Appends, AppendsElement, AreParts, ClosesLevel, Declines, EndsLevel, HoldsElements, HoldsEnded, HoldsLevel, HoldsMore, IsCText, IsElement, IsElementOf, IsOpen, IsReadElement, OpensLevel, RefusesElement, RefusesParts, elements, ended, head_of, key_in, laid_out, layout_of, level_of, opened, put_bytes}
-use Rattle.bsonraw_c.specs.BuildParts.{AddsUnder, ArePartsOf, frame_of_parts}
+use Rattle.bsonraw_c.specs.BuildParts.{AddsUnder}
 use Rattle.bsonraw_c.specs.Codes.{status_code}
+use Rattle.bsonraw_c.specs.Numbers.{AppendsNumber, IsReadNumber, lowest, number_size}
 use Rattle.bsonraw_c.specs.Values.{IsOn}
 use Rattle.bsonraw_c.specs.declared.build.Builder.{Builder}
 use Rattle.bsonraw_c.specs.declared.build_parts.Layout.{Layout}
 use Rattle.bsonraw_c.specs.declared.build_parts.Layout.TheVariants as layout
-use Rattle.bsonraw_c.specs.declared.build_parts.Parts.{Parts}
 use Rattle.bsonraw_c.specs.declared.codes.Status.{Status}
 use Rattle.bsonraw_c.specs.declared.codes.Status.TheVariants as status
 use Rattle.bsonraw_c.specs.declared.iter.Iter.{Iter}
@@ -95,29 +95,30 @@ adds_few f old new before after (inr (inr put)) ok = cases_le (length (frame_byt
 
 -- the arguments of an append
 
--- the parts are those of the element
-made : (tag : ℕ) (key one two : List ℕ) (p : Parts) (b : Builder) → ArePartsOf tag one two p → IsCText (key_in b key) → IsElement b tag key one two (frame_of_parts (key_in b key) p)
-made tag key one two p b parts text = record {
-  tag_is = parts.tag_is;
-  parts = subst (λ (l : Layout). AreParts l one two) parts.layout_is parts.good;
-  key_is = refl;
-  c_text = text;
-  payload_is = ap (λ (l : Layout). laid_out l p.one.now p.two.now) parts.layout_is ∙ ap (λ (x : List ℕ). laid_out (layout_of p.kind) x p.two.now) parts.one_is
-      ∙ ap (λ (x : List ℕ). laid_out (layout_of p.kind) one x) parts.two_is;
-}
+-- the element that the arguments are
+made : (k : ElementType) (key one two payload : List ℕ) (b : Builder) → AreParts (layout_of k) one two → payload ≡ laid_out (layout_of k) one two → IsCText (key_in b key)
+    → IsElement b (tag_of k) key one two (record { kind = k; key = key_in b key; payload = payload })
+made k key one two payload b good laid text = record { tag_is = refl; parts = good; key_is = refl; c_text = text; payload_is = laid }
 
-pub appended : (tag : ℕ) (key one two : List ℕ) (p : Parts) (old new : Builder) (before after : List ℕ) → IsOpen old → ArePartsOf tag one two p
-    → AddsUnder key p old new before after → Appends tag key one two old new before after
-appended tag key one two p old new before after goes parts (inl bad) =
-    inr (inl (
+-- parts that are good, as a kind with this layout wants them
+pub appended : (k : ElementType) (l : Layout) (key one two : List ℕ) (old new : Builder) {before after : List ℕ} → IsOpen old → layout_of k ≡ l → AreParts l one two
+    → AddsUnder key k (laid_out l one two) old new before after → Appends (tag_of k) key one two old new before after
+appended k l key one two old new goes is good (inl bad) =
+    inr (inl (goes, (status.Fault, inr (inr (k, refl, subst (λ (x : Layout). AreParts x one two) (sym is) good, bad.0, bad.1, refl)), bad.2)))
+appended k l key one two old new goes is good (inr adds) =
+    inr (inr (
       goes,
       (
-        status.Fault,
-        inr (inr (p.kind, parts.tag_is, subst (λ (l : Layout). AreParts l one two) parts.layout_is parts.good, bad.0, bad.1, refl)),
-        bad.2,
+        record { kind = k; key = key_in old key; payload = laid_out l one two },
+        made k key one two (laid_out l one two) old (subst (λ (x : Layout). AreParts x one two) (sym is) good) (ap (λ (x : Layout). laid_out x one two) (sym is)) adds.0,
+        adds.1,
       ),
     ))
-appended tag key one two p old new before after goes parts (inr adds) = inr (inr (goes, (frame_of_parts (key_in old key) p, made tag key one two p old parts adds.0, adds.1)))
+
+-- parts that aren't
+pub declined : (k : ElementType) (l : Layout) (key one two : List ℕ) (s : Status) (old new : Builder) {room : List ℕ} → IsOpen old → layout_of k ≡ l → RefusesParts l one two s
+    → new ≡ record old { status = pos (status_code s) } → Appends (tag_of k) key one two old new room room
+declined k l key one two s old new goes is bad e = inr (inl (goes, (s, inr (inl (k, refl, subst (λ (x : Layout). RefusesParts x one two s) (sym is) bad)), (refl, e))))
 
 -- no refusal is a builder that is well
 isnt_done : (s t : Status) → s ≡ t → status_code s ≡ 0 → status_code t ≡ 0
@@ -150,22 +151,47 @@ holds_appended tag key one two old new before after (inr (inr put)) front fs h o
   holds_more put.1.0 old new before after front fs h put.1.2 ok,
 )
 
+-- a payload that is one part, as it is
+pub as_it_is : (l : Layout) (n : ℕ) (one two : List ℕ) → number_size l ≡ Some n → laid_out l one two ≡ one
+as_it_is (layout.Fixed m) n one two e = refl
+as_it_is layout.Flag n one two e = refl
+as_it_is layout.Text n one two e = absurd (cc)
+as_it_is layout.Nested n one two e = refl
+as_it_is layout.Binary n one two e = absurd (cc)
+as_it_is layout.Regex n one two e = absurd (cc)
+as_it_is layout.Pointer n one two e = absurd (cc)
+as_it_is layout.Scoped n one two e = absurd (cc)
+
+-- an element with the lowest bytes of a number
+pub number_appended : (tag : ℕ) (key payload : List ℕ) (number n : ℕ) (k : ElementType) (old new : Builder) {before after : List ℕ} → tag ≡ tag_of k
+    → number_size (layout_of k) ≡ Some n → payload ≡ lowest n number → Appends (tag_of k) key payload [] old new before after
+    → AppendsNumber tag key number old new before after
+number_appended tag key payload number n k old new {before} {after} is size lowest_is appends =
+    let as_tag = subst (λ (t : ℕ). Appends t key payload [] old new before after) (sym is) appends in
+    inr (inr (n, (k, is, size), subst (λ (x : List ℕ). Appends tag key x [] old new before after) lowest_is as_tag))
+
+pub holds_number : (tag : ℕ) (key : List ℕ) (number : ℕ) (old new : Builder) (before after : List ℕ) → AppendsNumber tag key number old new before after
+    → HoldsMore (IsReadNumber old tag key number) old new before after
+holds_number tag key number old new before after (inl declines) front fs h ok = absurd (declines_none old new before after declines h.well ok)
+holds_number tag key number old new before after (inr (inl bad)) front fs h ok = absurd (omega (arith, isnt_well 11 new old bad.2.1 ok))
+holds_number tag key number old new before after (inr (inr (n, is, appends))) front fs h ok =
+    let held = holds_appended tag key (lowest n number) [] old new before after appends front fs h ok in
+    (held.0, (n, is, held.1), held.2)
+
 -- an element as it stands
 
-pub appended_iter : {bytes : List ℕ} {it : Iter} {f : Frame} (key : List ℕ) (p : Parts) (old new : Builder) (before after : List ℕ) → IsOpen old
-    → IsOn bytes it f → key ≡ f.key → frame_of_parts (key_in old key) p ≡ record f { key = key_in old key } → AddsUnder key p old new before after
-    → AppendsElement bytes it old new before after
-appended_iter key p old new before after goes on is made (inl bad) = absurd (bad.1 (subst IsCText (sym is) (on.stands.key_nul_free, on.stands.key_utf8)))
-appended_iter {f = f} key p old new before after goes on is made (inr adds) =
-    let text = subst (λ (k : List ℕ). IsCText (key_in old k)) is adds.0 in
+pub appended_iter : {bytes : List ℕ} {it : Iter} {f : Frame} (key : List ℕ) (k : ElementType) (payload : List ℕ) (old new : Builder) {before after : List ℕ} → IsOpen old
+    → IsOn bytes it f → key ≡ f.key → k ≡ f.kind → payload ≡ f.payload → AddsUnder key k payload old new before after → AppendsElement bytes it old new before after
+appended_iter key k payload old new goes on is kind_is payload_is (inl bad) = absurd (bad.1 (subst IsCText (sym is) (on.stands.key_nul_free, on.stands.key_utf8)))
+appended_iter {f = f} key k payload old new {before} {after} goes on is kind_is payload_is (inr adds) =
+    let text = subst (λ (x : List ℕ). IsCText (key_in old x)) is adds.0 in
     let g : Frame = record f { key = key_in old f.key } in
+    let kinds = ap (λ (x : ElementType). let y : Frame = record { kind = x; key = key_in old key; payload = payload } in y) kind_is in
+    let payloads = ap (λ (x : List ℕ). let y : Frame = record { kind = f.kind; key = key_in old key; payload = x } in y) payload_is in
+    let keys = ap (λ (x : List ℕ). let y : Frame = record f { key = key_in old x } in y) is in
     inr (inr (
       goes,
-      (
-        g,
-        (f, on, refl, copy_read f on.s on.r (key_in old f.key) on.stands text),
-        subst (λ (g : Frame). Adds g old new before after) (made ∙ ap (λ (k : List ℕ). record f { key = key_in old k }) is) adds.1,
-      ),
+      ((g, (f, on, refl, copy_read f on.s on.r (key_in old f.key) on.stands text), subst (λ (y : Frame). Adds y old new before after) (kinds ∙ payloads ∙ keys) adds.1)),
     ))
 
 pub holds_iter : (bytes : List ℕ) (it : Iter) (old new : Builder) (before after : List ℕ) → AppendsElement bytes it old new before after → HoldsMore (IsElementOf old bytes it) old new before after

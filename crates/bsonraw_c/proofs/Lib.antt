@@ -1,5 +1,6 @@
 mod BuildReads
 mod Building
+mod Claiming
 mod Counting
 mod Descending
 mod Enough
@@ -10,6 +11,7 @@ mod Parts
 mod PathTexts
 mod Forming
 mod Placing
+mod PlainBytes
 pub mod Putting
 mod Reporting
 mod Resyncing

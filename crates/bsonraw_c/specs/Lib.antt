@@ -16,6 +16,7 @@ pub mod FromJson
 pub mod Iters
 pub mod Json
 pub mod JsonFaultTexts
+pub mod Numbers
 pub mod Values
 pub mod Violations
 pub mod Reports

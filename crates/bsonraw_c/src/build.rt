@@ -1,20 +1,18 @@
 //! A builder of documents in the caller's room, as C keeps it.
 
-ghost use Rattle.std.specs.Prelude.{◌≡◌, ◌≤◌, ◌<◌, ◌+◌, ◌++◌, ◌∷◌, [], ◌↔◌, length, pos, IsTrue, IfSome, IfNone};
-ghost use Rattle.bsonraw_c.specs.Build.{Adds, Appends, AppendsElement, AreParts, Begins, CancelsLevel, ClosesLevel, EndsLevel, TakesMore, HoldsAgain, HoldsDocument, HoldsEnded, HoldsLevel, HoldsMore, IsBegun, IsElementOf, IsOpenIn, IsReadElement, IsTooLong, OpensLevel, Refuses, RefusesMisuse, TakesLevel, before_level};
-ghost use Rattle.bsonraw_c.specs.BuildParts.{AddsUnder, frame_of_parts};
+ghost use Rattle.std.specs.Prelude.{◌≡◌, ◌<◌, ◌+◌, ◌↔◌, length, pos, IsTrue};
+ghost use Rattle.bsonraw_c.specs.Build.{Appends, AppendsElement, Begins, CancelsLevel, ClosesLevel, EndsLevel, TakesMore, HoldsAgain, HoldsDocument, HoldsEnded, HoldsLevel, HoldsMore, IsBegun, IsElementOf, IsOpenIn, IsReadElement, OpensLevel, RefusesMisuse, TakesLevel, before_level};
 ghost use Rattle.bsonraw_c.specs.Codes.{status_code};
 
 use crate::build_bytes::{put_at, put_len};
-use crate::build_parts::{Layout, Parts, is_c_text};
+use crate::build_parts::{Layout, Parts, kind_of};
 use crate::codes::Status;
 use crate::iter::Iter;
 use crate::value::element_at;
-use itoa::Buffer;
 use raw_bson::ElementType;
 
 /// The most bytes that a document has, and the most elements that are counted.
-const MOST: u32 = 2147483647;
+pub const MOST: u32 = 2147483647;
 
 /// A level that isn't ended yet: a document or an array, whose elements so far are in the room.
 #[repr(C)]
@@ -164,7 +162,7 @@ pub extern "C" fn bsonraw_append_cancel(builder: &mut Builder, level: &mut Build
 impl Builder {
     /// Whether nothing was refused so far; there may have been too little room.
     #[inline(always)]
-    fn goes_on(&self) -> bool
+    pub fn goes_on(&self) -> bool
         ensures { IsTrue result ↔ TakesMore self.now }
     {
         self.status == 0 || self.status == 8
@@ -172,7 +170,7 @@ impl Builder {
 
     /// Whether the level's length has its four bytes, as that of each builder that a call has begun.
     #[inline(always)]
-    fn is_begun(&self) -> bool
+    pub fn is_begun(&self) -> bool
         ensures { IsTrue result ↔ IsBegun self.now }
     {
         4 <= self.len && self.begins <= self.len - 4
@@ -180,7 +178,7 @@ impl Builder {
 
     /// Says this status from now on.
     #[inline(always)]
-    fn refuse(&mut self, status: Status)
+    pub fn refuse(&mut self, status: Status)
         ensures { self.new ≡ record self.old { status = pos (status_code status) } }
     {
         self.status = status.number();
@@ -217,54 +215,6 @@ impl Builder {
         }
     }
 
-    /// How many bytes are taken with `size` more; none, where the level couldn't be ended then or has the most elements.
-    #[inline(always)]
-    fn len_with(&self, size: usize) -> Option<u32>
-        ensures fits { IfSome result (λ len. (len ≡ self.now.len + size) × ¬ IsTooLong self.now size) }
-        ensures too_long { IfNone result (IsTooLong self.now size) }
-    {
-        if MOST <= self.count || MOST <= self.len || ((MOST - self.len) as usize) <= size {
-            return None;
-        }
-        Some(self.len + size as u32)
-    }
-
-    /// Appends an element under this key, or in an array under the next number.
-    #[inline(always)]
-    fn add_under(&mut self, room: &mut [u8], key: &[u8], parts: Parts<'_>)
-        requires { AreParts parts.layout parts.one.now parts.two.now }
-        ensures { AddsUnder key.now parts.entry self.old self.new room.old room.new }
-    {
-        if self.tag == 4 {
-            let number = self.count;
-            self.add(room, Buffer::new().format(number).as_bytes(), parts);
-        } else if is_c_text(key) {
-            self.add(room, key, parts);
-        } else {
-            self.refuse(Status::Fault);
-        }
-    }
-
-    /// Appends an element under this key.
-    #[inline(always)]
-    fn add(&mut self, room: &mut [u8], key: &[u8], parts: Parts<'_>)
-        requires { AreParts parts.layout parts.one.now parts.two.now }
-        ensures { Adds (frame_of_parts key.now parts.entry) self.old self.new room.old room.new }
-    {
-        let size = parts.len().saturating_add(key.len()).saturating_add(2);
-        let Some(len) = self.len_with(size) else {
-            return self.refuse(Status::TooLong);
-        };
-        let at = self.len as usize;
-        self.len = len;
-        self.count += 1;
-        if room.len() < (len as usize) {
-            self.refuse(Status::SmallBuffer);
-        } else {
-            parts.put(room, at, key);
-        }
-    }
-
     /// Appends the element of this tag with these parts.
     #[inline(always)]
     fn append(&mut self, room: &mut [u8], tag: u32, key: &[u8], one: &[u8], two: &[u8])
@@ -274,9 +224,21 @@ impl Builder {
         if !self.is_begun() {
             return self.refuse(Status::BadOffset);
         }
-        match Parts::of(tag, one, two) {
-            Ok(parts) => self.add_under(room, key, parts),
-            Err(status) => self.refuse(status),
+        let Some(kind) = kind_of(tag) else {
+            return self.refuse(Status::OtherKind);
+        };
+        match Layout::of(kind) {
+            Layout::Fixed(len) => self.append_fixed(room, kind, len, key, one),
+            Layout::Text => self.append_text(room, kind, key, one),
+            layout => {
+                let parts = Parts {
+                    kind,
+                    layout,
+                    one,
+                    two,
+                };
+                self.append_parts(room, key, parts);
+            }
         }
     }
 
@@ -292,8 +254,8 @@ impl Builder {
         let Some(element) = element_at(iter, bytes) else {
             return self.refuse(Status::BadOffset);
         };
-        let parts = Parts::of_element(element);
-        self.add_under(room, element.key().as_bytes(), parts);
+        let key = element.key().as_bytes();
+        self.add_under(room, element.element_type(), key, element.payload());
     }
 
     /// Becomes the builder of a level in its own.
@@ -309,13 +271,7 @@ impl Builder {
             4 => ElementType::Array,
             _ => return self.refuse(Status::OtherKind),
         };
-        let unset = Parts {
-            kind,
-            layout: Layout::Fixed(4),
-            one: &[0; 4],
-            two: &[],
-        };
-        self.add_under(room, key, unset);
+        self.add_under(room, kind, key, &[0; 4]);
         if self.goes_on() {
             self.begins = self.len - 4;
             self.count = 0;

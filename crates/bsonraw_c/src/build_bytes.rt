@@ -44,3 +44,27 @@ pub fn put_string(room: &mut [u8], at: usize, text: &[u8])
     put_len(room, at, text.len() + 1);
     put_c_text(room, at + 4, text);
 }
+
+/// Puts the tag of an element, its key and a 0 at an offset.
+#[inline(always)]
+pub fn put_head(room: &mut [u8], at: usize, tag: u8, key: &[u8])
+    requires { at + (length key.now + 2) ≤ length room.old }
+    ensures { room.new ≡ put_bytes at (tag ∷ (key.now ++ 0 ∷ [])) room.old }
+{
+    put_at(room, at, &[tag]);
+    put_c_text(room, at + 1, key);
+}
+
+/// Puts bytes at an offset, in few steps where they are as many as those of a usual kind.
+#[inline(always)]
+pub fn put_short(room: &mut [u8], at: usize, bytes: &[u8])
+    requires { at + length bytes.now ≤ length room.old }
+    ensures { room.new ≡ put_bytes at bytes.now room.old }
+{
+    match bytes.len() {
+        4 => put_at(room, at, &bytes[..4]),
+        8 => put_at(room, at, &bytes[..8]),
+        12 => put_at(room, at, &bytes[..12]),
+        _ => put_at(room, at, bytes),
+    }
+}

@@ -1,18 +1,18 @@
 //! The parts of an element that is appended, and the bytes that it becomes.
 
-ghost use Rattle.std.specs.Prelude.{◌≡◌, ◌≢◌, ◌⊎◌, ◌≤◌, ◌+◌, ◌++◌, ◌∷◌, ◌^◌, ◌-◌, ◌↔◌, [], length, pos, min, nat_eq, get_or, IsOk, IsTrue, IfOk, IfErr, IfSome, IfNone};
+ghost use Rattle.std.specs.Prelude.{◌≡◌, ◌≢◌, ◌⊎◌, ◌≤◌, ◌+◌, ◌∷◌, ◌^◌, ◌-◌, ◌↔◌, [], length, min, nat_eq, get_or, IsOk, IsTrue, IfOk, IfErr, IfSome, IfNone};
 ghost use Rattle.std.specs.Str.{IsUtf8};
-ghost use Rattle.raw_bson.specs.Append.{frame_bytes};
-ghost use Rattle.raw_bson.specs.ElementSteps.{frame_of};
 ghost use Rattle.raw_bson.specs.ElementType.{ElementType};
 ghost use Rattle.raw_bson.specs.Envelope.{IsEnvelope};
 ghost use Rattle.raw_bson.specs.Kind.{tag_of};
 ghost use Rattle.raw_bson.specs.Number.{max_length};
 ghost use Rattle.bsonraw_c.specs.Build.{AreParts, IsCText, RefusesParts, binary_of, layout_of, put_bytes};
-ghost use Rattle.bsonraw_c.specs.BuildParts.{ArePartsOf, RefusesTag, frame_of_parts, payload_of_parts};
+ghost use Rattle.bsonraw_c.specs.BuildParts.{payload_of_parts};
+ghost use Rattle.bsonraw_c.specs.Numbers.{number_size};
 
 use crate::build_bytes::{put_at, put_c_text, put_len, put_string};
 use crate::codes::Status;
+use crate::plain_bytes::{is_long_plain, is_plain};
 use raw_bson::{ElementType, RawDocument, RawElement};
 
 /// What the payload of a kind is made of.
@@ -47,10 +47,18 @@ pub struct Parts<'a> {
 
 /// Whether a text is UTF-8.
 #[inline(always)]
-fn is_text(text: &[u8]) -> bool
+pub fn is_text(text: &[u8]) -> bool
     ensures { IsTrue result ↔ IsUtf8 text.now }
 {
-    text.is_ascii() || std::str::from_utf8(text).is_ok()
+    is_plain(text) || is_any_text(text)
+}
+
+/// The same of a text that may be long, not ASCII, or have a 0.
+#[inline(never)]
+fn is_any_text(text: &[u8]) -> bool
+    ensures { IsTrue result ↔ IsUtf8 text.now }
+{
+    is_long_plain(text) || std::str::from_utf8(text).is_ok()
 }
 
 /// Whether a text is UTF-8 without a 0.
@@ -58,7 +66,15 @@ fn is_text(text: &[u8]) -> bool
 pub fn is_c_text(text: &[u8]) -> bool
     ensures { IsTrue result ↔ IsCText text.now }
 {
-    !text.contains(&0) && is_text(text)
+    is_plain(text) || is_any_c_text(text)
+}
+
+/// The same of a text that may be long, or not ASCII.
+#[inline(never)]
+fn is_any_c_text(text: &[u8]) -> bool
+    ensures { IsTrue result ↔ IsCText text.now }
+{
+    is_long_plain(text) || (!text.contains(&0) && is_any_text(text))
 }
 
 /// Nothing, or this status.
@@ -99,7 +115,7 @@ fn is_old(subtype: &[u8]) -> bool
 
 /// The kind of a tag.
 #[inline(always)]
-fn kind_of(tag: u32) -> Option<ElementType>
+pub fn kind_of(tag: u32) -> Option<ElementType>
     ensures kind { IfSome result (λ kind. tag ≡ tag_of kind) }
     ensures none { IfNone result ((kind : ElementType) → tag ≢ tag_of kind) }
 {
@@ -157,6 +173,18 @@ impl Layout {
         }
     }
 
+    /// How many bytes the payload has, if each has as many, and at most eight.
+    #[inline(always)]
+    pub fn number_size(self) -> Option<usize>
+        ensures { result ≡ number_size self }
+    {
+        match self {
+            Layout::Fixed(len) if len <= 8 => Some(len),
+            Layout::Flag => Some(1),
+            _ => None,
+        }
+    }
+
     /// Whether the parts are as this layout wants them, or why not.
     #[inline(always)]
     pub fn validate(self, one: &[u8], two: &[u8]) -> Result<(), Status>
@@ -183,41 +211,6 @@ impl Layout {
 }
 
 impl<'a> Parts<'a> {
-    /// The element of this tag with these parts, or why there is none.
-    #[inline(always)]
-    pub fn of(tag: u32, one: &'a [u8], two: &'a [u8]) -> Result<Parts<'a>, Status>
-        ensures parts { IfOk result (λ parts. ArePartsOf tag one.now two.now parts) }
-        ensures refused { IfErr result (RefusesTag tag one.now two.now) }
-    {
-        let Some(kind) = kind_of(tag) else {
-            return Err(Status::OtherKind);
-        };
-        let layout = Layout::of(kind);
-        layout.validate(one, two)?;
-        Ok(Parts {
-            kind,
-            layout,
-            one,
-            two,
-        })
-    }
-
-    /// An element as it is.
-    #[inline(always)]
-    pub fn of_element(element: RawElement<'a>) -> Parts<'a>
-        ensures kind { result.kind ≡ (frame_of element.entry).kind }
-        ensures payload { payload_of_parts result ≡ (frame_of element.entry).payload }
-        ensures parts { AreParts result.layout result.one.now result.two.now }
-    {
-        let payload = element.payload();
-        Parts {
-            kind: element.element_type(),
-            layout: Layout::Fixed(payload.len()),
-            one: payload,
-            two: &[],
-        }
-    }
-
     /// How many bytes the payload has, at most the greatest number.
     #[inline(always)]
     pub fn len(&self) -> usize
@@ -250,7 +243,7 @@ impl<'a> Parts<'a> {
 
     /// Puts the payload at an offset.
     #[inline(always)]
-    fn put_payload(&self, room: &mut [u8], at: usize)
+    pub fn put_payload(&self, room: &mut [u8], at: usize)
         requires parts { AreParts self.now.layout self.now.one.now self.now.two.now }
         requires room { at + length (payload_of_parts self.now) ≤ length room.old }
         requires fits { length (payload_of_parts self.now) ≤ max_length }
@@ -275,18 +268,5 @@ impl<'a> Parts<'a> {
                 put_at(room, at + len + 9, self.two);
             }
         }
-    }
-
-    /// Puts the element under this key at an offset.
-    #[inline(always)]
-    pub fn put(&self, room: &mut [u8], at: usize, key: &[u8])
-        requires parts { AreParts self.now.layout self.now.one.now self.now.two.now }
-        requires room { at + length (frame_bytes (frame_of_parts key.now self.now)) ≤ length room.old }
-        requires fits { length (frame_bytes (frame_of_parts key.now self.now)) ≤ max_length }
-        ensures { room.new ≡ put_bytes at (frame_bytes (frame_of_parts key.now self.now)) room.old }
-    {
-        put_at(room, at, &[self.kind.to_tag()]);
-        put_c_text(room, at + 1, key);
-        self.put_payload(room, at + key.len() + 2);
     }
 }

@@ -4,7 +4,9 @@
 
 mod answers;
 mod build;
+mod build_adds;
 mod build_bytes;
+mod build_numbers;
 mod build_parts;
 mod canonical;
 mod check;
@@ -26,6 +28,7 @@ mod overwriting;
 mod path_texts;
 mod path_values;
 mod paths;
+mod plain_bytes;
 mod quoting;
 mod reader;
 mod report;

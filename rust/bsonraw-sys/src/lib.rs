@@ -382,6 +382,9 @@ functions! {
         builder: *mut bsonraw_builder, room: *mut u8, room_len: usize, tag: u32, key: *const u8, key_len: usize,
         one: *const u8, one_len: usize, two: *const u8, two_len: usize
     ) -> i32;
+    fn bsonraw_append_number(
+        builder: *mut bsonraw_builder, room: *mut u8, room_len: usize, tag: u32, key: *const u8, key_len: usize, number: u64
+    ) -> i32;
     fn bsonraw_reader_read(reader: *mut bsonraw_reader, bytes: *const u8, len: usize) -> i32;
     fn bsonraw_reader_resync(
         reader: *mut bsonraw_reader, bytes: *const u8, len: usize, max_bytes: usize, max_depth: usize,

@@ -195,7 +195,7 @@ fn functions_are_those_of_the_header() {
             (name.to_string(), text(result), arguments)
         })
         .collect();
-    assert_eq!(declared.len(), 39);
+    assert_eq!(declared.len(), 40);
     for one in declared {
         assert!(said.contains(&one), "the header has no {one:?}");
     }

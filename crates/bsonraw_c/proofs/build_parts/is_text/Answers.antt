@@ -1,5 +1,0 @@
-use Rattle.std.proofs.lemmas.Str.{IsUtf8-from_ascii}
-use Rattle.bsonraw_c.proofs.build_parts.is_text.Goals as goal
-
-pub returns-then-is_ascii : goal.returns-then-is_ascii
-returns-then-is_ascii c = (λ _. IsUtf8-from_ascii c.args.text.now (c.if-is_ascii.ensures.cases), λ _. c.if-is_ascii.true)
