@@ -112,6 +112,7 @@ class Names(Case):
             r"man/.*\.[13]": (r'(?m)^\.TH .*"[a-z][a-z-]* ([0-9][0-9.]*)"', version),
         }
         for files, (pattern, wanted) in patterns.items():
+            self.assertTrue(list(texts(files)), f"there are no files {files}")
             for name, text in texts(files):
                 found = {"".join(it) if isinstance(it, tuple) else it for it in re.findall(pattern, text)}
                 with self.subTest(name):
