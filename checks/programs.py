@@ -116,7 +116,7 @@ class Case(unittest.TestCase):
     def setUpClass(cls) -> None:
         for it in cls.programs:
             if not os.access(it, os.X_OK):
-                raise AssertionError(f"{it.relative_to(ROOT)} isn't built; bin/install builds it")
+                raise AssertionError(f"{it.relative_to(ROOT)} isn't built; bin/install PREFIX builds the programs, `rt test` in its crate the tests")
         cls.work = Path(tempfile.mkdtemp(prefix="checks-"))
         cls.addClassCleanup(shutil.rmtree, cls.work, ignore_errors=True)
 

@@ -220,7 +220,7 @@ class Report:
         for name, why in {**self.left_out, **self.lost}.items():
             print(f"bin/test: {name} isn't tried: {why}")
         if self.left_out:
-            print("bin/test: bin/install builds it")
+            print("bin/test: bin/install PREFIX builds the programs and the library, `rt test` in crates/bson_tests the tests")
         for name in self.failed:
             print(f"bin/test: {name} failed", flush=True)
 
