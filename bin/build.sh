@@ -7,16 +7,17 @@ say() {
 
 # need_rt WHAT: ends the script where the kit isn't there, and says what there is without it
 need_rt() {
+    need_tools python3 # which rt is written in
     command -v rt >/dev/null && return
     say "$1 needs the command rt of the Rattle kit, which isn't in PATH, and neither the kit nor a release has a public address yet." \
         "README.md says what can be read without them"
     exit 127
 }
 
-# need_tools: ends the script where a tool of the build isn't there
+# need_tools TOOL..: ends the script where one of these isn't there
 need_tools() {
-    for tool in make flock setsid python3; do
-        command -v "$tool" >/dev/null || { say "a build needs $tool, which isn't in PATH: bin/setup installs all that is needed" && exit 127; }
+    for tool in "$@"; do
+        command -v "$tool" >/dev/null || { say "it needs $tool, which isn't in PATH: bin/setup installs all that is needed" && exit 127; }
     done
 }
 
@@ -230,7 +231,7 @@ build() {
 
 # make_proved GOAL..: proves and builds these goals of plan.py, in one run; what the compiler said is shown where that fails
 make_proved() {
-    need_tools
+    need_tools make flock setsid
     make_in_a_folder "$@" &
     wait "$!"
 }
@@ -256,6 +257,7 @@ make_in_a_folder() (
 run_program() {
     crate=$1
     shift
+    need_tools python3
     if [ "${1-}" != --unproved ] && command -v rt >/dev/null && ! is_stale "$crate"; then exec "$(made_by "$crate")" "$@"; fi
     python3 -I "$root/bin/words.py" "$crate" "$@"
     status=$?

@@ -1,14 +1,15 @@
 #!/bin/sh
-# Builds the C library's archive, crates/bsonraw_c/out/libbsonraw_c.a. `rt ci` proves its crate and builds no archive, and
-# bin/install would prove the crates below once more, since it takes what only its own runs and those of `rt lib` have kept. So on a fresh clone, where
+# Builds the C library's archive, crates/bsonraw_c/out/libbsonraw_c.a. `rt ci` proves its crate and builds no archive, and bin/install
+# would prove the crates below once more, since it takes what only its own runs and those of `rt lib` have kept. So on a fresh clone, where
 # `rt ci` has proved the crates below and maybe goes on with this one and others, the archive is built here over the libraries that this run
 # left, by the kit's compiler itself: that proves of the crate alone what no earlier build on this machine proved; `rt ci` proves it from
 # nothing. It does so in a folder of its own, from which all goes into out/ at the end.
-# Where bin/install or `rt` has kept libraries, the archive is built over them, as by bin/install. In either case the library is laid out in the new folder as bin/install does it,
-# but for the programs.
 #
-#   checks/archive.sh [--anew] FOLDER        behind the proof of the crates below by `rt ci`, with nothing changed since; with --anew
-#                                            nothing is taken of earlier builds
+# Where bin/install or `rt` has kept libraries, the archive is built over them, as by bin/install. In either case the library is laid out in
+# FOLDER as bin/install does it, but for the programs.
+#
+#   checks/archive.sh [--anew] FOLDER        after `rt ci` proved the crates below, with nothing changed since; with --anew nothing is taken
+#                                            of earlier builds
 set -u
 root=$(dirname "$(dirname "$(realpath "$0")")")
 me=checks/archive.sh

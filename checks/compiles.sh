@@ -18,7 +18,7 @@ mkdir -p "$crate" "$work/programs" || exit 1
 git ls-files -z crates crates.txt HANDLES | xargs -0 cp --parents -t "$work/copy" || exit 1
 cp crates.txt "$work/crates.txt" || exit 1
 pages='README.md CONTRIBUTING.md docs/*.md examples/*.md'
-documented=$(git ls-files crates/bson_model/src crates/raw_view/src crates/raw_tree/src crates/raw_form/src crates/raw_bson/src crates/raw_shelf/src crates/bson_to_json/src crates/values_from_json/src crates/bson_from_json/src crates/json_round_trip/src crates/bson_uses/src)
+documented=$(git grep -l '^ */// ```' -- 'crates/*/src/*.rt')
 grep '^[a-z]' "$list" >"$work/cases"
 count=$(wc -l <"$work/cases")
 failed=0

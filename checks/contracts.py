@@ -48,7 +48,7 @@ def sentence(comment: str) -> str:
 
 
 def behind_generics(text: str) -> str:
-    """What is behind the parameters in <> at the front of a text."""
+    """What is after the parameters in <> at the front of a text."""
     depth = 0
     for at, char in enumerate(text):
         depth += (char == "<") - (char == ">")
@@ -95,11 +95,11 @@ def items_of(path: Path, name: str) -> Iterator[Item]:
 
 
 def clauses_of(lines: List[str], number: int) -> str:
-    """The clauses behind the line of this number: all up to the body."""
-    behind = number
-    while behind < len(lines) and not re.search(r"^ *\{\}?$|;$|^\}| \{$", lines[behind - 1]):
-        behind += 1
-    return "\n".join(lines[number:behind])
+    """The clauses after the line of this number: all up to the body."""
+    after = number
+    while after < len(lines) and not re.search(r"^ *\{\}?$|;$|^\}| \{$", lines[after - 1]):
+        after += 1
+    return "\n".join(lines[number:after])
 
 
 def lines_open_trait(lines: List[str], number: int) -> bool:

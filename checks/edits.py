@@ -476,7 +476,7 @@ def judge(edit, said, edited):
 
 
 def try_round(prover, crate, now, texts):
-    """Checks these edits at once, and judges each."""
+    """Checks these edits at once, and says what each came to."""
     ran = prover.check_edited(crate, texts, "--allow-holes", *prover.only(crate, now))
     dearest = sorted(ran.took, key=ran.took.get)[:-4:-1]
     print(

@@ -21,14 +21,14 @@ SOURCE = """//! Two functions, one over the other.
 
 ghost use Rattle.std.specs.Prelude.{◌≡◌, ◌+◌};
 
-/// The number behind this one.
+/// The number after this one.
 pub fn next(x: u8) -> u16
     ensures { result ≡ x + 1 }
 {
     x as u16 + 1
 }
 
-/// The number behind that.
+/// The number after that.
 pub fn after_next(x: u8) -> u16
     ensures { result ≡ x + 2 }
 {
@@ -42,7 +42,7 @@ pub fn widened(x: u8) -> u16
     x as u16
 }
 
-/// The number behind this one, by another way.
+/// The number after this one, by another way.
 pub fn next_of_widened(x: u8) -> u16
     ensures { result ≡ x + 1 }
 {

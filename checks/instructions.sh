@@ -7,7 +7,7 @@
 set -u
 cd "$(dirname "$(realpath "$0")")/.." || exit 1
 . checks/skips.sh
-command -v valgrind >/dev/null || skip_all "valgrind"
+command -v valgrind >/dev/null || skip_all "valgrind (valgrind)"
 write=
 [ "${1-}" != --write ] || { write=1 && shift; }
 work=$(mktemp -d) || exit 1

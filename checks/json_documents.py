@@ -227,7 +227,7 @@ def instant(millis: int) -> str:
 
 
 def is_later(ours: Any, theirs: Any) -> bool:
-    """A time behind the year 9999, relaxed: the format has it as a number, libbson as text."""
+    """A time after the year 9999, relaxed: the format has it as a number, libbson as text."""
     millis = ours.texts("$numberLong") if isinstance(ours, Object) else None
     return bool(millis) and int(millis[0]) > LAST and theirs == instant(int(millis[0]))
 

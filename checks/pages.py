@@ -41,7 +41,7 @@ def blocks(page: str) -> List[Block]:
     found: List[Block] = []
     kind: Optional[str] = None  # of the fence that is open
     inside: List[str] = []
-    is_fence = is_behind_blank = follows = False
+    is_fence = is_after_blank = follows = False
 
     def close(is_open: bool = False) -> None:
         nonlocal inside, follows
@@ -55,13 +55,13 @@ def blocks(page: str) -> List[Block]:
             is_fence, kind = not is_fence, line[3:]
         elif is_fence:
             inside.append(line)
-        elif line.startswith("    ") and (is_behind_blank or inside):
+        elif line.startswith("    ") and (is_after_blank or inside):
             inside.append(line)
         else:
             if inside:
                 close()
             follows = follows and not line.strip()
-            is_behind_blank = not line.strip()
+            is_after_blank = not line.strip()
     if is_fence or inside:
         close(is_fence)
     return found
@@ -79,8 +79,8 @@ def records(text: str) -> "dict[str, str]":
     for number, line in enumerate(lines):
         match = re.match(r"( *)pub record (\w+) ", line)
         if match:
-            behind = [i for i in range(number + 1, len(lines)) if not re.match(match[1] + r" |\s*--", lines[i])]
-            found[match[2]] = words("\n".join(lines[number : behind[0] if behind else None]))
+            after = [i for i in range(number + 1, len(lines)) if not re.match(match[1] + r" |\s*--", lines[i])]
+            found[match[2]] = words("\n".join(lines[number : after[0] if after else None]))
     return found
 
 
@@ -153,9 +153,9 @@ def examples(page: str, as_typed: bool = False) -> List[Example]:
     """The commands that a page shows. `--unproved` is left away unless they are to be as they are typed."""
     found = []
     shown = blocks(page)
-    for block, behind in zip(shown, [*shown[1:], None]):
+    for block, after in zip(shown, [*shown[1:], None]):
         if block.kind == "sh":
-            output = behind.text if behind and behind.kind == "text" and behind.follows else None
+            output = after.text if after and after.kind == "text" and after.follows else None
             commands = block.text if as_typed else re.sub(r"^(.*?) --unproved", r"\1", block.text, flags=re.M)
             found.append(Example(commands, output))
     return found

@@ -52,8 +52,7 @@ mkdir "$work/bin" || exit 1
 [ -e "$work/bin/python3" ] || skip_lines "the Python package, without venv, setuptools or wheel (python3-venv, python3-setuptools, python3-wheel)" "bsonraw/bin/,venv"
 "$work/bin/python3" -c 'import dask.distributed' 2>/dev/null || skip_lines "Dask (python3-distributed)" "--workers 4"
 command -v jq >/dev/null || skip_lines "jq (jq)" jq
-minor=$(cargo --version 2>/dev/null | sed -n 's/^cargo 1\.\([0-9]*\)\..*/\1/p')
-[ "${minor:-0}" -ge 81 ] || skip_lines "cargo (cargo)" "cargo"
+has_cargo || skip_lines "cargo (cargo, of 1.81 or later)" cargo
 
 export HOME="$work/home" PATH="$work/home/.local/bin:$work/bin:$PATH" CARGO_NET_OFFLINE=true
 export CARGO_HOME="${CARGO_HOME-$home/.cargo}" RUSTUP_HOME="${RUSTUP_HOME-$home/.rustup}"

@@ -7,6 +7,7 @@ use them, anew, library, installed and proved.
 
 import json
 import os
+import resource
 import subprocess
 import sys
 import time
@@ -21,7 +22,8 @@ SKIPPED = 77
 
 def settle(name: str, verdict: str, took: float, skips: "list[str]") -> int:
     """Notes what came of a check. The status is 0 if what waits for it may go on."""
-    result = {"verdict": verdict, "took": took, "ended": time.time(), "skips": skips}
+    spent = resource.getrusage(resource.RUSAGE_CHILDREN)
+    result = {"verdict": verdict, "took": took, "spent": spent.ru_utime + spent.ru_stime, "ended": time.time(), "skips": skips}
     (WORK / "results" / name).write_text(json.dumps(result))
     print(f"bin/test: {name} {verdict}", flush=True)
     return int(verdict == "failed")

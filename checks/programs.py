@@ -57,7 +57,7 @@ def preloaded(source: str, to: Path) -> Path:
 
 
 def reported(shim: Path, *words: Word, stack: Optional[int] = None, **how: Any) -> Tuple[Ran, List[int]]:
-    """Runs a command with such a library, and the stack of so many KiB. Returns what came of it, and the numbers that the library wrote to
+    """Runs a command with such a library, and a stack of this many KiB. Returns what came of it, and the numbers that the library wrote to
     its file 3."""
     with tempfile.TemporaryFile() as report:
 
@@ -100,7 +100,7 @@ def document(*elements: bytes) -> bytes:
 
 
 def levels(count: int) -> bytes:
-    """So many levels of documents, each but the innermost holding the next under the empty key."""
+    """This many levels of documents, each but the innermost holding the next under the empty key."""
     heads = ((5 + 7 * inside).to_bytes(4, "little") + b"\3\0" for inside in range(count - 1, 0, -1))
     return b"".join(heads) + b"\5\0\0\0\0" + b"\0" * (count - 1)
 
@@ -116,7 +116,7 @@ class Case(unittest.TestCase):
     def setUpClass(cls) -> None:
         for it in cls.programs:
             if not os.access(it, os.X_OK):
-                raise AssertionError(f"{it.relative_to(ROOT)} isn't built; bin/install builds it")
+                raise AssertionError(f"{it.relative_to(ROOT)} isn't built; bin/install PREFIX builds the programs, `rt test` in its crate the tests")
         cls.work = Path(tempfile.mkdtemp(prefix="checks-"))
         cls.addClassCleanup(shutil.rmtree, cls.work, ignore_errors=True)
 

@@ -58,10 +58,10 @@ def counted(statement):
 
 def whole(lines, at, indent):
     """The end of what begins at a line: the first line after it that isn't further in."""
-    behind = at + 1
-    while behind < len(lines) and re.match(indent + " +[^ ]", lines[behind]):
-        behind += 1
-    return behind
+    after = at + 1
+    while after < len(lines) and re.match(indent + " +[^ ]", lines[after]):
+        after += 1
+    return after
 
 
 def lemmas(lines):
@@ -83,11 +83,11 @@ def lemmas(lines):
         indent, unfolds, name, _ = found.groups()
         statement = text.split(" : ", 1)[1]
         clause = re.compile(f"{indent}{re.escape(name)}[ =]")
-        behind = statement_end
-        while behind < len(lines) and clause.match(lines[behind]):
-            behind = whole(lines, behind, indent)
-        if behind > statement_end:
-            yield at, behind, name, statement, sum(names for _, names in around), unfolds
+        after = statement_end
+        while after < len(lines) and clause.match(lines[after]):
+            after = whole(lines, after, indent)
+        if after > statement_end:
+            yield at, after, name, statement, sum(names for _, names in around), unfolds
 
 
 def too_long(path, lines):
@@ -133,10 +133,10 @@ def found(folder, limits):
         wrong += too_long(path, lines)
         if kind != "proofs":
             continue
-        for at, behind, name, statement, _, unfolds in lemmas(lines):
+        for at, after, name, statement, _, unfolds in lemmas(lines):
             if unfolds or re.match(r"goal\.", statement) or re.match("(invariant|decreases)-", name):
                 continue
-            own = words(lines[at:behind])[name]
+            own = words(lines[at:after])[name]
             if everywhere[name] + code[name] == own:
                 wrong.append(f"{path}:{at + 1}: nothing cites {name}")
     return wrong

@@ -1,6 +1,6 @@
 #!/usr/bin/env python3
 """reads.py PROGRAM [SIZE]: counts, by lackey of valgrind, how often PROGRAM check --resync reads memory for each byte of files in which
-a document that reaches to the file's end begins every seven bytes, and is damaged: in each way that its form allows, right behind the
+a document that reaches to the file's end begins every seven bytes, and is damaged: in each way that its form allows, right after the
 last of them or at the end. Fails if it reads more than MOST times for a byte, as it would if it read what it doesn't count; and if it
 reads more than twice as often for a byte of files four times as long, in which a document that isn't believed begins every few bytes."""
 import re, struct, subprocess, sys, tempfile
@@ -14,8 +14,8 @@ def number(n):
 
 
 def tails(size):
-    """What is behind the last document's first element, in so many bytes with a final 0: one element with a fault."""
-    left = size - 8  # behind tag, key and a length, before the final 0
+    """What is after the last document's first element, in this many bytes with a final 0: one element with a fault."""
+    left = size - 8  # after tag, key and a length, before the final 0
     text = number(left) + b"x" * (left - 1)
     yield "a tag of no kind", b"\x66a\0" + b"x" * (left + 4)
     yield "a key without an end", b"\x10" + b"x" * (left + 6)
@@ -47,14 +47,14 @@ SMALL = number(12) + HEAD + number(1) + b"\0"
 
 
 def wrong_lengths(size, ends):
-    """Documents damaged at once, two without damage behind each, and then only such; each length ends before one of the last."""
-    each, count, behind = 7 + 2 * len(SMALL), size // 62, size // 24
-    heads = (number(each * (count - i) + len(SMALL) * ends(i, behind)) + b"\x66a\0" + 2 * SMALL for i in range(count))
-    return b"".join(heads) + behind * SMALL
+    """Documents damaged at once, two without damage after each, and then only such; each length ends before one of the last."""
+    each, count, after = 7 + 2 * len(SMALL), size // 62, size // 24
+    heads = (number(each * (count - i) + len(SMALL) * ends(i, after)) + b"\x66a\0" + 2 * SMALL for i in range(count))
+    return b"".join(heads) + after * SMALL
 
 
 def late_faults(size):
-    """Documents in one another's binaries, with two without damage in front of each; all are damaged at their end, before such."""
+    """Documents in one another's binaries, with two without damage before each; all are damaged at their end, before such."""
     each, count = 12 + 2 * len(SMALL), size // 36
     end = 4 + each * count + 3 + len(SMALL)
     values = (b"\5b\0" + number(2 * len(SMALL) + 4) + b"\0" + 2 * SMALL + number(end - each * (i + 1)) for i in range(count))
@@ -62,10 +62,10 @@ def late_faults(size):
 
 
 def wrongs(size):
-    """Files in which documents that aren't believed are so many that what is done for each has to be bounded."""
-    yield "wrong lengths with one end", wrong_lengths(size, lambda i, behind: behind - 2)
-    yield "wrong lengths with ends further and further off", wrong_lengths(size, lambda i, behind: 2 + i % (behind - 4))
-    yield "wrong lengths with ends nearer and nearer", wrong_lengths(size, lambda i, behind: behind - 2 - i % (behind - 4))
+    """Files in which documents that aren't believed are so numerous that what is done for each has to be bounded."""
+    yield "wrong lengths with one end", wrong_lengths(size, lambda i, after: after - 2)
+    yield "wrong lengths with ends further and further off", wrong_lengths(size, lambda i, after: 2 + i % (after - 4))
+    yield "wrong lengths with ends nearer and nearer", wrong_lengths(size, lambda i, after: after - 2 - i % (after - 4))
     yield "wrong lengths of documents with a late fault", late_faults(size)
 
 
@@ -95,7 +95,7 @@ def main(program, size="60000"):
                 content = front + file_of(size, tail)
                 count = (reads(content, 3 if front else 1) - empty) / len(content)
                 failed |= count > MOST
-                print(f"{'FAILED ' if count > MOST else ''}{kind}{', behind an unsound length' if front else ''}: {count:.1f} reads a byte", flush=True)
+                print(f"{'FAILED ' if count > MOST else ''}{kind}{', after an unsound length' if front else ''}: {count:.1f} reads a byte", flush=True)
         for (kind, few), (_, many) in zip(wrongs(size // 8), wrongs(size // 2)):
             fewer, more = ((reads(content, 3) - empty) / len(content) for content in (few, many))
             failed |= more > 2 * fewer

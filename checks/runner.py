@@ -210,17 +210,17 @@ class Report:
         return f"{passed} passed, {failed} failed, {len(self.skips) + len(self.left_out)} skipped"
 
     def show(self, begun: float) -> None:
-        print("bin/test: how long each part took, in the order in which they ended")
+        print("bin/test: how long each part took, then its processor time, in the order in which they ended")
         for name, result in self.results.items():
-            print(f"{clock(result['took'])}  {name}{'' if result['verdict'] == 'passed' else ', ' + result['verdict']}")
+            print(f"{clock(result['took'])} {clock(result['spent'])}  {name}{'' if result['verdict'] == 'passed' else ', ' + result['verdict']}")
         spent = resource.getrusage(resource.RUSAGE_CHILDREN)
-        print(f"{clock(time.time() - begun)}  in all, {(spent.ru_utime + spent.ru_stime) / 60:.0f} processor minutes")
+        print(f"{clock(time.time() - begun)} {clock(spent.ru_utime + spent.ru_stime)}  in all")
         if self.skips:
             print("bin/test: skipped, since it isn't there:", *self.skips, sep="\n    ")
         for name, why in {**self.left_out, **self.lost}.items():
             print(f"bin/test: {name} isn't tried: {why}")
         if self.left_out:
-            print("bin/test: bin/install builds it")
+            print("bin/test: bin/install PREFIX builds the programs and the library, `rt test` in crates/bson_tests the tests")
         for name in self.failed:
             print(f"bin/test: {name} failed", flush=True)
 

@@ -73,7 +73,7 @@ def read_by_bytes(command: str, text: bytes) -> Result:
 
 
 def write_to_failure(command: str, text: bytes, room: int) -> Result:
-    """Standard output takes so many bytes, and then a write fails; of an unknown command nothing may be read before."""
+    """Standard output takes this many bytes, and then a write fails; of an unknown command nothing may be read before."""
     with tempfile.TemporaryFile() as stdin, tempfile.TemporaryFile() as stdout:
         stdin.write(text)
         stdin.seek(0)
@@ -165,7 +165,7 @@ def with_form(row: Row) -> Iterator[Row]:
 
 
 def levels(count: int) -> bytes:
-    """So many levels of documents, each but the innermost holding the next under the empty key."""
+    """This many levels of documents, each but the innermost holding the next under the empty key."""
     data = framed(b"")
     for _ in range(count - 1):
         data = framed(b"\3\0" + data)

@@ -22,7 +22,7 @@ def nested(key: bytes, inner: bytes) -> bytes:
 
 
 def many_levels(count: int, inmost: bytes) -> bytes:
-    """So many documents below one another, each under the key d, and this one below them."""
+    """This many documents below one another, each under the key d, and this one below them."""
     made = inmost
     for _ in range(count):
         made = nested(b"d", made)
@@ -30,7 +30,7 @@ def many_levels(count: int, inmost: bytes) -> bytes:
 
 
 def of_bytes(size: int) -> bytes:
-    """A document of so many bytes, with a binary."""
+    """A document of this size, with a binary."""
     return size.to_bytes(4, "little") + b"\x05b\0" + (size - 13).to_bytes(4, "little") + bytes(size - 11)
 
 

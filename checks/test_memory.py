@@ -17,7 +17,7 @@ PEAK += "_, status, usage = os.wait4(child.pid, 0)\nprint(os.waitstatus_to_exitc
 
 
 def document(size: int, number: int = 0) -> bytes:
-    """A document of so many bytes, with a number and a string."""
+    """A document of this size, with a number and a string."""
     head = b"\x10a\0" + number.to_bytes(4, "little") + b"\x02b\0" + (size - 19).to_bytes(4, "little")
     return size.to_bytes(4, "little") + head + b"x" * (size - 20) + b"\0\0"
 
@@ -39,7 +39,7 @@ class Memory(Case):
         return int(said[0]), int(said[1]) * 1024
 
     def within(self, most: int, status: int, *words: str) -> None:
-        """A run ends with this status and takes at most so many MiB more than one that reads nothing."""
+        """A run ends with this status and takes at most this many MiB more than one that reads nothing."""
         found, peak = self.peak(*words)
         with self.subTest(" ".join(words)):
             self.assertEqual(found, status)
@@ -63,7 +63,7 @@ class Memory(Case):
         self.within(64, 3, "check", "--resync", "inside")
 
     def more(self, count: int, few: "list[str]", many: "list[str]") -> float:
-        """How many bytes each of so many more takes."""
+        """How many bytes each of those takes of which the second command has this many more than the first."""
         return (self.peak(*many)[1] - self.peak(*few)[1]) / count
 
     def test_forms_and_paths(self) -> None:

@@ -112,6 +112,7 @@ class Names(Case):
             r"man/.*\.[13]": (r'(?m)^\.TH .*"[a-z][a-z-]* ([0-9][0-9.]*)"', version),
         }
         for files, (pattern, wanted) in patterns.items():
+            self.assertTrue(list(texts(files)), f"there are no files {files}")
             for name, text in texts(files):
                 found = {"".join(it) if isinstance(it, tuple) else it for it in re.findall(pattern, text)}
                 with self.subTest(name):
@@ -146,7 +147,8 @@ class Pages(Case):
         """Each block of code is one that bin/test compiles, proves or runs, or that is so in the sources, and each link leads somewhere."""
         names = [name for name, _ in texts(r"[A-Z]*\.md|(docs|examples|rust)/[^/]*\.md|crates/\w+/README\.md")]
         status, said = printed(pages.main, "shown", *names)
-        self.assertEqual((status, said), (0, ""))
+        self.none_of(said.splitlines())
+        self.assertEqual(status, 0)
 
     def test_pictures(self):
         """They are those that make.py makes, nothing in them runs over an edge, and crates.svg is of crates.txt."""

@@ -4,6 +4,7 @@ The programs bsonraw-dump and bsonraw do the same and more.
 """
 
 import argparse
+import os
 import sys
 from typing import Any, BinaryIO, Iterator, List, Optional, Tuple
 
@@ -64,6 +65,14 @@ def json(options: Any) -> int:
     return 1 if faults else 0
 
 
+def _end_output() -> None:
+    """Writes what standard output holds, or lets it go: Python would write it once more as it ends, and if that failed, give the status 120."""
+    try:
+        sys.stdout.flush()
+    except OSError:
+        os.dup2(os.open(os.devnull, os.O_WRONLY), sys.stdout.fileno())
+
+
 def main(arguments: Optional[List[str]] = None) -> int:
     parser = argparse.ArgumentParser(prog="python -m bsonraw", description=__doc__, formatter_class=argparse.RawDescriptionHelpFormatter)
     commands = parser.add_subparsers(dest="command", metavar="COMMAND")
@@ -83,10 +92,11 @@ def main(arguments: Optional[List[str]] = None) -> int:
         result: int = options.call(options)
         sys.stdout.flush()
     except BrokenPipeError:
-        sys.stderr.close()
+        _end_output()
         return 1
     except OSError as error:
         print(f"{error.filename or 'standard output'}: {error.strerror}", file=sys.stderr)
+        _end_output()
         return 2
     return result
 

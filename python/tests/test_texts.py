@@ -2,6 +2,7 @@
 
 import io
 import json
+import os
 import subprocess
 import sys
 import unittest
@@ -125,9 +126,20 @@ class FromJson(unittest.TestCase):
         self.assertTrue(run("check", "-", data=good + b"\3")[1].startswith("-:22: at offset 22: "))
         self.assertEqual(run("check", "--max-bytes", "5", "-", data=good)[:2], (1, "-:0: at offset 0: more bytes than allowed: max_bytes is 5\n"))
         self.assertEqual((run("check", "/nowhere")[0], run()[0]), (2, 2))
-        with open("/dev/full", "wb") as full:
-            done = subprocess.run([sys.executable, "-m", "bsonraw", "json", "-"], input=good, stdout=full, stderr=subprocess.PIPE, timeout=60)
-        self.assertTrue(done.returncode == 2 and done.stderr.startswith(b"standard output: "), done.stderr)
+
+    def test_its_output_cannot_be_written(self) -> None:
+        """At once, or only as Python ends."""
+        program, good = [sys.executable, "-m", "bsonraw", "json", "-"], bsonraw.encode({"a": 1})
+        for unbuffered in ("", "1"):
+            how: Any = {"input": good, "stderr": subprocess.PIPE, "timeout": 60, "env": {**os.environ, "PYTHONUNBUFFERED": unbuffered}}
+            with open("/dev/full", "wb") as full:
+                done = subprocess.run(program, stdout=full, **how)
+            self.assertEqual((done.returncode, done.stderr), (2, b"standard output: No space left on device\n"))
+            reader, writer = os.pipe()
+            os.close(reader)
+            done = subprocess.run(program, stdout=writer, **how)
+            os.close(writer)
+            self.assertEqual((done.returncode, done.stderr), (1, b""))
 
     def test_made_documents_come_back(self) -> None:
         count = 0

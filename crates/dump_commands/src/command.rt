@@ -1,4 +1,19 @@
 //! What is asked of the documents of an input.
+//!
+//! To add a command: `sizes` is the plainest that prints a line for each document. `git grep -n 'Command::Sizes\|command\.Sizes' crates` finds
+//! where code, definitions and proofs have a case of it. A new command needs one in each such `match`. The compiler names these one at a time,
+//! but none that ends with `_`, as most definitions do: read these.
+//!
+//! 1. Definitions: of one document `FindsFor` says what is found, `Reports` what is reported, `Makes` what is written, `HasFields` what is
+//!    gathered, and `lines_of` in which lines. `keeps`, `breached_counts` and `damaged_counts` say what the line of counts has; in `dump_runs`
+//!    `input_line` and `all_line` where it is printed, `findings_in` and `FindsDamage` what a finding is, and which status it gives.
+//! 2. Code: `pass_document` and `pass` (`dump_runs/src/dumps/piece.rt`) call for each document `judge`, `put_listing`, `emit`, `put_repeat` and
+//!    `count_fields`, in this order; `first_line` has the line itself. What goes over elements has a file in `elements/`.
+//! 3. Words, in `command_line/` of `bsonraw_dump`: the name and where it prints in `commands.rt`, help and options in `args.rt`.
+//! 4. To try it without a proof, in `crates/bsonraw_dump`: `rt try --data orders.bson=../../examples/orders.bson -- sizes orders.bson`.
+//!    `bin/bsonraw-dump --unproved` knows a new command once `checks/words.py --write` has written `bin/words/bsonraw_dump.txt`, for which the
+//!    program has to be built.
+//! 5. Tests and pages as of a line (ARCHITECTURE), then `checks/completions.py`, `checks/refusals.txt` and `checks/test_memory.py`.
 #![tactic(auto)]
 
 ghost use Rattle.std.specs.Prelude.{◌≡◌, MatchBool};
