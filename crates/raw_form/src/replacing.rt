@@ -70,7 +70,7 @@ fn replaced_to(alloc: Global, document: RawDocument<'_>, depth: usize) -> Result
 /// ```
 /// let document = RawDocument::from_bytes(b"\x0E\0\0\0\x02a\0\x02\0\0\0\xFF\0\0")?;
 /// let kept = with_replaced_texts(alloc, document, Limits { bytes: 1000, depth: 10 })?;
-/// assert!(rt; kept.is_some_and(|kept| kept.as_slice() == b"\x10\0\0\0\x02a\0\x04\0\0\0\xEF\xBF\xBD\0\0"));
+/// assert!(rt; kept.is_some_and(|kept| kept.as_slice() == b"\x10\0\0\0\x02a\0\x04\0\0\0\xEF\xBF\xBD\0\0".as_slice()));
 /// ```
 pub fn with_replaced_texts(
     alloc: Global,
