@@ -9,7 +9,7 @@ ghost use Rattle.dump_commands.specs.Making.{IsMade, IsPickedAs, Emits, Puts};
 ghost use Rattle.dump_commands.specs.Counted.{CountsFields};
 ghost use Rattle.dump_commands.specs.state.Gathered.{KeepsCounted, KeepsWritten};
 ghost use Rattle.dump_io.specs.lines.Find.{Account};
-ghost use Rattle.dump_commands.specs.state.Forms.{CountsOne, Made, knows, made_as};
+ghost use Rattle.dump_commands.specs.state.Forms.{CountsOne, knows, made_as};
 ghost use Rattle.dump_commands.specs.Unique.{written_of};
 ghost use Rattle.dump_io.specs.lines.Origins.{origin_of};
 ghost use Rattle.dump_io.specs.lines.Failing.{IsReading};
@@ -17,15 +17,14 @@ ghost use Rattle.dump_commands.specs.Making as says;
 ghost use Rattle.raw_tree.specs.CanonicalForm.{IsCanonicalForm};
 ghost use Rattle.raw_view.specs.Frame.Envelope.{IsEnvelope};
 ghost use Rattle.bson_to_json.specs.Json.{IsJson};
-ghost use Rattle.dump_commands.specs.Texts.{MakesKept};
-ghost use Rattle.dump_commands.specs.declared.command.Command.TheVariants.{Sound, Unique};
+ghost use Rattle.dump_commands.specs.declared.command.Command.TheVariants.{Unique};
 ghost use Rattle.dump_commands.specs.declared.command.Spelling as spells;
 
-use crate::command::{Command, Picking, Spelling, Texts};
+use crate::command::{Command, Picking, Spelling};
 use crate::elements::chosen::chosen;
 use crate::state::kept::{Added, Kept};
 use crate::state::tokens_of;
-use crate::texts::kept_as;
+use crate::texts::put_kept;
 use bson_to_json::{Style as JsonStyle, WriteJsonError, write_json};
 use dump_io::lines::failure::Failure;
 use dump_io::lines::find::Finding;
@@ -92,30 +91,6 @@ pub fn emit<'a, D: Write>(
             Ok(None)
         }
     }
-}
-
-/// Writes what a damaged document is kept as, if it is kept.
-fn put_kept<'a, D: Write>(
-    alloc: Global,
-    texts: Texts,
-    origin: Origin<'a>,
-    bytes: &[u8],
-    out: &mut D,
-    kept: &mut Kept<'a>,
-) -> Result<Option<Origin<'a>>, Failure>
-    ensures written { IfOk result (λ first. (made : List Made) × MakesKept texts bytes.now made
-        × Puts (Sound texts) origin.entry made (D.contents out.old) (D.contents out.new) kept.old kept.new first) }
-    ensures front { OnErr result (WritesFront
-        (λ text. (made : List Made) × MakesKept texts bytes.now made × (text ≡ written_of (Sound texts) (knows kept.old) made))
-        (D.contents out.old) (D.contents out.new)) }
-    ensures table { KeepsCounted kept.old kept.new }
-    ensures failed { IfErr result (λ failure. ¬ IsReading failure) }
-{
-    let Some(document) = kept_as(alloc, texts, bytes)? else {
-        return Ok(None);
-    };
-    let document = document.as_slice();
-    put_document(Command::Sound(texts), origin, document, document, out, kept)
 }
 
 /// Writes the canonical form of a document, or of `unique` the document as it is, where that is asked for. A form that is over the range
@@ -228,7 +203,7 @@ fn put_picked<D: Write>(
 
 /// Writes a document that the command makes of one at this place: of `unique` where the digest of its form is new. Returns the place of
 /// the first document with that digest, if one came before.
-fn put_document<'a, D: Write>(
+pub fn put_document<'a, D: Write>(
     command: Command<'_>,
     origin: Origin<'a>,
     document: &[u8],

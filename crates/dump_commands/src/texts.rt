@@ -1,16 +1,28 @@
 //! Damaged documents that are kept, since all their faults are texts.
 #![tactic(auto)]
 
-ghost use Rattle.std.specs.Prelude.{◌≡◌, IfOk};
+ghost use Rattle.std.specs.Prelude.{◌≡◌, List, IfErr, IfOk, OnErr};
 ghost use Rattle.std.specs.Option.{option_map};
-ghost use Rattle.dump_commands.specs.Texts.{KeepsAs, TellsTexts, replaced_account};
+ghost use Rattle.dump_commands.specs.Making.{Puts};
+ghost use Rattle.dump_commands.specs.Texts.{KeepsAs, MakesKept, TellsTexts, replaced_account};
+ghost use Rattle.dump_commands.specs.Unique.{written_of};
+ghost use Rattle.dump_commands.specs.declared.command.Command.TheVariants.{Sound};
+ghost use Rattle.dump_commands.specs.state.Forms.{Made, knows};
+ghost use Rattle.dump_commands.specs.state.Gathered.{KeepsCounted};
+ghost use Rattle.dump_io.specs.lines.Failing.{IsReading};
 ghost use Rattle.dump_io.specs.lines.Find.{account_of};
+ghost use Rattle.dump_io.specs.lines.Fronts.{WritesFront};
 
-use crate::command::Texts;
+use crate::command::{Command, Texts};
+use crate::making::put_document;
+use crate::state::kept::Kept;
+use dump_io::lines::failure::Failure;
 use dump_io::lines::find::{Finding, Found, Told};
+use dump_io::lines::origin::Origin;
 use raw_form::with_replaced_texts;
 use raw_view::RawDocument;
 use std::alloc::{AllocError, Global};
+use std::io::Write;
 
 /// What a damaged document is kept as; `None` if it isn't kept.
 pub fn kept_as(alloc: Global, texts: Texts, bytes: &[u8]) -> Result<Option<Vec<u8>>, AllocError>
@@ -59,4 +71,28 @@ fn replaced<'a>(found: Found<'a>) -> Found<'a>
         None => None,
     };
     Found { finding, told }
+}
+
+/// Writes what a damaged document is kept as, if it is kept.
+pub fn put_kept<'a, D: Write>(
+    alloc: Global,
+    texts: Texts,
+    origin: Origin<'a>,
+    bytes: &[u8],
+    out: &mut D,
+    kept: &mut Kept<'a>,
+) -> Result<Option<Origin<'a>>, Failure>
+    ensures written { IfOk result (λ first. (made : List Made) × MakesKept texts bytes.now made
+        × Puts (Sound texts) origin.entry made (D.contents out.old) (D.contents out.new) kept.old kept.new first) }
+    ensures front { OnErr result (WritesFront
+        (λ text. (made : List Made) × MakesKept texts bytes.now made × (text ≡ written_of (Sound texts) (knows kept.old) made))
+        (D.contents out.old) (D.contents out.new)) }
+    ensures table { KeepsCounted kept.old kept.new }
+    ensures failed { IfErr result (λ failure. ¬ IsReading failure) }
+{
+    let Some(document) = kept_as(alloc, texts, bytes)? else {
+        return Ok(None);
+    };
+    let document = document.as_slice();
+    put_document(Command::Sound(texts), origin, document, document, out, kept)
 }

@@ -6,7 +6,7 @@ use Rattle.dump_commands.specs.Unique.{written_of}
 use Rattle.dump_commands.specs.declared.command.Command.TheVariants.{Sound}
 use Rattle.dump_commands.specs.state.Forms.{Made, knows, plain}
 use Rattle.dump_commands.proofs.Writing.{nothing_put}
-use Rattle.dump_commands.proofs.making.put_kept.Goals as goal
+use Rattle.dump_commands.proofs.texts.put_kept.Goals as goal
 
 pub returns-in_default-clause-written : goal.returns-in_default-clause-written
 returns-in_default-clause-written g c =
