@@ -28,7 +28,7 @@ pub counts_length : (limits : Limits) (c : Command) (place : Origin) (b : List �
 counts_length limits c place b f measure k k' is (d, measured, added) = (d ∷ [], rw is (d, measured, refl), added)
 
 -- which of its paths lead to an element
-pub counts_seen : (limits : Limits) (c : Command) (place : Origin) (b : List ℕ) (f : Finding) (picking : Picking) (d : Document) (k k' : Kept) → c ≡ command.Pick picking
+pub counts_seen : (limits : Limits) (c : Command) (place : Origin) (b : List ℕ) (f : Finding) (picking : Picking) {d : Document} (k k' : Kept) → c ≡ command.Pick picking
     → IsClean f → AreSeen picking b d → tabled k' ≡ with_document (tabled k) d → CountsFields limits c place b f k k'
-counts_seen limits c place b f picking d k k' is (inl canonical) seen added = (d ∷ [], rw (is, canonical) (d, seen, refl), added)
-counts_seen limits c place b f picking d k k' is (inr breached) seen added = (d ∷ [], rw (is, breached) (d, seen, refl), added)
+counts_seen limits c place b f picking {d = d} k k' is (inl canonical) seen added = (d ∷ [], rw (is, canonical) (d, seen, refl), added)
+counts_seen limits c place b f picking {d = d} k k' is (inr breached) seen added = (d ∷ [], rw (is, breached) (d, seen, refl), added)

@@ -29,6 +29,6 @@ returns-in_ok-flags-in-Pick-Canonical-clause-counted c =
     let flags = c.deref-in-Pick-Canonical.result.now in
     let has = subst (HasEach picking.choice c.args.bytes.now (parts comma picking.paths.now)) (sym c.deref-in-Pick-Canonical.ensures.value) c.in_ok-flags-in-Pick-Canonical.ensures in
     on_ok c.see.result _ _
-    (λ added. counts_seen c.args.limits c.args.command (origin_of c.args.origin) c.args.bytes.now c.args.finding picking (of_seen flags) c.args.kept.now c.see.new.self
+    (λ added. counts_seen c.args.limits c.args.command (origin_of c.args.origin) c.args.bytes.now c.args.finding picking {d = of_seen flags} c.args.kept.now c.see.new.self
     (search rules) (search rules) (flags, has, refl) added)
     c.see.ensures.added
