@@ -1,5 +1,5 @@
 -- How what was counted is told: in words, as an object of JSON, or not at all.
-use Rattle.std.specs.Prelude.{ℕ, zero, suc, List, [], ◌∷◌, ◌++◌, ◌-◌, Bool, true, false, Option, None, Some, codes, decimal, flat_map}
+use Rattle.std.specs.Prelude.{ℕ, zero, suc, List, [], ◌∷◌, ◌++◌, ◌-◌, ◌==◌, if◌then◌else◌, Bool, true, false, Option, None, Some, codes, decimal, flat_map}
 use Rattle.dump_io.specs.lines.Quoting.{quoted}
 use Rattle.json.specs.Token.{Token, key, string, number}
 use Rattle.dump_commands.specs.declared.command.Command.{Command}
@@ -100,9 +100,18 @@ abbrev pub some_text : Count → List ℕ
 some_text (name, zero) = []
 some_text (name, suc n) = next_text (name, suc n)
 
+-- the end of the name of this number of things
+abbrev pub plural : ℕ → List ℕ
+plural n = if n == 1 then [] else codes "s"
+
+-- a number of things, which are named by their singular
+abbrev pub things_text : ℕ → (one : List ℕ) → List ℕ
+things_text n one = decimal n ++ one ++ plural n
+
 -- what a command that keeps documents tells first, in words
 abbrev pub kept_text : Counts → (kept : ℕ) → List ℕ
-kept_text n kept = decimal kept ++ codes " kept; " ++ decimal n.regions ++ codes " damaged regions, " ++ decimal n.lost ++ codes " bytes lost"
+kept_text n kept =
+    decimal kept ++ codes " kept; " ++ things_text n.regions (codes " damaged region") ++ codes ", " ++ things_text n.lost (codes " byte") ++ codes " lost"
 
 -- the line that tells what a command that keeps documents counted: in words that, and then the counts that aren't 0
 abbrev pub kept_line : Style → Option (List ℕ) → Counts → (kept : ℕ) → List Count → List ℕ

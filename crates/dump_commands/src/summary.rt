@@ -4,7 +4,7 @@
 ghost use Rattle.std.specs.Prelude.{◌≡◌, ◌++◌, ◌∷◌, [], IfOk, OnOk, flat_map, map};
 ghost use Rattle.std.specs.Option.{option_copied};
 ghost use Rattle.dump_io.specs.lines.Told.{Grows};
-ghost use Rattle.dump_commands.specs.Summary.{breached_counts, count_members, count_of, count_text, counts_line, counts_of, damaged_counts, first_counts, hidden_counts, kept_line, kept_text, left_counts, left_out_counts, name_members, name_text, next_text, some_text, text_counts};
+ghost use Rattle.dump_commands.specs.Summary.{breached_counts, count_members, count_of, count_text, counts_line, counts_of, damaged_counts, first_counts, hidden_counts, kept_line, kept_text, left_counts, left_out_counts, name_members, name_text, next_text, some_text, text_counts, things_text};
 ghost use Rattle.dump_io.specs.declared.lines.style.Style.TheVariants.{Json, Words};
 
 use crate::command::Command;
@@ -224,16 +224,28 @@ fn push_some_counts(text: &mut Vec<u8>, counts: &[Count]) -> Result<(), AllocErr
     Ok(())
 }
 
+/// Appends a number and what it counts, named by its singular.
+fn push_things(text: &mut Vec<u8>, number: u64, one: &str) -> Result<(), AllocError>
+    ensures { OnOk result (text.new.items ≡ text.old.items ++ things_text number one.now) }
+{
+    push_number(text, number)?;
+    push_words(text, one)?;
+    match number {
+        1 => Ok(()),
+        _ => push_words(text, "s"),
+    }
+}
+
 /// What a command that keeps documents tells first.
 fn push_kept(text: &mut Vec<u8>, counts: &Counts, kept: u64) -> Result<(), AllocError>
     ensures { OnOk result (text.new.items ≡ text.old.items ++ kept_text counts.now kept) }
 {
     push_number(text, kept)?;
     push_words(text, " kept; ")?;
-    push_number(text, counts.regions)?;
-    push_words(text, " damaged regions, ")?;
-    push_number(text, counts.lost)?;
-    push_words(text, " bytes lost")
+    push_things(text, counts.regions, " damaged region")?;
+    push_words(text, ", ")?;
+    push_things(text, counts.lost, " byte")?;
+    push_words(text, " lost")
 }
 
 /// The line that tells what a command that keeps documents counted.

@@ -84,7 +84,7 @@ pub record IsRun (r : Reading) (name : List ℕ) (input : Option (List ℕ)) (be
   pub ends : EndsInput (asked_after r before.counts) name input (next_of before) came ended
   pub cut : could ≡ goes_on ended
 
--- An input isn't opened. None is of which bytes are known. Nothing is written, and it counts as one that isn't read to its end, with no
+-- An input isn't opened; one whose bytes are known always is. Nothing is written, and it counts as one that isn't read to its end, with no
 -- bytes left.
 pub record IsNotOpened (input : Option (List ℕ)) (before : State) (came : Held) (could : Option Bool) : Type 0 where
   pub unknown : input ≡ None

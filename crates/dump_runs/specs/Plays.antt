@@ -1,4 +1,6 @@
--- What a run writes to and counts, and what was given to that, in order.
+-- What a run writes to and counts, and what was given to that, in order. `Held` is what the run over one input changes. Of all inputs `State`
+-- (Batch.antt) also has the first that wasn't read to its end. `Point` (dumps/Run.antt) and `TextPoint` (texts/Run.antt) are what came before a
+-- part of an input.
 use Rattle.std.specs.Prelude.{◌≡◌, ℕ, List, [], Option, flat_map, fold}
 use Rattle.std.specs.Io.KnownBytes.{Appends}
 use Rattle.dump_commands.specs.declared.counts.Counts.{Counts}

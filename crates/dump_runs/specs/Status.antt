@@ -51,7 +51,8 @@ IsStatus r n _ = ⊥
 abbrev pub IsWritingStatus : Reading → Counts → Error → Status → Type 0
 IsWritingStatus r n e ended = ((error_kind e ≡ BrokenPipe) × IsStatus r n ended) ⊎ ((error_kind e ≢ BrokenPipe) × (ended ≡ status.Output))
 
--- how a run ends that fails, after these counts
+-- How a run over all inputs ends that fails, after these counts. It never fails by reading, which ends one input alone (`Ended`): the last
+-- case doesn't come.
 abbrev pub IsFailureStatus : Reading → Counts → Failure → Status → Type 0
 IsFailureStatus r n failure.Memory ended = ended ≡ status.Memory
 IsFailureStatus r n (failure.Writing e) ended = IsWritingStatus r n e ended

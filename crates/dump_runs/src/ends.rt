@@ -36,7 +36,8 @@ impl Ended {
     }
 }
 
-/// How a run ends that fails, after these counts. A pipe whose reader is gone changes nothing.
+/// How a run over all inputs ends that fails, after these counts. A pipe whose reader is gone changes nothing. Reading that fails doesn't come
+/// here: it ends one input alone (`Ended::Failed`).
 pub fn status_of_failure(reading: Reading<'_>, counts: Counts, failure: &Failure) -> Status
     ensures { IsFailureStatus reading.entry counts failure.now result }
 {

@@ -4,7 +4,8 @@
 //! - `dumps`: `run` cuts one input into documents, and hands each to its command.
 //! - `texts`: `read_texts` cuts one input into texts, and writes the document of each.
 //!
-//! Begin at `run_all` in `batch.rt`: its contract says what was read, written, reported and counted of all inputs, and the exit status.
+//! Begin at `run_all` in `batch.rt`: its contract says what was read, written, reported and counted of all inputs, and the exit status
+//! (`specs/Status.antt`; `dump_io` has the numbers, and `bsonraw_dump` the status of arguments and of OUTPUT).
 //! What one input gives is a list of events, in order (`specs/Plays.antt`). To change what a part of an input gives, change `events_of`
 //! in `specs/dumps/Run.antt` or `specs/texts/Run.antt` first. What a command makes of a document is `dump_commands`; how bytes are read
 //! and lines are spelled is `dump_io`. Files are opened in `bsonraw_dump` alone.

@@ -1,4 +1,4 @@
-//! The command line: its commands, and what each may be given.
+//! The command line: its commands, and what each may be given. `bin/words/bsonraw_dump.txt` has what it says: `checks/words.py` writes it.
 #![tactic(auto)]
 
 use crate::command_line::builder::CommandBuilder;

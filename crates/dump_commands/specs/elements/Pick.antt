@@ -6,7 +6,7 @@ use Rattle.raw_view.specs.LookUp.{FindsElement, found, missing}
 use Rattle.raw_view.specs.declared.element_type.ElementType.{ElementType}
 use Rattle.raw_view.specs.declared.element_type.ElementType.TheVariants as kind
 
--- the same parts, with a byte more in front of the first one
+-- the same parts, with a byte more at the front of the first one
 abbrev pub with_byte : ℕ → List (List ℕ) → List (List ℕ)
 with_byte byte [] = []
 with_byte byte (x ∷ xs) = (byte ∷ x) ∷ xs

@@ -39,7 +39,7 @@ IsInRange len number = (number < 32) × ((number ≡ 0) ⊎ (2 ^ number ≤ len)
 abbrev pub with_length : ℕ → Measured → Measured
 with_length number m = record m { ranges = set m.ranges number (get_or m.ranges number 0 + 1) }
 
--- a document more, in front of the first that is shorter
+-- a document more, before the first that is shorter
 abbrev pub ranked_among : Ranked → List Ranked → List Ranked
 ranked_among r rs = insert rs (position_or_len (λ (s : Ranked). nat_lt s.size r.size) rs) r
 

@@ -34,7 +34,7 @@ const USUAL: usize = 8;
 /// The elements of a level.
 #[derive(Clone, Copy)]
 pub struct Level {
-    /// how many bytes of their paths are in front of the last steps
+    /// how many bytes of their paths are before the last steps
     prefix: usize,
     /// whether they are those of an array
     in_array: bool,

@@ -138,7 +138,7 @@ fn is_in_share(share: &Share<'_>, stretch: u64, place: Origin<'_>) -> bool
     share.place.offset < place.offset && share.place.offset / stretch == place.offset / stretch
 }
 
-/// Puts a document in front of the first that is shorter.
+/// Puts a document before the first that is shorter.
 fn insert<'a>(largest: &mut Vec<Ranked<'a>>, document: Ranked<'a>) -> Result<(), AllocError>
     ensures { OnOk result (map ranked_of largest.new.items ≡ ranked_among (ranked_of document.entry) (map ranked_of largest.old.items)) }
 {

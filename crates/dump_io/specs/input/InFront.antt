@@ -1,4 +1,4 @@
--- What is before the documents that are asked for: bytes up to an offset, and a number of documents after it.
+-- What is before the documents that are asked for: bytes up to an offset (`at`), and after it a number of documents (`skip`).
 use Rattle.std.specs.Prelude.{◌≡◌, ◌<◌, ◌≤◌, ◌+◌, ◌++◌, ℕ, List, [], Option, IfSome, drop, length}
 use Rattle.std.specs.List.{AllByRecursion}
 use Rattle.std.specs.Io.KnownBytes.{Consumes, IsAtEnd}
@@ -10,8 +10,7 @@ use Rattle.dump_io.specs.declared.input.window.Next.{Next}
 use Rattle.dump_io.specs.declared.input.window.Next.TheVariants as next
 use Rattle.dump_io.specs.declared.input.window.Window.{Window}
 
--- The front of an input: at most the bytes up to the offset that is asked for; and after it at most the number of documents that is asked
--- for, at their lengths.
+-- A front of an input: at most the bytes up to the offset; and after it at most as many documents as are to be skipped, at their lengths.
 pub record IsInFront (p : Portion) (most : ℕ) (input : Option (List ℕ)) (front : List ℕ) : Type 0 where
   pub bytes : List ℕ
   pub documents : List (List ℕ)
@@ -26,7 +25,7 @@ abbrev pub BeginsNone : (most : ℕ) → List ℕ → Type 0
 BeginsNone most s = (x : List ℕ) → IsPiece most x → ¬ HasFront s x
 
 -- It is all that is before the documents that are asked for. The input may end before the offset. After the offset come as many documents as
--- are asked for, or fewer, up to the first place where none begins.
+-- are to be skipped, or fewer, up to the first place where none begins.
 pub record IsAllInFront (p : Portion) (most : ℕ) (input : Option (List ℕ)) (front : List ℕ) : Type 0 where
   pub front_of : IsInFront p most input front
   pub to_offset : IfSome input (λ s. length front_of.bytes < p.at → s ≡ front)

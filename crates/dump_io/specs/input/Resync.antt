@@ -1,4 +1,6 @@
--- Where the reading of an input goes on after bytes that no document begins with, and after lengths that aren't believed.
+-- Where the reading of an input goes on after bytes that no document begins with, and after lengths that aren't believed. In what
+-- follows s is the rest of the input, from the offset `at` on. `old` and `new` are what searches cost before and after. A place is left out where
+-- a look at it could cost too much (`IsLeftOut` of `raw_resync`); `all` says that none is.
 use Rattle.std.specs.Prelude.{◌≡◌, ◌⊎◌, ◌<◌, ◌≤◌, ◌+◌, ◌-◌, ℕ, List, [], Bool, true, false, Option, Some, drop, length, take}
 use Rattle.std.specs.Io.KnownBytes.{Consumes, IsAtEnd}
 use Rattle.raw_resync.specs.Resync.{GoesOn, IsDisbelieved, IsSound}

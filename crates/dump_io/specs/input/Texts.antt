@@ -1,4 +1,5 @@
--- How an input is cut into the texts of documents, one after another or as the items of one array.
+-- How an input is cut into the texts of documents, one after another or as the items of one array. `Scan` (src/input/scan.rt) is how far a
+-- text has come, `Turn` (turn.rt) what may come between texts.
 use Rattle.std.specs.Prelude.{◌≡◌, ◌⊎◌, ◌+◌, ◌-◌, ◌^◌, ◌≤◌, ◌<◌, ◌==◌, ◌&&◌, ◌||◌, ℕ, List, [], ◌∷◌, ◌++◌, Bool, true, false, Option, None, Some, if◌then◌else◌, fold, length, nat_lt, not, take}
 use Rattle.dump_io.specs.declared.input.position.Position.{Position}
 use Rattle.dump_io.specs.declared.input.scan.Scan.{Scan}

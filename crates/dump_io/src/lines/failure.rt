@@ -4,7 +4,7 @@ ghost use Rattle.dump_io.specs.lines.Failing.{IsReading};
 use std::alloc::AllocError;
 use std::io;
 
-/// Why a run over an input doesn't come to its end.
+/// Why a step of a run fails. Reading that fails ends one input, the others end the run over all.
 #[derive(Drop)]
 pub enum Failure {
     /// memory ran out
@@ -34,7 +34,7 @@ pub struct ReadFailure {
     pub error: io::Error,
 }
 
-/// A number, unless it is over its range.
+/// A number. One that is over its range fails as writing does.
 pub fn in_range<T: Copy>(number: Option<T>) -> Result<T, Failure>
     ensures same { IfOk result (λ n. number ≡ Some n) }
     ensures none { OnErr result (IsNone number) }

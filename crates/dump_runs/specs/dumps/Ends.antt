@@ -18,7 +18,7 @@ use Rattle.dump_runs.specs.dumps.Portion.{IsChosen, IsEnough}
 use Rattle.dump_runs.specs.dumps.Run.{Passed, after_all, bytes_of_parts, start_of, style_here}
 
 -- What the rest of an input is: nothing, at its end; or bytes that no document begins with, where none are passed over. Unless reading
--- failed, they are all. Of a run that ends early anything may be left.
+-- failed, they are all that was left. Of a run that ends early anything may be left.
 abbrev pub EndsAs : Job → (early : Bool) → Option Ending → Ended → (rest : List ℕ) → (left : Option (List ℕ)) → Type 0
 EndsAs job true end ended rest left = IsNone end × (ended ≡ how.Whole)
 EndsAs job false None how.Whole rest left = (rest ≡ []) × IsAtEnd left
@@ -44,8 +44,8 @@ last_events style at None (how.Failed failure) count = counted (λ n. count_left
 last_events style at None ended count = []
 
 -- How a run over the documents of an input that are asked for ends: parts were passed; then a rest was read, and where it isn't empty, it is
--- counted, and why no document begins there is told. Where reading failed, it failed after the rest. Unless it did, all in front of the documents
--- that are asked for is passed over, and if the run ends before the input does, then with the last of them.
+-- counted, and why no document begins there is told. Where reading failed, it failed after the rest. Unless it did, all before the documents
+-- that are asked for is passed over. If the run ends before the input does, then with the last of them.
 pub record EndsRun (job : Job) (name : List ℕ) (input : Option (List ℕ)) (old new : Held) (ended : Ended) : Type 0 where
   pub rest : List ℕ
   pub left : Option (List ℕ)

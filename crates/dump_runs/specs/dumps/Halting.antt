@@ -38,7 +38,7 @@ IsPieceFront job here b found es = (account : Option Account) × FindsFor job.li
 abbrev pub IsLoneFront : List ℕ → List Event → Type 0
 IsLoneFront b es = (front : List ℕ) × HasFront b front × (es ≡ set_aside front ∷ [])
 
--- A document b, in which this is found, is in front of s, the input from here on, and is taken at its length; and whether it stands alone.
+-- The document b at the front of s, in which this is found, is taken at its length, and stands alone or not; s is the input from here on.
 pub record IsNextPiece (job : Job) (s : List ℕ) (here : Point) (b : List ℕ) (found : Finding) (alone : Bool) : Type 0 where
   pub in_front : HasFront s b
   pub work : Work
@@ -59,7 +59,7 @@ IsNextFront job rest here es =
     ⊎ ((b : List ℕ) × (found : Finding) × HasFinding job b found × IfSome rest (λ s. IsNextPiece job s here b found true) × IsLoneFront b es)
     ⊎ ((text : List ℕ) × (front : List ℕ) × IsNextLine job rest here text × HasFront text front × (es ≡ reported front ∷ []))
 
--- How a run over an input fails. These parts are in front of it. What they give was played, and then a front of what is next.
+-- How a run over an input fails. The input begins with these parts. What they give was played, and then a front of what is next.
 pub record Halts (job : Job) (name : List ℕ) (input : Option (List ℕ)) (old new : Held) : Type 0 where
   pub ps : List Part
   pub in_front : IfSome input (λ s. HasFront s (bytes_of_parts ps))

@@ -21,7 +21,7 @@ IsRunOver (lone a) = Unit {0}
 IsRunOver (gap g) = Unit {0}
 IsRunOver (skipped b) = ⊥
 
--- the command is run over each of these parts, after this number of documents, and fewer than are asked for are before it
+-- The command is run over each of these parts. `count` documents come before the first of them, and before each fewer than are asked for.
 abbrev pub AreAsked : Option ℕ → ℕ → List Part → Type 0
 AreAsked take count [] = Unit {0}
 AreAsked take count (q ∷ qs) = IsRunOver q × IfSome take (λ n. count < n) × AreAsked take (count + length (documents_of_part q)) qs
@@ -30,8 +30,8 @@ AreAsked take count (q ∷ qs) = IsRunOver q × IfSome take (λ n. count < n) ×
 abbrev pub IsEnough : Portion → List Part → Type 0
 IsEnough p ps = p.take ≡ Some (length (documents_of_parts ps))
 
--- These parts are what is in front of the documents that are asked for, and after that parts which the command is run over: none, unless it
--- is all that is in front.
+-- These parts are one for the bytes before the documents that are asked for, and then those that the command is run over. There are none of
+-- these unless that one is all that is before the documents that are asked for.
 pub record IsChosen (p : Portion) (most : ℕ) (input : Option (List ℕ)) (front : List ℕ) (ps : List Part) : Type 0 where
   pub in_front : IsInFront p most input front
   pub others : List Part

@@ -43,8 +43,8 @@ pub record Entry : Type 0 where
   pub fields : List Document
   pub work : Work
 
--- bytes of an input that are passed over, since no document that is believed is in front of them, why not, how many, and what the searches
--- cost then
+-- bytes of an input that are passed over, since they begin with no document whose length is believed; why they don't, how many they are, and
+-- what searches cost then
 pub record Gap : Type 0 where
   pub bytes : List ℕ
   pub end : Ending
@@ -57,7 +57,7 @@ pub record Lone : Type 0 where
   pub finding : Finding
   pub work : Work
 
--- a part of an input: a document; one that stands alone; a gap; or bytes in front of the documents that are asked for
+-- a part of an input: a document; one that stands alone; a gap; or bytes before the documents that are asked for
 pub data Part : Type 0 where
   piece : Entry → Part
   lone : Lone → Part
@@ -122,15 +122,16 @@ pub record IsEntry (job : Job) (here : Point) (e : Entry) : Type 0 where
 abbrev pub IsWritten : Command → Finding → Type 0
 IsWritten c found = (keeps c ≡ true) × ((found ≡ finding.Canonical) ⊎ (found ≡ finding.Breached))
 
--- Whether the document of this length in front of s, the end of an input from this offset on, stands alone, in which this is found. Only
--- one that the command writes, and that has a gap or a lone document right before it, may; it does if documents don't go on after it, where that is looked at.
+-- Whether the document of this length at the front of s stands alone, in which this is found; s is the input from this offset on. Only one
+-- that the command writes, and that has a gap or a lone document right before it, may. It does if documents don't go on after it, where that
+-- is looked at.
 abbrev pub TellsApart : Job → (broken : Bool) → Finding → List ℕ → (at len : ℕ) → (old new : Work) → (alone : Bool) → Type 0
 TellsApart job broken found s at len old new alone =
     ((broken ≡ true) × IsWritten job.command found × TellsBehind job.limits s at len old new alone)
     ⊎ (¬ ((broken ≡ true) × IsWritten job.command found) × (alone ≡ false) × (new ≡ old))
 
--- A document b, in which this is found, is in front of s, the input from here on, and is taken at its length, where bytes may be passed over;
--- whether it stands alone; and what finding that out cost.
+-- The document b at the front of s, in which this is found, is taken at its length; s is the input from here on. Where bytes may be passed
+-- over, it is sound, or its length is believed. `alone` says whether it stands alone, `work` what searches cost then.
 pub record IsTaken (job : Job) (s : List ℕ) (here : Point) (b : List ℕ) (found : Finding) (work : Work) (alone : Bool) : Type 0 where
   pub mid : Work
   pub believed : job.resync ≡ true → IsBelieved job.limits s here.at.offset (length b) here.work mid
@@ -143,8 +144,8 @@ pub record HasFinding (job : Job) (b : List ℕ) (found : Finding) : Type 0 wher
   pub told : Option Account
   pub finds : FindsFor job.limits job.command b found told
 
--- No document is in front of s, the input from here on, or a damaged one whose length isn't believed, and the next place at which documents
--- are found to go on is after the gap; and what searches cost before and after finding that out.
+-- No document is at the front of s, the input from here on, or a damaged one whose length isn't believed. The next place at which documents
+-- are found to go on is right after the gap. Searches cost `before` when the first is known, and `g.work` when the second is.
 abbrev pub IsGapOf : Job → List ℕ → Point → Gap → Type 0
 IsGapOf job s here g = (before : Work) × BreaksWith job.limits s here.at.offset here.work before g.end × IsNextPlace job.limits s here.at.offset before g.work g.skip
 

@@ -76,7 +76,7 @@ pub record IsPassed (len : ℕ) (broken : Bool) (x y : Place) : Type 0 where
   pub ahead : ahead_of y.window ≡ drop len (ahead_of x.window)
   pub offset : offset_of y.window ≡ offset_of x.window + len
 
--- bytes in front of the documents that are asked for were passed
+-- bytes before the documents that are asked for were passed
 pub record PassesSomeFront (p : Portion) (most : ℕ) (x y : Place) : Type 0 where
   pub named : y.name ≡ x.name
   pub work : y.work ≡ x.work
@@ -153,7 +153,7 @@ abbrev pub HaltsPiece : Job → Piece → (old new : Held) → Type 0
 HaltsPiece job piece old new =
     (es : List Event) × Played es old new × ((before : Work) (broken : Bool) → IsPieceFront job (point_at piece before broken old) piece.bytes.now piece.judged.finding es)
 
--- whether the document of this length in front of the bytes ahead stands alone, in which this is found
+-- whether the document of this length at the front of the bytes ahead stands alone, in which this is found
 pub record LooksApart (job : Job) (found : Finding) (x y : Place) (len : ℕ) (alone : Bool) : Type 0 where
   pub searches : Searches job.limits x.left y.left x.window y.window x.work y.work
   pub same : y.broken ≡ x.broken

@@ -128,21 +128,21 @@ pub record IsRefused (style : Style) (here : TextPoint) (text line : List ℕ) (
   pub why : IsFaultOf here.limits text fault.at fault.reason
   pub next : behind ≡ turn_behind_document here.turn
 
--- What is wrong with a text that doesn't come to its end, where these bytes are read for it, and this number of them begun: there are 128 MiB; or they
--- have a fault, whose place is told within what is begun.
+-- What is wrong with a text that doesn't come to its end, of which `text` was read, and `begun` bytes are passed: 128 MiB were read, which is
+-- too many; or what was read has a fault. A fault after the bytes that are passed is told at their end.
 abbrev pub IsUnendedFault : Limits → (text : List ℕ) → (begun at : ℕ) → TextReason → Type 0
 IsUnendedFault limits text begun at why =
     ((length text ≡ 2 ^ 27) × (at ≡ 0) × (why ≡ reason.Json json.TooManyBytes))
     ⊎ ((length text < 2 ^ 27) × ((place : ℕ) × IsFaultOf limits text place why × (at ≡ min place begun)))
 
--- The text of a document in front of s doesn't come to its end, and says no document: this number of its bytes are begun, and after at of them it
--- has this fault.
+-- The text of a document at the front of s doesn't come to its end, and says no document. Its first `begun` bytes are passed as an unfinished
+-- text (`HasBegun`), and after `at` of them it has this fault.
 abbrev pub IsUnended : Limits → (s : List ℕ) → (begun at : ℕ) → TextReason → Type 0
 IsUnended limits s begun at why =
     (text : List ℕ) × IsTextOf s text × (¬ IsOneText text) × SaysNone text × HasBegun text begun × IsUnendedFault limits text begun at why
 
--- Why no whole text begins here, in front of s, of which this number of bytes are begun, and after how many of them: the input ends where it may
--- not; a byte can't be there; or a text doesn't come to its end.
+-- Why no whole text begins here, at the front of s: the input ends where it may not; a byte can't be there; or a text doesn't come to its
+-- end. `begun` of its bytes are passed as an unfinished text, and the fault comes after `at` of them.
 abbrev pub HasNoText : TextPoint → (s : List ℕ) → (begun at : ℕ) → TextReason → Type 0
 HasNoText here [] begun at why = (may_end here.turn ≡ false) × (begun ≡ 0) × (at ≡ 0) × (why ≡ reason.Json json.EndOfText)
 HasNoText here (b ∷ bs) begun at why =
@@ -224,7 +224,7 @@ IsNextTextFront job input first ps es =
     (es ≡ [])
     ⊎ ((p : TextPart) × AreTexts job input first (ps ++ p ∷ []) × IfSome input (λ s. HasFront s (bytes_of_texts (ps ++ p ∷ []))) × IsFrontOf p.says es)
 
--- How a run over an input fails. These parts are in front of it. What they give was played, and then a front of what is next.
+-- How a run over an input fails. The input begins with these parts. What they give was played, and then a front of what is next.
 pub record HaltsTexts (job : TextJob) (name : List ℕ) (input : Option (List ℕ)) (old new : Held) : Type 0 where
   pub ps : List TextPart
   pub parts : AreTexts job input (first_point job name old.counts) ps

@@ -35,7 +35,7 @@ point_of job name x n = record { name = name; limits = job.limits; offset = offs
 abbrev pub line_of : TextJob → List ℕ → Cursor → Counts → Fault → List ℕ
 line_of job name x n fault = fault_line (style_at job.style job.limit n) name (position_over x.place (take fault.at (ahead_of x.window))) fault.reason
 
--- no whole text is in front of these bytes, of which this was told: begun of them are begun, and after at of them is this fault
+-- no whole text is at the front of these bytes: `begun` of them are passed as an unfinished text, and after `at` of them is this fault
 abbrev pub TellsNoText : Limits → (ahead : List ℕ) → NextText → (begun at : ℕ) → TextReason → Type 0
 TellsNoText limits ahead (next.Text found) begun at why =
     (¬ IsOneText (take found.len ahead)) × HasBegun (take found.len ahead) begun × IsUnendedFault limits (take found.len ahead) begun at why
@@ -71,7 +71,7 @@ pub record PassesText (job : TextJob) (name : List ℕ) (told : NextText) (x y :
 abbrev pub HaltsSaid : Said → (old new : Held) → Type 0
 HaltsSaid says old new = (es : List Event) × Played es old new × ((es ≡ []) ⊎ IsFrontOf says es)
 
--- nothing is played of these bytes, or a front of what a part gives that is in front of them
+-- nothing is played of these bytes, or a front of what a part gives that they begin with
 abbrev pub HaltsText : TextJob → List ℕ → NextText → Cursor → (old new : Held) → Type 0
 HaltsText job name told x old new =
     Played [] old new

@@ -71,7 +71,7 @@ fn ended_at(at: u64, error: Option<io::Error>) -> Ended
     }
 }
 
-/// Passes over bytes in front of which is no document that is believed, and tells why none is there.
+/// Passes over bytes that begin with no document whose length is believed, and tells why they don't.
 pub fn pass_gap<'a, R: Read + Drop, D: Write + Drop, A: Write + Drop, W: Write + Drop>(
     alloc: Global,
     job: Job<'a>,

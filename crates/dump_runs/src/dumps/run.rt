@@ -34,7 +34,7 @@ pub enum Stop {
 }
 
 /// Reads an input, a document at a time, writes what the command gives of each, and reports in a line what is wrong with
-/// it. Where no document is in front of what is left, or a damaged one whose length isn't believed, bytes are passed over until
+/// it. Where no document is at the front of what is left, or a damaged one whose length isn't believed, bytes are passed over until
 /// documents go on, if that is asked for; else what is left is counted, and the run ends.
 pub fn run<'a, R: Read + Drop, D: Write + Drop, A: Write + Drop, W: Write + Drop>(
     alloc: Global,

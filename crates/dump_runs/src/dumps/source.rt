@@ -102,7 +102,7 @@ impl<'a, R: Read + Drop> Source<'a, R> {
         Ok(())
     }
 
-    /// Passes what is in front of the documents that are asked for, where a document has at most `most` bytes.
+    /// Passes what is before the documents that are asked for, where a document has at most `most` bytes.
     pub fn pass_front(&mut self, portion: Portion, most: usize) -> Result<(), Failure>
         requires { (left : Option (List ℕ)) × Begins self.old.name left self.old }
         ensures passed { OnOk result (PassesAllFront portion most self.old self.new) }
