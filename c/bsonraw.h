@@ -886,7 +886,7 @@ int32_t bsonraw_append(struct bsonraw_builder *builder, uint8_t *BSONRAW_RESTRIC
  *     uint8_t room[64];
  *     struct bsonraw_builder b;
  *     bsonraw_builder_begin(&b, room, sizeof room);
- *     bsonraw_append_number(&b, room, sizeof room, BSONRAW_TAG_INT32, BSONRAW_KEY("born"), 1882);
+ *     bsonraw_append_number(&b, room, sizeof room, BSONRAW_TAG_INT64, BSONRAW_KEY("born"), 1882);
  *     if (bsonraw_builder_end(&b, room, sizeof room) == BSONRAW_OK) fwrite(room, 1, b.len, stdout);
  */
 int32_t bsonraw_append_number(struct bsonraw_builder *builder, uint8_t *BSONRAW_RESTRICT room, size_t room_len, uint32_t tag,
