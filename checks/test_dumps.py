@@ -80,11 +80,11 @@ def made_files() -> Dict[str, bytes]:
     made["stars"] = document(b"\x02s\0\x02\0\0\0\xe9\0", b"\x10n\0\x05\0\0\0") + one
     made["stars.replaced"] = document(b"\x02s\0\x04\0\0\0\xef\xbf\xbd\0", b"\x10n\0\x05\0\0\0") + one
     pointer, scope = b"123456789012", made["empty"]
-    made["texts"] = document(
+    made["bad.texts"] = document(
         b"\x0eb\0\4\0\0\0\xe2\x82!\0", b"\x0cd\0\2\0\0\0\xc3\0" + pointer, b"\x0fe\0\x0f\0\0\0\2\0\0\0\xff\0" + scope, b"\x0dc\0\x42\0\0\0" + b"\xff" * 65 + b"\0"
     )
     bad = "\ufffd".encode()
-    made["texts.replaced"] = document(
+    made["bad.texts.replaced"] = document(
         b"\x0eb\0\5\0\0\0" + bad + b"!\0", b"\x0cd\0\4\0\0\0" + bad + b"\0" + pointer, b"\x0fe\0\x11\0\0\0\4\0\0\0" + bad + b"\0" + scope, b"\x0dc\0\xc4\0\0\0" + bad * 65 + b"\0"
     )
     made["both"] = document(b"\x02s\0\x02\0\0\0\xe9\0", b"\x08b\0\x02") + made["stars"]
