@@ -4,12 +4,13 @@ use Rattle.raw_tree.specs.declared.reader.limits.Limits.{Limits}
 use Rattle.dump_io.specs.lines.Origins.{Origin}
 use Rattle.dump_io.specs.declared.lines.find.Finding.{Finding}
 use Rattle.dump_io.specs.declared.lines.find.Finding.TheVariants as finding
-use Rattle.dump_commands.specs.Counted.{AreFields, CountsFields}
+use Rattle.dump_commands.specs.Counted.{AreFields, AreSeen, CountsFields}
 use Rattle.dump_commands.specs.state.Gathered.{Document, IsMeasured, tabled, with_document}
 use Rattle.dump_commands.specs.declared.state.kept.Kept.{Kept}
 use Rattle.dump_commands.specs.declared.command.Command.{Command}
 use Rattle.dump_commands.specs.declared.command.Command.TheVariants as command
 use Rattle.dump_commands.specs.declared.command.Measure.{Measure}
+use Rattle.dump_commands.specs.declared.command.Picking.{Picking}
 
 -- no damage is found
 abbrev pub IsClean : Finding → Type 0
@@ -25,3 +26,9 @@ counts_fields limits c place b f d k k' is (inr breached) fields added = (d ∷ 
 pub counts_length : (limits : Limits) (c : Command) (place : Origin) (b : List ℕ) (f : Finding) (measure : Measure) (k k' : Kept) → c ≡ command.Measure measure
     → (d : Document) × IsMeasured measure place b d × (tabled k' ≡ with_document (tabled k) d) → CountsFields limits c place b f k k'
 counts_length limits c place b f measure k k' is (d, measured, added) = (d ∷ [], rw is (d, measured, refl), added)
+
+-- which of its paths lead to an element
+pub counts_seen : (limits : Limits) (c : Command) (place : Origin) (b : List ℕ) (f : Finding) (picking : Picking) (k k' : Kept) → c ≡ command.Pick picking
+    → IsClean f → (d : Document) × AreSeen picking b d × (tabled k' ≡ with_document (tabled k) d) → CountsFields limits c place b f k k'
+counts_seen limits c place b f picking k k' is (inl canonical) (d, seen, added) = (d ∷ [], rw (is, canonical) (d, seen, refl), added)
+counts_seen limits c place b f picking k k' is (inr breached) (d, seen, added) = (d ∷ [], rw (is, breached) (d, seen, refl), added)

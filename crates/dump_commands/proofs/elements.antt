@@ -1,3 +1,4 @@
 mod Levels
-mod Picked
+pub mod Picked
 mod Cutting
+mod Had

@@ -1,4 +1,5 @@
 mod Digesting
+mod Missing
 mod Ranking
 mod Sharing
 mod Tabled

@@ -1,5 +1,6 @@
 pub mod Pick
 pub mod Cut
 pub mod Chosen
+pub mod Having
 pub mod Id
 pub mod Listing

@@ -1,4 +1,5 @@
 pub mod Forms
 pub mod Fields
 pub mod Measures
+pub mod Seen
 pub mod Gathered

@@ -3,6 +3,7 @@
 
 pub mod chosen;
 pub mod cut;
+pub mod having;
 pub mod id;
 pub mod listing;
 pub mod pick;

@@ -22,6 +22,7 @@ ghost use Rattle.dump_commands.specs.declared.command.Spelling as spells;
 
 use crate::command::{Command, Picking, Spelling};
 use crate::elements::chosen::chosen;
+use crate::elements::having::had_in;
 use crate::state::kept::{Added, Kept};
 use crate::state::tokens_of;
 use bson_to_json::{Style as JsonStyle, WriteJsonError, write_json};
@@ -285,6 +286,10 @@ pub fn count_fields<'a>(
         (Command::Fields, Finding::Canonical | Finding::Breached) => {
             let tokens = tokens_of(alloc, bytes, limits)?;
             kept.add_document(alloc, origin, bytes, &tokens)
+        }
+        (Command::Pick(picking), Finding::Canonical | Finding::Breached) => {
+            let flags = had_in(alloc, bytes, picking)?;
+            kept.see(alloc, &flags)
         }
         (Command::Measure(measure), _) => kept.measure(alloc, measure, origin, bytes),
         _ => Ok(()),

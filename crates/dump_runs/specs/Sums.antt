@@ -34,6 +34,7 @@ all_line job command.Sizes n kept = []
 all_line job (command.Measure (measure.Parts stretch)) n kept = gathered_lines job kept
 all_line job (command.Measure m) n kept = gathered_lines job kept ++ count_line job n kept
 all_line job command.Fields n kept = gathered_lines job kept ++ count_line job n kept
+all_line job (command.Pick picking) n kept = gathered_lines job kept ++ count_line job n kept
 all_line job _ n kept = count_line job n kept
 
 -- the same of any input; after one of texts there is none

@@ -110,7 +110,9 @@ fn put_all<W: Write>(
     match job.command {
         Command::List | Command::Sizes => Ok(()),
         Command::Measure(Measure::Parts(_)) => put_gathered(alloc, job, kept, report),
-        Command::Fields | Command::Measure(Measure::Histogram | Measure::Largest(_)) => {
+        Command::Fields
+        | Command::Pick(_)
+        | Command::Measure(Measure::Histogram | Measure::Largest(_)) => {
             put_both(alloc, job, totals, report)
         }
         Command::Check
@@ -118,8 +120,7 @@ fn put_all<W: Write>(
         | Command::Canon
         | Command::Sound
         | Command::Unique(_)
-        | Command::Json(_)
-        | Command::Pick(_) => put_summary(alloc, job, None, &totals.counts, kept.count(), report),
+        | Command::Json(_) => put_summary(alloc, job, None, &totals.counts, kept.count(), report),
     }
 }
 

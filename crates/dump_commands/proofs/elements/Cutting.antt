@@ -1,5 +1,5 @@
 -- What a document becomes without some of its elements, one element after the other.
-use Rattle.std.proofs.Common.{◌≡◌, ◌∙◌, ◌+◌, ℕ, suc, Bool, List, [], ◌∷◌, ◌++◌, Option, None, Some, Result, Ok, ap, append_assoc, append-nil, drop, refl, subst, sym}
+use Rattle.std.proofs.Common.{◌≡◌, ◌∙◌, ℕ, suc, Bool, List, [], ◌∷◌, ◌++◌, Option, None, Some, Result, Ok, ap, append_assoc, append-nil, drop, refl, subst, sym}
 use Rattle.raw_view.specs.Frame.{Done, Frame, IsFrame, IsWalk}
 use Rattle.raw_view.specs.Frame.ElementSteps.{frame_of}
 use Rattle.raw_view.specs.Frame.Format.{framed}

@@ -1,6 +1,6 @@
 -- A document without the elements that paths name; or with these alone, and what is around them. A path names each element to which it leads:
 -- it is the keys on the way there, the outermost first, with dots between them. In place of the key of an array's item two brackets may stand.
-use Rattle.std.specs.Prelude.{◌≡◌, ◌+◌, ℕ, suc, zero, List, [], ◌∷◌, ◌++◌, Bool, true, false, Option, None, Some, bytes_eq, codes, cond, decimal, drop, flat_map, length, map, nat_eq, take}
+use Rattle.std.specs.Prelude.{◌≡◌, ◌+◌, ℕ, suc, zero, List, [], ◌∷◌, ◌++◌, Bool, true, false, bytes_eq, codes, cond, decimal, drop, flat_map, length, map, nat_eq, take}
 use Rattle.std.specs.List.{list_any}
 use denote.Ref.{Bor}
 use Rattle.raw_view.specs.Frame.{Done, Frame, IsWalk}

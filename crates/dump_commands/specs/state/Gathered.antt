@@ -1,10 +1,12 @@
 -- What is gathered of documents, and how that is printed.
-use Rattle.std.specs.Prelude.{◌≡◌, ℕ, List, [], flat_map, length}
+use Rattle.std.specs.Prelude.{◌≡◌, ℕ, List, [], Bool, flat_map, length}
 use Rattle.dump_io.specs.lines.Origins.{Origin}
 use Rattle.dump_io.specs.declared.lines.style.Style.{Style}
 use Rattle.dump_commands.specs.elements.Id.{ShowsId}
+use Rattle.dump_commands.specs.elements.Pick.{comma, parts}
 use Rattle.dump_commands.specs.state.Fields.{Field, Table, no_table, table_of, table_text, with_fields}
 use Rattle.dump_commands.specs.state.Measures.{IsInRange, Measured, Ranked, measures_of, no_measures, range_lines, ranked_line, share_line, with_length, with_ranked, with_share}
+use Rattle.dump_commands.specs.state.Seen.{either, missing_lines}
 use Rattle.dump_commands.specs.declared.command.Command.{Command}
 use Rattle.dump_commands.specs.declared.command.Command.TheVariants as command
 use Rattle.dump_commands.specs.declared.command.Measure.{Measure}
@@ -13,21 +15,23 @@ use Rattle.dump_commands.specs.declared.state.gathered.Gathered as code
 use Rattle.dump_commands.specs.declared.state.kept.Kept.{Kept}
 
 -- what is gathered of one document: its elements, and where it begins; the range of its length; its length and _id, and how many documents are kept;
--- or its place, and how long a stretch is
+-- its place, and how long a stretch is; or which paths lead to an element in it
 pub data Document : Type 0 where
   of_fields : Origin → List Field → Document
   of_length : (range : ℕ) → Document
   of_rank : (most : ℕ) → Ranked → Document
   of_place : (stretch : ℕ) → Origin → Document
+  of_seen : List Bool → Document
 
--- what was gathered of all: what was counted of paths, and the lengths
+-- what was gathered of all: what was counted of paths, the lengths, and which paths lead to an element in some document
 pub record Gathered : Type 0 where
   pub table : Table
   pub measures : Measured
+  pub seen : List Bool
 
 -- nothing was gathered
 abbrev pub nothing : (paths : ℕ) → Gathered
-nothing paths = record { table = no_table paths; measures = no_measures }
+nothing paths = record { table = no_table paths; measures = no_measures; seen = [] }
 
 -- a document more
 abbrev pub with_document : Gathered → Document → Gathered
@@ -35,6 +39,7 @@ with_document g (of_fields place fields) = record g { table = with_fields place 
 with_document g (of_length range) = record g { measures = with_length range g.measures }
 with_document g (of_rank most r) = record g { measures = with_ranked most r g.measures }
 with_document g (of_place stretch place) = record g { measures = with_share stretch place g.measures }
+with_document g (of_seen flags) = record g { seen = either flags g.seen }
 
 -- what is gathered of the length of the document b, which begins there
 abbrev pub IsMeasured : Measure → Origin → (b : List ℕ) → Document → Type 0
@@ -52,11 +57,12 @@ measure_lines style (measure.Parts stretch) m = flat_map share_line m.shares
 abbrev pub lines_of : Style → Command → Gathered → List ℕ
 lines_of style command.Fields g = table_text g.table
 lines_of style (command.Measure m) g = measure_lines style m g.measures
+lines_of style (command.Pick picking) g = missing_lines style (parts comma picking.paths.now) g.seen
 lines_of style _ g = []
 
 -- what the code gathered
 abbrev pub gathered_of : code.Gathered → Gathered
-gathered_of g = record { table = table_of g.paths; measures = measures_of g.measures }
+gathered_of g = record { table = table_of g.paths; measures = measures_of g.measures; seen = g.seen.items }
 
 abbrev pub tabled : Kept → Gathered
 tabled kept = gathered_of kept.gathered

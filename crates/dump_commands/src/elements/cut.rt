@@ -23,7 +23,7 @@ const ITEM: &[u8] = b"[]";
 
 /// What becomes of an element.
 #[derive(Drop)]
-enum Fate<'a> {
+pub(crate) enum Fate<'a> {
     /// it stays as it is
     Stays,
     /// it is left out
@@ -109,14 +109,14 @@ fn cut(
 }
 
 /// Whether a value of this kind is an array.
-fn is_array(kind: ElementType) -> bool
+pub(crate) fn is_array(kind: ElementType) -> bool
     ensures { result ≡ says.is_array kind }
 {
     matches!(kind, ElementType::Array)
 }
 
 /// The document or the array that an element has as its value.
-fn level_of(element: RawElement<'_>) -> Result<RawDocument<'_>, AllocError>
+pub(crate) fn level_of(element: RawElement<'_>) -> Result<RawDocument<'_>, AllocError>
     ensures { IfOk result (λ level. bytes_of level ≡ (frame_of element.entry).payload) }
 {
     match RawDocument::from_bytes(element.payload()) {
@@ -126,7 +126,7 @@ fn level_of(element: RawElement<'_>) -> Result<RawDocument<'_>, AllocError>
 }
 
 /// What becomes of an element of a level.
-fn decided<'a>(
+pub(crate) fn decided<'a>(
     alloc: Global,
     others: bool,
     in_array: bool,

@@ -68,7 +68,7 @@ fn pick_one(document: RawDocument<'_>, path: &str, elements: &mut Vec<u8>) -> Re
 }
 
 /// The element that a path leads to.
-fn element_at<'a>(document: RawDocument<'a>, path: &str) -> Option<RawElement<'a>>
+pub(crate) fn element_at<'a>(document: RawDocument<'a>, path: &str) -> Option<RawElement<'a>>
     ensures { LeadsTo (bytes_of document.entry) (parts dot path.now) (option_map frame_of result) }
 {
     let mut level = document;

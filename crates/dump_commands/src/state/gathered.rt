@@ -2,7 +2,7 @@
 #![tactic(auto)]
 
 ghost use Rattle.std.specs.Prelude.{◌≡◌, IfErr, IfOk, OnOk};
-ghost use Rattle.dump_commands.specs.state.Gathered.{Document, IsMeasured, gathered_of, lines_of, nothing, with_document};
+ghost use Rattle.dump_commands.specs.state.Gathered.{Document, IsMeasured, gathered_of, lines_of, nothing, of_seen, with_document};
 ghost use Rattle.dump_io.specs.lines.Failing.{IsReading};
 ghost use Rattle.dump_io.specs.lines.Origins.{origin_of};
 
@@ -11,10 +11,11 @@ use crate::elements::id::shown_id;
 use crate::state::measure_lines::{largest_lines, range_lines, share_lines};
 use crate::state::measures::{Measures, Ranked, range_of};
 use crate::state::paths::Paths;
+use crate::state::seen::{joined, missing_lines};
 use dump_io::lines::failure::Failure;
 use dump_io::lines::origin::Origin;
 use dump_io::lines::style::Style;
-use std::alloc::Global;
+use std::alloc::{AllocError, Global};
 
 /// What was gathered of documents.
 #[derive(Drop)]
@@ -23,6 +24,8 @@ pub struct Gathered<'a> {
     pub paths: Paths<'a>,
     /// what was gathered of lengths
     pub measures: Measures<'a>,
+    /// of each path that picks elements whether it leads to one in some document
+    pub seen: Vec<bool>,
 }
 
 impl<'a> Gathered<'a> {
@@ -33,6 +36,7 @@ impl<'a> Gathered<'a> {
         Gathered {
             paths: Paths::new(alloc, paths),
             measures: Measures::new(alloc),
+            seen: Vec::new(alloc),
         }
     }
 
@@ -60,6 +64,14 @@ impl<'a> Gathered<'a> {
         }
     }
 
+    /// Puts which paths lead to an element in a document to what was gathered.
+    pub fn see(&mut self, alloc: Global, flags: &[bool]) -> Result<(), AllocError>
+        ensures added { OnOk result (gathered_of self.new ≡ with_document (gathered_of self.old) (of_seen flags.now)) }
+    {
+        self.seen = joined(alloc, flags, &self.seen)?;
+        Ok(())
+    }
+
     /// The lines that tell what the command gathered.
     pub fn lines(
         &self,
@@ -79,6 +91,9 @@ impl<'a> Gathered<'a> {
                 Ok(largest_lines(alloc, &self.measures.largest)?)
             }
             Command::Measure(Measure::Parts(_)) => Ok(share_lines(alloc, &self.measures.shares)?),
+            Command::Pick(picking) => {
+                Ok(missing_lines(alloc, style, picking.paths, &self.seen)?)
+            }
             Command::Check
             | Command::List
             | Command::Count
@@ -86,8 +101,7 @@ impl<'a> Gathered<'a> {
             | Command::Canon
             | Command::Sound
             | Command::Unique(_)
-            | Command::Json(_)
-            | Command::Pick(_) => Ok(Vec::new(alloc)),
+            | Command::Json(_) => Ok(Vec::new(alloc)),
         }
     }
 }

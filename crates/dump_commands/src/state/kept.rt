@@ -46,7 +46,7 @@ pub struct Kept<'a> {
 impl<'a> Kept<'a> {
     ghost use Rattle.std.specs.Prelude.{◌≡◌, ◌∷◌, [], ℕ, List, false, not, IfErr, IfOk, OnOk};
     ghost use Rattle.dump_commands.specs.state.Fields.{fields_of, outermost};
-    ghost use Rattle.dump_commands.specs.state.Gathered.{Document, IsMeasured, KeepsCounted, KeepsWritten, lines_of, nothing, of_fields, tabled, with_document};
+    ghost use Rattle.dump_commands.specs.state.Gathered.{Document, IsMeasured, KeepsCounted, KeepsWritten, lines_of, nothing, of_fields, of_seen, tabled, with_document};
     ghost use Rattle.dump_io.specs.lines.Failing.{IsReading};
     ghost use Rattle.dump_commands.specs.state.Forms.{CountsOne, written_count, digest_of, first_at, first_of, firsts_of, is_new, knows, no_firsts, placed, with_first, with_form};
     ghost use Rattle.dump_io.specs.lines.Origins.{origin_of};
@@ -101,6 +101,16 @@ impl<'a> Kept<'a> {
     {
         self.gathered.paths.begin()?;
         add_tokens(alloc, &mut self.gathered.paths, origin, bytes, tokens)
+    }
+
+    /// Puts which paths lead to an element in a document to what was gathered.
+    pub fn see(&mut self, alloc: Global, flags: &[bool]) -> Result<(), Failure>
+        ensures added { OnOk result (tabled self.new ≡ with_document (tabled self.old) (of_seen flags.now)) }
+        ensures written { KeepsWritten self.old self.new }
+        ensures failed { IfErr result (λ failure. ¬ IsReading failure) }
+    {
+        self.gathered.see(alloc, flags)?;
+        Ok(())
     }
 
     /// Puts the length of a document with these bytes, which begins there, to those that were gathered.

@@ -2,7 +2,10 @@ use Rattle.std.proofs.Common.{refl, rules, subst, sym}
 use Rattle.raw_form.specs.Tokens.{HasTokens}
 use Rattle.dump_io.specs.lines.Origins.{origin_of}
 use Rattle.dump_io.proofs.Face.{on_ok}
-use Rattle.dump_commands.proofs.Counted.{counts_fields, counts_length}
+use Rattle.dump_commands.proofs.Counted.{counts_fields, counts_length, counts_seen}
+use Rattle.dump_commands.specs.elements.Having.{HasEach}
+use Rattle.dump_commands.specs.elements.Pick.{comma, parts}
+use Rattle.dump_commands.specs.state.Gathered.{of_seen}
 use Rattle.dump_commands.proofs.making.count_fields.Goals as goal
 
 pub returns-in_ok-tokens-in-Fields-Canonical-clause-counted : goal.returns-in_ok-tokens-in-Fields-Canonical-clause-counted
@@ -19,3 +22,13 @@ returns-in-Measure-default-clause-counted c =
     (λ added. counts_length c.args.limits c.args.command (origin_of c.args.origin) c.args.bytes.now c.args.finding c.in-Measure-default.measure c.args.kept.now
     c.measure.new.self (search rules) added)
     c.measure.ensures.added
+
+pub returns-in_ok-flags-in-Pick-Canonical-clause-counted : goal.returns-in_ok-flags-in-Pick-Canonical-clause-counted
+returns-in_ok-flags-in-Pick-Canonical-clause-counted c =
+    let picking = c.in-Pick-Canonical.picking in
+    let flags = c.deref-in-Pick-Canonical.result.now in
+    let has = subst (HasEach picking.choice c.args.bytes.now (parts comma picking.paths.now)) (sym c.deref-in-Pick-Canonical.ensures.value) c.in_ok-flags-in-Pick-Canonical.ensures in
+    on_ok c.see.result _ _
+    (λ added. counts_seen c.args.limits c.args.command (origin_of c.args.origin) c.args.bytes.now c.args.finding picking c.args.kept.now c.see.new.self
+    (search rules) (search rules) (of_seen flags, (flags, has, refl), added))
+    c.see.ensures.added
