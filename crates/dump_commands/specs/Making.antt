@@ -24,13 +24,13 @@ abbrev pub spelled : Command → (b form : List ℕ) → List ℕ
 spelled (command.Unique spelling.Original) b form = b
 spelled c b form = form
 
--- what is made of a piece b in which this is found: what is written of it, and its form; nothing if it is damaged or too deep, or isn't judged
+-- what is made of a piece b in which this is found: what is written of it, and its form; nothing if it is damaged or too deep, or wasn't looked into
 abbrev pub MakesForm : Command → List ℕ → Finding → List Made → Type 0
 MakesForm c b finding.Canonical made = made ≡ plain b ∷ []
 MakesForm c b finding.Breached made = (form : List ℕ) × IsCanonicalForm b form × (made ≡ made_as (spelled c b form) form ∷ [])
 MakesForm c b _ made = made ≡ []
 
--- the line of a piece b in which this is found, unless it is damaged or too deep, or isn't judged: its text as Extended JSON, and a line feed
+-- the line of a piece b in which this is found, unless it is damaged or too deep, or wasn't looked into: its text as Extended JSON, and a line feed
 abbrev pub MakesJson : json.Style → List ℕ → Finding → List Made → Type 0
 MakesJson style b finding.Damaged made = made ≡ []
 MakesJson style b finding.TooDeep made = made ≡ []
@@ -46,7 +46,7 @@ IsPrinted (Some style) document made = (text : List ℕ) × IsJson style documen
 abbrev pub IsPickedAs : Picking → List ℕ → List ℕ → Type 0
 IsPickedAs picking b made = (document : List ℕ) × IsChosen picking.choice b picking.paths.now document × IsPrinted picking.style document made
 
--- the document that is picked of a piece b in which this is found, unless it is damaged or too deep, or isn't judged; or its line
+-- the document that is picked of a piece b in which this is found, unless it is damaged or too deep, or wasn't looked into; or its line
 abbrev pub MakesPicked : Picking → List ℕ → Finding → List Made → Type 0
 MakesPicked picking b finding.Damaged made = made ≡ []
 MakesPicked picking b finding.TooDeep made = made ≡ []

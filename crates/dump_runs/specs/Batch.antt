@@ -133,7 +133,7 @@ pub record HaltsInside (r : Reading) (name : List ℕ) (input : Option (List ℕ
   pub report : written.report ≡ came.report
   pub is_counted : CountsMore before.counts came.counts counts
 
--- it was run over whole, or wasn't opened, and a front of its line is written
+-- the run over it ended, or it wasn't opened, and a front of its line is written
 pub record HaltsAfter (r : Reading) (name : List ℕ) (input : Option (List ℕ)) (before : State) (written : Written) (counts : Counts) : Type 0 where
   pub came : Held
   pub could : Option Bool
@@ -172,7 +172,7 @@ EndsAll r bytes_of names first written (Some (lack.Failed failure)) ended =
     (counts : Counts) × RunsFront r bytes_of names first written counts × IsFailureStatus r counts failure ended × IsCaused written.has_failed failure
 
 -- How a run over the inputs of these names ends, where nothing was kept before. Nothing lacks where each was read to its end. A failure
--- gives the status, but for a pipe that has no reader; one of writing comes only where a write failed.
+-- gives the status, but for a pipe that has no reader; a failure of writing is told only where a write failed.
 pub record IsDone (r : Reading) (bytes_of : List ℕ → Option (List ℕ)) (names : List (List ℕ)) (old new : Written) (done : Done) : Type 0 where
   pub kept : Kept
   pub nothing : KeepsNothing r kept

@@ -1,5 +1,6 @@
--- A document without the elements that paths name; or with these alone, and what is around them. A path names each element to which it leads:
--- it is the keys on the way there, the outermost first, with dots between them. In place of the key of an array's item two brackets may stand.
+-- A document without the elements that paths name; or with these alone, in the documents and arrays into which paths lead. A path names each
+-- element to which it leads: it is the keys on the way there, the outermost first, with dots between them. In place of the key of an array's
+-- item two brackets may stand.
 use Rattle.std.specs.Prelude.{◌≡◌, ◌+◌, ℕ, suc, zero, List, [], ◌∷◌, ◌++◌, Bool, true, false, bytes_eq, codes, cond, decimal, drop, flat_map, length, map, nat_eq, take}
 use Rattle.std.specs.List.{list_any}
 use denote.Ref.{Bor}
@@ -96,8 +97,9 @@ IsCut others (suc n) in_array paths b cut =
     (frames : List Frame) × (elements : List ℕ) × IsWalk (drop 4 b) frames Done × AreCut (IsCut others n) others in_array paths 0 frames elements
     × (cut ≡ framed elements)
 
--- the document b without the elements that the paths of this text name, where the others stay; or with these alone, and what is around them.
--- No path leads over more levels than the text has bytes, and one more.
+-- the document b without the elements that the paths of this text name, where the others stay; or with these alone, in the documents and
+-- arrays into which paths lead, which stay if they have none of these, too. No path leads over more levels than the text has bytes, and one
+-- more.
 abbrev pub IsCutAt : (others : Bool) → (b text document : List ℕ) → Type 0
 IsCutAt others b text document = IsCut others (suc (length text)) false (parts comma text) b document
 
