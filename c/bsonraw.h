@@ -881,7 +881,8 @@ int32_t bsonraw_append(struct bsonraw_builder *builder, uint8_t *BSONRAW_RESTRIC
 
 /* Appends an element whose payload is the lowest bytes of a number, least first, as many as its kind has: eight of a double, which are its
  * bits, of a datetime, of an int64 and of a timestamp, whose time is in the upper four; four of an int32; one of a boolean, 0 or 1; and none
- * of the kinds without a payload. The higher bytes aren't looked at. Other tags and booleans are BSONRAW_OTHER_KIND.
+ * of the kinds without a payload. The higher bytes aren't looked at. Other tags, and a boolean whose lowest byte is over 1, are
+ * BSONRAW_OTHER_KIND.
  *
  *     uint8_t room[64];
  *     struct bsonraw_builder b;
