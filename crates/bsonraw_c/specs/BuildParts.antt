@@ -23,7 +23,7 @@ AddsUnder key k payload old new before after =
     ((old.tag ≢ 4) × (¬ IsCText key) × Refuses status.Fault old new before after)
     ⊎ (IsCText (key_in old key) × Adds (record { kind = k; key = key_in old key; payload = payload }) old new before after)
 
--- where an element of `size` bytes begins in a room of so many bytes; or none, where it is too long, or the room too small
+-- where an element of `size` bytes begins in a room of this length; or none, where it is too long, or the room too small
 abbrev pub Claims : ℕ → ℕ → Builder → Builder → Option ℕ → Type 0
 Claims size room old new (Some at) = (old.len + size < max_length) × (old.count < max_length) × (old.len + size ≤ room) × (at ≡ old.len) × (new ≡ grown old size)
 Claims size room old new None =
