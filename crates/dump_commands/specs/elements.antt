@@ -4,3 +4,5 @@ pub mod Chosen
 pub mod Having
 pub mod Id
 pub mod Listing
+pub mod Runs
+pub mod Showing
