@@ -6,3 +6,4 @@ pub mod Id
 pub mod Listing
 pub mod Runs
 pub mod Showing
+pub mod ShownLevels

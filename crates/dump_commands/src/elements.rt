@@ -6,5 +6,7 @@ pub mod cut;
 pub mod having;
 pub mod id;
 pub mod listing;
+pub mod page;
 pub mod pick;
+pub mod showing;
 pub mod text;

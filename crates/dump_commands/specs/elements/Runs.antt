@@ -1,6 +1,8 @@
 -- Runs of bytes with what they are in words, and the lines that show them.
-use Rattle.std.specs.Prelude.{◌+◌, ◌-◌, ◌*◌, ◌/◌, ◌%◌, ℕ, suc, zero, List, [], ◌∷◌, ◌++◌, Bool, true, false, Option, None, Some, codes, cond, decimal, drop, flat_map, length, nat_lt, replicate, take}
+use Rattle.std.specs.Prelude.{◌≡◌, ◌+◌, ◌-◌, ◌*◌, ◌/◌, ◌%◌, ℕ, suc, zero, List, [], ◌∷◌, ◌++◌, Bool, true, false, Option, None, Some, codes, cond, decimal, drop, flat_map, length, nat_lt, replicate, take}
 use Rattle.std.specs.Char.{digit_char}
+use Rattle.dump_commands.specs.declared.elements.page.Run as code
+use Rattle.dump_commands.specs.declared.elements.page.Page.{Page}
 use Rattle.std.specs.Int.{w32, w64, to_be_bytes}
 
 -- bytes that are one thing, in a level with this number of others around it; whether reading fails at the first of them; and what they are
@@ -94,3 +96,16 @@ rest_line offset (suc n) = line_at offset (codes " " ++ decimal (suc n) ++ codes
 -- the lines of a document of this number of bytes, whose first runs these are, or all
 abbrev pub document_lines : (most : Option ℕ) → (base size : ℕ) → List Run → List ℕ
 document_lines most base size runs = shown_lines most base 0 runs ++ rest_line (base + shown_end most 0 runs) (size - shown_end most 0 runs)
+
+-- What the code tells of lines. No public contract cites what follows.
+
+-- a run of the code, of which this is said
+abbrev pub told_run : code.Run → List ℕ → Run
+told_run run text = record { bytes = run.bytes.now; depth = run.depth; is_fault = run.is_fault; text = text }
+
+-- the lines of these runs are put after those that are there
+pub record Writes (old new : Page) (runs : List Run) : Type 0 where
+  pub text : new.text.items ≡ old.text.items ++ shown_lines old.most old.base old.at runs
+  pub at : new.at ≡ shown_end old.most old.at runs
+  pub most : new.most ≡ old.most
+  pub base : new.base ≡ old.base

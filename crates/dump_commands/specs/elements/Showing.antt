@@ -6,7 +6,7 @@ use Rattle.dump_io.specs.lines.Fronts.{HasFront}
 use Rattle.dump_io.specs.lines.Values.{ShowsBehind}
 use Rattle.raw_view.specs.Frame.Envelope.{IsEnvelope, Refuses}
 use Rattle.raw_view.specs.Frame.{Frame, HasKey, IsFrame, IsStop, LeadsTo, Fault}
-use Rattle.raw_view.specs.Frame.Kind.{kind_of_leaf, kind_text, tag_of}
+use Rattle.raw_view.specs.Frame.Kind.{kind_text, tag_of}
 use Rattle.raw_view.specs.Meaning.{RawValue, KeyedFault, Means, value, faulty}
 use Rattle.raw_view.specs.Meaning as raw
 use Rattle.raw_view.specs.Meaning.Value.{HoldsLevel}
@@ -14,6 +14,10 @@ use Rattle.raw_view.specs.declared.element_type.ElementType.{ElementType}
 use Rattle.raw_view.specs.declared.element_type.ElementType.TheVariants as kind
 use Rattle.raw_view.specs.declared.error.Reason.{Reason}
 use Rattle.raw_view.specs.declared.level.RawLevel.{RawLevel}
+use Rattle.raw_view.specs.Document.{bytes_of}
+use Rattle.dump_commands.specs.declared.elements.showing.Level.{Level}
+use Rattle.dump_commands.specs.declared.elements.showing.Next.{Next}
+use Rattle.dump_commands.specs.declared.elements.showing.Next.TheVariants as next
 use Rattle.dump_commands.specs.elements.Listing.{ShowsFault, ShowsFrameFault}
 use Rattle.dump_commands.specs.elements.Runs.{Run, document_lines, fault_run, is_shown, run_of, shown_end, shown_lines}
 
@@ -40,12 +44,12 @@ begins_with_length _ = false
 abbrev pub payload_runs : ℕ → ElementType → List ℕ → List ℕ → List Run
 payload_runs depth what p text = cond (begins_with_length what) (length_run depth p ∷ run_of depth (drop 4 p) text ∷ []) (run_of depth p text ∷ [])
 
--- the bytes p of a value, of which this is said, without those of the level that it holds
-abbrev pub value_runs : ℕ → RawValue → List ℕ → List ℕ → List Run
-value_runs depth (raw.single l) p text = payload_runs depth (kind_of_leaf l) p text
-value_runs depth (raw.document d) p text = []
-value_runs depth (raw.array d) p text = []
-value_runs depth (raw.scoped code d) p text = payload_runs depth kind.JavaScriptCodeWithScope (take (length p - length d) p) text
+-- the bytes of the value that a frame means, of which this is said, without those of the level that it holds
+abbrev pub value_runs : ℕ → Frame → RawValue → List ℕ → List Run
+value_runs depth f (raw.single l) text = payload_runs depth f.kind f.payload text
+value_runs depth f (raw.document d) text = []
+value_runs depth f (raw.array d) text = []
+value_runs depth f (raw.scoped code d) text = payload_runs depth f.kind (take (length f.payload - length d) f.payload) text
 
 -- a key and its 0
 abbrev pub key_run : ℕ → List ℕ → Run
@@ -53,7 +57,7 @@ key_run depth key = run_of depth (key ++ 0 ∷ []) (codes "key " ++ quoted key)
 
 -- the runs of a sound element, of whose value this is said, without those of the level in it
 abbrev pub sound_runs : ℕ → Frame → RawValue → List ℕ → List Run
-sound_runs depth f v text = run_of depth (tag_of f.kind ∷ []) (kind_text f.kind) ∷ (key_run depth f.key ∷ value_runs depth v f.payload text)
+sound_runs depth f v text = run_of depth (tag_of f.kind ∷ []) (kind_text f.kind) ∷ (key_run depth f.key ∷ value_runs depth f v text)
 
 -- the runs of an element whose value is at fault: reading fails at the element
 abbrev pub faulty_runs : ℕ → Frame → List ℕ → List Run
@@ -154,3 +158,13 @@ abbrev pub TellsFrame : ℕ → Frame → List Run → Option RawLevel → Type 
 TellsFrame depth f runs inner =
     ((v : RawValue) × (shown : List ℕ) × Means f (value v) × ShowsBehind v shown × HoldsLevel v inner × (runs ≡ sound_runs depth f v (drop 2 shown)))
     ⊎ ((fault : KeyedFault) × (shown : List ℕ) × Means f (faulty fault) × ShowsFrameFault f fault.fault shown × (inner ≡ None) × (runs ≡ faulty_runs depth f shown))
+
+-- what is left of a level
+abbrev pub left_in : Level → List ℕ
+left_in level = drop level.offset (bytes_of level.document)
+
+-- What a step over a level tells, of which s is left and then t: its end; an element without a level; or one with this level inside.
+abbrev pub StepsRuns : ℕ → (s t : List ℕ) → List Run → Next → Type 0
+StepsRuns depth s t runs next.End = HasEndRuns depth s runs
+StepsRuns depth s t runs next.Element = (f : Frame) × IsFrame s f t × TellsFrame depth f runs None
+StepsRuns depth s t runs (next.Inside inner) = (f : Frame) × IsFrame s f t × TellsFrame depth f runs (Some inner)
