@@ -105,10 +105,9 @@ fn limits<'a>(alloc: Global, command: CommandBuilder<'a>, bytes: &'a str) -> Com
 }
 
 /// Which documents of an input are asked for.
-fn portion<'a>(alloc: Global, command: CommandBuilder<'a>) -> CommandBuilder<'a> {
+fn portion<'a>(alloc: Global, command: CommandBuilder<'a>, take: &'a str) -> CommandBuilder<'a> {
     let at = "Reads each FILE from this offset on, as 4096, 0x1000, 4K, 48M or 2G";
     let skip = "Passes over the first N documents of each FILE, by their lengths";
-    let take = "Reads at most N documents of each FILE";
     command
         .arg(size(alloc, "at", "OFFSET", at))
         .arg(size(alloc, "skip", "N", skip))
@@ -117,9 +116,18 @@ fn portion<'a>(alloc: Global, command: CommandBuilder<'a>) -> CommandBuilder<'a>
 
 /// A command that reads FILEs.
 fn reading<'a>(alloc: Global, command: CommandBuilder<'a>) -> CommandBuilder<'a> {
+    reading_few(alloc, command, "Reads at most N documents of each FILE")
+}
+
+/// The same, with what is said of the option that says how many documents are read.
+fn reading_few<'a>(
+    alloc: Global,
+    command: CommandBuilder<'a>,
+    take: &'a str,
+) -> CommandBuilder<'a> {
     let help = "Continues after an unsound length, at the next document that counts";
     let bytes = "A length over N bytes is unsound; 16793600 if it isn't given";
-    limits(alloc, portion(alloc, command), bytes)
+    limits(alloc, portion(alloc, command, take), bytes)
         .arg(switch(alloc, "resync", help))
         .arg(files(alloc, "Dumps; nothing or -: standard input"))
 }
@@ -227,6 +235,24 @@ fn lists<'a>(alloc: Global) -> CommandBuilder<'a> {
     )
 }
 
+/// The command that shows bytes.
+fn shows<'a>(alloc: Global) -> CommandBuilder<'a> {
+    let about = "Shows the bytes of a document, with what they are, at every level";
+    let whole = "Shows all of a long document, in place of its first 65536 bytes";
+    let hex = "Reads hex digits in place of bytes; white space is ignored";
+    let html = "Prints a page for a browser";
+    let command = CommandBuilder::new(alloc, "show", about)
+        .arg(switch(alloc, "whole", whole))
+        .arg(switch(alloc, "hex", hex))
+        .arg(switch(alloc, "html", html))
+        .arg(color(alloc));
+    reading_few(
+        alloc,
+        command,
+        "Shows at most N documents of each FILE; 1 if it isn't given",
+    )
+}
+
 /// The command that counts documents.
 fn counts<'a>(alloc: Global) -> CommandBuilder<'a> {
     let about = "Counts documents and bytes by their lengths alone, and checks none";
@@ -286,6 +312,7 @@ fn sounds<'a>(alloc: Global) -> CommandBuilder<'a> {
 fn with_reports<'a>(alloc: Global, line: CommandBuilder<'a>) -> CommandBuilder<'a> {
     line.subcommand(checks(alloc))
         .subcommand(lists(alloc))
+        .subcommand(shows(alloc))
         .subcommand(counts(alloc))
         .subcommand(sizes(alloc))
         .subcommand(largest(alloc))

@@ -26,7 +26,7 @@ pub fn printing_of(command: Command<'_>) -> Printing {
         Command::Fields | Command::Measure(Measure::Largest(_) | Measure::Parts(_)) => {
             (false, true, false)
         }
-        Command::List | Command::Sizes => (false, false, false),
+        Command::List | Command::Show(_) | Command::Sizes => (false, false, false),
         Command::Canon
         | Command::Sound(_)
         | Command::Unique(_)
@@ -45,6 +45,7 @@ pub fn command_of<'a>(name: &str, matches: &ArgMatches<'a>) -> Option<Command<'a
     match name {
         "check" => Some(Command::Check),
         "list" => Some(Command::List),
+        "show" => Some(Command::Show(shown_of(matches))),
         "count" => Some(count_of(matches)),
         "largest" => Some(Command::Measure(largest_of(matches))),
         "split" => Some(Command::Measure(parts_of(matches))),
@@ -92,6 +93,17 @@ fn largest_of(matches: &ArgMatches<'_>) -> Measure {
 /// The number of parts, in place of which `divided` puts how many bytes each has.
 fn parts_of(matches: &ArgMatches<'_>) -> Measure {
     Measure::Parts(matches.get_one("parts").unwrap_or(1))
+}
+
+/// Of what begins in this number of a document's first bytes the bytes are shown, where not all are.
+const SHOWN: u64 = 65_536;
+
+fn shown_of(matches: &ArgMatches<'_>) -> Option<u64> {
+    if matches.get_flag("whole") {
+        None
+    } else {
+        Some(SHOWN)
+    }
 }
 
 /// What comes of texts that aren't UTF-8.

@@ -104,12 +104,27 @@ fn size_of(
 }
 
 /// Which documents of each input are asked for.
-fn portion_of(alloc: Global, version: &str, matches: &ArgMatches<'_>) -> Result<Portion, Error> {
+fn portion_of(
+    alloc: Global,
+    version: &str,
+    command: Command<'_>,
+    matches: &ArgMatches<'_>,
+) -> Result<Portion, Error> {
+    let take = size_of(alloc, version, matches, "take")?;
     Ok(Portion {
         at: size_of(alloc, version, matches, "at")?.unwrap_or(0),
         skip: size_of(alloc, version, matches, "skip")?.unwrap_or(0),
-        take: size_of(alloc, version, matches, "take")?,
+        take: take.or(taken_of(command)),
     })
+}
+
+/// How many documents of each input are asked for where no number is given.
+fn taken_of(command: Command<'_>) -> Option<u64> {
+    if matches!(command, Command::Show(_)) {
+        Some(1)
+    } else {
+        None
+    }
 }
 
 /// The task of a command that was given.
@@ -147,7 +162,7 @@ fn task_of<'a>(
                 None
             },
             limits: limits_of(matches),
-            portion: portion_of(alloc, version, matches)?,
+            portion: portion_of(alloc, version, command, matches)?,
             paths: paths_of(command, matches),
         }),
         output,
