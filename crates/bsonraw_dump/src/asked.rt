@@ -3,7 +3,7 @@
 
 use crate::command_line::Task;
 use crate::files::inputs::{is_there, node_of, size_of};
-use dump_commands::command::{Choice, Command, Measure, Picking};
+use dump_commands::command::{Choice, Command, Form, Measure, Picking};
 use dump_commands::job::Job;
 use dump_runs::Reading;
 
@@ -19,6 +19,11 @@ pub fn wrong_with(rt: &HostRuntime, task: &Task<'_>) -> Option<&'static str> {
                     "no PATHS: the only argument is a FILE; PATHS come before it, and - after PATHS is standard input",
                 )
             }
+        Command::Pick(picking)
+            if matches!(
+                (picking.form, picking.choice),
+                (Form::Row(_), Choice::InPlace | Choice::Others)
+            ) => { Some("--csv and --tsv take PATHS without [], and no --without") }
         Command::Pick(picking) if has_long_path(picking) => {
             Some("PATHS has a path of more than 500 steps")
         }

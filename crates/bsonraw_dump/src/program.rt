@@ -8,6 +8,7 @@ use crate::command_line::{
 use crate::files::alone::{Alone, failed};
 use crate::files::colors::{Colors, When, are_colored};
 use crate::files::findings::Findings;
+use crate::files::header::{begin, ended_by};
 use crate::files::inputs::{Files, Unread, are_one, node_of, size_of};
 use crate::files::output::{BLOCK, Fill, into_file};
 use crate::files::prompt::Prompt;
@@ -279,6 +280,9 @@ fn over_each<'a, D: Write, A: Write, W: Write>(
     let progress = Progress::new(rt, shows, size);
     let inputs = files_of(&*rt, &*run, &progress);
     let mut writers = Writers::new(data, alone, report);
+    if let Err(failure) = begin(rt, run.reading, &mut writers.out) {
+        return ended_by(writers.cause_of(failure));
+    }
     run_all(rt.alloc(), run.reading, &inputs, &run.inputs, &mut writers)
 }
 

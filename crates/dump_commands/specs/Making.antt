@@ -6,6 +6,11 @@ use Rattle.raw_tree.specs.CanonicalForm.{IsCanonicalForm}
 use Rattle.bson_to_json.specs.Json.{IsJson}
 use Rattle.bson_to_json.specs.declared.style.Style as json
 use Rattle.dump_commands.specs.elements.Chosen.{IsChosen}
+use Rattle.dump_commands.specs.elements.Pick.{comma, parts}
+use Rattle.dump_commands.specs.elements.Row.{IsRow, header}
+use Rattle.dump_commands.specs.declared.command.Choice.{Choice}
+use Rattle.dump_commands.specs.declared.command.Form.{Form}
+use Rattle.dump_commands.specs.declared.command.Form.TheVariants as form
 use Rattle.dump_commands.specs.declared.command.Picking.{Picking}
 use Rattle.dump_commands.specs.state.Forms.{firsts_of, knows, Made, made_as, placed_at, plain, repeat_at, written_count}
 use Rattle.dump_commands.specs.Texts.{MakesKept}
@@ -37,14 +42,25 @@ MakesJson style b finding.TooDeep made = made ≡ []
 MakesJson style b finding.Unvalidated made = made ≡ []
 MakesJson style b _ made = (text : List ℕ) × IsJson style b text × (made ≡ plain (text ++ codes "\n") ∷ [])
 
--- the document, or where a style is given its text as Extended JSON, and a line feed
-abbrev pub IsPrinted : Option json.Style → List ℕ → List ℕ → Type 0
-IsPrinted None document made = made ≡ document
-IsPrinted (Some style) document made = (text : List ℕ) × IsJson style document text × (made ≡ text ++ codes "\n")
+-- what is written of the elements that the paths of this text pick of the document b: their document; its text as Extended JSON, and a line feed; or the
+-- row of the values to which the paths lead
+abbrev pub IsPickedIn : Form → Choice → (b text made : List ℕ) → Type 0
+IsPickedIn form.Dump choice b text made = IsChosen choice b text made
+IsPickedIn (form.Json style) choice b text made =
+    (document json : List ℕ) × IsChosen choice b text document × IsJson style document json × (made ≡ json ++ codes "\n")
+IsPickedIn (form.Row separator) choice b text made = IsRow separator b (parts comma text) made
+
+-- what is written before all that is picked: of rows the header
+abbrev pub header_in : Form → (text : List ℕ) → List ℕ
+header_in (form.Row separator) text = header separator (parts comma text)
+header_in f text = []
+
+abbrev pub header_of : Picking → List ℕ
+header_of picking = header_in picking.form picking.paths.now
 
 -- what is written of the document b
 abbrev pub IsPickedAs : Picking → List ℕ → List ℕ → Type 0
-IsPickedAs picking b made = (document : List ℕ) × IsChosen picking.choice b picking.paths.now document × IsPrinted picking.style document made
+IsPickedAs picking b made = IsPickedIn picking.form picking.choice b picking.paths.now made
 
 -- the document that is picked of a piece b in which this is found, unless it is damaged or too deep, or wasn't looked into; or its line
 abbrev pub MakesPicked : Picking → List ℕ → Finding → List Made → Type 0

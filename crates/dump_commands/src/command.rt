@@ -17,7 +17,7 @@
 #![tactic(auto)]
 
 ghost use Rattle.std.specs.Prelude.{◌≡◌, MatchBool};
-ghost use Rattle.dump_commands.specs.Binary.{MakesBson, MakesNoBson};
+ghost use Rattle.dump_commands.specs.Binary.{MakesBson, MakesNoBson, is_dump};
 ghost use Rattle.dump_commands.specs.Summary as says;
 
 use bson_to_json::Style;
@@ -52,6 +52,33 @@ pub enum Choice {
     Others,
 }
 
+/// What is between the cells of a row.
+#[derive(Clone, Copy)]
+pub enum Separator {
+    Comma,
+    Tab,
+}
+
+/// How what is picked is written.
+#[derive(Clone, Copy)]
+pub enum Form {
+    /// its document, as it is
+    Dump,
+    /// its document, as Extended JSON
+    Json(Style),
+    /// a row of the values at its paths
+    Row(Separator),
+}
+
+impl Form {
+    /// Whether it is BSON.
+    fn is_dump(self) -> bool
+        ensures { result ≡ is_dump self }
+    {
+        matches!(self, Form::Dump)
+    }
+}
+
 /// Which elements are picked, and how they are written.
 #[derive(Clone, Copy)]
 pub struct Picking<'a> {
@@ -59,8 +86,8 @@ pub struct Picking<'a> {
     pub paths: &'a str,
     /// which elements they pick
     pub choice: Choice,
-    /// how their document is printed as Extended JSON; `None`: as it is
-    pub style: Option<Style>,
+    /// how they are written
+    pub form: Form,
 }
 
 /// What is gathered of the lengths of documents.
@@ -127,7 +154,7 @@ impl Command<'_> {
     {
         match self {
             Command::Canon | Command::Sound(_) | Command::Unique(_) => true,
-            Command::Pick(picking) => picking.style.is_none(),
+            Command::Pick(picking) => picking.form.is_dump(),
             Command::Check
             | Command::List
             | Command::Count

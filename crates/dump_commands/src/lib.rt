@@ -18,6 +18,7 @@ mod elements;
 pub mod finding;
 pub mod job;
 pub mod making;
+pub mod picking;
 pub mod reporting;
 pub mod state;
 mod summary;

@@ -5,7 +5,7 @@ ghost use Rattle.std.specs.Prelude.{◌≡◌, ℕ, List, Option, [], ◌∷◌,
 ghost use Rattle.std.specs.Io.KnownBytes.{Appends};
 ghost use Rattle.dump_commands.specs.Findings.{FindsFor};
 ghost use Rattle.dump_io.specs.lines.Fronts.{AppendsFront, WritesFront};
-ghost use Rattle.dump_commands.specs.Making.{IsMade, IsPickedAs, Emits, Puts};
+ghost use Rattle.dump_commands.specs.Making.{IsMade, Emits, Puts};
 ghost use Rattle.dump_commands.specs.Counted.{CountsFields};
 ghost use Rattle.dump_commands.specs.state.Gathered.{KeepsCounted, KeepsWritten};
 ghost use Rattle.dump_io.specs.lines.Find.{Account};
@@ -20,9 +20,9 @@ ghost use Rattle.bson_to_json.specs.Json.{IsJson};
 ghost use Rattle.dump_commands.specs.declared.command.Command.TheVariants.{Unique};
 ghost use Rattle.dump_commands.specs.declared.command.Spelling as spells;
 
-use crate::command::{Command, Picking, Spelling};
-use crate::elements::chosen::chosen;
+use crate::command::{Command, Spelling};
 use crate::elements::having::had_in;
+use crate::picking::put_picked;
 use crate::state::kept::{Added, Kept};
 use crate::state::tokens_of;
 use crate::texts::put_kept;
@@ -145,7 +145,7 @@ fn spelled<'a>(command: Command<'_>, bytes: &'a [u8], form: &'a [u8]) -> &'a [u8
 }
 
 /// Writes a document as Extended JSON, and a line feed. What would be over the limits counts as out of memory.
-fn put_json<D: Write>(
+pub(crate) fn put_json<D: Write>(
     alloc: Global,
     style: JsonStyle,
     limits: Limits,
@@ -168,37 +168,6 @@ fn put_json<D: Write>(
         Ok(()) => put_one(b"\n", out, kept),
         Err(WriteJsonError::Writing(error)) => Err(Failure::Writing(error)),
         Err(_) => Err(Failure::Memory),
-    }
-}
-
-/// Writes the document of some elements of a document, which may be longer than that. What would be over the limits counts as out of
-/// memory.
-fn put_picked<D: Write>(
-    alloc: Global,
-    picking: Picking<'_>,
-    limits: Limits,
-    bytes: &[u8],
-    out: &mut D,
-    kept: &mut Kept<'_>,
-) -> Result<(), Failure>
-    requires { IsEnvelope bytes.now }
-    ensures written { OnOk result ((made : List ℕ) × IsPickedAs picking.entry bytes.now made
-        × Appends (D.contents out.old) (D.contents out.new) made × CountsOne kept.old kept.new) }
-    ensures front { OnErr result (WritesFront (IsPickedAs picking.entry bytes.now) (D.contents out.old) (D.contents out.new)) }
-    ensures table { KeepsCounted kept.old kept.new }
-    ensures failed { IfErr result (λ failure. ¬ IsReading failure) }
-{
-    let Ok(document) = RawDocument::from_bytes(bytes) else {
-        unreachable!()
-    };
-    let picked = chosen(alloc, document, picking)?;
-    let limits = Limits {
-        bytes: picked.len(),
-        depth: limits.depth,
-    };
-    match picking.style {
-        None => put_one(&picked, out, kept),
-        Some(style) => put_json(alloc, style, limits, &picked, out, kept),
     }
 }
 
@@ -237,7 +206,11 @@ pub fn put_document<'a, D: Write>(
 }
 
 /// Writes these bytes, with which a document more is written.
-fn put_one<D: Write>(bytes: &[u8], out: &mut D, kept: &mut Kept<'_>) -> Result<(), Failure>
+pub(crate) fn put_one<D: Write>(
+    bytes: &[u8],
+    out: &mut D,
+    kept: &mut Kept<'_>,
+) -> Result<(), Failure>
     ensures written { OnOk result
         (Appends (D.contents out.old) (D.contents out.new) bytes.now × CountsOne kept.old kept.new) }
     ensures front { OnErr result (AppendsFront (D.contents out.old) (D.contents out.new) bytes.now) }

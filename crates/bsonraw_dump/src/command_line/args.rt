@@ -177,11 +177,16 @@ fn picks<'a>(alloc: Global) -> CommandBuilder<'a> {
         .help("Keys with dots between them, as items.0.name, and commas between the paths")
         .required(true)
         .action(ArgAction::Set);
+    let csv =
+        "Writes a header, and the values at PATHS as rows with commas between them, as mongoexport";
+    let tsv = "The same with tabs between them";
     let without = "Writes each document without these elements, in place of them";
     let about = "Writes these elements of each document without damage, as json does";
     let command = CommandBuilder::new(alloc, "pick", about)
         .arg(switch(alloc, "without", without))
         .arg(switch(alloc, "bson", "Writes them as a dump"))
+        .arg(switch(alloc, "csv", csv))
+        .arg(switch(alloc, "tsv", tsv))
         .arg(paths);
     writing(alloc, printing(alloc, command))
 }

@@ -4,7 +4,9 @@
 use crate::command_line::task::limits_of;
 use bson_to_json::{Format, Layout, Style as JsonStyle};
 use clap::ArgMatches;
-use dump_commands::command::{Choice, Command, Measure, Picking, Spelling, Texts};
+use dump_commands::command::{
+    Choice, Command, Form, Measure, Picking, Separator, Spelling, Texts,
+};
 
 /// What a command prints, and where.
 #[derive(Clone, Copy)]
@@ -118,6 +120,18 @@ fn leads_to_items(paths: &str) -> bool {
         .any(|path| path.split('.').any(|step| step == "[]"))
 }
 
+fn form_of(matches: &ArgMatches<'_>) -> Form {
+    if matches.get_flag("bson") {
+        Form::Dump
+    } else if matches.get_flag("csv") {
+        Form::Row(Separator::Comma)
+    } else if matches.get_flag("tsv") {
+        Form::Row(Separator::Tab)
+    } else {
+        Form::Json(json_style_of(matches))
+    }
+}
+
 fn picking_of<'a>(matches: &ArgMatches<'a>) -> Picking<'a> {
     let paths = matches.get_str("PATHS").unwrap_or("");
     Picking {
@@ -129,10 +143,6 @@ fn picking_of<'a>(matches: &ArgMatches<'a>) -> Picking<'a> {
         } else {
             Choice::Named
         },
-        style: if matches.get_flag("bson") {
-            None
-        } else {
-            Some(json_style_of(matches))
-        },
+        form: form_of(matches),
     }
 }
