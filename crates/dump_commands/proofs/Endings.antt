@@ -11,18 +11,18 @@ use Rattle.dump_commands.specs.elements.Chosen.{IsChosen}
 use Rattle.dump_commands.specs.elements.Pick.{comma, parts}
 use Rattle.dump_commands.specs.elements.Row.{IsRow, separator_byte, written}
 use Rattle.dump_commands.specs.Making.{IsPickedAs, IsPickedIn}
-use Rattle.dump_commands.specs.declared.command.Form.{Form}
-use Rattle.dump_commands.specs.declared.command.Form.TheVariants as form
-use Rattle.dump_commands.specs.declared.command.Separator.{Separator}
+use Rattle.dump_commands.specs.declared.picking.Form.{Form}
+use Rattle.dump_commands.specs.declared.picking.Form.TheVariants as form
+use Rattle.dump_commands.specs.declared.picking.Separator.{Separator}
 use Rattle.dump_commands.specs.state.Forms.{Made, plain}
 use Rattle.dump_commands.specs.declared.command.Command.{Command}
 use Rattle.dump_commands.specs.declared.command.Command.TheVariants as command
-use Rattle.dump_commands.specs.declared.command.Choice.{Choice}
-use Rattle.dump_commands.specs.declared.command.Choice.TheVariants as choice
-use Rattle.dump_commands.specs.declared.command.Measure.{Measure}
-use Rattle.dump_commands.specs.declared.command.Spelling.{Spelling}
-use Rattle.dump_commands.specs.declared.command.Picking.{Picking}
-use Rattle.dump_commands.specs.declared.command.Texts.{Texts}
+use Rattle.dump_commands.specs.declared.picking.Choice.{Choice}
+use Rattle.dump_commands.specs.declared.picking.Choice.TheVariants as choice
+use Rattle.dump_commands.specs.declared.state.gathered.Measure.{Measure}
+use Rattle.dump_commands.specs.declared.making.Spelling.{Spelling}
+use Rattle.dump_commands.specs.declared.picking.Picking.{Picking}
+use Rattle.dump_commands.specs.declared.texts.Texts.{Texts}
 
 -- no bytes end both ways
 both_ends : (x y : List ℕ) → x ++ 10 ∷ [] ≡ y ++ 0 ∷ [] → ⊥

@@ -19,10 +19,10 @@ use Rattle.dump_commands.specs.state.Forms.{CountsOne, Made, firsts_of, knows, m
 use Rattle.dump_commands.specs.Unique.{kept_of, known_behind, written_of}
 use Rattle.dump_commands.specs.declared.command.Command.{Command}
 use Rattle.dump_commands.specs.declared.command.Command.TheVariants as command
-use Rattle.dump_commands.specs.declared.command.Spelling.{Spelling}
+use Rattle.dump_commands.specs.declared.making.Spelling.{Spelling}
 use Rattle.dump_commands.specs.declared.state.kept.Kept.{Kept}
 use Rattle.dump_io.specs.declared.lines.origin.Origin.{Origin}
-use Rattle.dump_commands.specs.declared.command.Picking.{Picking}
+use Rattle.dump_commands.specs.declared.picking.Picking.{Picking}
 use Rattle.dump_commands.proofs.Repeating.{firsts_none, repeats_none}
 use Rattle.dump_io.specs.declared.lines.find.Finding.{Finding}
 use Rattle.dump_io.specs.declared.lines.find.Finding.TheVariants as finding

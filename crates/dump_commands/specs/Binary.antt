@@ -1,17 +1,10 @@
 -- Whether a command makes BSON, which is no text.
-use Rattle.std.specs.Prelude.{◌≡◌, Bool, true, false, ℕ, List, [], ◌∷◌, ◌++◌}
+use Rattle.std.specs.Prelude.{◌≡◌, ℕ, List, [], ◌∷◌, ◌++◌}
 use Rattle.raw_view.specs.Frame.Envelope.{IsEnvelope}
 use Rattle.dump_commands.specs.Making.{Makes}
 use Rattle.dump_commands.specs.state.Forms.{Made, made_as, plain}
-use Rattle.dump_commands.specs.declared.command.Form.{Form}
-use Rattle.dump_commands.specs.declared.command.Form.TheVariants as form
 use Rattle.dump_commands.specs.declared.command.Command.{Command}
 use Rattle.dump_io.specs.declared.lines.find.Finding.TheVariants as finding
-
--- whether what is picked is written as BSON
-abbrev pub is_dump : Form → Bool
-is_dump form.Dump = true
-is_dump f = false
 
 -- what a command makes of each canonical document ends in a 0, as BSON does and no text of JSON
 abbrev pub MakesBson : Command → Type 0

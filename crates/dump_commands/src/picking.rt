@@ -1,26 +1,75 @@
-//! Writes what is picked of a document.
+//! What is picked of a document, and how it is written.
 #![tactic(auto)]
 
-ghost use Rattle.std.specs.Prelude.{List, ℕ, IfErr, OnErr, OnOk};
+ghost use Rattle.std.specs.Prelude.{◌≡◌, List, ℕ, IfErr, OnErr, OnOk};
 ghost use Rattle.std.specs.Io.KnownBytes.{Appends};
 ghost use Rattle.raw_view.specs.Frame.Envelope.{IsEnvelope};
 ghost use Rattle.dump_io.specs.lines.Failing.{IsReading};
 ghost use Rattle.dump_io.specs.lines.Fronts.{WritesFront};
-ghost use Rattle.dump_commands.specs.Making.{IsPickedAs, header_of};
+ghost use Rattle.dump_commands.specs.Picking.{IsPickedAs, header_of, is_dump};
 ghost use Rattle.dump_commands.specs.state.Forms.{CountsOne};
 ghost use Rattle.dump_commands.specs.state.Gathered.{KeepsCounted};
 
-use crate::command::{Form, Picking};
 use crate::elements::chosen::chosen;
 use crate::elements::row::{header, row};
 use crate::making::{put_json, put_one};
 use crate::state::kept::Kept;
+use bson_to_json::Style;
 use dump_io::lines::failure::Failure;
 use dump_io::lines::write::put;
 use raw_tree::Limits;
 use raw_view::RawDocument;
 use std::alloc::Global;
 use std::io::Write;
+
+/// Which elements of documents paths pick.
+#[derive(Clone, Copy)]
+pub enum Choice {
+    /// those to which they lead, each under its path
+    Named,
+    /// those that they name, where they are
+    InPlace,
+    /// all but those that they name, where they are
+    Others,
+}
+
+/// What is between the cells of a row.
+#[derive(Clone, Copy)]
+pub enum Separator {
+    Comma,
+    Tab,
+}
+
+/// How what is picked is written.
+#[derive(Clone, Copy)]
+pub enum Form {
+    /// its document, as it is
+    Dump,
+    /// its document, as Extended JSON
+    Json(Style),
+    /// a row of the values at its paths
+    Row(Separator),
+}
+
+impl Form {
+    /// Whether it is BSON.
+    pub fn is_dump(self) -> bool
+        ensures { result ≡ is_dump self }
+    {
+        matches!(self, Form::Dump)
+    }
+}
+
+/// Which elements are picked, and how they are written.
+#[derive(Clone, Copy)]
+pub struct Picking<'a> {
+    /// paths with commas between them; the steps of each have dots between them
+    pub paths: &'a str,
+    /// which elements they pick
+    pub choice: Choice,
+    /// how they are written
+    pub form: Form,
+}
 
 /// Writes the document of some elements of a document, which may be longer than that. What would be over the limits counts as out of
 /// memory.

@@ -1,8 +1,7 @@
 //! The command line.
 #![tactic(auto)]
 
-use crate::command_line::args::command_line;
-use crate::command_line::commands::{command_of, printing_of};
+use crate::command_line::commands::{Printing, asked_by, command_line};
 use crate::command_line::numbers::number_in;
 use crate::files::colors::When;
 use clap::error::ErrorKind;
@@ -21,6 +20,8 @@ use std::alloc::Global;
 pub struct Task<'a> {
     /// what is asked of the inputs
     pub reading: Reading<'a>,
+    /// what is printed, and where
+    pub printing: Printing,
     /// the file that is written in place of standard output
     pub output: Option<&'a str>,
     /// the file that documents are written to that stand alone
@@ -59,15 +60,6 @@ pub fn limits_of(matches: &ArgMatches<'_>) -> Limits {
     Limits {
         bytes: matches.get_one("max-bytes").unwrap_or(usual.bytes),
         depth: matches.get_one("max-depth").unwrap_or(usual.depth),
-    }
-}
-
-/// Of how many paths elements are counted at most.
-fn paths_of(command: Command<'_>, matches: &ArgMatches<'_>) -> usize {
-    if matches!(command, Command::Fields) {
-        matches.get_one("paths").unwrap_or(PATHS)
-    } else {
-        0
     }
 }
 
@@ -112,49 +104,36 @@ fn portion_of(alloc: Global, version: &str, matches: &ArgMatches<'_>) -> Result<
     })
 }
 
-/// The task of a command that was given.
+/// The task of a command that was given, which reads dumps. What a command may not be given is as if it wasn't.
 fn task_of<'a>(
     alloc: Global,
     version: &str,
     command: Command<'a>,
+    printing: Printing,
     matches: &ArgMatches<'a>,
 ) -> Result<Task<'a>, Error> {
-    let printing = printing_of(command);
-    let output = if printing.documents {
-        matches.get_str("output").filter(|name| *name != "-")
-    } else {
-        None
-    };
-    let alone = if printing.documents {
-        matches.get_str("alone")
-    } else {
-        None
-    };
-    let style = if printing.findings {
-        style_of(matches)
-    } else {
-        Style::Words
-    };
     Ok(Task {
         reading: Reading::Dumps(Job {
             command,
-            style,
+            style: style_of(matches),
             resync: matches.get_flag("resync"),
-            repeats: matches!(command, Command::Unique(_)) && matches.get_flag("repeats"),
-            limit: if printing.findings {
-                matches.get_one("limit")
-            } else {
-                None
-            },
+            repeats: matches.get_flag("repeats"),
+            limit: matches.get_one("limit"),
             limits: limits_of(matches),
             portion: portion_of(alloc, version, matches)?,
-            paths: paths_of(command, matches),
+            paths: matches.get_one("paths").unwrap_or(PATHS),
         }),
-        output,
-        alone,
+        printing,
+        output: output_of(matches),
+        alone: matches.get_str("alone"),
         inputs: inputs_of(alloc, matches)?,
         color: color_of(matches),
     })
+}
+
+/// The file that is written in place of standard output.
+fn output_of<'a>(matches: &ArgMatches<'a>) -> Option<&'a str> {
+    matches.get_str("output").filter(|name| *name != "-")
 }
 
 /// The names of what is read.
@@ -177,7 +156,8 @@ fn text_task<'a>(alloc: Global, matches: &ArgMatches<'a>) -> Result<Task<'a>, Er
             limits: limits_of(matches),
             limit: matches.get_one("limit"),
         }),
-        output: matches.get_str("output").filter(|name| *name != "-"),
+        printing: Printing::Documents,
+        output: output_of(matches),
         alone: None,
         inputs: inputs_of(alloc, matches)?,
         color: color_of(matches),
@@ -193,8 +173,8 @@ fn task_in<'a>(
     let Some((name, inner)) = matches.subcommand() else {
         return Ok(None);
     };
-    let task = match command_of(name, inner) {
-        Some(command) => task_of(alloc, version, command, inner)?,
+    let task = match asked_by(name, inner) {
+        Some((command, printing)) => task_of(alloc, version, command, printing, inner)?,
         None => text_task(alloc, inner)?,
     };
     Ok(Some(task))

@@ -2,7 +2,7 @@
 #![tactic(auto)]
 
 use dump_commands::command::Command;
-use dump_commands::picking::put_header;
+use dump_commands::picking::{Picking, put_header};
 use dump_io::input::done::{Done, Lack};
 use dump_io::input::status::Status;
 use dump_io::lines::failure::Failure;
@@ -11,9 +11,17 @@ use std::io::Write;
 
 /// Writes what comes before the documents of all inputs: the header of rows.
 pub fn begin<D: Write>(rt: &HostRuntime, reading: Reading<'_>, out: &mut D) -> Result<(), Failure> {
+    match picking_of(reading) {
+        Some(picking) => put_header(rt.alloc(), picking, out),
+        None => Ok(()),
+    }
+}
+
+/// Which elements are picked.
+pub fn picking_of<'a>(reading: Reading<'a>) -> Option<Picking<'a>> {
     match reading.command() {
-        Some(Command::Pick(picking)) => put_header(rt.alloc(), picking, out),
-        _ => Ok(()),
+        Some(Command::Writes(making)) => making.picking(),
+        Some(Command::Prints(_) | Command::Gathers(_)) | None => None,
     }
 }
 

@@ -3,7 +3,7 @@ use Rattle.std.proofs.Common.{◌≡◌, ◌∙◌, ℕ, List, [], ◌∷◌, �
 use Rattle.raw_view.specs.Frame.{Frame}
 use Rattle.dump_commands.specs.elements.Pick.{LeadsTo, comma, dot, parts}
 use Rattle.dump_commands.specs.elements.Row.{IsCellOf, IsRow, header, separator_byte, written}
-use Rattle.dump_commands.specs.declared.command.Separator.{Separator}
+use Rattle.dump_commands.specs.declared.picking.Separator.{Separator}
 use Rattle.dump_commands.proofs.elements.Picked.{LacksByte, has_parts, parts_at, parts_last}
 
 -- the text of what a path leads to

@@ -13,8 +13,8 @@ use Rattle.raw_view.specs.Meaning as raw
 use Rattle.raw_view.specs.declared.element_type.ElementType.{ElementType}
 use Rattle.raw_view.specs.declared.element_type.ElementType.TheVariants as kind
 use Rattle.dump_commands.specs.elements.Pick.{LeadsTo, dot, parts}
-use Rattle.dump_commands.specs.declared.command.Separator.{Separator}
-use Rattle.dump_commands.specs.declared.command.Separator.TheVariants as separator
+use Rattle.dump_commands.specs.declared.picking.Separator.{Separator}
+use Rattle.dump_commands.specs.declared.picking.Separator.TheVariants as separator
 use Rattle.dump_commands.specs.declared.elements.cell.Content.{Content}
 use Rattle.dump_commands.specs.declared.elements.cell.Content.TheVariants as content
 

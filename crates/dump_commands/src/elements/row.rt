@@ -9,9 +9,9 @@ ghost use Rattle.dump_commands.specs.elements.Pick.{LeadsTo, comma, dot, parts};
 ghost use Rattle.dump_commands.specs.elements.Row.{IsCellOf, IsRow, doubled, escaped, needs_quotes, separator_byte, written};
 ghost use Rattle.dump_commands.specs.elements.Row as says;
 
-use crate::command::Separator;
 use crate::elements::cell::cell;
 use crate::elements::pick::element_at;
+use crate::picking::Separator;
 use raw_view::RawDocument;
 use std::alloc::{AllocError, Global};
 

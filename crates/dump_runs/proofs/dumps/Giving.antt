@@ -9,9 +9,10 @@ use Rattle.dump_io.specs.lines.Fronts.{AppendsFront, WritesFront}
 use Rattle.dump_io.specs.lines.Origins.{Origin, origin_of}
 use Rattle.dump_io.specs.declared.lines.origin.Origin as place
 use Rattle.dump_io.specs.declared.lines.style.Style.{Style}
-use Rattle.dump_commands.specs.Counted.{CountsFields}
+use Rattle.dump_commands.specs.Gathering.{CountsFields}
 use Rattle.dump_commands.specs.Findings.{FindsFor}
-use Rattle.dump_commands.specs.Making.{IsMade, Makes, Puts, Writes}
+use Rattle.dump_commands.specs.Emitting.{IsMade, Puts, Writes}
+use Rattle.dump_commands.specs.Making.{Makes}
 use Rattle.dump_commands.specs.Reporting.{Lists, ListsFront, Reports, first_line, lines_of_repeats}
 use Rattle.dump_commands.specs.Unique.{repeats_of, written_of}
 use Rattle.dump_commands.specs.state.Gathered.{Gathered, KeepsCounted, KeepsWritten, with_document}
