@@ -23,6 +23,7 @@ WANTED: List[Tuple[str, Set[str]]] = [
     ("json --c", {"--canonical", "--color"}),
     ("pick --pr", {"--pretty"}),
     ("pick --w", {"--without"}),
+    ("pick --cs", {"--csv"}),
     ("check --c", {"--color"}),
     ("list --color ", {"auto", "always", "never"}),
     ("check --max", {"--max-bytes", "--max-depth"}),

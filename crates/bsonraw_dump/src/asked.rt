@@ -3,8 +3,11 @@
 
 use crate::command_line::Task;
 use crate::files::inputs::{is_there, node_of, size_of};
-use dump_commands::command::{Choice, Command, Measure, Picking};
+use dump_commands::command::Command;
+use dump_commands::gathering::Gathering;
 use dump_commands::job::Job;
+use dump_commands::picking::{Choice, Form, Picking};
+use dump_commands::state::gathered::Measure;
 use dump_runs::Reading;
 
 /// What is wrong with the arguments, if the files that are there show it.
@@ -13,20 +16,34 @@ pub fn wrong_with(rt: &HostRuntime, task: &Task<'_>) -> Option<&'static str> {
         return None;
     };
     match job.command {
-        Command::Pick(picking) if task.inputs.is_empty() && node_of(rt, picking.paths).is_some() =>
-            {
-                Some(
-                    "no PATHS: the only argument is a FILE; PATHS come before it, and - after PATHS is standard input",
-                )
-            }
-        Command::Pick(picking) if has_long_path(picking) => {
-            Some("PATHS has a path of more than 500 steps")
-        }
-        Command::Measure(Measure::Parts(_)) if !may_be_divided(rt, &task.inputs) => {
+        Command::Writes(making) => wrong_paths(rt, task, making.picking()?),
+        Command::Gathers(Gathering::Measure(Measure::Parts(_)))
+            if !may_be_divided(rt, &task.inputs) => {
             Some("not one FILE: split divides a file, and no pipe, folder or several files")
         }
-        _ => None,
+        Command::Prints(_) | Command::Gathers(_) => None,
     }
+}
+
+/// What is wrong with the paths that pick elements.
+fn wrong_paths(rt: &HostRuntime, task: &Task<'_>, picking: Picking<'_>) -> Option<&'static str> {
+    let is_row = matches!(picking.form, Form::Row(_));
+    if task.inputs.is_empty() && node_of(rt, picking.paths).is_some() {
+        Some(
+            "no PATHS: the only argument is a FILE; PATHS come before it, and - after PATHS is standard input",
+        )
+    } else if is_row && keeps_shape(picking) {
+        Some("--csv and --tsv take PATHS without [], and no --without")
+    } else if has_long_path(picking) {
+        Some("PATHS has a path of more than 500 steps")
+    } else {
+        None
+    }
+}
+
+/// Whether paths lead to all elements with their keys, where they are.
+fn keeps_shape(picking: Picking<'_>) -> bool {
+    !matches!(picking.choice, Choice::Named)
 }
 
 /// How many steps a path may have that leads to all elements with its keys: there is a call of a function for each.
@@ -34,8 +51,7 @@ const STEPS: usize = 500;
 
 /// Whether paths that lead to all elements with their keys have more steps than such a path may have.
 fn has_long_path(picking: Picking<'_>) -> bool {
-    let to_all = !matches!(picking.choice, Choice::Named);
-    to_all
+    keeps_shape(picking)
         && picking
             .paths
             .split(',')
@@ -64,7 +80,7 @@ pub fn divided<'a>(rt: &HostRuntime, task: &Task<'a>) -> Reading<'a> {
     let Reading::Dumps(job) = task.reading else {
         return task.reading;
     };
-    let Command::Measure(Measure::Parts(parts)) = job.command else {
+    let Command::Gathers(Gathering::Measure(Measure::Parts(parts))) = job.command else {
         return task.reading;
     };
     let size = match only(&task.inputs) {
@@ -73,7 +89,7 @@ pub fn divided<'a>(rt: &HostRuntime, task: &Task<'a>) -> Reading<'a> {
     };
     let stretch = size.div_ceil(parts.max(1)).max(1);
     Reading::Dumps(Job {
-        command: Command::Measure(Measure::Parts(stretch)),
+        command: Command::Gathers(Gathering::Measure(Measure::Parts(stretch))),
         ..job
     })
 }

@@ -7,10 +7,12 @@ mod commands;
 mod folders;
 mod names;
 mod numbers;
+mod picks;
+mod shows;
 mod task;
 mod words;
 
-pub use commands::printing_of;
+pub use commands::Printing;
 pub use folders::listing;
 pub use names::{copied, expanded};
 pub use task::{Task, parsed, refusal};

@@ -6,6 +6,7 @@ pub mod alone;
 pub mod colors;
 pub mod findings;
 mod guess;
+pub mod header;
 pub mod inputs;
 pub mod output;
 pub mod prompt;

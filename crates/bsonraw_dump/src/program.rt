@@ -2,12 +2,11 @@
 #![tactic(auto)]
 
 use crate::asked::{divided, wrong_with};
-use crate::command_line::{
-    Task, Words, copied, expanded, given_words, parsed, printing_of, refusal,
-};
+use crate::command_line::{Printing, Task, Words, copied, expanded, given_words, parsed, refusal};
 use crate::files::alone::{Alone, failed};
 use crate::files::colors::{Colors, When, are_colored};
 use crate::files::findings::Findings;
+use crate::files::header::{begin, ended_by};
 use crate::files::inputs::{Files, Unread, are_one, node_of, size_of};
 use crate::files::output::{BLOCK, Fill, into_file};
 use crate::files::prompt::Prompt;
@@ -30,6 +29,8 @@ use std::{env, io};
 struct Run<'a> {
     /// what they hold, and what is asked of them
     reading: Reading<'a>,
+    /// what is printed, and where
+    printing: Printing,
     /// the file that is written in place of standard output
     output: Option<&'a str>,
     /// the file that documents are written to that stand alone
@@ -150,6 +151,7 @@ fn with_names(rt: &HostRuntime, task: &Task<'_>, words: &Words) -> Result<Status
         rt,
         &Run {
             reading: divided(rt, task),
+            printing: task.printing,
             output: task.output,
             alone: task.alone,
             inputs,
@@ -178,19 +180,19 @@ fn start(rt: &HostRuntime, run: &Run<'_>) -> Status {
         tell_words(rt, run.reading.style(), "not enough memory");
         return Status::Memory;
     };
-    match run.reading.command().map(printing_of) {
-        Some(printing) if printing.soon => {
+    match run.printing {
+        Printing::Soon => {
             let is_file = node_of(rt, "/dev/stdout").is_some();
             let clears = rt.stdout().is_terminal() && shows_progress(rt, run);
             let lines = colored(rt, run, out, rt.stdout().is_terminal());
             let mut out = Prompt::new(rt, lines, !is_file, clears);
             each(rt, run, &mut io::sink(), &mut out).status
         }
-        Some(printing) if !printing.documents => {
+        Printing::Lines => {
             let mut lines = colored(rt, run, out, rt.stdout().is_terminal());
             each(rt, run, &mut io::sink(), &mut lines).status
         }
-        _ => {
+        Printing::Documents => {
             let mut findings = Findings {
                 rt,
                 writer: colored(rt, run, rt.stderr(), rt.stderr().is_terminal()),
@@ -279,15 +281,15 @@ fn over_each<'a, D: Write, A: Write, W: Write>(
     let progress = Progress::new(rt, shows, size);
     let inputs = files_of(&*rt, &*run, &progress);
     let mut writers = Writers::new(data, alone, report);
+    if let Err(failure) = begin(rt, run.reading, &mut writers.out) {
+        return ended_by(writers.cause_of(failure));
+    }
     run_all(rt.alloc(), run.reading, &inputs, &run.inputs, &mut writers)
 }
 
 /// Whether it is shown how far the reading has come: not where documents or lines are written to the same terminal.
 fn shows_progress(rt: &HostRuntime, run: &Run<'_>) -> bool {
-    let is_soon = match run.reading.command() {
-        Some(command) => printing_of(command).soon,
-        None => false,
-    };
+    let is_soon = matches!(run.printing, Printing::Soon);
     let is_apart = is_soon || run.output.is_some() || !rt.stdout().is_terminal();
     is_apart && is_shown(rt, run.reading.style())
 }

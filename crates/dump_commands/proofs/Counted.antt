@@ -9,8 +9,8 @@ use Rattle.dump_commands.specs.state.Gathered.{Document, IsMeasured, tabled, wit
 use Rattle.dump_commands.specs.declared.state.kept.Kept.{Kept}
 use Rattle.dump_commands.specs.declared.command.Command.{Command}
 use Rattle.dump_commands.specs.declared.command.Command.TheVariants as command
-use Rattle.dump_commands.specs.declared.command.Measure.{Measure}
-use Rattle.dump_commands.specs.declared.command.Picking.{Picking}
+use Rattle.dump_commands.specs.declared.state.gathered.Measure.{Measure}
+use Rattle.dump_commands.specs.declared.picking.Picking.{Picking}
 
 -- no damage is found
 abbrev pub IsClean : Finding → Type 0

@@ -1,23 +1,28 @@
 -- What a command makes of a canonical document ends with a 0, or with the end of a line.
-use Rattle.std.proofs.Common.{◌≡◌, ℕ, pos, suc, ◌+◌, ◌⊎◌, List, [], ◌∷◌, ◌++◌, Bool, Option, Some, None, true, false, MatchBool, inl, inr, is_none, is_some, not, ap, append_assoc, arith, drop, get_or, length, length-append, refl, subst, sym, ◌∙◌}
+use Rattle.std.proofs.Common.{◌≡◌, ℕ, pos, suc, ◌+◌, ◌⊎◌, List, [], ◌∷◌, ◌++◌, Bool, true, false, MatchBool, inl, inr, ap, append_assoc, arith, drop, get_or, length, length-append, refl, subst, sym, ◌∙◌}
 use Rattle.std.proofs.lemmas.Bool.{false≢true}
 use Rattle.raw_view.specs.Frame.Envelope.{IsEnvelope}
 use Rattle.raw_view.specs.Frame.Format.{framed, inside_of}
 use Rattle.raw_view.specs.Frame.Number.{le32}
 use Rattle.raw_view.proofs.Face.{document_framed}
 use Rattle.bson_to_json.specs.declared.style.Style as json
-use Rattle.dump_commands.specs.Binary.{MakesBson, MakesNoBson}
+use Rattle.dump_commands.specs.Binary.{MakesBson, MakesNoBson, is_dump}
 use Rattle.dump_commands.specs.elements.Chosen.{IsChosen}
-use Rattle.dump_commands.specs.Making.{IsPrinted}
+use Rattle.dump_commands.specs.elements.Pick.{comma, parts}
+use Rattle.dump_commands.specs.elements.Row.{IsRow, separator_byte, written}
+use Rattle.dump_commands.specs.Making.{IsPickedAs, IsPickedIn}
+use Rattle.dump_commands.specs.declared.picking.Form.{Form}
+use Rattle.dump_commands.specs.declared.picking.Form.TheVariants as form
+use Rattle.dump_commands.specs.declared.picking.Separator.{Separator}
 use Rattle.dump_commands.specs.state.Forms.{Made, plain}
 use Rattle.dump_commands.specs.declared.command.Command.{Command}
 use Rattle.dump_commands.specs.declared.command.Command.TheVariants as command
-use Rattle.dump_commands.specs.declared.command.Choice.{Choice}
-use Rattle.dump_commands.specs.declared.command.Choice.TheVariants as choice
-use Rattle.dump_commands.specs.declared.command.Measure.{Measure}
-use Rattle.dump_commands.specs.declared.command.Spelling.{Spelling}
-use Rattle.dump_commands.specs.declared.command.Picking.{Picking}
-use Rattle.dump_commands.specs.declared.command.Texts.{Texts}
+use Rattle.dump_commands.specs.declared.picking.Choice.{Choice}
+use Rattle.dump_commands.specs.declared.picking.Choice.TheVariants as choice
+use Rattle.dump_commands.specs.declared.state.gathered.Measure.{Measure}
+use Rattle.dump_commands.specs.declared.making.Spelling.{Spelling}
+use Rattle.dump_commands.specs.declared.picking.Picking.{Picking}
+use Rattle.dump_commands.specs.declared.texts.Texts.{Texts}
 
 -- no bytes end both ways
 both_ends : (x y : List ℕ) → x ++ 10 ∷ [] ≡ y ++ 0 ∷ [] → ⊥
@@ -77,32 +82,37 @@ chosen_framed choice.Named b text document (elements, each, is) = (elements, is)
 chosen_framed choice.InPlace b text document (frames, elements, walk, cut, is) = (elements, is)
 chosen_framed choice.Others b text document (frames, elements, walk, cut, is) = (elements, is)
 
--- or its line
-printed : (style : Option json.Style) (choice : Choice) (paths b picked : List ℕ) → ((document : List ℕ) × IsChosen choice b paths document × IsPrinted style document picked)
-    → MatchBool (is_none style) ((d : List ℕ) × (picked ≡ d ++ 0 ∷ [])) ((d : List ℕ) → ¬ (picked ≡ d ++ 0 ∷ []))
-printed None choice paths b picked (document, is, same) =
-    let (elements, framed_is) = chosen_framed choice b paths document is in
-    (front_of_framed elements, same ∙ framed_is ∙ framed_ends elements)
-printed (Some style) choice paths b picked (document, is, (text, json, same)) = λ d e. both_ends text d (sym same ∙ e)
+-- as a dump it ends with a 0
+dump_ends : (choice : Choice) (b text made : List ℕ) → IsPickedIn form.Dump choice b text made → (d : List ℕ) × (made ≡ d ++ 0 ∷ [])
+dump_ends choice b text made is = let (elements, framed_is) = chosen_framed choice b text made is in (front_of_framed elements, framed_is ∙ framed_ends elements)
 
--- what that says where it is one
-bson_printed : (style : Option json.Style) (choice : Choice) (paths b picked : List ℕ) → is_none style ≡ true
-    → ((document : List ℕ) × IsChosen choice b paths document × IsPrinted style document picked) → (d : List ℕ) × (picked ≡ d ++ 0 ∷ [])
-bson_printed None choice paths b picked e is = printed None choice paths b picked is
-bson_printed (Some style) choice paths b picked e is = absurd (false≢true e)
+-- a row ends with a line feed
+row_ends : (s : Separator) (b : List ℕ) (paths : List (List ℕ)) (row : List ℕ) → IsRow s b paths row → (x : List ℕ) × (row ≡ x ++ 10 ∷ [])
+row_ends s b [] row is = absurd is
+row_ends s b (path ∷ []) row (goal, text, leads, cell, is) = (written s text, is)
+row_ends s b (path ∷ next ∷ paths) row (goal, text, others, leads, cell, rows, is) =
+    let (x, ends) = row_ends s b (next ∷ paths) others rows in (
+      written s text ++ separator_byte s ∷ x,
+      is ∙ ap (λ (y : List ℕ). written s text ++ separator_byte s ∷ y) ends ∙ sym (append_assoc (written s text) (separator_byte s ∷ x) (10 ∷ [])),
+    )
 
-line_printed : (style : Option json.Style) (choice : Choice) (paths b picked d : List ℕ) → is_none style ≡ false
-    → ((document : List ℕ) × IsChosen choice b paths document × IsPrinted style document picked) → ¬ (picked ≡ d ++ 0 ∷ [])
-line_printed None choice paths b picked d e is same = absurd (false≢true (sym e))
-line_printed (Some style) choice paths b picked d e is same = printed (Some style) choice paths b picked is d same
+-- what isn't a dump doesn't end with a 0
+no_dump_ends : (f : Form) (choice : Choice) (b text made d : List ℕ) → is_dump f ≡ false → IsPickedIn f choice b text made → ¬ (made ≡ d ++ 0 ∷ [])
+no_dump_ends form.Dump choice b text made d other is same = absurd (false≢true (sym other))
+no_dump_ends (form.Json style) choice b text made d other (document, json, is, tells, printed) same = both_ends json d (sym printed ∙ same)
+no_dump_ends (form.Row s) choice b text made d other is same = let (x, ends) = row_ends s b (parts comma text) made is in both_ends x d (sym ends ∙ same)
 
-pick_makes : (picking : Picking) → is_none picking.style ≡ true → MakesBson (command.Pick picking)
+-- what is written in this form
+in_form : (picking : Picking) (f : Form) (b made : List ℕ) → picking.form ≡ f → IsPickedAs picking b made → IsPickedIn f picking.choice b picking.paths.now made
+in_form picking f b made e is = subst (λ (x : Form). IsPickedIn x picking.choice b picking.paths.now made) e is
+
+pick_makes : (picking : Picking) → picking.form ≡ form.Dump → MakesBson (command.Pick picking)
 pick_makes picking e b made env (picked, is, same) =
-    let (d, ends) = bson_printed picking.style picking.choice picking.paths.now b picked e is in
-    (d, same ∙ ap one ends)
+    let (d, ends) = dump_ends picking.choice b picking.paths.now picked (in_form picking form.Dump b picked e is) in (d, same ∙ ap one ends)
 
-pick_makes_none : (picking : Picking) → is_none picking.style ≡ false → MakesNoBson (command.Pick picking)
-pick_makes_none picking e b d form (picked, is, same) = line_printed picking.style picking.choice picking.paths.now b picked d e is (sym (ap bytes_first same))
+pick_makes_none : (picking : Picking) (f : Form) → picking.form ≡ f → is_dump f ≡ false → MakesNoBson (command.Pick picking)
+pick_makes_none picking f e other b d form (picked, is, same) =
+    no_dump_ends f picking.choice b picking.paths.now picked d other (in_form picking f b picked e is) (sym (ap bytes_first same))
 
 pub bson_made : (c : Command) → (c ≡ command.Canon) ⊎ ((texts : Texts) × (c ≡ command.Sound texts)) ⊎ ((spelling : Spelling) × (c ≡ command.Unique spelling)) → MakesBson c
 bson_made c (inl e) = subst MakesBson (sym e) canon_makes
@@ -120,16 +130,12 @@ none_made c (inr (inr (inr (inr (inl (measure, e)))))) = subst MakesNoBson (sym 
 none_made c (inr (inr (inr (inr (inr (inl e)))))) = subst MakesNoBson (sym e) fields_makes_none
 none_made c (inr (inr (inr (inr (inr (inr (style, e))))))) = subst MakesNoBson (sym e) (json_makes_none style)
 
-is_none_is : (style : Option json.Style) (r : Bool) → is_some style ≡ not r → is_none style ≡ r
-is_none_is None true e = refl
-is_none_is None false e = absurd (false≢true e)
-is_none_is (Some style) true e = absurd (false≢true (sym e))
-is_none_is (Some style) false e = refl
+pick_either : (picking : Picking) (f : Form) → picking.form ≡ f → MatchBool (is_dump f) (MakesBson (command.Pick picking)) (MakesNoBson (command.Pick picking))
+pick_either picking form.Dump e = pick_makes picking e
+pick_either picking (form.Json style) e = pick_makes_none picking (form.Json style) e refl
+pick_either picking (form.Row s) e = pick_makes_none picking (form.Row s) e refl
 
-pick_either : (picking : Picking) (r : Bool) → is_none picking.style ≡ r → MatchBool r (MakesBson (command.Pick picking)) (MakesNoBson (command.Pick picking))
-pick_either picking true e = pick_makes picking e
-pick_either picking false e = pick_makes_none picking e
-
-pub pick_made : (c : Command) (picking : Picking) (r : Bool) → c ≡ command.Pick picking → is_some picking.style ≡ not r → MatchBool r (MakesBson c) (MakesNoBson c)
-pick_made c picking r e none =
-    subst (λ x. MatchBool r (MakesBson x) (MakesNoBson x)) (sym e) (pick_either picking r (is_none_is picking.style r none))
+pub pick_made : (c : Command) (picking : Picking) (r : Bool) → c ≡ command.Pick picking → r ≡ is_dump picking.form → MatchBool r (MakesBson c) (MakesNoBson c)
+pick_made c picking r e is =
+    subst (λ x. MatchBool r (MakesBson x) (MakesNoBson x)) (sym e)
+    (subst (λ (t : Bool). MatchBool t (MakesBson (command.Pick picking)) (MakesNoBson (command.Pick picking))) (sym is) (pick_either picking picking.form refl))

@@ -13,17 +13,16 @@ use Rattle.raw_tree.specs.declared.reader.limits.Limits.{Limits}
 use Rattle.dump_commands.proofs.state.Known.{known_same}
 use Rattle.dump_commands.specs.state.Gathered.{KeepsWritten}
 use Rattle.dump_io.specs.lines.Fronts.{AppendsFront, WritesFront}
-use Rattle.dump_commands.specs.Making.{IsMade, IsPickedAs, IsPrinted, Emits, Makes, MakesJson, MakesPicked, Puts, Writes, spelled}
+use Rattle.dump_commands.specs.Making.{IsMade, IsPickedAs, Emits, Makes, MakesJson, MakesPicked, Puts, Writes, spelled}
 use Rattle.dump_io.proofs.Face.{front_behind, front_first}
-use Rattle.dump_commands.specs.elements.Chosen.{IsChosen}
 use Rattle.dump_commands.specs.state.Forms.{CountsOne, Made, firsts_of, knows, made_as, origins_of, plain}
 use Rattle.dump_commands.specs.Unique.{kept_of, known_behind, written_of}
 use Rattle.dump_commands.specs.declared.command.Command.{Command}
 use Rattle.dump_commands.specs.declared.command.Command.TheVariants as command
-use Rattle.dump_commands.specs.declared.command.Spelling.{Spelling}
+use Rattle.dump_commands.specs.declared.making.Spelling.{Spelling}
 use Rattle.dump_commands.specs.declared.state.kept.Kept.{Kept}
 use Rattle.dump_io.specs.declared.lines.origin.Origin.{Origin}
-use Rattle.dump_commands.specs.declared.command.Picking.{Picking}
+use Rattle.dump_commands.specs.declared.picking.Picking.{Picking}
 use Rattle.dump_commands.proofs.Repeating.{firsts_none, repeats_none}
 use Rattle.dump_io.specs.declared.lines.find.Finding.{Finding}
 use Rattle.dump_io.specs.declared.lines.find.Finding.TheVariants as finding
@@ -104,17 +103,6 @@ pub json_made : (style : json.Style) (b : List ℕ) (f : Finding) (k : Kept) (d 
 json_made style b f k d d' sound (inl same) = inl same
 json_made style b f k d d' sound (inr (line, (text, is, it), front)) =
     inr (line, (plain line ∷ [], rw it (makes_json style b f text sound is), sym (append-nil line)), front)
-
--- the document of what is picked is printed in this way
-pub is_picked_as : (picking : Picking) (style : Option json.Style) (b document made : List ℕ) → picking.style ≡ style → IsChosen picking.choice b picking.paths.now document
-    → IsPrinted style document made → IsPickedAs picking b made
-is_picked_as picking style b document made same is printed = (document, is, subst (λ (s : Option json.Style). IsPrinted s document made) (sym same) printed)
-
--- or a front of it is written
-pub front_picked : (picking : Picking) (style : Option json.Style) (b document : List ℕ) (d d' : Option (List ℕ)) → picking.style ≡ style → IsChosen picking.choice b picking.paths.now document
-    → WritesFront (IsPrinted style document) d d' → WritesFront (IsPickedAs picking b) d d'
-front_picked picking style b document d d' same is (inl none) = inl none
-front_picked picking style b document d d' same is (inr (made, printed, front)) = inr (made, is_picked_as picking style b document made same is printed, front)
 
 -- a document that is picked is written
 picked_written : (picking : Picking) (made : List ℕ) (d d' : Option (List ℕ)) (k k' : Kept) → Appends d d' made → CountsOne k k' → Writes (command.Pick picking) (plain made ∷ []) d d' k k'

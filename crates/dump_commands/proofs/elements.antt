@@ -2,3 +2,4 @@ mod Levels
 pub mod Picked
 mod Cutting
 mod Had
+mod Rowed

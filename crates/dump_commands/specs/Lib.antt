@@ -2,7 +2,10 @@ pub mod Findings
 pub mod Summary
 pub mod Counting
 pub mod Unique
-pub mod Counted
+pub mod Gathering
+pub mod Picking
+pub mod Emitting
+pub mod Commands
 pub mod Making
 pub mod Texts
 pub mod Reporting

@@ -2,8 +2,8 @@
 use Rattle.std.specs.Prelude.{ℕ, zero, suc, List, [], ◌∷◌, ◌++◌, ◌-◌, ◌==◌, if◌then◌else◌, Bool, true, false, Option, None, Some, codes, decimal, flat_map}
 use Rattle.dump_io.specs.lines.Quoting.{quoted}
 use Rattle.json.specs.Token.{Token, key, string, number}
-use Rattle.dump_commands.specs.declared.command.Command.{Command}
-use Rattle.dump_commands.specs.declared.command.Command.TheVariants as command
+use Rattle.dump_commands.specs.declared.command.Breaches.{Breaches}
+use Rattle.dump_commands.specs.declared.command.Breaches.TheVariants as breaches
 use Rattle.dump_commands.specs.declared.counts.Counts.{Counts}
 use Rattle.dump_commands.specs.declared.summary.Count as summary
 use Rattle.dump_io.specs.declared.lines.style.Style.{Style}
@@ -18,16 +18,6 @@ Count = List ℕ × ℕ
 abbrev pub count_of : summary.Count → Count
 count_of count = (count.name.now, count.number)
 
--- whether a command keeps documents: those that print lines keep none
-abbrev pub keeps : Command → Bool
-keeps command.Check = false
-keeps command.List = false
-keeps command.Count = false
-keeps command.Sizes = false
-keeps (command.Measure measure) = false
-keeps command.Fields = false
-keeps _ = true
-
 -- what a command that keeps documents tells first: how many, how many damaged regions there are, and how many bytes they have
 abbrev pub first_counts : Counts → (kept : ℕ) → List Count
 first_counts n kept = (codes "kept", kept) ∷ (codes "damaged regions", n.regions) ∷ (codes "bytes lost", n.lost) ∷ []
@@ -37,18 +27,16 @@ abbrev pub left_out_counts : Bool → Counts → (kept : ℕ) → List Count
 left_out_counts false n kept = []
 left_out_counts true n kept = (codes "alone", n.alone) ∷ (codes "left out", n.documents - n.alone - kept) ∷ []
 
--- how many documents without damage aren't canonical, where that changes what the command does
-abbrev pub breached_counts : Command → Counts → List Count
-breached_counts command.Check n = (codes "not canonical", n.breached) ∷ []
-breached_counts command.Canon n = (codes "not canonical", n.breached) ∷ []
-breached_counts _ n = []
+-- how many documents without damage aren't canonical, where they are counted
+abbrev pub breached_counts : Breaches → Counts → List Count
+breached_counts breaches.Ignored n = []
+breached_counts breaches.Counted n = (codes "not canonical", n.breached) ∷ []
+breached_counts breaches.Found n = (codes "not canonical", n.breached) ∷ []
 
--- how many documents are damaged or too deep; those that go by lengths don't know
-abbrev pub damaged_counts : Command → Counts → List Count
-damaged_counts command.Count n = []
-damaged_counts command.Sizes n = []
-damaged_counts (command.Measure measure) n = []
-damaged_counts _ n = (codes "damaged", n.damaged) ∷ (codes "too deep", n.too_deep) ∷ []
+-- how many documents are damaged or too deep, where they are looked into
+abbrev pub damaged_counts : (looks : Bool) → Counts → List Count
+damaged_counts false n = []
+damaged_counts true n = (codes "damaged", n.damaged) ∷ (codes "too deep", n.too_deep) ∷ []
 
 -- the bytes of which no document is made, and the files of which they are some
 abbrev pub left_counts : Counts → List Count
@@ -58,11 +46,6 @@ left_counts n = (codes "bytes passed over", n.passed_over) ∷ (codes "bytes not
 abbrev pub hidden_counts : Option ℕ → Counts → List Count
 hidden_counts None n = []
 hidden_counts (Some most) n = (codes "findings not printed", n.findings - most) ∷ []
-
--- all that is counted beside the documents and what is told first, where how many findings are printed at most
-abbrev pub counts_of : Option ℕ → Command → Counts → ℕ → List Count
-counts_of limit c n kept =
-    (codes "bytes", n.bytes) ∷ left_out_counts (keeps c) n kept ++ breached_counts c n ++ damaged_counts c n ++ left_counts n ++ hidden_counts limit n
 
 -- a number after its name, in words
 abbrev pub count_text : Count → List ℕ
@@ -124,9 +107,6 @@ kept_line style.Quiet name n kept counts = []
 abbrev pub line_of : Bool → Style → Option (List ℕ) → Counts → (kept : ℕ) → List Count → List ℕ
 line_of true style name n kept counts = kept_line style name n kept counts
 line_of false style name n kept counts = counts_line style name n.documents counts
-
-abbrev pub summary_line : Style → Option (List ℕ) → Option ℕ → Command → Counts → ℕ → List ℕ
-summary_line style name limit c n kept = line_of (keeps c) style name n kept (counts_of limit c n kept)
 
 -- what is counted of texts beside the documents: the texts with a fault, and the files that aren't read to their end
 abbrev pub text_counts : Option ℕ → Counts → List Count

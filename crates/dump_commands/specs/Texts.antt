@@ -5,8 +5,8 @@ use Rattle.raw_form.specs.Replacing.{IsReplaced}
 use Rattle.raw_tree.specs.declared.reader.limits.Limits.{Limits}
 use Rattle.raw_view.specs.Frame.Envelope.{IsEnvelope}
 use Rattle.dump_commands.specs.state.Forms.{Made, plain}
-use Rattle.dump_commands.specs.declared.command.Texts.{Texts}
-use Rattle.dump_commands.specs.declared.command.Texts.TheVariants as texts
+use Rattle.dump_commands.specs.declared.texts.Texts.{Texts}
+use Rattle.dump_commands.specs.declared.texts.Texts.TheVariants as texts
 use Rattle.dump_io.specs.declared.lines.find.Finding.{Finding}
 use Rattle.dump_io.specs.declared.lines.find.Finding.TheVariants as finding
 use Rattle.dump_io.specs.lines.Find.{Account}

@@ -5,8 +5,7 @@ ghost use Rattle.std.specs.Prelude.{◌≤◌, IfOk, length};
 ghost use Rattle.std.specs.Option.{option_map};
 ghost use Rattle.dump_io.specs.lines.Find.{account_of};
 ghost use Rattle.dump_io.specs.lines.Origins.{origin_of};
-ghost use Rattle.dump_commands.specs.Findings.{FindsFor};
-ghost use Rattle.dump_commands.specs.Reporting.{IsJudged};
+ghost use Rattle.dump_commands.specs.Findings.{FindsFor, FindsIf, IsJudged};
 
 use crate::command::Command;
 use crate::reporting::first_line;
@@ -58,20 +57,33 @@ fn found_in<'a>(
         (λ found. FindsFor limits command.entry bytes.now found.finding (option_map account_of found.told)) }
 {
     match command {
-        Command::Count | Command::Sizes | Command::Measure(_) => Ok(Found {
+        Command::Prints(_) | Command::Gathers(_) => {
+            found_if(alloc, command.profile().looks, limits, bytes)
+        }
+        Command::Writes(making) => {
+            let found = find(alloc, limits, bytes)?;
+            told_with(alloc, making.texts(), bytes, found)
+        }
+    }
+}
+
+/// What is found in the bytes of a document, within limits, if they are looked into.
+fn found_if<'a>(
+    alloc: Global,
+    looks: bool,
+    limits: Limits,
+    bytes: &'a [u8],
+) -> Result<Found<'a>, AllocError>
+    requires { length bytes.now ≤ limits.bytes }
+    ensures { IfOk result
+        (λ found. FindsIf looks limits bytes.now found.finding (option_map account_of found.told)) }
+{
+    if looks {
+        find(alloc, limits, bytes)
+    } else {
+        Ok(Found {
             finding: Finding::Unvalidated,
             told: None,
-        }),
-        Command::Sound(texts) => {
-            let found = find(alloc, limits, bytes)?;
-            told_with(alloc, texts, bytes, found)
-        }
-        Command::Check
-        | Command::List
-        | Command::Canon
-        | Command::Unique(_)
-        | Command::Fields
-        | Command::Json(_)
-        | Command::Pick(_) => find(alloc, limits, bytes),
+        })
     }
 }

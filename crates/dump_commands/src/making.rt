@@ -1,13 +1,12 @@
-//! Makes what a command gives of a document: writes it, or gathers its elements or its length.
+//! Makes documents or texts of documents, and writes them.
 #![tactic(auto)]
 
 ghost use Rattle.std.specs.Prelude.{◌≡◌, ℕ, List, Option, [], ◌∷◌, ◌++◌, codes, IfOk, IfErr, OnErr, OnOk};
 ghost use Rattle.std.specs.Io.KnownBytes.{Appends};
 ghost use Rattle.dump_commands.specs.Findings.{FindsFor};
 ghost use Rattle.dump_io.specs.lines.Fronts.{AppendsFront, WritesFront};
-ghost use Rattle.dump_commands.specs.Making.{IsMade, IsPickedAs, Emits, Puts};
-ghost use Rattle.dump_commands.specs.Counted.{CountsFields};
-ghost use Rattle.dump_commands.specs.state.Gathered.{KeepsCounted, KeepsWritten};
+ghost use Rattle.dump_commands.specs.Emitting.{Emits, IsMade, Puts};
+ghost use Rattle.dump_commands.specs.state.Gathered.{KeepsCounted};
 ghost use Rattle.dump_io.specs.lines.Find.{Account};
 ghost use Rattle.dump_commands.specs.state.Forms.{CountsOne, knows, made_as};
 ghost use Rattle.dump_commands.specs.Unique.{written_of};
@@ -17,15 +16,14 @@ ghost use Rattle.dump_commands.specs.Making as says;
 ghost use Rattle.raw_tree.specs.CanonicalForm.{IsCanonicalForm};
 ghost use Rattle.raw_view.specs.Frame.Envelope.{IsEnvelope};
 ghost use Rattle.bson_to_json.specs.Json.{IsJson};
-ghost use Rattle.dump_commands.specs.declared.command.Command.TheVariants.{Unique};
-ghost use Rattle.dump_commands.specs.declared.command.Spelling as spells;
+ghost use Rattle.dump_commands.specs.declared.command.Command.TheVariants.{Writes};
+ghost use Rattle.dump_commands.specs.declared.making.Making.TheVariants.{Unique};
+ghost use Rattle.dump_commands.specs.declared.making.Spelling as spells;
 
-use crate::command::{Command, Picking, Spelling};
-use crate::elements::chosen::chosen;
-use crate::elements::having::had_in;
+use crate::command::{Breaches, Command, Profile, Summaries};
+use crate::picking::{Picking, put_picked};
 use crate::state::kept::{Added, Kept};
-use crate::state::tokens_of;
-use crate::texts::put_kept;
+use crate::texts::{Texts, put_kept};
 use bson_to_json::{Style as JsonStyle, WriteJsonError, write_json};
 use dump_io::lines::failure::Failure;
 use dump_io::lines::find::Finding;
@@ -36,6 +34,80 @@ use raw_tree::Limits;
 use raw_view::RawDocument;
 use std::alloc::Global;
 use std::io::Write;
+
+/// What `unique` writes of a document.
+#[derive(Clone, Copy)]
+pub enum Spelling {
+    /// its canonical form
+    Canonical,
+    /// its bytes, as they are
+    Original,
+}
+
+/// A command that writes documents, or texts of them.
+#[derive(Clone, Copy)]
+pub enum Making<'a> {
+    /// the canonical form of each without damage
+    Canon,
+    /// each without damage, unchanged
+    Sound(Texts),
+    /// of each without damage the canonical form, or the bytes as they are, where its form is the first with its digest
+    Unique(Spelling),
+    /// each without damage as Extended JSON, with a line feed after it
+    Json(JsonStyle),
+    /// a document of some elements of each without damage
+    Pick(Picking<'a>),
+}
+
+impl<'a> Making<'a> {
+    /// What is so of it, whatever it finds.
+    pub fn profile(self) -> Profile
+        ensures { result ≡ says.making_profile self.entry }
+    {
+        let breaches = match self {
+            Making::Canon => Breaches::Counted,
+            Making::Sound(_) | Making::Unique(_) | Making::Json(_) | Making::Pick(_) => {
+                Breaches::Ignored
+            }
+        };
+        Profile {
+            looks: true,
+            breaches,
+            summaries: Summaries::Last,
+        }
+    }
+
+    /// Whether it writes BSON, which is no text.
+    pub fn is_bson(self) -> bool
+        ensures { result ≡ says.is_bson self.entry }
+    {
+        match self {
+            Making::Canon | Making::Sound(_) | Making::Unique(_) => true,
+            Making::Json(_) => false,
+            Making::Pick(picking) => picking.form.is_dump(),
+        }
+    }
+
+    /// What comes of texts that aren't UTF-8.
+    pub fn texts(self) -> Texts
+        ensures { result ≡ says.texts_of self.entry }
+    {
+        match self {
+            Making::Sound(texts) => texts,
+            Making::Canon | Making::Unique(_) | Making::Json(_) | Making::Pick(_) => Texts::Checked,
+        }
+    }
+
+    /// Which elements it picks.
+    pub fn picking(self) -> Option<Picking<'a>>
+        ensures { result ≡ says.picking_of self.entry }
+    {
+        match self {
+            Making::Pick(picking) => Some(picking),
+            Making::Canon | Making::Sound(_) | Making::Unique(_) | Making::Json(_) => None,
+        }
+    }
+}
 
 /// Makes the command's document of one at this place in which this was found, and writes it. Returns the place of the first document
 /// of its form, if one came before.
@@ -56,38 +128,49 @@ pub fn emit<'a, D: Write>(
     ensures table { KeepsCounted kept.old kept.new }
     ensures failed { IfErr result (λ failure. ¬ IsReading failure) }
 {
-    match (command, finding) {
-        (Command::Sound(texts), Finding::Damaged) => {
+    match command {
+        Command::Prints(_) | Command::Gathers(_) => Ok(None),
+        Command::Writes(making) => {
+            put_made(alloc, making, limits, origin, finding, bytes, out, kept)
+        }
+    }
+}
+
+/// Makes and writes a document so.
+fn put_made<'a, D: Write>(
+    alloc: Global,
+    making: Making<'_>,
+    limits: Limits,
+    origin: Origin<'a>,
+    finding: Finding,
+    bytes: &[u8],
+    out: &mut D,
+    kept: &mut Kept<'a>,
+) -> Result<Option<Origin<'a>>, Failure>
+    requires { (told : Option Account) × FindsFor limits (Writes making) bytes.now finding told }
+    ensures written { IfOk result
+        (Emits (Writes making.entry) origin.entry bytes.now finding (D.contents out.old) (D.contents out.new) kept.old kept.new) }
+    ensures front { OnErr result (WritesFront (IsMade (Writes making.entry) bytes.now finding kept.old) (D.contents out.old) (D.contents out.new)) }
+    ensures table { KeepsCounted kept.old kept.new }
+    ensures failed { IfErr result (λ failure. ¬ IsReading failure) }
+{
+    match (making, finding) {
+        (Making::Sound(texts), Finding::Damaged) => {
             put_kept(alloc, texts, origin, bytes, out, kept)
         }
-        (
-            Command::Check
-            | Command::List
-            | Command::Count
-            | Command::Sizes
-            | Command::Measure(_)
-            | Command::Fields,
-            _,
-        )
-        | (_, Finding::Damaged | Finding::TooDeep | Finding::Unvalidated) => Ok(None),
-        (Command::Sound(_), Finding::Canonical | Finding::Breached) => {
-            put_document(command, origin, bytes, bytes, out, kept)
+        (_, Finding::Damaged | Finding::TooDeep | Finding::Unvalidated) => Ok(None),
+        (Making::Sound(_), Finding::Canonical | Finding::Breached)
+        | (Making::Canon | Making::Unique(_), Finding::Canonical) => {
+            put_document(making, origin, bytes, bytes, out, kept)
         }
-        (Command::Canon | Command::Unique(_), Finding::Canonical) => {
-            put_document(command, origin, bytes, bytes, out, kept)
+        (Making::Canon | Making::Unique(_), Finding::Breached) => {
+            put_form(alloc, making, limits, origin, bytes, out, kept)
         }
-        (Command::Canon, Finding::Breached) => {
-            put_form(alloc, Command::Canon, limits, origin, bytes, out, kept)
-        }
-        (Command::Unique(spelling), Finding::Breached) => {
-            let command = Command::Unique(spelling);
-            put_form(alloc, command, limits, origin, bytes, out, kept)
-        }
-        (Command::Json(style), Finding::Canonical | Finding::Breached) => {
+        (Making::Json(style), Finding::Canonical | Finding::Breached) => {
             put_json(alloc, style, limits, bytes, out, kept)?;
             Ok(None)
         }
-        (Command::Pick(picking), Finding::Canonical | Finding::Breached) => {
+        (Making::Pick(picking), Finding::Canonical | Finding::Breached) => {
             put_picked(alloc, picking, limits, bytes, out, kept)?;
             Ok(None)
         }
@@ -98,7 +181,7 @@ pub fn emit<'a, D: Write>(
 /// of lengths counts as one without memory.
 fn put_form<'a, D: Write>(
     alloc: Global,
-    command: Command<'_>,
+    making: Making<'_>,
     limits: Limits,
     origin: Origin<'a>,
     bytes: &[u8],
@@ -106,10 +189,10 @@ fn put_form<'a, D: Write>(
     kept: &mut Kept<'a>,
 ) -> Result<Option<Origin<'a>>, Failure>
     ensures written { IfOk result (λ first. (form : List ℕ) × IsCanonicalForm bytes.now form
-        × Puts command.entry origin.entry (made_as (says.spelled command.entry bytes.now form) form ∷ []) (D.contents out.old) (D.contents out.new) kept.old kept.new first) }
+        × Puts (Writes making.entry) origin.entry (made_as (says.spelled making.entry bytes.now form) form ∷ []) (D.contents out.old) (D.contents out.new) kept.old kept.new first) }
     ensures front { OnErr result (WritesFront
         (λ text. (form : List ℕ) × IsCanonicalForm bytes.now form
-        × (text ≡ written_of command.entry (knows kept.old) (made_as (says.spelled command.entry bytes.now form) form ∷ [])))
+        × (text ≡ written_of (Writes making.entry) (knows kept.old) (made_as (says.spelled making.entry bytes.now form) form ∷ [])))
         (D.contents out.old) (D.contents out.new)) }
     ensures table { KeepsCounted kept.old kept.new }
     ensures failed { IfErr result (λ failure. ¬ IsReading failure) }
@@ -117,35 +200,29 @@ fn put_form<'a, D: Write>(
     match canonical_within(alloc, bytes, limits) {
         Ok(form) => {
             let form = form.as_slice();
-            let document = spelled(command, bytes, form);
-            put_document(command, origin, document, form, out, kept)
+            let document = spelled(making, bytes, form);
+            put_document(making, origin, document, form, out, kept)
         }
         Err(_) => Err(Failure::Memory),
     }
 }
 
 /// What is written of a document with this canonical form.
-fn spelled<'a>(command: Command<'_>, bytes: &'a [u8], form: &'a [u8]) -> &'a [u8]
-    ensures { result.now ≡ says.spelled command.entry bytes.now form.now }
+fn spelled<'a>(making: Making<'_>, bytes: &'a [u8], form: &'a [u8]) -> &'a [u8]
+    ensures { result.now ≡ says.spelled making.entry bytes.now form.now }
 {
-    match command {
-        Command::Unique(Spelling::Original) => bytes,
-        Command::Unique(Spelling::Canonical)
-        | Command::Check
-        | Command::List
-        | Command::Count
-        | Command::Sizes
-        | Command::Measure(_)
-        | Command::Canon
-        | Command::Sound(_)
-        | Command::Fields
-        | Command::Json(_)
-        | Command::Pick(_) => form,
+    match making {
+        Making::Unique(Spelling::Original) => bytes,
+        Making::Unique(Spelling::Canonical)
+        | Making::Canon
+        | Making::Sound(_)
+        | Making::Json(_)
+        | Making::Pick(_) => form,
     }
 }
 
 /// Writes a document as Extended JSON, and a line feed. What would be over the limits counts as out of memory.
-fn put_json<D: Write>(
+pub(crate) fn put_json<D: Write>(
     alloc: Global,
     style: JsonStyle,
     limits: Limits,
@@ -171,41 +248,10 @@ fn put_json<D: Write>(
     }
 }
 
-/// Writes the document of some elements of a document, which may be longer than that. What would be over the limits counts as out of
-/// memory.
-fn put_picked<D: Write>(
-    alloc: Global,
-    picking: Picking<'_>,
-    limits: Limits,
-    bytes: &[u8],
-    out: &mut D,
-    kept: &mut Kept<'_>,
-) -> Result<(), Failure>
-    requires { IsEnvelope bytes.now }
-    ensures written { OnOk result ((made : List ℕ) × IsPickedAs picking.entry bytes.now made
-        × Appends (D.contents out.old) (D.contents out.new) made × CountsOne kept.old kept.new) }
-    ensures front { OnErr result (WritesFront (IsPickedAs picking.entry bytes.now) (D.contents out.old) (D.contents out.new)) }
-    ensures table { KeepsCounted kept.old kept.new }
-    ensures failed { IfErr result (λ failure. ¬ IsReading failure) }
-{
-    let Ok(document) = RawDocument::from_bytes(bytes) else {
-        unreachable!()
-    };
-    let picked = chosen(alloc, document, picking)?;
-    let limits = Limits {
-        bytes: picked.len(),
-        depth: limits.depth,
-    };
-    match picking.style {
-        None => put_one(&picked, out, kept),
-        Some(style) => put_json(alloc, style, limits, &picked, out, kept),
-    }
-}
-
 /// Writes a document that the command makes of one at this place: of `unique` where the digest of its form is new. Returns the place of
 /// the first document with that digest, if one came before.
 pub fn put_document<'a, D: Write>(
-    command: Command<'_>,
+    making: Making<'_>,
     origin: Origin<'a>,
     document: &[u8],
     form: &[u8],
@@ -213,23 +259,14 @@ pub fn put_document<'a, D: Write>(
     kept: &mut Kept<'a>,
 ) -> Result<Option<Origin<'a>>, Failure>
     ensures written { IfOk result
-        (Puts command.entry origin.entry (made_as document.now form.now ∷ []) (D.contents out.old) (D.contents out.new) kept.old kept.new) }
-    ensures front { OnErr result (AppendsFront (D.contents out.old) (D.contents out.new) (written_of command.entry (knows kept.old) (made_as document.now form.now ∷ []))) }
+        (Puts (Writes making.entry) origin.entry (made_as document.now form.now ∷ []) (D.contents out.old) (D.contents out.new) kept.old kept.new) }
+    ensures front { OnErr result (AppendsFront (D.contents out.old) (D.contents out.new) (written_of (Writes making.entry) (knows kept.old) (made_as document.now form.now ∷ []))) }
     ensures table { KeepsCounted kept.old kept.new }
     ensures failed { IfErr result (λ failure. ¬ IsReading failure) }
 {
-    match command {
-        Command::Unique(_) => put_new(origin, document, form, out, kept),
-        Command::Check
-        | Command::List
-        | Command::Count
-        | Command::Sizes
-        | Command::Measure(_)
-        | Command::Canon
-        | Command::Sound(_)
-        | Command::Fields
-        | Command::Json(_)
-        | Command::Pick(_) => {
+    match making {
+        Making::Unique(_) => put_new(origin, document, form, out, kept),
+        Making::Canon | Making::Sound(_) | Making::Json(_) | Making::Pick(_) => {
             put_one(document, out, kept)?;
             Ok(None)
         }
@@ -237,7 +274,11 @@ pub fn put_document<'a, D: Write>(
 }
 
 /// Writes these bytes, with which a document more is written.
-fn put_one<D: Write>(bytes: &[u8], out: &mut D, kept: &mut Kept<'_>) -> Result<(), Failure>
+pub(crate) fn put_one<D: Write>(
+    bytes: &[u8],
+    out: &mut D,
+    kept: &mut Kept<'_>,
+) -> Result<(), Failure>
     ensures written { OnOk result
         (Appends (D.contents out.old) (D.contents out.new) bytes.now × CountsOne kept.old kept.new) }
     ensures front { OnErr result (AppendsFront (D.contents out.old) (D.contents out.new) bytes.now) }
@@ -257,9 +298,9 @@ fn put_new<'a, D: Write>(
     kept: &mut Kept<'a>,
 ) -> Result<Option<Origin<'a>>, Failure>
     ensures written { IfOk result (λ first. (spelling : spells.Spelling)
-        → Puts (Unique spelling) origin.entry (made_as document.now form.now ∷ []) (D.contents out.old) (D.contents out.new) kept.old kept.new first) }
+        → Puts (Writes (Unique spelling)) origin.entry (made_as document.now form.now ∷ []) (D.contents out.old) (D.contents out.new) kept.old kept.new first) }
     ensures front { OnErr result ((spelling : spells.Spelling)
-        → AppendsFront (D.contents out.old) (D.contents out.new) (written_of (Unique spelling) (knows kept.old) (made_as document.now form.now ∷ []))) }
+        → AppendsFront (D.contents out.old) (D.contents out.new) (written_of (Writes (Unique spelling)) (knows kept.old) (made_as document.now form.now ∷ []))) }
     ensures table { KeepsCounted kept.old kept.new }
     ensures failed { IfErr result (λ failure. ¬ IsReading failure) }
 {
@@ -269,33 +310,5 @@ fn put_new<'a, D: Write>(
             Ok(None)
         }
         Added::Repeat(first) => Ok(first),
-    }
-}
-
-/// Gathers what the command gathers of a document in which this was found.
-pub fn count_fields<'a>(
-    alloc: Global,
-    command: Command<'_>,
-    limits: Limits,
-    finding: Finding,
-    origin: Origin<'a>,
-    bytes: &[u8],
-    kept: &mut Kept<'a>,
-) -> Result<(), Failure>
-    ensures counted { OnOk result (CountsFields limits command.entry (origin_of origin.entry) bytes.now finding kept.old kept.new) }
-    ensures written { KeepsWritten kept.old kept.new }
-    ensures failed { IfErr result (λ failure. ¬ IsReading failure) }
-{
-    match (command, finding) {
-        (Command::Fields, Finding::Canonical | Finding::Breached) => {
-            let tokens = tokens_of(alloc, bytes, limits)?;
-            kept.add_document(alloc, origin, bytes, &tokens)
-        }
-        (Command::Pick(picking), Finding::Canonical | Finding::Breached) => {
-            let flags = had_in(alloc, bytes, picking)?;
-            kept.see(alloc, &flags)
-        }
-        (Command::Measure(measure), _) => kept.measure(alloc, measure, origin, bytes),
-        _ => Ok(()),
     }
 }

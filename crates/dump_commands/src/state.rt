@@ -10,6 +10,6 @@ pub mod measures;
 mod path_lines;
 pub mod paths;
 mod rows;
-mod seen;
+pub(crate) mod seen;
 
 pub use fields::tokens_of;

@@ -4,10 +4,11 @@
 ghost use Rattle.std.specs.Prelude.{◌≡◌, ◌++◌, ◌∷◌, [], IfOk, OnOk, flat_map, map};
 ghost use Rattle.std.specs.Option.{option_copied};
 ghost use Rattle.dump_io.specs.lines.Told.{Grows};
-ghost use Rattle.dump_commands.specs.Summary.{breached_counts, count_members, count_of, count_text, counts_line, counts_of, damaged_counts, first_counts, hidden_counts, kept_line, kept_text, left_counts, left_out_counts, name_members, name_text, next_text, some_text, text_counts, things_text};
+ghost use Rattle.dump_commands.specs.Summary.{breached_counts, count_members, count_of, count_text, counts_line, damaged_counts, first_counts, hidden_counts, kept_line, kept_text, left_counts, left_out_counts, name_members, name_text, next_text, some_text, text_counts, things_text};
+ghost use Rattle.dump_commands.specs.Commands.{counts_of};
 ghost use Rattle.dump_io.specs.declared.lines.style.Style.TheVariants.{Json, Words};
 
-use crate::command::Command;
+use crate::command::{Breaches, Command};
 use crate::counts::Counts;
 use dump_io::lines::object::{begun, ended, put_number, put_text};
 use dump_io::lines::quote::push_quoted;
@@ -48,50 +49,29 @@ fn push_left_out(
     push(all, "left out", others.saturating_sub(kept))
 }
 
-/// How many documents aren't canonical, where that changes what the command does.
+/// How many documents aren't canonical, where the command counts them.
 fn push_breached(
     all: &mut Vec<Count>,
-    command: Command<'_>,
+    breaches: Breaches,
     counts: &Counts,
 ) -> Result<(), AllocError>
-    ensures { OnOk result (map count_of all.new.items ≡ map count_of all.old.items ++ breached_counts command.entry counts.now) }
+    ensures { OnOk result (map count_of all.new.items ≡ map count_of all.old.items ++ breached_counts breaches counts.now) }
 {
-    match command {
-        Command::Check | Command::Canon => push(all, "not canonical", counts.breached),
-        Command::List
-        | Command::Count
-        | Command::Sizes
-        | Command::Measure(_)
-        | Command::Sound(_)
-        | Command::Unique(_)
-        | Command::Fields
-        | Command::Json(_)
-        | Command::Pick(_) => Ok(()),
+    match breaches {
+        Breaches::Ignored => Ok(()),
+        Breaches::Counted | Breaches::Found => push(all, "not canonical", counts.breached),
     }
 }
 
-/// How many documents are damaged or too deep, where the command knows.
-fn push_damaged(
-    all: &mut Vec<Count>,
-    command: Command<'_>,
-    counts: &Counts,
-) -> Result<(), AllocError>
-    ensures { OnOk result (map count_of all.new.items ≡ map count_of all.old.items ++ damaged_counts command.entry counts.now) }
+/// How many documents are damaged or too deep, where the command looks into them.
+fn push_damaged(all: &mut Vec<Count>, looks: bool, counts: &Counts) -> Result<(), AllocError>
+    ensures { OnOk result (map count_of all.new.items ≡ map count_of all.old.items ++ damaged_counts looks counts.now) }
 {
-    match command {
-        Command::Count | Command::Sizes | Command::Measure(_) => Ok(()),
-        Command::Check
-        | Command::List
-        | Command::Canon
-        | Command::Sound(_)
-        | Command::Unique(_)
-        | Command::Fields
-        | Command::Json(_)
-        | Command::Pick(_) => {
-            push(all, "damaged", counts.damaged)?;
-            push(all, "too deep", counts.too_deep)
-        }
+    if !looks {
+        return Ok(());
     }
+    push(all, "damaged", counts.damaged)?;
+    push(all, "too deep", counts.too_deep)
 }
 
 /// Of what no document was made.
@@ -127,11 +107,12 @@ pub fn counted(
 ) -> Result<Vec<Count>, AllocError>
     ensures { IfOk result (λ all. map count_of all.items ≡ counts_of limit command.entry counts.now kept) }
 {
+    let profile = command.profile();
     let mut all = Vec::new(alloc);
     push(&mut all, "bytes", counts.bytes)?;
     push_left_out(&mut all, command.keeps(), counts, kept)?;
-    push_breached(&mut all, command, counts)?;
-    push_damaged(&mut all, command, counts)?;
+    push_breached(&mut all, profile.breaches, counts)?;
+    push_damaged(&mut all, profile.looks, counts)?;
     push_left(&mut all, counts)?;
     push_hidden(&mut all, limit, counts)?;
     Ok(all)

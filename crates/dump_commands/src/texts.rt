@@ -3,26 +3,36 @@
 
 ghost use Rattle.std.specs.Prelude.{◌≡◌, List, IfErr, IfOk, OnErr};
 ghost use Rattle.std.specs.Option.{option_map};
-ghost use Rattle.dump_commands.specs.Making.{Puts};
+ghost use Rattle.dump_commands.specs.Emitting.{Puts};
 ghost use Rattle.dump_commands.specs.Texts.{KeepsAs, MakesKept, TellsTexts, replaced_account};
 ghost use Rattle.dump_commands.specs.Unique.{written_of};
-ghost use Rattle.dump_commands.specs.declared.command.Command.TheVariants.{Sound};
+ghost use Rattle.dump_commands.specs.declared.command.Command.TheVariants.{Writes};
+ghost use Rattle.dump_commands.specs.declared.making.Making.TheVariants.{Sound};
 ghost use Rattle.dump_commands.specs.state.Forms.{Made, knows};
 ghost use Rattle.dump_commands.specs.state.Gathered.{KeepsCounted};
 ghost use Rattle.dump_io.specs.lines.Failing.{IsReading};
 ghost use Rattle.dump_io.specs.lines.Find.{account_of};
 ghost use Rattle.dump_io.specs.lines.Fronts.{WritesFront};
 
-use crate::command::{Command, Texts};
-use crate::making::put_document;
+use crate::making::{Making, put_document};
 use crate::state::kept::Kept;
 use dump_io::lines::failure::Failure;
 use dump_io::lines::find::{Finding, Found, Told};
 use dump_io::lines::origin::Origin;
 use raw_form::with_replaced_texts;
+use raw_tree::Limits;
 use raw_view::RawDocument;
 use std::alloc::{AllocError, Global};
 use std::io::Write;
+
+/// What comes of a document whose only faults are texts that aren't UTF-8.
+#[derive(Clone, Copy)]
+pub enum Texts {
+    /// it is damaged, as any other with a fault
+    Checked,
+    /// it is kept with these texts replaced, within limits
+    Replaced(Limits),
+}
 
 /// What a damaged document is kept as; `None` if it isn't kept.
 pub fn kept_as(alloc: Global, texts: Texts, bytes: &[u8]) -> Result<Option<Vec<u8>>, AllocError>
@@ -83,9 +93,9 @@ pub fn put_kept<'a, D: Write>(
     kept: &mut Kept<'a>,
 ) -> Result<Option<Origin<'a>>, Failure>
     ensures written { IfOk result (λ first. (made : List Made) × MakesKept texts bytes.now made
-        × Puts (Sound texts) origin.entry made (D.contents out.old) (D.contents out.new) kept.old kept.new first) }
+        × Puts (Writes (Sound texts)) origin.entry made (D.contents out.old) (D.contents out.new) kept.old kept.new first) }
     ensures front { OnErr result (WritesFront
-        (λ text. (made : List Made) × MakesKept texts bytes.now made × (text ≡ written_of (Sound texts) (knows kept.old) made))
+        (λ text. (made : List Made) × MakesKept texts bytes.now made × (text ≡ written_of (Writes (Sound texts)) (knows kept.old) made))
         (D.contents out.old) (D.contents out.new)) }
     ensures table { KeepsCounted kept.old kept.new }
     ensures failed { IfErr result (λ failure. ¬ IsReading failure) }
@@ -94,5 +104,5 @@ pub fn put_kept<'a, D: Write>(
         return Ok(None);
     };
     let document = document.as_slice();
-    put_document(Command::Sound(texts), origin, document, document, out, kept)
+    put_document(Making::Sound(texts), origin, document, document, out, kept)
 }

@@ -3,8 +3,9 @@ use Rattle.std.specs.Prelude.{◌≡◌, ◌≢◌, ◌⊎◌, ◌<◌, Bool, tr
 use Rattle.std.specs.IoError.{error_kind}
 use Rattle.std.specs.declared.io.Error.{Error}
 use Rattle.std.specs.declared.io.ErrorKind.TheVariants.{BrokenPipe}
+use Rattle.dump_commands.specs.Commands.{profile_of}
+use Rattle.dump_commands.specs.declared.command.Breaches.TheVariants as breaches
 use Rattle.dump_commands.specs.declared.command.Command.{Command}
-use Rattle.dump_commands.specs.declared.command.Command.TheVariants as command
 use Rattle.dump_commands.specs.declared.counts.Counts.{Counts}
 use Rattle.dump_io.specs.declared.lines.failure.Failure.{Failure}
 use Rattle.dump_io.specs.declared.lines.failure.Failure.TheVariants as failure
@@ -30,10 +31,9 @@ FailsToRead _ = ⊥
 abbrev pub IsCut : Counts → Type 0
 IsCut n = (0 < n.files) ⊎ (0 < n.passed_over)
 
--- a document is damaged or too deep, or one that check reads isn't canonical
+-- a document is damaged or too deep, or one isn't canonical, where that is a finding
 abbrev pub FindsDamage : Command → Counts → Type 0
-FindsDamage command.Check n = (0 < n.damaged) ⊎ (0 < n.too_deep) ⊎ (0 < n.breached)
-FindsDamage _ n = (0 < n.damaged) ⊎ (0 < n.too_deep)
+FindsDamage c n = (0 < n.damaged) ⊎ (0 < n.too_deep) ⊎ (((profile_of c).breaches ≡ breaches.Found) × (0 < n.breached))
 
 -- that, or a text has a fault
 abbrev pub HasDamage : Reading → Counts → Type 0

@@ -6,7 +6,7 @@ ghost use Rattle.dump_runs.specs.Status as says;
 ghost use Rattle.dump_runs.specs.Status.{FindsDamage, HasDamage, IsFailureStatus, IsStatus};
 
 use crate::reading::Reading;
-use dump_commands::command::Command;
+use dump_commands::command::{Breaches, Command};
 use dump_commands::counts::Counts;
 use dump_io::input::status::Status;
 use dump_io::lines::failure::{Failure, ReadFailure};
@@ -81,7 +81,8 @@ fn is_damage(reading: Reading<'_>, counts: Counts) -> bool
 fn finds_damage(command: Command<'_>, counts: Counts) -> bool
     ensures { MatchBool result (FindsDamage command.entry counts) (¬ FindsDamage command.entry counts) }
 {
+    let breaches = command.profile().breaches;
     counts.damaged > 0
         || counts.too_deep > 0
-        || (matches!(command, Command::Check) && counts.breached > 0)
+        || (matches!(breaches, Breaches::Found) && counts.breached > 0)
 }

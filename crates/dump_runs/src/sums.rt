@@ -5,15 +5,14 @@ ghost use Rattle.std.specs.Prelude.{◌++◌, IfErr, OnErr, OnOk};
 ghost use Rattle.std.specs.Io.KnownBytes.{Appends};
 ghost use Rattle.dump_io.specs.lines.Failing.{IsReading};
 ghost use Rattle.dump_io.specs.lines.Fronts.{AppendsFront};
-ghost use Rattle.dump_runs.specs.Sums.{all_line, count_line, gathered_lines, input_line, line_of_all, line_of_input};
+ghost use Rattle.dump_runs.specs.Sums.{all_line, input_line, last_line, line_of_all, line_of_input};
 
 use crate::batch::Totals;
 use crate::reading::Reading;
-use dump_commands::command::{Command, Measure};
+use dump_commands::command::Summaries;
 use dump_commands::counts::Counts;
 use dump_commands::job::Job;
 use dump_commands::reporting::{put_summary, put_text_summary};
-use dump_commands::state::kept::Kept;
 use dump_io::lines::failure::Failure;
 use dump_io::lines::write::put;
 use std::alloc::Global;
@@ -62,7 +61,7 @@ pub fn put_all_counts<W: Write>(
     }
 }
 
-/// Of `check` and `count`, writes what was counted of one dump.
+/// Writes what was counted of one dump, if the command tells that.
 fn put_input<W: Write>(
     alloc: Global,
     job: Job<'_>,
@@ -71,29 +70,21 @@ fn put_input<W: Write>(
     report: &mut W,
 ) -> Result<(), Failure>
     ensures written { OnOk result
-        (Appends (W.contents report.old) (W.contents report.new) (input_line job.entry job.entry.command name.now counts.now)) }
+        (Appends (W.contents report.old) (W.contents report.new) (input_line job.entry name.now counts.now)) }
     ensures front { OnErr result
-        (AppendsFront (W.contents report.old) (W.contents report.new) (input_line job.entry job.entry.command name.now counts.now)) }
+        (AppendsFront (W.contents report.old) (W.contents report.new) (input_line job.entry name.now counts.now)) }
     ensures failed { IfErr result (λ failure. ¬ IsReading failure) }
 {
-    match job.command {
-        Command::Check | Command::Count | Command::Measure(Measure::Histogram) => {
+    match job.command.profile().summaries {
+        Summaries::Each => {
             let job = Job { limit: None, ..job };
             put_summary(alloc, job, Some(name), counts, 0, report)
         }
-        Command::List
-        | Command::Sizes
-        | Command::Measure(Measure::Largest(_) | Measure::Parts(_))
-        | Command::Canon
-        | Command::Sound(_)
-        | Command::Unique(_)
-        | Command::Fields
-        | Command::Json(_)
-        | Command::Pick(_) => Ok(()),
+        Summaries::Last | Summaries::Never => Ok(()),
     }
 }
 
-/// Writes what was counted of all dumps, but of a list, of sizes and of parts. The lines of what was gathered come before it.
+/// Writes the lines of what was gathered of all dumps, and what was counted, if the command tells that.
 fn put_all<W: Write>(
     alloc: Global,
     job: Job<'_>,
@@ -101,58 +92,34 @@ fn put_all<W: Write>(
     report: &mut W,
 ) -> Result<(), Failure>
     ensures written { OnOk result
-        (Appends (W.contents report.old) (W.contents report.new) (all_line job.entry job.entry.command totals.now.counts totals.now.tally.kept)) }
+        (Appends (W.contents report.old) (W.contents report.new) (all_line job.entry totals.now.counts totals.now.tally.kept)) }
     ensures front { OnErr result
-        (AppendsFront (W.contents report.old) (W.contents report.new) (all_line job.entry job.entry.command totals.now.counts totals.now.tally.kept)) }
+        (AppendsFront (W.contents report.old) (W.contents report.new) (all_line job.entry totals.now.counts totals.now.tally.kept)) }
     ensures failed { IfErr result (λ failure. ¬ IsReading failure) }
 {
-    let kept = &totals.tally.kept;
-    match job.command {
-        Command::List | Command::Sizes => Ok(()),
-        Command::Measure(Measure::Parts(_)) => put_gathered(alloc, job, kept, report),
-        Command::Fields
-        | Command::Pick(_)
-        | Command::Measure(Measure::Histogram | Measure::Largest(_)) => {
-            put_both(alloc, job, totals, report)
-        }
-        Command::Check
-        | Command::Count
-        | Command::Canon
-        | Command::Sound(_)
-        | Command::Unique(_)
-        | Command::Json(_) => put_summary(alloc, job, None, &totals.counts, kept.count(), report),
-    }
+    let lines = totals.tally.kept.lines(alloc, job.style, job.command)?;
+    put(report, &lines)?;
+    put_last(alloc, job, totals, report)
 }
 
-/// Writes the lines of what was gathered of all dumps.
-fn put_gathered<W: Write>(
-    alloc: Global,
-    job: Job<'_>,
-    kept: &Kept<'_>,
-    report: &mut W,
-) -> Result<(), Failure>
-    ensures written { OnOk result (Appends (W.contents report.old) (W.contents report.new) (gathered_lines job.entry kept.now)) }
-    ensures front { OnErr result (AppendsFront (W.contents report.old) (W.contents report.new) (gathered_lines job.entry kept.now)) }
-    ensures failed { IfErr result (λ failure. ¬ IsReading failure) }
-{
-    let lines = kept.lines(alloc, job.style, job.command)?;
-    put(report, &lines)
-}
-
-/// Writes these lines, and what was counted of all dumps.
-fn put_both<W: Write>(
+/// Writes what was counted of all dumps, if the command tells that.
+fn put_last<W: Write>(
     alloc: Global,
     job: Job<'_>,
     totals: &Totals<'_>,
     report: &mut W,
 ) -> Result<(), Failure>
-    ensures written { OnOk result (Appends (W.contents report.old) (W.contents report.new)
-        (gathered_lines job.entry totals.now.tally.kept ++ count_line job.entry totals.now.counts totals.now.tally.kept)) }
-    ensures front { OnErr result (AppendsFront (W.contents report.old) (W.contents report.new)
-        (gathered_lines job.entry totals.now.tally.kept ++ count_line job.entry totals.now.counts totals.now.tally.kept)) }
+    ensures written { OnOk result
+        (Appends (W.contents report.old) (W.contents report.new) (last_line job.entry totals.now.counts totals.now.tally.kept)) }
+    ensures front { OnErr result
+        (AppendsFront (W.contents report.old) (W.contents report.new) (last_line job.entry totals.now.counts totals.now.tally.kept)) }
     ensures failed { IfErr result (λ failure. ¬ IsReading failure) }
 {
-    let kept = &totals.tally.kept;
-    put_gathered(alloc, job, kept, report)?;
-    put_summary(alloc, job, None, &totals.counts, kept.count(), report)
+    match job.command.profile().summaries {
+        Summaries::Each | Summaries::Last => {
+            let kept = totals.tally.kept.count();
+            put_summary(alloc, job, None, &totals.counts, kept, report)
+        }
+        Summaries::Never => Ok(()),
+    }
 }

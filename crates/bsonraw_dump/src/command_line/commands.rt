@@ -1,86 +1,151 @@
-//! The table of the commands that read dumps: how each is named, what it prints, and where.
+//! The table of the commands: how each is named, what it does, what it may be given, what it asks for then, and where it prints.
+//! `bin/words/bsonraw_dump.txt` has what the command line says of them: `checks/words.py` writes it.
 #![tactic(auto)]
 
+use crate::command_line::args::{
+    LARGEST, color, files, findings, limits, number, output, reading, switch, writing,
+};
+use crate::command_line::builder::CommandBuilder;
+use crate::command_line::picks::{documents_as_json, json_style_of, picking_of, picks};
+use crate::command_line::shows::{show_of, shows};
 use crate::command_line::task::limits_of;
-use bson_to_json::{Format, Layout, Style as JsonStyle};
 use clap::ArgMatches;
-use dump_commands::command::{Choice, Command, Measure, Picking, Spelling, Texts};
+use dump_commands::command::Command;
+use dump_commands::gathering::Gathering;
+use dump_commands::making::{Making, Spelling};
+use dump_commands::reporting::Report;
+use dump_commands::state::gathered::Measure;
+use dump_commands::texts::Texts;
+use std::alloc::{AllocError, Global};
 
 /// What a command prints, and where.
 #[derive(Clone, Copy)]
-pub struct Printing {
-    /// whether it writes documents into the output; what it finds goes to standard error then
-    pub documents: bool,
-    /// whether its lines are few, and shown as soon as they are there
-    pub soon: bool,
-    /// whether its lines may be printed as JSON, the first of them only, or none
-    pub findings: bool,
+pub enum Printing {
+    /// documents, into the output; what it finds goes to standard error
+    Documents,
+    /// lines, which may be many
+    Lines,
+    /// few lines, which are shown as soon as they are there
+    Soon,
 }
 
-/// What this command prints.
-pub fn printing_of(command: Command<'_>) -> Printing {
-    let (documents, soon, findings) = match command {
-        Command::Check | Command::Count | Command::Measure(Measure::Histogram) => {
-            (false, true, true)
-        }
-        Command::Fields | Command::Measure(Measure::Largest(_) | Measure::Parts(_)) => {
-            (false, true, false)
-        }
-        Command::List | Command::Show(_) | Command::Sizes => (false, false, false),
-        Command::Canon
-        | Command::Sound(_)
-        | Command::Unique(_)
-        | Command::Json(_)
-        | Command::Pick(_) => (true, false, true),
-    };
-    Printing {
-        documents,
-        soon,
-        findings,
-    }
-}
-
-/// The command of this name, which reads dumps, with what was given to it; none of the one that reads texts.
-pub fn command_of<'a>(name: &str, matches: &ArgMatches<'a>) -> Option<Command<'a>> {
+/// What the command of this name asks for, with what was given to it, and what it prints; nothing of the one that reads texts.
+pub fn asked_by<'a>(name: &str, matches: &ArgMatches<'a>) -> Option<(Command<'a>, Printing)> {
     match name {
-        "check" => Some(Command::Check),
-        "list" => Some(Command::List),
-        "show" => Some(Command::Show(shown_of(matches))),
-        "count" => Some(count_of(matches)),
-        "largest" => Some(Command::Measure(largest_of(matches))),
-        "split" => Some(Command::Measure(parts_of(matches))),
-        "sizes" => Some(Command::Sizes),
-        "fields" => Some(Command::Fields),
-        "canon" => Some(Command::Canon),
-        "sound" => Some(Command::Sound(texts_of(matches))),
-        "unique" => Some(Command::Unique(spelling_of(matches))),
-        "json" => Some(Command::Json(json_style_of(matches))),
-        "pick" => Some(Command::Pick(picking_of(matches))),
+        "check" => prints(Report::Check, Printing::Soon),
+        "list" => prints(Report::List, Printing::Lines),
+        "show" => prints(show_of(matches), Printing::Lines),
+        "count" => Some((count_of(matches), Printing::Soon)),
+        "sizes" => prints(Report::Sizes, Printing::Lines),
+        "largest" => gathers(Gathering::Measure(largest_of(matches))),
+        "split" => gathers(Gathering::Measure(parts_of(matches))),
+        "fields" => gathers(Gathering::Fields),
+        "canon" => writes(Making::Canon),
+        "sound" => writes(Making::Sound(texts_of(matches))),
+        "unique" => writes(Making::Unique(spelling_of(matches))),
+        "json" => writes(Making::Json(json_style_of(matches))),
+        "pick" => writes(Making::Pick(picking_of(matches))),
         _ => None,
     }
 }
 
-fn json_style_of(matches: &ArgMatches<'_>) -> JsonStyle {
-    JsonStyle {
-        format: if matches.get_flag("canonical") {
-            Format::Canonical
-        } else {
-            Format::Relaxed
-        },
-        layout: if matches.get_flag("indent") {
-            Layout::Indented
-        } else {
-            Layout::OneLine
-        },
-    }
+fn prints<'a>(report: Report, printing: Printing) -> Option<(Command<'a>, Printing)> {
+    Some((Command::Prints(report), printing))
+}
+
+fn gathers<'a>(gathering: Gathering) -> Option<(Command<'a>, Printing)> {
+    Some((Command::Gathers(gathering), Printing::Soon))
+}
+
+fn writes<'a>(making: Making<'a>) -> Option<(Command<'a>, Printing)> {
+    Some((Command::Writes(making), Printing::Documents))
+}
+
+/// The command line as a whole, of this version.
+pub fn command_line<'a>(alloc: Global, version: &'a str) -> Result<clap::Command<'a>, AllocError> {
+    let about = "Checks dumps: BSON documents one after the other";
+    let line = CommandBuilder::of_program(alloc, "bsonraw-dump", version, about);
+    with_json(alloc, with_copies(alloc, with_reports(alloc, line))).finish()
+}
+
+/// A command line with the commands that print what they find.
+fn with_reports<'a>(alloc: Global, line: CommandBuilder<'a>) -> CommandBuilder<'a> {
+    line.subcommand(checks(alloc))
+        .subcommand(lists(alloc))
+        .subcommand(shows(alloc))
+        .subcommand(counts(alloc))
+        .subcommand(sizes(alloc))
+        .subcommand(largest(alloc))
+        .subcommand(splits(alloc))
+        .subcommand(fields(alloc))
+}
+
+/// A command line with the commands that write documents anew, as BSON.
+fn with_copies<'a>(alloc: Global, line: CommandBuilder<'a>) -> CommandBuilder<'a> {
+    line.subcommand(forms(alloc))
+        .subcommand(sounds(alloc))
+        .subcommand(uniques(alloc))
+}
+
+/// A command line with the commands that write or read JSON.
+fn with_json<'a>(alloc: Global, line: CommandBuilder<'a>) -> CommandBuilder<'a> {
+    line.subcommand(documents_as_json(alloc))
+        .subcommand(picks(alloc))
+        .subcommand(texts(alloc))
+}
+
+/// The command that checks documents.
+fn checks<'a>(alloc: Global) -> CommandBuilder<'a> {
+    let about = "Names each document that isn't canonical, and counts";
+    reading(
+        alloc,
+        findings(alloc, CommandBuilder::new(alloc, "check", about)),
+    )
+}
+
+/// The command that lists elements.
+fn lists<'a>(alloc: Global) -> CommandBuilder<'a> {
+    let about = "Lists the elements of each document, at every level";
+    reading(
+        alloc,
+        CommandBuilder::new(alloc, "list", about).arg(color(alloc)),
+    )
+}
+
+/// The command that counts documents.
+fn counts<'a>(alloc: Global) -> CommandBuilder<'a> {
+    let about = "Counts documents and bytes by their lengths alone, and checks none";
+    let sizes = "Also counts the documents from each power of two bytes to the next";
+    let command = CommandBuilder::new(alloc, "count", about).arg(switch(alloc, "sizes", sizes));
+    reading(alloc, findings(alloc, command))
 }
 
 fn count_of<'a>(matches: &ArgMatches<'_>) -> Command<'a> {
     if matches.get_flag("sizes") {
-        Command::Measure(Measure::Histogram)
+        Command::Gathers(Gathering::Measure(Measure::Histogram))
     } else {
-        Command::Count
+        Command::Prints(Report::Count)
     }
+}
+
+/// The command that prints where documents begin.
+fn sizes<'a>(alloc: Global) -> CommandBuilder<'a> {
+    let about = "Prints where each document begins and how many bytes it has, by its length alone";
+    reading(alloc, CommandBuilder::new(alloc, "sizes", about))
+}
+
+/// How many of the longest documents are named at most.
+const MOST_NAMED: u64 = 1000;
+
+/// The command that names the longest documents.
+fn largest<'a>(alloc: Global) -> CommandBuilder<'a> {
+    let about = "Prints where the longest documents begin, with their lengths and _id";
+    let most = "Prints at most N documents; 10 if it isn't given";
+    let command = CommandBuilder::new(alloc, "largest", about);
+    reading(
+        alloc,
+        command.arg(number(alloc, "most", "N", 1, MOST_NAMED, most).short('n')),
+    )
 }
 
 /// How many of the longest documents are named where no number is given.
@@ -90,20 +155,51 @@ fn largest_of(matches: &ArgMatches<'_>) -> Measure {
     Measure::Largest(matches.get_one("most").unwrap_or(NAMED))
 }
 
+/// The command that divides a dump.
+fn splits<'a>(alloc: Global) -> CommandBuilder<'a> {
+    let about = "Prints --at OFFSET --take N for each of the parts of a FILE";
+    let parts = "Divides it into at most N parts, of about as many bytes each";
+    let command = CommandBuilder::new(alloc, "split", about);
+    reading(
+        alloc,
+        command.arg(number(alloc, "parts", "N", 1, LARGEST, parts).required(true)),
+    )
+}
+
 /// The number of parts, in place of which `divided` puts how many bytes each has.
 fn parts_of(matches: &ArgMatches<'_>) -> Measure {
     Measure::Parts(matches.get_one("parts").unwrap_or(1))
 }
 
-/// Of what begins in this number of a document's first bytes the bytes are shown, where not all are.
-const SHOWN: u64 = 65_536;
+/// The command that counts elements.
+fn fields<'a>(alloc: Global) -> CommandBuilder<'a> {
+    let about =
+        "Counts the elements of documents without damage by their paths, with kinds and lengths";
+    let paths = "Counts elements of at most N paths; 10000 if it isn't given";
+    let command = CommandBuilder::new(alloc, "fields", about);
+    reading(
+        alloc,
+        command.arg(number(alloc, "paths", "N", 0, LARGEST, paths)),
+    )
+}
 
-fn shown_of(matches: &ArgMatches<'_>) -> Option<u64> {
-    if matches.get_flag("whole") {
-        None
-    } else {
-        Some(SHOWN)
-    }
+/// The command that writes canonical forms.
+fn forms<'a>(alloc: Global) -> CommandBuilder<'a> {
+    let about = "Writes the canonical form of each document without damage";
+    writing(alloc, CommandBuilder::new(alloc, "canon", about))
+}
+
+/// The command that leaves out damaged documents.
+fn sounds<'a>(alloc: Global) -> CommandBuilder<'a> {
+    let about = "Writes each document without damage, unchanged";
+    let replace =
+        "Also keeps documents with no fault but texts that aren't UTF-8, with U+FFFD in these";
+    let command = CommandBuilder::new(alloc, "sound", about).arg(switch(
+        alloc,
+        "replace-bad-text",
+        replace,
+    ));
+    writing(alloc, command)
 }
 
 /// What comes of texts that aren't UTF-8.
@@ -115,6 +211,18 @@ fn texts_of(matches: &ArgMatches<'_>) -> Texts {
     }
 }
 
+/// The command that writes each canonical form once.
+fn uniques<'a>(alloc: Global) -> CommandBuilder<'a> {
+    let repeats =
+        "Names each document whose form came before, with the first of that form; takes 170 bytes a form at most";
+    let as_is = "Writes the first document of each form unchanged, in place of the form";
+    let about = "Writes each canonical form once; takes 100 bytes of memory a form at most";
+    let command = CommandBuilder::new(alloc, "unique", about)
+        .arg(switch(alloc, "repeats", repeats))
+        .arg(switch(alloc, "as-is", as_is));
+    writing(alloc, command)
+}
+
 fn spelling_of(matches: &ArgMatches<'_>) -> Spelling {
     if matches.get_flag("as-is") {
         Spelling::Original
@@ -123,28 +231,13 @@ fn spelling_of(matches: &ArgMatches<'_>) -> Spelling {
     }
 }
 
-/// Whether one of these paths has a step that stands for all items of an array.
-fn leads_to_items(paths: &str) -> bool {
-    paths
-        .split(',')
-        .any(|path| path.split('.').any(|step| step == "[]"))
-}
-
-fn picking_of<'a>(matches: &ArgMatches<'a>) -> Picking<'a> {
-    let paths = matches.get_str("PATHS").unwrap_or("");
-    Picking {
-        paths,
-        choice: if matches.get_flag("without") {
-            Choice::Others
-        } else if leads_to_items(paths) {
-            Choice::InPlace
-        } else {
-            Choice::Named
-        },
-        style: if matches.get_flag("bson") {
-            None
-        } else {
-            Some(json_style_of(matches))
-        },
-    }
+/// The command that reads texts.
+fn texts<'a>(alloc: Global) -> CommandBuilder<'a> {
+    let about = "Writes the documents of texts of MongoDB Extended JSON v2, one after the other";
+    let keep_going = "Continues after a fault, and leaves out its document";
+    let bytes = "A document of over N bytes is too long; 16793600 if it isn't given";
+    let command = findings(alloc, CommandBuilder::new(alloc, "bson", about)).arg(output(alloc));
+    limits(alloc, command, bytes)
+        .arg(switch(alloc, "keep-going", keep_going))
+        .arg(files(alloc, "Texts; nothing or -: standard input"))
 }

@@ -1,14 +1,14 @@
 //! The command line.
 #![tactic(auto)]
 
-use crate::command_line::args::command_line;
-use crate::command_line::commands::{command_of, printing_of};
+use crate::command_line::commands::{Printing, asked_by, command_line};
 use crate::command_line::numbers::number_in;
 use crate::files::colors::When;
 use clap::error::ErrorKind;
 use clap::{ArgMatches, Error};
 use dump_commands::command::Command;
 use dump_commands::job::Job;
+use dump_commands::reporting::Report;
 use dump_io::input::portion::Portion;
 use dump_io::lines::find::most_allowed;
 use dump_io::lines::style::Style;
@@ -21,6 +21,8 @@ use std::alloc::Global;
 pub struct Task<'a> {
     /// what is asked of the inputs
     pub reading: Reading<'a>,
+    /// what is printed, and where
+    pub printing: Printing,
     /// the file that is written in place of standard output
     pub output: Option<&'a str>,
     /// the file that documents are written to that stand alone
@@ -59,15 +61,6 @@ pub fn limits_of(matches: &ArgMatches<'_>) -> Limits {
     Limits {
         bytes: matches.get_one("max-bytes").unwrap_or(usual.bytes),
         depth: matches.get_one("max-depth").unwrap_or(usual.depth),
-    }
-}
-
-/// Of how many paths elements are counted at most.
-fn paths_of(command: Command<'_>, matches: &ArgMatches<'_>) -> usize {
-    if matches!(command, Command::Fields) {
-        matches.get_one("paths").unwrap_or(PATHS)
-    } else {
-        0
     }
 }
 
@@ -114,62 +107,48 @@ fn portion_of(
     Ok(Portion {
         at: size_of(alloc, version, matches, "at")?.unwrap_or(0),
         skip: size_of(alloc, version, matches, "skip")?.unwrap_or(0),
-        take: take.or(taken_of(command)),
+        take: take.or(taken_by(command)),
     })
 }
 
-/// How many documents of each input are asked for where no number is given.
-fn taken_of(command: Command<'_>) -> Option<u64> {
-    if matches!(command, Command::Show(_)) {
-        Some(1)
-    } else {
-        None
+/// How many documents of each input a command takes where no number is given.
+fn taken_by(command: Command<'_>) -> Option<u64> {
+    match command {
+        Command::Prints(Report::Show(_)) => Some(1),
+        Command::Prints(_) | Command::Gathers(_) | Command::Writes(_) => None,
     }
 }
 
-/// The task of a command that was given.
+/// The task of a command that was given, which reads dumps. What a command may not be given is as if it wasn't.
 fn task_of<'a>(
     alloc: Global,
     version: &str,
     command: Command<'a>,
+    printing: Printing,
     matches: &ArgMatches<'a>,
 ) -> Result<Task<'a>, Error> {
-    let printing = printing_of(command);
-    let output = if printing.documents {
-        matches.get_str("output").filter(|name| *name != "-")
-    } else {
-        None
-    };
-    let alone = if printing.documents {
-        matches.get_str("alone")
-    } else {
-        None
-    };
-    let style = if printing.findings {
-        style_of(matches)
-    } else {
-        Style::Words
-    };
     Ok(Task {
         reading: Reading::Dumps(Job {
             command,
-            style,
+            style: style_of(matches),
             resync: matches.get_flag("resync"),
-            repeats: matches!(command, Command::Unique(_)) && matches.get_flag("repeats"),
-            limit: if printing.findings {
-                matches.get_one("limit")
-            } else {
-                None
-            },
+            repeats: matches.get_flag("repeats"),
+            limit: matches.get_one("limit"),
             limits: limits_of(matches),
             portion: portion_of(alloc, version, command, matches)?,
-            paths: paths_of(command, matches),
+            paths: matches.get_one("paths").unwrap_or(PATHS),
         }),
-        output,
-        alone,
+        printing,
+        output: output_of(matches),
+        alone: matches.get_str("alone"),
         inputs: inputs_of(alloc, matches)?,
         color: color_of(matches),
     })
+}
+
+/// The file that is written in place of standard output.
+fn output_of<'a>(matches: &ArgMatches<'a>) -> Option<&'a str> {
+    matches.get_str("output").filter(|name| *name != "-")
 }
 
 /// The names of what is read.
@@ -192,7 +171,8 @@ fn text_task<'a>(alloc: Global, matches: &ArgMatches<'a>) -> Result<Task<'a>, Er
             limits: limits_of(matches),
             limit: matches.get_one("limit"),
         }),
-        output: matches.get_str("output").filter(|name| *name != "-"),
+        printing: Printing::Documents,
+        output: output_of(matches),
         alone: None,
         inputs: inputs_of(alloc, matches)?,
         color: color_of(matches),
@@ -208,8 +188,8 @@ fn task_in<'a>(
     let Some((name, inner)) = matches.subcommand() else {
         return Ok(None);
     };
-    let task = match command_of(name, inner) {
-        Some(command) => task_of(alloc, version, command, inner)?,
+    let task = match asked_by(name, inner) {
+        Some((command, printing)) => task_of(alloc, version, command, printing, inner)?,
         None => text_task(alloc, inner)?,
     };
     Ok(Some(task))

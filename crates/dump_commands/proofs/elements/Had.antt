@@ -8,7 +8,7 @@ use Rattle.raw_view.specs.declared.error.BorrowedError.{BorrowedError}
 use Rattle.dump_commands.specs.elements.Cut.{Fate, fate_of}
 use Rattle.dump_commands.specs.elements.Having.{AreHad, Has, HasEach, HasNamed, IsHad}
 use Rattle.dump_commands.specs.elements.Pick.{comma, parts}
-use Rattle.dump_commands.specs.declared.command.Choice.{Choice}
+use Rattle.dump_commands.specs.declared.picking.Choice.{Choice}
 use Rattle.dump_commands.proofs.elements.Picked.{LacksByte, parts_at, parts_last}
 
 -- what was found of the paths before, and what is found of those of the rest, is what is found of all

@@ -2,8 +2,8 @@
 use Rattle.std.specs.Prelude.{ℕ, List, false, true}
 use Rattle.dump_commands.specs.elements.Cut.{IsCutAt}
 use Rattle.dump_commands.specs.elements.Pick.{IsPicked}
-use Rattle.dump_commands.specs.declared.command.Choice.{Choice}
-use Rattle.dump_commands.specs.declared.command.Choice.TheVariants as choice
+use Rattle.dump_commands.specs.declared.picking.Choice.{Choice}
+use Rattle.dump_commands.specs.declared.picking.Choice.TheVariants as choice
 
 -- the document that the paths of this text pick of the document b: that of the elements to which they lead, each under its path; b with the
 -- elements alone that they name, or without these

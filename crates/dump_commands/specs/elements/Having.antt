@@ -3,8 +3,8 @@ use Rattle.std.specs.Prelude.{◌≡◌, ℕ, suc, zero, List, [], ◌∷◌, Bo
 use Rattle.raw_view.specs.Frame.{Done, Frame, IsWalk}
 use Rattle.dump_commands.specs.elements.Cut.{Fate, fate_of, goes, is_array, opens, stays}
 use Rattle.dump_commands.specs.elements.Pick.{LeadsTo, dot, parts}
-use Rattle.dump_commands.specs.declared.command.Choice.{Choice}
-use Rattle.dump_commands.specs.declared.command.Choice.TheVariants as choice
+use Rattle.dump_commands.specs.declared.picking.Choice.{Choice}
+use Rattle.dump_commands.specs.declared.picking.Choice.TheVariants as choice
 
 -- The elements of a level, where Nested says whether nested bytes have an element that paths name.
 module _ (Nested : Bool → List (List ℕ) → List ℕ → Bool → Type 0) where

@@ -1,9 +1,9 @@
--- What the bytes of a document are, at every level. The bytes b of a document, or of an array, have an envelope.
-use Rattle.std.specs.Prelude.{◌≡◌, ◌≢◌, ◌⊎◌, ◌+◌, ◌*◌, ◌-◌, ℕ, suc, zero, List, [], ◌∷◌, ◌++◌, Bool, true, false, Option, None, Some, codes, cond, decimal, drop, length, take}
+-- What the bytes of a piece are, at every level of a document.
+use Rattle.std.specs.Prelude.{◌≡◌, ◌≢◌, ◌⊎◌, ◌+◌, ◌*◌, ◌-◌, ℕ, suc, zero, List, [], ◌∷◌, ◌++◌, Bool, true, false, Option, None, Some, codes, cond, decimal, drop, length, nat_lt, take}
 use Rattle.dump_io.specs.lines.Quoting.{quoted}
 use Rattle.dump_io.specs.lines.Find.{explanation_text, reason_explained}
 use Rattle.dump_io.specs.lines.Fronts.{HasFront}
-use Rattle.dump_io.specs.lines.Values.{ShowsBehind}
+use Rattle.dump_io.specs.lines.Values.{ShowsBehind, size_text}
 use Rattle.raw_view.specs.Frame.Envelope.{IsEnvelope, Refuses}
 use Rattle.raw_view.specs.Frame.{Frame, HasKey, IsFrame, IsStop, LeadsTo, Fault}
 use Rattle.raw_view.specs.Frame.Kind.{kind_text, tag_of}
@@ -13,13 +13,14 @@ use Rattle.raw_view.specs.Meaning.Value.{HoldsLevel}
 use Rattle.raw_view.specs.declared.element_type.ElementType.{ElementType}
 use Rattle.raw_view.specs.declared.element_type.ElementType.TheVariants as kind
 use Rattle.raw_view.specs.declared.error.Reason.{Reason}
+use Rattle.raw_view.specs.declared.error.Reason.TheVariants as reason
 use Rattle.raw_view.specs.declared.level.RawLevel.{RawLevel}
 use Rattle.raw_view.specs.Document.{bytes_of}
 use Rattle.dump_commands.specs.declared.elements.showing.Level.{Level}
 use Rattle.dump_commands.specs.declared.elements.showing.Next.{Next}
 use Rattle.dump_commands.specs.declared.elements.showing.Next.TheVariants as next
 use Rattle.dump_commands.specs.elements.Listing.{ShowsFault, ShowsFrameFault}
-use Rattle.dump_commands.specs.elements.Runs.{Run, document_lines, fault_run, is_shown, run_of, shown_end, shown_lines}
+use Rattle.dump_commands.specs.elements.Runs.{Run, Sheet, document_lines, fault_run, is_shown, run_of, shown_end, shown_lines}
 
 -- what the four bytes of a length say
 abbrev pub length_text : List ℕ → List ℕ
@@ -51,41 +52,54 @@ value_runs depth f (raw.document d) text = []
 value_runs depth f (raw.array d) text = []
 value_runs depth f (raw.scoped code d) text = payload_runs depth f.kind (take (length f.payload - length d) f.payload) text
 
+-- a key; of one of over 64 bytes how many these are
+abbrev pub key_text : List ℕ → List ℕ
+key_text key = cond (nat_lt 64 (length key)) (codes "key" ++ size_text (length key)) (codes "key " ++ quoted key)
+
 -- a key and its 0
 abbrev pub key_run : ℕ → List ℕ → Run
-key_run depth key = run_of depth (key ++ 0 ∷ []) (codes "key " ++ quoted key)
+key_run depth key = run_of depth (key ++ 0 ∷ []) (key_text key)
 
 -- the runs of a sound element, of whose value this is said, without those of the level in it
 abbrev pub sound_runs : ℕ → Frame → RawValue → List ℕ → List Run
 sound_runs depth f v text = run_of depth (tag_of f.kind ∷ []) (kind_text f.kind) ∷ (key_run depth f.key ∷ value_runs depth f v text)
 
--- the runs of an element whose value is at fault: reading fails at the element
+-- the runs of an element whose value is at fault, with the reason: reading fails at the element, and at the value
 abbrev pub faulty_runs : ℕ → Frame → List ℕ → List Run
-faulty_runs depth f text = fault_run depth (tag_of f.kind ∷ []) (kind_text f.kind) ∷ (key_run depth f.key ∷ (run_of depth f.payload text ∷ []))
+faulty_runs depth f text = fault_run depth (tag_of f.kind ∷ []) (kind_text f.kind) ∷ (key_run depth f.key ∷ (fault_run depth f.payload text ∷ []))
+
+-- what a byte says that is no tag
+abbrev pub no_tag_text : ℕ → List ℕ
+no_tag_text zero = codes "no such tag; a final 0 may be too early"
+no_tag_text (suc n) = codes "no such tag"
 
 -- what a tag says: the kind, or that no kind has it
 abbrev pub SaysTag : ℕ → List ℕ → Type 0
-SaysTag tag text = ((what : ElementType) × (tag ≡ tag_of what) × (text ≡ kind_text what)) ⊎ (((what : ElementType) → tag ≢ tag_of what) × (text ≡ codes "no kind"))
+SaysTag tag text = ((what : ElementType) × (tag ≡ tag_of what) × (text ≡ kind_text what)) ⊎ (((what : ElementType) → tag ≢ tag_of what) × (text ≡ no_tag_text tag))
 
--- The runs of what is left of a level, s, where it stops with these words: after the tag and the key, if there are these, all is one run.
+-- The runs of what is left of a level, s, where it stops for this reason: nothing; a tag, a key that isn't UTF-8, and what isn't read; or
+-- a tag, its key, and the others. Reading fails at the tag, and where the reason is said.
 abbrev pub HasStopRuns : ℕ → List ℕ → Option (List ℕ) → List ℕ → List Run → Type 0
-HasStopRuns depth s None words runs = runs ≡ fault_run depth s words ∷ []
-HasStopRuns depth s (Some key) words runs =
+HasStopRuns depth s None why runs =
+    ((s ≡ []) × (runs ≡ fault_run depth s why ∷ []))
+    ⊎ ((key : List ℕ) × (at : HasKey s key) × (name : List ℕ) × SaysTag at.tag name
+    × (runs ≡ fault_run depth (at.tag ∷ []) name ∷ (fault_run depth (key ++ 0 ∷ []) why ∷ (run_of depth at.behind (codes "not read") ∷ []))))
+HasStopRuns depth s (Some key) why runs =
     (at : HasKey s key) × (name : List ℕ) × SaysTag at.tag name
-    × (runs ≡ fault_run depth (at.tag ∷ []) name ∷ (key_run depth key ∷ (run_of depth at.behind words ∷ [])))
+    × (runs ≡ fault_run depth (at.tag ∷ []) name ∷ (key_run depth key ∷ (fault_run depth at.behind why ∷ [])))
 
 -- the runs of what is left of a level, s, after its elements: the final 0, or a stop
 abbrev pub HasEndRuns : ℕ → List ℕ → List Run → Type 0
 HasEndRuns depth s runs =
-    ((s ≡ 0 ∷ []) × (runs ≡ run_of depth s (codes "end") ∷ []))
+    ((s ≡ 0 ∷ []) × (runs ≡ run_of depth s (codes "final 0") ∷ []))
     ⊎ ((fault : Fault) × (key : Option (List ℕ)) × (words : List ℕ) × IsStop s fault key × ShowsFault fault words × HasStopRuns depth s key words runs)
 
--- which runs these are: all, or the first
+-- which runs these are: all, or the first, after which others follow
 pub data Extent : Type 0 where
   Whole : Extent
   Begun : Extent
 
--- Runs, where Nested says which runs nested bytes have.
+-- Runs, where Nested says which the bytes of a level inside have.
 module _ (Nested : List ℕ → List Run → Type 0) where
   -- the runs of the level that a value holds
   abbrev pub HasInnerRuns : RawValue → List Run → Type 0
@@ -94,8 +108,8 @@ module _ (Nested : List ℕ → List Run → Type 0) where
   HasInnerRuns (raw.array d) runs = Nested d runs
   HasInnerRuns (raw.scoped code d) runs = Nested d runs
 
-  -- The runs of a frame: those of the value that it means, and of the level in that; or of the fault that it means. Of a value that is said which `list`
-  -- has after its kind, without the colon or the comma.
+  -- The runs of a frame: those of the value that it means, and of the level in that; or of the fault that it means. The words of a value are those
+  -- of `list` after its kind, without the colon or the comma.
   abbrev pub HasFrameRuns : ℕ → Frame → List Run → Type 0
   HasFrameRuns depth f runs =
       ((v : RawValue) × (shown : List ℕ) × (inner : List Run) × Means f (value v) × ShowsBehind v shown × HasInnerRuns v inner
@@ -107,7 +121,7 @@ module _ (Nested : List ℕ → List Run → Type 0) where
   HaveFrameRuns depth [] runs = runs ≡ []
   HaveFrameRuns depth (f ∷ fs) runs = (first rest : List Run) × HasFrameRuns depth f first × HaveFrameRuns depth fs rest × (runs ≡ first ++ rest)
 
--- the same, where Nested says of which extent, too
+-- The same, where Nested says which they have of each extent.
 module _ (Nested : Extent → List ℕ → List Run → Type 0) where
   -- after frames that have all their runs: all that are left of the level s; or none, or the first of the frame that is next
   abbrev pub HasNextRuns : Extent → ℕ → List ℕ → List Run → Type 0
@@ -121,34 +135,45 @@ module _ (Nested : Extent → List ℕ → List Run → Type 0) where
       × HasNextRuns extent depth left last × (runs ≡ elements ++ last)
 
 -- The runs of the bytes b, which have `depth` levels around them, and of which at most this number of levels are shown: the length, then what
--- follows it. What is too deep is one run.
+-- follows it. A level that is too deep is one run.
 abbrev pub HasRuns : ℕ → (depth : ℕ) → Extent → List ℕ → List Run → Type 0
-HasRuns zero depth extent b runs = runs ≡ run_of depth b (codes "too deep") ∷ []
+HasRuns zero depth extent b runs = runs ≡ fault_run depth b (codes "over 500 levels") ∷ []
 HasRuns (suc n) depth extent b runs =
     (rest : List Run) × HasLeftRuns (HasRuns n (depth + 1)) extent depth (drop 4 b) rest × (runs ≡ length_run depth b ∷ rest)
 
--- the runs of a piece, of 500 levels at most; where it has no envelope, its length, and what follows as one
+-- The runs of bytes that have no envelope for this reason: reading fails at the last byte, if that should be 0; else at the length.
+abbrev pub refused_runs : List ℕ → Reason → List ℕ → List Run
+refused_runs b reason.NotTerminated why =
+    length_run 0 b ∷ (run_of 0 (take (length b - 5) (drop 4 b)) (codes "not read") ∷ (fault_run 0 (drop (length b - 1) b) why ∷ []))
+refused_runs b _ why = fault_run 0 (take 4 b) why ∷ (run_of 0 (drop 4 b) (codes "not read") ∷ [])
+
+-- the runs of a piece, of 500 levels at most
 abbrev pub HasPieceRuns : Extent → List ℕ → List Run → Type 0
 HasPieceRuns extent b runs =
     (IsEnvelope b × HasRuns 500 0 extent b runs)
-    ⊎ ((why : Reason) × Refuses b why
-    × (runs ≡ length_run 0 b ∷ (fault_run 0 (drop 4 b) (codes "damaged: " ++ explanation_text (reason_explained why)) ∷ [])))
+    ⊎ ((why : Reason) × Refuses b why × (runs ≡ refused_runs b why (codes "damaged: " ++ explanation_text (reason_explained why))))
+
+-- a piece at this offset, of which this number of bytes is enough
+abbrev pub sheet_at : Option ℕ → (base : ℕ) → List ℕ → Sheet
+sheet_at most base b = record { most = most; base = base; size = length b }
 
 -- no further run is shown
-abbrev pub IsEnough : (most : Option ℕ) → Extent → List Run → Type 0
-IsEnough most Whole runs = Unit {0}
-IsEnough most Begun runs = is_shown most (shown_end most 0 runs) ≡ false
+abbrev pub IsEnough : Sheet → Extent → List Run → Type 0
+IsEnough sheet Whole runs = Unit {0}
+IsEnough sheet Begun runs = is_shown sheet (shown_end sheet 0 runs) ≡ false
 
--- the lines that show a piece at this offset: those of its runs, or of the first, if no further one is shown
-abbrev pub ShowsPiece : (most : Option ℕ) → (base : ℕ) → List ℕ → List ℕ → Type 0
+-- The lines that show a piece at this offset: those of its runs, or of the first, if no further one is shown. There is one such text, but for how a
+-- double is written.
+abbrev pub ShowsPiece : Option ℕ → (base : ℕ) → List ℕ → List ℕ → Type 0
 ShowsPiece most base b text =
-    (extent : Extent) × (runs : List Run) × HasPieceRuns extent b runs × IsEnough most extent runs × (text ≡ document_lines most base (length b) runs)
+    (extent : Extent) × (runs : List Run) × HasPieceRuns extent b runs × IsEnough (sheet_at most base b) extent runs
+    × (text ≡ document_lines (sheet_at most base b) runs)
 
--- a front of them
-abbrev pub ShowsPieceFront : (most : Option ℕ) → (base : ℕ) → List ℕ → List ℕ → Type 0
+-- a front of them: of those of first runs, each of which is followed by others in some text as above; or of the whole
+abbrev pub ShowsPieceFront : Option ℕ → (base : ℕ) → List ℕ → List ℕ → Type 0
 ShowsPieceFront most base b text =
     (text ≡ [])
-    ⊎ ((extent : Extent) × (runs : List Run) × HasPieceRuns extent b runs × HasFront (shown_lines most base 0 runs) text)
+    ⊎ ((extent : Extent) × (runs : List Run) × HasPieceRuns extent b runs × HasFront (shown_lines (sheet_at most base b) 0 runs) text)
     ⊎ ((lines : List ℕ) × ShowsPiece most base b lines × HasFront lines text)
 
 -- What the code tells of runs. No public contract cites what follows.

@@ -3,7 +3,7 @@ use Rattle.std.specs.Prelude.{◌≡◌, ◌⊎◌, ◌+◌, ◌<◌, ℕ, suc, 
 use Rattle.raw_view.specs.Document.{bytes_of}
 use Rattle.dump_io.specs.lines.Fronts.{HasFront}
 use Rattle.dump_commands.specs.declared.elements.showing.Level.{Level}
-use Rattle.dump_commands.specs.elements.Runs.{Run, Writes, shown_end, shown_lines}
+use Rattle.dump_commands.specs.elements.Runs.{Run, Writes, sheet_of, shown_end, shown_lines}
 use Rattle.dump_commands.specs.elements.Showing.{Extent, Whole, Begun, HasLeftRuns, HasRuns, IsEnough, left_in}
 use Rattle.dump_commands.specs.declared.elements.page.Page.{Page}
 use Rattle.std.specs.Io.KnownBytes.{Appends}
@@ -43,15 +43,15 @@ pub record IsShown (d : List ℕ) (page : Page) (old out : Option (List ℕ)) (f
   pub extent : Extent
   pub runs : List Run
   pub has : HasRuns 500 0 extent d runs
-  pub enough : IsEnough first.most extent runs
+  pub enough : IsEnough (sheet_of first) extent runs
   pub written : List ℕ
   pub put : Appends old out written
-  pub lines : written ++ page.text.items ≡ shown_lines first.most first.base 0 runs
-  pub at : page.at ≡ shown_end first.most 0 runs
-  pub base : page.base ≡ first.base
+  pub lines : written ++ page.text.items ≡ shown_lines (sheet_of first) 0 runs
+  pub at : page.at ≡ shown_end (sheet_of first) 0 runs
+  pub same : sheet_of page ≡ sheet_of first
 
 -- a front of their lines is written
 abbrev pub IsShownFront : List ℕ → Page → (old out : Option (List ℕ)) → Type 0
 IsShownFront d first old out =
     (text : List ℕ) × Appends old out text
-    × ((extent : Extent) × (runs : List Run) × HasRuns 500 0 extent d runs × HasFront (shown_lines first.most first.base 0 runs) text)
+    × ((extent : Extent) × (runs : List Run) × HasRuns 500 0 extent d runs × HasFront (shown_lines (sheet_of first) 0 runs) text)

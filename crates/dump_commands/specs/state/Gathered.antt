@@ -3,14 +3,13 @@ use Rattle.std.specs.Prelude.{◌≡◌, ℕ, List, [], Bool, flat_map, length}
 use Rattle.dump_io.specs.lines.Origins.{Origin}
 use Rattle.dump_io.specs.declared.lines.style.Style.{Style}
 use Rattle.dump_commands.specs.elements.Id.{ShowsId}
-use Rattle.dump_commands.specs.elements.Pick.{comma, parts}
-use Rattle.dump_commands.specs.state.Fields.{Field, Table, no_table, table_of, table_text, with_fields}
+use Rattle.dump_commands.specs.state.Fields.{Field, Table, no_table, table_of, with_fields}
 use Rattle.dump_commands.specs.state.Measures.{IsInRange, Measured, Ranked, measures_of, no_measures, range_lines, ranked_line, share_line, with_length, with_ranked, with_share}
-use Rattle.dump_commands.specs.state.Seen.{either, missing_lines}
-use Rattle.dump_commands.specs.declared.command.Command.{Command}
-use Rattle.dump_commands.specs.declared.command.Command.TheVariants as command
-use Rattle.dump_commands.specs.declared.command.Measure.{Measure}
-use Rattle.dump_commands.specs.declared.command.Measure.TheVariants as measure
+use Rattle.dump_commands.specs.state.Seen.{either}
+use Rattle.dump_commands.specs.declared.command.Summaries.{Summaries}
+use Rattle.dump_commands.specs.declared.command.Summaries.TheVariants as summaries
+use Rattle.dump_commands.specs.declared.state.gathered.Measure.{Measure}
+use Rattle.dump_commands.specs.declared.state.gathered.Measure.TheVariants as measure
 use Rattle.dump_commands.specs.declared.state.gathered.Gathered as code
 use Rattle.dump_commands.specs.declared.state.kept.Kept.{Kept}
 
@@ -47,18 +46,17 @@ IsMeasured measure.Histogram place b d = (range : ℕ) × IsInRange (length b) r
 IsMeasured (measure.Largest most) place b d = (id : List ℕ) × ShowsId b id × (d ≡ of_rank most (record { place = place; size = length b; id = id }))
 IsMeasured (measure.Parts stretch) place b d = d ≡ of_place stretch place
 
--- the lines of what a command gathered of lengths
+-- after which inputs a line tells what was counted: the parts of a dump are told alone
+abbrev pub summaries_of : Measure → Summaries
+summaries_of measure.Histogram = summaries.Each
+summaries_of (measure.Largest most) = summaries.Last
+summaries_of (measure.Parts stretch) = summaries.Never
+
+-- the lines of what was gathered of lengths
 abbrev pub measure_lines : Style → Measure → Measured → List ℕ
 measure_lines style measure.Histogram m = range_lines style 1 m.ranges
 measure_lines style (measure.Largest most) m = flat_map ranked_line m.largest
 measure_lines style (measure.Parts stretch) m = flat_map share_line m.shares
-
--- the lines of what a command gathered
-abbrev pub lines_of : Style → Command → Gathered → List ℕ
-lines_of style command.Fields g = table_text g.table
-lines_of style (command.Measure m) g = measure_lines style m g.measures
-lines_of style (command.Pick picking) g = missing_lines style (parts comma picking.paths.now) g.seen
-lines_of style _ g = []
 
 -- what the code gathered
 abbrev pub gathered_of : code.Gathered → Gathered

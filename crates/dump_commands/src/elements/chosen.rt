@@ -6,9 +6,9 @@ ghost use Rattle.raw_view.specs.Document.{bytes_of};
 ghost use Rattle.raw_view.specs.Frame.Envelope.{IsEnvelope};
 ghost use Rattle.dump_commands.specs.elements.Chosen.{IsChosen};
 
-use crate::command::{Choice, Picking};
 use crate::elements::cut::cut_at;
 use crate::elements::pick::picked;
+use crate::picking::{Choice, Picking};
 use raw_view::RawDocument;
 use std::alloc::{AllocError, Global};
 

@@ -7,9 +7,9 @@ ghost use Rattle.dump_commands.specs.elements.Cut.{texts_of};
 ghost use Rattle.dump_commands.specs.elements.Having.{Has, HasEach, HasNamed};
 ghost use Rattle.dump_commands.specs.elements.Pick.{comma, parts};
 
-use crate::command::{Choice, Picking};
 use crate::elements::cut::{Fate, decided, is_array, level_of};
 use crate::elements::pick::element_at;
+use crate::picking::{Choice, Picking};
 use raw_view::{Elements, RawDocument};
 use std::alloc::{AllocError, Global};
 

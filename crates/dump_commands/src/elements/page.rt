@@ -1,9 +1,9 @@
 //! The lines that show runs of bytes.
 #![tactic(auto)]
 
-ghost use Rattle.std.specs.Prelude.{◌≡◌, ◌+◌, ◌<◌, ◌^◌, ◌∷◌, [], ◌++◌, Bool, MatchBool, IfErr, IfOk, OnOk, drop, flat_map, length, replicate, take, true, false};
+ghost use Rattle.std.specs.Prelude.{◌≡◌, ◌*◌, ◌+◌, ◌-◌, ◌<◌, ◌^◌, ◌∷◌, [], ◌++◌, IfErr, IfOk, OnOk, List, codes, decimal, drop, flat_map, if◌then◌else◌, length, replicate, take, ℕ};
 ghost use Rattle.dump_io.specs.lines.Failing.{IsReading};
-ghost use Rattle.dump_commands.specs.elements.Runs.{Writes, byte_digits, line_at, more_line, next_lines, offset_text, rest_line, row_text, run_lines, spaced, told_run, words_after};
+ghost use Rattle.dump_commands.specs.elements.Runs.{Writes, byte_digits, line_at, more_line, next_lines, offset_text, rest_line, row_text, sheet_of, spaced, told_run};
 ghost use Rattle.dump_commands.specs.elements.Runs as says;
 ghost use Rattle.std.specs.Char.{digit_char};
 
@@ -23,6 +23,9 @@ const SHOWN: usize = 256;
 /// The column in which words begin, after the offset.
 const COLUMN: usize = 50;
 
+/// How many levels words are indented for at most.
+const INDENTED: usize = 20;
+
 /// Bytes that are one thing.
 #[derive(Clone, Copy)]
 pub struct Run<'a> {
@@ -30,7 +33,7 @@ pub struct Run<'a> {
     pub bytes: &'a [u8],
     /// how many levels are around theirs
     pub depth: usize,
-    /// whether reading fails at the first of them
+    /// whether reading fails there
     pub is_fault: bool,
 }
 
@@ -43,24 +46,26 @@ pub struct Page {
     pub words: Vec<u8>,
     /// where the document begins
     pub base: u64,
-    /// how many of its bytes are before the next run
+    /// how many bytes it has
+    pub size: u64,
+    /// how many of them are before the next run
     pub at: u64,
     /// in how many of its first bytes runs begin that are shown; `None`: all are
     pub most: Option<u64>,
 }
 
 impl Page {
-    /// No lines yet of a document that begins there.
-    pub fn new(alloc: Global, base: u64, most: Option<u64>) -> Page
+    /// No lines yet of a document of this number of bytes that begins there.
+    pub fn new(alloc: Global, most: Option<u64>, base: u64, size: usize) -> Page
         ensures text { result.text.items ≡ [] }
-        ensures base { result.base ≡ base }
         ensures at { result.at ≡ 0 }
-        ensures most { result.most ≡ most }
+        ensures sheet { sheet_of result ≡ record { most = most; base = base; size = size } }
     {
         Page {
             text: Vec::new(alloc),
             words: Vec::new(alloc),
             base,
+            size: size as u64,
             at: 0,
             most,
         }
@@ -68,8 +73,11 @@ impl Page {
 
     /// Whether the next run is shown.
     pub fn goes_on(&self) -> bool
-        ensures { result ≡ says.is_shown self.now.most self.now.at }
+        ensures { result ≡ says.is_shown (sheet_of self.now) self.now.at }
     {
+        if self.at == self.size {
+            return true;
+        }
         match self.most {
             None => true,
             Some(most) => self.at < most,
@@ -77,7 +85,7 @@ impl Page {
     }
 }
 
-/// Puts the lines of a run after the others, if it is shown. What is said of it are the words that the page has, from this one on.
+/// Puts the lines of a run after the others, if it is shown. What it is are the words that the page has, from this one on.
 pub fn push_run(page: &mut Page, run: Run<'_>, from: usize) -> Result<(), Failure>
     requires { run.depth < 2 ^ 32 }
     ensures put { OnOk result (Writes page.old page.new (told_run run.entry (drop from page.old.words.items) ∷ [])) }
@@ -86,31 +94,33 @@ pub fn push_run(page: &mut Page, run: Run<'_>, from: usize) -> Result<(), Failur
     if !page.goes_on() {
         return Ok(());
     }
-    let offset = in_range(page.base.checked_add(page.at))?;
     let end = in_range(page.at.checked_add(run.bytes.len() as u64))?;
-    in_range(offset.checked_add(SHOWN as u64))?;
-    let words = split_at_most(&page.words, from).1;
-    push_lines(&mut page.text, offset, run, words)?;
+    let last = in_range(page.base.checked_add(end))?;
+    in_range(last.checked_add(SHOWN as u64))?;
+    if run.is_fault || !run.bytes.is_empty() {
+        let words = split_at_most(&page.words, from).1;
+        push_first_line(&mut page.text, page.base, page.at, run, words)?;
+        push_other_lines(&mut page.text, page.most, page.base + page.at, run.bytes)?;
+    }
     page.at = end;
     Ok(())
 }
 
-/// Puts the line after the others that says how many bytes of a document of `len` bytes aren't shown, if there are any.
-pub fn push_rest(page: &mut Page, len: usize) -> Result<(), Failure>
-    ensures put { OnOk result (page.new.text.items ≡ page.old.text.items ++ rest_line (page.old.base + page.old.at) (len - page.old.at)) }
+/// Puts the line after the others that says how many bytes of the document aren't shown, if there are any.
+pub fn push_rest(page: &mut Page) -> Result<(), Failure>
+    ensures put { OnOk result (page.new.text.items ≡ page.old.text.items ++ rest_line (page.old.base + page.old.at) (page.old.size - page.old.at)) }
     ensures failed { IfErr result (λ failure. ¬ IsReading failure) }
 {
     let offset = in_range(page.base.checked_add(page.at))?;
-    let left = (len as u64).saturating_sub(page.at);
+    let left = page.size.saturating_sub(page.at);
     if left == 0 {
         return Ok(());
     }
     begin_line(&mut page.text, offset)?;
-    push_words(&mut page.text, " ")?;
-    push_number(&mut page.text, left)?;
+    push_more(&mut page.text, left)?;
     push_words(
         &mut page.text,
-        " bytes more of the document, which --whole shows\n",
+        ", not looked at here; --whole shows them\n",
     )?;
     Ok(())
 }
@@ -123,45 +133,77 @@ pub fn split_at_most(bytes: &[u8], len: usize) -> (&[u8], &[u8])
     bytes.split_at(len.min(bytes.len()))
 }
 
-/// Appends the lines of a run of which these words say what it is.
-fn push_lines(
-    text: &mut Vec<u8>,
-    offset: u64,
-    run: Run<'_>,
-    words: &[u8],
-) -> Result<(), AllocError>
-    requires { (run.depth < 2 ^ 32) × (offset + 256 < 2 ^ 64) }
-    ensures { OnOk result (text.new.items ≡ text.old.items ++ run_lines offset (told_run run.entry words.now)) }
-{
-    if run.bytes.is_empty() && words.is_empty() {
-        return Ok(());
-    }
-    push_first_line(text, offset, run, words)?;
-    push_next_lines(text, offset + ROW as u64, split_at_most(run.bytes, ROW).1)?;
-    push_more_line(
-        text,
-        offset + SHOWN as u64,
-        split_at_most(run.bytes, SHOWN).1,
-    )
-}
-
-/// Appends the first line of a run.
+/// Appends the first line of a run of a document that begins at `base`, before which `at` of its bytes are.
 fn push_first_line(
     text: &mut Vec<u8>,
-    offset: u64,
+    base: u64,
+    at: u64,
     run: Run<'_>,
     words: &[u8],
 ) -> Result<(), AllocError>
-    requires { run.depth < 2 ^ 32 }
-    ensures { OnOk result (text.new.items ≡ text.old.items ++ says.first_line offset (told_run run.entry words.now)) }
+    requires { (run.depth < 2 ^ 32) × (base + at < 2 ^ 64) }
+    ensures { OnOk result (text.new.items ≡ text.old.items ++ says.first_line (base + at) at (told_run run.entry words.now)) }
 {
-    begin_line(text, offset)?;
+    begin_line(text, base + at)?;
     let start = text.len();
     let row = split_at_most(run.bytes, ROW).0;
     push_row(text, mark_of(run.is_fault), row)?;
-    let wide = text.len() - start;
-    push_words_after(text, wide, run.depth, words)?;
+    if run.is_fault || !words.is_empty() {
+        let wide = text.len() - start;
+        push_spaces(text, COLUMN.saturating_sub(wide))?;
+        push_indent(text, run.depth)?;
+        text.extend_from_slice(words)?;
+        push_place(text, run.is_fault, at)?;
+    }
     push_words(text, "\n")
+}
+
+/// Appends where reading fails, if it does.
+fn push_place(text: &mut Vec<u8>, is_fault: bool, at: u64) -> Result<(), AllocError>
+    ensures { OnOk result (text.new.items ≡ text.old.items ++ (if is_fault then codes ", byte " ++ decimal at else [])) }
+{
+    if !is_fault {
+        return Ok(());
+    }
+    push_words(text, ", byte ")?;
+    push_number(text, at)
+}
+
+/// Appends what is before the words of a line.
+fn push_indent(text: &mut Vec<u8>, depth: usize) -> Result<(), AllocError>
+    requires { depth < 2 ^ 32 }
+    ensures { OnOk result (text.new.items ≡ text.old.items ++ says.indent depth) }
+{
+    if depth <= INDENTED {
+        return push_spaces(text, 2 * depth);
+    }
+    push_spaces(text, 2 * INDENTED)?;
+    push_words(text, "level ")?;
+    push_number(text, depth as u64)?;
+    push_words(text, ": ")
+}
+
+/// Appends the lines of a run after the first.
+fn push_other_lines(
+    text: &mut Vec<u8>,
+    most: Option<u64>,
+    offset: u64,
+    bytes: &[u8],
+) -> Result<(), AllocError>
+    requires { offset + length bytes.now + 256 < 2 ^ 64 }
+    ensures { OnOk result (text.new.items ≡ text.old.items ++ says.other_lines most offset bytes.now) }
+{
+    let others = split_at_most(bytes, ROW).1;
+    let offset_of_others = offset + ROW as u64;
+    if most.is_none() {
+        return push_next_lines(text, bytes.len(), offset_of_others, others);
+    }
+    push_next_lines(text, ROWS, offset_of_others, others)?;
+    push_more_line(
+        text,
+        offset + SHOWN as u64,
+        split_at_most(bytes, SHOWN).1,
+    )
 }
 
 /// What is before the first byte of a run.
@@ -240,23 +282,6 @@ fn push_spaced(text: &mut Vec<u8>, bytes: &[u8]) -> Result<(), AllocError>
     Ok(())
 }
 
-/// Appends words after the bytes of a line, which take this number of columns.
-fn push_words_after(
-    text: &mut Vec<u8>,
-    wide: usize,
-    depth: usize,
-    words: &[u8],
-) -> Result<(), AllocError>
-    requires { depth < 2 ^ 32 }
-    ensures { (row : List ℕ) → length row ≡ wide → OnOk result (text.new.items ≡ text.old.items ++ words_after row depth words.now) }
-{
-    if words.is_empty() {
-        return Ok(());
-    }
-    push_spaces(text, COLUMN.saturating_sub(wide) + 2 * depth)?;
-    text.extend_from_slice(words)
-}
-
 fn push_spaces(text: &mut Vec<u8>, len: usize) -> Result<(), AllocError>
     ensures { OnOk result (text.new.items ≡ text.old.items ++ replicate len 32) }
 {
@@ -266,21 +291,25 @@ fn push_spaces(text: &mut Vec<u8>, len: usize) -> Result<(), AllocError>
     text.resize(wide, b' ')
 }
 
-/// Appends further lines of a run.
-fn push_next_lines(text: &mut Vec<u8>, offset: u64, bytes: &[u8]) -> Result<(), AllocError>
-    requires { offset + 240 < 2 ^ 64 }
-    ensures { OnOk result (text.new.items ≡ text.old.items ++ next_lines 15 offset bytes.now) }
+/// Appends at most this number of lines of a run after the first.
+fn push_next_lines(
+    text: &mut Vec<u8>,
+    rows: usize,
+    offset: u64,
+    bytes: &[u8],
+) -> Result<(), AllocError>
+    requires { offset + length bytes.now + 16 < 2 ^ 64 }
+    ensures { OnOk result (text.new.items ≡ text.old.items ++ next_lines rows offset bytes.now) }
 {
     let mut at = offset;
     let mut rest = bytes;
-    for _ in 0..ROWS {
-        if rest.is_empty() {
-            return Ok(());
-        }
+    let mut left = rows;
+    'lines: while left > 0 && !rest.is_empty() {
         let (row, others) = split_at_most(rest, ROW);
         push_next_line(text, at, row)?;
         at += ROW as u64;
         rest = others;
+        left -= 1;
     }
     Ok(())
 }
@@ -293,6 +322,22 @@ fn push_next_line(text: &mut Vec<u8>, offset: u64, row: &[u8]) -> Result<(), All
     push_words(text, "\n")
 }
 
+/// Appends how many bytes aren't shown.
+fn push_more(text: &mut Vec<u8>, len: u64) -> Result<(), AllocError>
+    ensures { OnOk result (text.new.items ≡ text.old.items ++ says.more_text len) }
+{
+    push_words(text, " ... ")?;
+    push_number(text, len)?;
+    push_words(
+        text,
+        if len == 1 {
+            " more byte"
+        } else {
+            " more bytes"
+        },
+    )
+}
+
 /// Appends the line that stands for bytes that aren't shown, if there are any.
 fn push_more_line(text: &mut Vec<u8>, offset: u64, bytes: &[u8]) -> Result<(), AllocError>
     ensures { OnOk result (text.new.items ≡ text.old.items ++ more_line offset bytes.now) }
@@ -301,7 +346,6 @@ fn push_more_line(text: &mut Vec<u8>, offset: u64, bytes: &[u8]) -> Result<(), A
         return Ok(());
     }
     begin_line(text, offset)?;
-    push_words(text, " ")?;
-    push_number(text, bytes.len() as u64)?;
-    push_words(text, " bytes more\n")
+    push_more(text, bytes.len() as u64)?;
+    push_words(text, "\n")
 }

@@ -4,10 +4,13 @@
 ghost use Rattle.std.specs.Prelude.{◌≡◌, ◌≤◌, ◌*◌, ◌<◌, ◌^◌, ◌∷◌, [], ◌++◌, ℕ, List, Option, codes, drop, length, take, IfErr, IfOk, OnErr, OnOk};
 ghost use Rattle.std.specs.Io.KnownBytes.{Appends};
 ghost use Rattle.dump_io.specs.lines.Failing.{IsReading};
+ghost use Rattle.dump_commands.specs.elements.Listing.{ShowsText};
 ghost use Rattle.dump_io.specs.lines.Find as find;
 ghost use Rattle.dump_io.specs.lines.Values.{ShowsBehind};
 ghost use Rattle.raw_view.specs.Document.{bytes_of};
-ghost use Rattle.raw_view.specs.Errors.{IsMalformed};
+ghost use Rattle.raw_view.specs.declared.error.Reason as reasons;
+ghost use Rattle.raw_view.specs.declared.error.ErrorKind.TheVariants.{MalformedValue};
+ghost use Rattle.bson_model.specs.Bytes.{NulFree};
 ghost use Rattle.raw_view.specs.Frame.{IsFrame};
 ghost use Rattle.raw_view.specs.Frame.ElementSteps.{frame_of};
 ghost use Rattle.raw_view.specs.Frame.Format.{tagged};
@@ -15,7 +18,7 @@ ghost use Rattle.raw_view.specs.Frame.Front.{StopsWith};
 ghost use Rattle.raw_view.specs.Meaning.Value.{value_of};
 ghost use Rattle.std.specs.Option.{option_copied};
 ghost use Rattle.dump_commands.specs.elements.Runs.{Run, Writes, fault_run, run_of};
-ghost use Rattle.dump_commands.specs.elements.Showing.{HasEndRuns, ShowsPiece, ShowsPieceFront, SaysTag, StepsRuns, TellsFrame, key_run, left_in, length_run, payload_runs, value_runs};
+ghost use Rattle.dump_commands.specs.elements.Showing.{HasEndRuns, SaysTag, ShowsPiece, ShowsPieceFront, StepsRuns, TellsFrame, key_run, left_in, length_run, payload_runs, value_runs};
 ghost use Rattle.dump_commands.specs.elements.Showing as says;
 ghost use Rattle.dump_commands.specs.elements.ShownLevels.{GoesOn, IsShown, IsShownFront, levels_after, levels_of};
 
@@ -30,14 +33,17 @@ use dump_io::lines::value::{push_behind, push_kind};
 use dump_io::lines::write::put;
 use raw_tree::behind;
 use raw_view::{
-    BorrowedError, ElementType, Elements, ErrorKind, RawBsonRef, RawDocument, RawElement, RawLevel,
+    BorrowedError, ElementType, Elements, ErrorKind, RawBsonRef, RawDocument, RawElement,
+    RawLevel, Reason,
 };
 use std::alloc::{AllocError, Global};
 use std::io::Write;
-use std::mem;
 
 /// How many levels are shown, the document among them.
 const LEVELS: usize = 500;
+
+/// Longer keys aren't shown.
+const SHORT: usize = 64;
 
 /// A level of which elements, or its end, are left.
 #[derive(Clone, Copy)]
@@ -72,28 +78,59 @@ pub fn show_piece<W: Write>(
     ensures front { OnErr result ((text : List ℕ) × ShowsPieceFront most base bytes.now text × Appends (W.contents out.old) (W.contents out.new) text) }
     ensures failed { IfErr result (λ failure. ¬ IsReading failure) }
 {
-    let mut page = Page::new(alloc, base, most);
+    let mut page = Page::new(alloc, most, base, bytes.len());
     match RawDocument::from_bytes(bytes) {
         Ok(document) => show_levels(alloc, document, &mut page, out)?,
         Err(error) => push_refused(bytes, &error.kind, &mut page)?,
     }
-    push_rest(&mut page, bytes.len())?;
+    push_rest(&mut page)?;
     put(out, &page.text)
 }
 
 /// Puts the runs of bytes without an envelope.
 fn push_refused(bytes: &[u8], kind: &ErrorKind, page: &mut Page) -> Result<(), Failure>
-    ensures put { OnOk result (Writes page.old page.new (length_run 0 bytes.now ∷ (fault_run 0 (drop 4 bytes.now) (codes "damaged: " ++ find.kind_text kind.now) ∷ []))) }
+    ensures put { (why : reasons.Reason) → kind.now ≡ MalformedValue why → OnOk result (Writes page.old page.new
+        (says.refused_runs bytes.now why (codes "damaged: " ++ find.kind_text kind.now))) }
     ensures failed { IfErr result (λ failure. ¬ IsReading failure) }
 {
+    if !matches!(kind, ErrorKind::MalformedValue { reason: Reason::NotTerminated }) {
+        push_why_not(split_at_most(bytes, 4).0, kind, page)?;
+        return push_plain(page, 0, split_at_most(bytes, 4).1, "not read");
+    }
     push_length(page, 0, bytes)?;
+    let (inside, _) = split_at_most(split_at_most(bytes, 4).1, bytes.len().saturating_sub(5));
+    push_plain(page, 0, inside, "not read")?;
+    push_why_not(split_at_most(bytes, bytes.len().saturating_sub(1)).1, kind, page)
+}
+
+/// Puts bytes at which a document without an envelope fails.
+fn push_why_not(bytes: &[u8], kind: &ErrorKind, page: &mut Page) -> Result<(), Failure>
+    ensures put { OnOk result (Writes page.old page.new (fault_run 0 bytes.now (codes "damaged: " ++ find.kind_text kind.now) ∷ [])) }
+    ensures failed { IfErr result (λ failure. ¬ IsReading failure) }
+{
     page.words.clear();
     push_words(&mut page.words, "damaged: ")?;
     push_why(&mut page.words, kind_of(kind))?;
     let run = Run {
-        bytes: split_at_most(bytes, 4).1,
+        bytes,
         depth: 0,
         is_fault: true,
+    };
+    push_run(page, run, 0)
+}
+
+/// Puts bytes that are this.
+fn push_plain(page: &mut Page, depth: usize, bytes: &[u8], words: &str) -> Result<(), Failure>
+    requires { depth < 2 ^ 32 }
+    ensures put { OnOk result (Writes page.old page.new (run_of depth bytes.now words.now ∷ [])) }
+    ensures failed { IfErr result (λ failure. ¬ IsReading failure) }
+{
+    page.words.clear();
+    push_words(&mut page.words, words)?;
+    let run = Run {
+        bytes,
+        depth,
+        is_fault: false,
     };
     push_run(page, run, 0)
 }
@@ -164,15 +201,15 @@ fn step<'a>(
 /// Puts the run of a level that is too deep.
 fn push_deep(depth: usize, document: RawDocument<'_>, page: &mut Page) -> Result<(), Failure>
     requires { depth < 2 ^ 32 }
-    ensures put { OnOk result (Writes page.old page.new (run_of depth (bytes_of document.entry) (codes "too deep") ∷ [])) }
+    ensures put { OnOk result (Writes page.old page.new (fault_run depth (bytes_of document.entry) (codes "over 500 levels") ∷ [])) }
     ensures failed { IfErr result (λ failure. ¬ IsReading failure) }
 {
     page.words.clear();
-    push_words(&mut page.words, "too deep")?;
+    push_words(&mut page.words, "over 500 levels")?;
     let run = Run {
         bytes: document.as_bytes(),
         depth,
-        is_fault: false,
+        is_fault: true,
     };
     push_run(page, run, 0)
 }
@@ -212,7 +249,7 @@ fn push_next<'a>(
     };
     match elements.next() {
         None => {
-            push_end(depth, rest, page)?;
+            push_plain(page, depth, rest, "final 0")?;
             Ok(Next::End)
         }
         Some(Err(error)) => {
@@ -240,22 +277,6 @@ fn after<'a>(level: Level<'a>, element: RawElement<'a>) -> Level<'a>
     }
 }
 
-/// Puts the final 0 of a level.
-fn push_end(depth: usize, rest: &[u8], page: &mut Page) -> Result<(), Failure>
-    requires { depth < 2 ^ 32 }
-    ensures put { OnOk result (Writes page.old page.new (run_of depth rest.now (codes "end") ∷ [])) }
-    ensures failed { IfErr result (λ failure. ¬ IsReading failure) }
-{
-    page.words.clear();
-    push_words(&mut page.words, "end")?;
-    let run = Run {
-        bytes: rest,
-        depth,
-        is_fault: false,
-    };
-    push_run(page, run, 0)
-}
-
 /// Puts what is left of a level that stops.
 fn push_stop(
     depth: usize,
@@ -267,29 +288,50 @@ fn push_stop(
     ensures put { OnOk result ((runs : List Run) × HasEndRuns depth rest.now runs × Writes page.old page.new runs) }
     ensures failed { IfErr result (λ failure. ¬ IsReading failure) }
 {
+    if rest.is_empty() {
+        return push_reason(depth, rest, error, page);
+    }
+    page.words.clear();
+    push_tag(&mut page.words, rest)?;
     match error.key {
-        None => push_reason(depth, rest, true, error, page),
+        None => {
+            push_tag_run(depth, rest, true, page)?;
+            let (key, others) = split_key(split_at_most(rest, 1).1);
+            push_reason(depth, key, error, page)?;
+            push_plain(page, depth, others, "not read")
+        }
         Some(key) => {
-            page.words.clear();
-            push_tag(&mut page.words, rest)?;
             push_head(depth, rest, key, true, page)?;
-            let after = split_at_most(rest, key.len() + 2).1;
-            push_reason(depth, after, false, error, page)
+            let others = split_at_most(rest, key.len() + 2).1;
+            push_reason(depth, others, error, page)
         }
     }
 }
 
-/// Puts a run that ends a level, with the reason.
+/// Splits bytes after the first 0.
+fn split_key(bytes: &[u8]) -> (&[u8], &[u8])
+    ensures { (key others : List ℕ) → bytes.now ≡ key ++ 0 ∷ others → NulFree key
+        → (result.0.now ≡ key ++ 0 ∷ []) × (result.1.now ≡ others) }
+{
+    let mut len = 0;
+    for &byte in bytes {
+        len += 1;
+        if byte == 0 {
+            break;
+        }
+    }
+    split_at_most(bytes, len)
+}
+
+/// Puts bytes at which reading stops, with the reason.
 fn push_reason(
     depth: usize,
     bytes: &[u8],
-    is_fault: bool,
     error: &BorrowedError<'_>,
     page: &mut Page,
 ) -> Result<(), Failure>
     requires { depth < 2 ^ 32 }
-    ensures put { OnOk result (Writes page.old page.new
-        (record { bytes = bytes.now; depth = depth; is_fault = is_fault; text = codes "damaged: " ++ find.kind_text error.now.kind } ∷ [])) }
+    ensures put { OnOk result (Writes page.old page.new (fault_run depth bytes.now (codes "damaged: " ++ find.kind_text error.now.kind) ∷ [])) }
     ensures failed { IfErr result (λ failure. ¬ IsReading failure) }
 {
     page.words.clear();
@@ -297,7 +339,7 @@ fn push_reason(
     let run = Run {
         bytes,
         depth,
-        is_fault,
+        is_fault: true,
     };
     push_run(page, run, 0)
 }
@@ -311,8 +353,29 @@ fn push_tag(words: &mut Vec<u8>, rest: &[u8]) -> Result<(), AllocError>
     };
     match ElementType::from(*tag) {
         Some(kind) => push_kind(words, kind),
-        None => push_words(words, "no kind"),
+        None if *tag == 0 => push_words(words, "no such tag; a final 0 may be too early"),
+        None => push_words(words, "no such tag"),
     }
+}
+
+/// Puts the tag with which these bytes begin. What is said of it is on the page.
+fn push_tag_run(
+    depth: usize,
+    rest: &[u8],
+    is_fault: bool,
+    page: &mut Page,
+) -> Result<(), Failure>
+    requires { depth < 2 ^ 32 }
+    ensures put { (tag : ℕ) (others : List ℕ) → rest.now ≡ tag ∷ others → OnOk result (Writes page.old page.new
+        (record { bytes = tag ∷ []; depth = depth; is_fault = is_fault; text = page.old.words.items } ∷ [])) }
+    ensures failed { IfErr result (λ failure. ¬ IsReading failure) }
+{
+    let run = Run {
+        bytes: split_at_most(rest, 1).0,
+        depth,
+        is_fault,
+    };
+    push_run(page, run, 0)
 }
 
 /// Puts the tag and the key with which these bytes begin. What is said of the tag is on the page.
@@ -328,22 +391,28 @@ fn push_head(
         (record { bytes = tag ∷ []; depth = depth; is_fault = is_fault; text = page.old.words.items } ∷ (key_run depth key.now ∷ []))) }
     ensures failed { IfErr result (λ failure. ¬ IsReading failure) }
 {
-    let (tag, others) = split_at_most(rest, 1);
-    let run = Run {
-        bytes: tag,
-        depth,
-        is_fault,
-    };
-    push_run(page, run, 0)?;
+    push_tag_run(depth, rest, is_fault, page)?;
     page.words.clear();
-    push_words(&mut page.words, "key ")?;
-    push_quoted(&mut page.words, key)?;
+    push_key_words(&mut page.words, key)?;
     let run = Run {
-        bytes: split_at_most(others, key.len() + 1).0,
+        bytes: split_at_most(split_at_most(rest, 1).1, key.len() + 1).0,
         depth,
         is_fault: false,
     };
     push_run(page, run, 0)
+}
+
+/// Appends a key, or how many bytes it has.
+fn push_key_words(words: &mut Vec<u8>, key: &str) -> Result<(), AllocError>
+    ensures { OnOk result (words.new.items ≡ words.old.items ++ says.key_text key.now) }
+{
+    if key.len() > SHORT {
+        push_words(words, "key, ")?;
+        push_number(words, key.len() as u64)?;
+        return push_words(words, " bytes");
+    }
+    push_words(words, "key ")?;
+    push_quoted(words, key)
 }
 
 /// Puts the runs of an element, with which these bytes begin, without those of the level that its value holds, and returns that level.
@@ -384,7 +453,7 @@ fn push_faulty(
 ) -> Result<(), Failure>
     requires { depth < 2 ^ 32 }
     ensures put { OnOk result ((shown : List ℕ) × ShowsText (frame_of element.entry) shown × Writes page.old page.new
-        (run_of depth (frame_of element.entry).payload (codes "damaged: " ++ find.kind_text error.now.kind ++ shown) ∷ [])) }
+        (fault_run depth (frame_of element.entry).payload (codes "damaged: " ++ find.kind_text error.now.kind ++ shown) ∷ [])) }
     ensures failed { IfErr result (λ failure. ¬ IsReading failure) }
 {
     let shown = shown_text(alloc, element)?;
@@ -394,7 +463,7 @@ fn push_faulty(
     let run = Run {
         bytes: element.payload(),
         depth,
-        is_fault: false,
+        is_fault: true,
     };
     push_run(page, run, 0)
 }

@@ -2,20 +2,44 @@
 #![tactic(auto)]
 
 ghost use Rattle.std.specs.Prelude.{◌≡◌, IfErr, IfOk, OnOk};
-ghost use Rattle.dump_commands.specs.state.Gathered.{Document, IsMeasured, gathered_of, lines_of, nothing, of_seen, with_document};
+ghost use Rattle.dump_commands.specs.state.Gathered.{Document, IsMeasured, gathered_of, measure_lines, nothing, of_seen, summaries_of, with_document};
 ghost use Rattle.dump_io.specs.lines.Failing.{IsReading};
 ghost use Rattle.dump_io.specs.lines.Origins.{origin_of};
 
-use crate::command::{Command, Measure};
+use crate::command::Summaries;
 use crate::elements::id::shown_id;
 use crate::state::measure_lines::{largest_lines, range_lines, share_lines};
 use crate::state::measures::{Measures, Ranked, range_of};
 use crate::state::paths::Paths;
-use crate::state::seen::{joined, missing_lines};
+use crate::state::seen::joined;
 use dump_io::lines::failure::Failure;
 use dump_io::lines::origin::Origin;
 use dump_io::lines::style::Style;
 use std::alloc::{AllocError, Global};
+
+/// What is gathered of the lengths of documents.
+#[derive(Clone, Copy)]
+pub enum Measure {
+    /// how many documents have a length from one power of two to the next
+    Histogram,
+    /// the longest documents, this many at most
+    Largest(usize),
+    /// in which stretches of this many bytes documents begin: the first of each, and how many there are
+    Parts(u64),
+}
+
+impl Measure {
+    /// After which inputs a line tells what was counted.
+    pub fn summaries(self) -> Summaries
+        ensures { result ≡ summaries_of self }
+    {
+        match self {
+            Measure::Histogram => Summaries::Each,
+            Measure::Largest(_) => Summaries::Last,
+            Measure::Parts(_) => Summaries::Never,
+        }
+    }
+}
 
 /// What was gathered of documents.
 #[derive(Drop)]
@@ -72,36 +96,20 @@ impl<'a> Gathered<'a> {
         Ok(())
     }
 
-    /// The lines that tell what the command gathered.
-    pub fn lines(
+    /// The lines that tell what was gathered of lengths.
+    pub fn measure_lines(
         &self,
         alloc: Global,
         style: Style,
-        command: Command<'_>,
+        measure: Measure,
     ) -> Result<Vec<u8>, Failure>
-        ensures lines { IfOk result (λ text. text.items ≡ lines_of style command.entry (gathered_of self.now)) }
+        ensures lines { IfOk result (λ text. text.items ≡ measure_lines style measure (gathered_of self.now).measures) }
         ensures failed { IfErr result (λ failure. ¬ IsReading failure) }
     {
-        match command {
-            Command::Fields => self.paths.lines(alloc),
-            Command::Measure(Measure::Histogram) => {
-                Ok(range_lines(alloc, style, &self.measures.ranges)?)
-            }
-            Command::Measure(Measure::Largest(_)) => {
-                Ok(largest_lines(alloc, &self.measures.largest)?)
-            }
-            Command::Measure(Measure::Parts(_)) => Ok(share_lines(alloc, &self.measures.shares)?),
-            Command::Pick(picking) => {
-                Ok(missing_lines(alloc, style, picking.paths, &self.seen)?)
-            }
-            Command::Check
-            | Command::List
-            | Command::Count
-            | Command::Sizes
-            | Command::Canon
-            | Command::Sound(_)
-            | Command::Unique(_)
-            | Command::Json(_) => Ok(Vec::new(alloc)),
+        match measure {
+            Measure::Histogram => Ok(range_lines(alloc, style, &self.measures.ranges)?),
+            Measure::Largest(_) => Ok(largest_lines(alloc, &self.measures.largest)?),
+            Measure::Parts(_) => Ok(share_lines(alloc, &self.measures.shares)?),
         }
     }
 }

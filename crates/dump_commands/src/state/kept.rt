@@ -6,9 +6,10 @@ ghost use Rattle.dump_commands.specs.state.Forms.{digest_of, first_at, first_of,
 ghost use Rattle.dump_io.specs.lines.Origins.{origin_of};
 ghost use Rattle.dump_commands.specs.declared.state.kept.Forms.TheVariants.{Digests, Firsts};
 
-use crate::command::{Command, Measure};
+use crate::command::Command;
+use crate::gathering::lines_of;
 use crate::state::fields::add_tokens;
-use crate::state::gathered::Gathered;
+use crate::state::gathered::{Gathered, Measure};
 use dump_io::lines::failure::{Failure, in_range};
 use dump_io::lines::origin::Origin;
 use dump_io::lines::style::Style;
@@ -46,7 +47,8 @@ pub struct Kept<'a> {
 impl<'a> Kept<'a> {
     ghost use Rattle.std.specs.Prelude.{◌≡◌, ◌∷◌, [], ℕ, List, false, not, IfErr, IfOk, OnOk};
     ghost use Rattle.dump_commands.specs.state.Fields.{fields_of, outermost};
-    ghost use Rattle.dump_commands.specs.state.Gathered.{Document, IsMeasured, KeepsCounted, KeepsWritten, lines_of, nothing, of_fields, of_seen, tabled, with_document};
+    ghost use Rattle.dump_commands.specs.state.Gathered.{Document, IsMeasured, KeepsCounted, KeepsWritten, nothing, of_fields, of_seen, tabled, with_document};
+    ghost use Rattle.dump_commands.specs.Gathering as says;
     ghost use Rattle.dump_io.specs.lines.Failing.{IsReading};
     ghost use Rattle.dump_commands.specs.state.Forms.{CountsOne, written_count, digest_of, first_at, first_of, firsts_of, is_new, knows, no_firsts, placed, with_first, with_form};
     ghost use Rattle.dump_io.specs.lines.Origins.{origin_of};
@@ -80,10 +82,10 @@ impl<'a> Kept<'a> {
         style: Style,
         command: Command<'_>,
     ) -> Result<Vec<u8>, Failure>
-        ensures lines { IfOk result (λ text. text.items ≡ lines_of style command.entry (tabled self.now)) }
+        ensures lines { IfOk result (λ text. text.items ≡ says.lines_of style command.entry (tabled self.now)) }
         ensures failed { IfErr result (λ failure. ¬ IsReading failure) }
     {
-        self.gathered.lines(alloc, style, command)
+        lines_of(alloc, style, command, &self.gathered)
     }
 
     /// Puts the elements of a document with these tokens, which begins there, to those that were counted.

@@ -9,9 +9,10 @@ use Rattle.dump_io.specs.lines.Fronts.{AppendsFront, WritesFront}
 use Rattle.dump_io.specs.lines.Origins.{Origin, origin_of}
 use Rattle.dump_io.specs.declared.lines.origin.Origin as place
 use Rattle.dump_io.specs.declared.lines.style.Style.{Style}
-use Rattle.dump_commands.specs.Counted.{CountsFields}
+use Rattle.dump_commands.specs.Gathering.{CountsFields}
 use Rattle.dump_commands.specs.Findings.{FindsFor}
-use Rattle.dump_commands.specs.Making.{IsMade, Makes, Puts, Writes}
+use Rattle.dump_commands.specs.Emitting.{IsMade, Puts, Writes}
+use Rattle.dump_commands.specs.Making.{Makes}
 use Rattle.dump_commands.specs.Reporting.{Lists, ListsFront, Reports, first_line, lines_of_repeats}
 use Rattle.dump_commands.specs.Unique.{repeats_of, written_of}
 use Rattle.dump_commands.specs.state.Gathered.{Gathered, KeepsCounted, KeepsWritten, with_document}
@@ -44,7 +45,7 @@ pub record IsFound (job : Job) (p : Piece) (n : Counts) : Type 0 where
 -- that line is written, and the listing
 pub record IsReported (job : Job) (p : Piece) (w w' : Option (List ℕ)) : Type 0 where
   pub lines : List ℕ
-  pub lists : Lists job.command p.bytes.now lines
+  pub lists : Lists job.command p.at.offset p.bytes.now lines
   pub put : Appends w w' (p.judged.line.items ++ lines)
 
 -- and what is made of the document
@@ -69,7 +70,7 @@ module _ {job : Job} {p : Piece} {n : Counts} (j : IsFound job p n) where
   )
 
   -- that line, and a front of the listing
-  pub front_listing : {d a w w' : Option (List ℕ)} {k : Kept} (v : Option (List ℕ)) → Appends w v p.judged.line.items → (lines : List ℕ) × ListsFront job.command p.bytes.now lines × Appends v w' lines
+  pub front_listing : {d a w w' : Option (List ℕ)} {k : Kept} (v : Option (List ℕ)) → Appends w v p.judged.line.items → (lines : List ℕ) × ListsFront job.command p.at.offset p.bytes.now lines × Appends v w' lines
       → HaltsPiece job p (holds d a w n k) (holds d a w' n k)
   front_listing {d = d} {a = a} {w = w} {w' = w'} {k = k} v first (lines, front, put) =
       let text = p.judged.line.items ++ lines in (

@@ -16,17 +16,18 @@ use Rattle.dump_io.specs.declared.input.resync.Skip.{Skip}
 use Rattle.dump_io.specs.declared.lines.find.Finding.{Finding}
 use Rattle.dump_io.specs.declared.lines.find.Finding.TheVariants as finding
 use Rattle.dump_io.specs.declared.lines.style.Style.{Style}
-use Rattle.dump_commands.specs.Counted.{HasFields}
+use Rattle.dump_commands.specs.Commands.{keeps, profile_of}
 use Rattle.dump_commands.specs.Counting.{count_alone, count_document, count_gap}
 use Rattle.dump_commands.specs.Findings.{FindsFor}
+use Rattle.dump_commands.specs.Gathering.{HasFields}
 use Rattle.dump_commands.specs.Making.{Makes}
 use Rattle.dump_commands.specs.Reporting.{Reports, lines_of_repeats}
-use Rattle.dump_commands.specs.Summary.{keeps}
 use Rattle.dump_commands.specs.Unique.{firsts_behind, kept_of, known_behind, repeats_of, written_of}
 use Rattle.dump_commands.specs.state.Gathered.{Document, Gathered, tabled, with_document}
 use Rattle.dump_commands.specs.state.Forms.{Firsts, Made, firsts_of, knows, placed_at, written_count}
+use Rattle.dump_commands.specs.declared.command.Breaches.{Breaches}
+use Rattle.dump_commands.specs.declared.command.Breaches.TheVariants as breaches
 use Rattle.dump_commands.specs.declared.command.Command.{Command}
-use Rattle.dump_commands.specs.declared.command.Command.TheVariants as command
 use Rattle.dump_commands.specs.declared.counts.Counts.{Counts}
 use Rattle.dump_commands.specs.declared.job.Job.{Job}
 use Rattle.dump_commands.specs.declared.state.kept.Kept.{Kept}
@@ -100,12 +101,19 @@ start_of name held = record { at = origin_at name 0; work = no_work; broken = fa
 abbrev pub style_here : Job → Point → Style
 style_here job here = style_at job.style job.limit here.counts
 
+-- how many findings a document is that isn't canonical
+abbrev pub breach_findings : Breaches → ℕ
+breach_findings breaches.Ignored = 0
+breach_findings breaches.Counted = 0
+breach_findings breaches.Found = 1
+
 -- how many findings a command has of a document in which this is found
 abbrev pub findings_in : Command → Finding → ℕ
+findings_in c finding.Canonical = 0
+findings_in c finding.Breached = breach_findings (profile_of c).breaches
 findings_in c finding.Damaged = 1
 findings_in c finding.TooDeep = 1
-findings_in command.Check finding.Breached = 1
-findings_in c found = 0
+findings_in c finding.Unvalidated = 0
 
 -- what a document repeats, if it does: that is one finding more
 abbrev pub repeats_in : Job → Point → Entry → List Repeat

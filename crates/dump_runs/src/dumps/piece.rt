@@ -19,8 +19,9 @@ use crate::dumps::source::Source;
 use crate::style::style_at;
 use crate::writers::{Tally, Writers};
 use dump_commands::finding::{Judged, judge};
+use dump_commands::gathering::count_fields;
 use dump_commands::job::Job;
-use dump_commands::making::{count_fields, emit};
+use dump_commands::making::emit;
 use dump_commands::reporting::{put_listing, put_repeat};
 use dump_io::input::ending::Ending;
 use dump_io::input::window::Next;
@@ -162,7 +163,13 @@ fn pass<'a, D: Write + Drop, A: Write + Drop, W: Write + Drop>(
     let finding = piece.judged.finding;
     let style = style_at(job.style, job.limit, tally.counts);
     put(&mut writers.report, &piece.judged.line)?;
-    put_listing(alloc, job.command, piece.bytes, &mut writers.report)?;
+    put_listing(
+        alloc,
+        job.command,
+        piece.at.offset,
+        piece.bytes,
+        &mut writers.report,
+    )?;
     let first = emit(
         alloc,
         job.command,

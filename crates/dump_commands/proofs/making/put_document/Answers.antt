@@ -5,7 +5,7 @@ use Rattle.dump_commands.specs.Making.{Puts}
 use Rattle.dump_commands.specs.state.Forms.{knows, made_as}
 use Rattle.dump_commands.specs.Unique.{written_of}
 use Rattle.dump_commands.specs.declared.command.Command.TheVariants.{Unique}
-use Rattle.dump_commands.specs.declared.command.Spelling.{Spelling}
+use Rattle.dump_commands.specs.declared.making.Spelling.{Spelling}
 use Rattle.dump_io.proofs.Face.{on_err}
 use Rattle.dump_commands.proofs.making.put_document.Goals as goal
 

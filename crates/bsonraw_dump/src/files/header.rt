@@ -1,0 +1,37 @@
+//! What is written before the documents of all inputs.
+#![tactic(auto)]
+
+use dump_commands::command::Command;
+use dump_commands::picking::{Picking, put_header};
+use dump_io::input::done::{Done, Lack};
+use dump_io::input::status::Status;
+use dump_io::lines::failure::Failure;
+use dump_runs::Reading;
+use std::io::Write;
+
+/// Writes what comes before the documents of all inputs: the header of rows.
+pub fn begin<D: Write>(rt: &HostRuntime, reading: Reading<'_>, out: &mut D) -> Result<(), Failure> {
+    match picking_of(reading) {
+        Some(picking) => put_header(rt.alloc(), picking, out),
+        None => Ok(()),
+    }
+}
+
+/// Which elements are picked.
+pub fn picking_of<'a>(reading: Reading<'a>) -> Option<Picking<'a>> {
+    match reading.command() {
+        Some(Command::Writes(making)) => making.picking(),
+        Some(Command::Prints(_) | Command::Gathers(_)) | None => None,
+    }
+}
+
+/// How a run ends that fails before its first input.
+pub fn ended_by<'a>(failure: Failure) -> Done<'a> {
+    Done {
+        status: match failure {
+            Failure::Memory => Status::Memory,
+            Failure::TooLarge | Failure::Reading(_) | Failure::Writing(_) => Status::Output,
+        },
+        lack: Some(Lack::Failed(failure)),
+    }
+}

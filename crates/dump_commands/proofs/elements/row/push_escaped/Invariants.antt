@@ -1,0 +1,6 @@
+use Rattle.std.proofs.Common.{◌≡◌, ◌++◌, flat_map, take}
+use Rattle.dump_commands.specs.elements.Row.{escaped}
+use Rattle.dump_commands.proofs.elements.row.push_escaped.Given as goal
+
+abbrev pub invariant-loop-byte : goal.invariant-loop-byte
+invariant-loop-byte l = l.row.items ≡ l.initial.row.items ++ flat_map escaped (take l.byte-index l.text)
