@@ -6,6 +6,7 @@ pub mod chosen;
 pub mod cut;
 pub mod having;
 pub mod id;
+pub mod level;
 pub mod listing;
 pub mod page;
 pub mod pick;

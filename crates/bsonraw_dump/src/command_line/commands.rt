@@ -27,6 +27,8 @@ pub enum Printing {
     Lines,
     /// few lines, which are shown as soon as they are there
     Soon,
+    /// lines, as a page for a browser
+    Page,
 }
 
 /// What the command of this name asks for, with what was given to it, and what it prints; nothing of the one that reads texts.
@@ -34,6 +36,7 @@ pub fn asked_by<'a>(name: &str, matches: &ArgMatches<'a>) -> Option<(Command<'a>
     match name {
         "check" => prints(Report::Check, Printing::Soon),
         "list" => prints(Report::List, Printing::Lines),
+        "show" if matches.get_flag("html") => prints(show_of(matches), Printing::Page),
         "show" => prints(show_of(matches), Printing::Lines),
         "count" => Some((count_of(matches), Printing::Soon)),
         "sizes" => prints(Report::Sizes, Printing::Lines),

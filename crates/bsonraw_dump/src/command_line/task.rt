@@ -31,6 +31,8 @@ pub struct Task<'a> {
     pub inputs: Vec<&'a str>,
     /// when lines are in colors
     pub color: When,
+    /// whether inputs are texts of hex digits in place of bytes
+    pub hex: bool,
 }
 
 /// When lines are in colors.
@@ -143,6 +145,7 @@ fn task_of<'a>(
         alone: matches.get_str("alone"),
         inputs: inputs_of(alloc, matches)?,
         color: color_of(matches),
+        hex: matches.get_flag("hex"),
     })
 }
 
@@ -176,6 +179,7 @@ fn text_task<'a>(alloc: Global, matches: &ArgMatches<'a>) -> Result<Task<'a>, Er
         alone: None,
         inputs: inputs_of(alloc, matches)?,
         color: color_of(matches),
+        hex: false,
     })
 }
 

@@ -3,6 +3,7 @@
 
 ghost use Rattle.std.specs.Prelude.{None, if◌then◌else◌};
 
+use crate::files::bytes::{About, Bytes, bytes_of};
 use std::alloc::{AllocError, Global};
 use std::io::Write;
 use std::{env, io};
@@ -23,6 +24,8 @@ const NUMBER: &[u8] = b"\x1b[32m";
 const KEY: &[u8] = b"\x1b[36m";
 
 const FAULT: &[u8] = b"\x1b[1;31m";
+
+const FAINT: &[u8] = b"\x1b[2m";
 
 const END: &[u8] = b"\x1b[m";
 
@@ -95,8 +98,43 @@ fn painted(alloc: Global, lines: &[u8]) -> Result<Vec<u8>, AllocError> {
     Ok(text)
 }
 
+/// Puts a line after the others that shows bytes: the offset, where reading fails, and keys.
+fn paint_bytes(text: &mut Vec<u8>, line: Bytes<'_>) -> Result<(), AllocError> {
+    paint(text, NUMBER, line.offset)?;
+    let (words, end) = match line.words.strip_suffix(b"\n") {
+        Some(words) => (words, "\n"),
+        None => (line.words, ""),
+    };
+    match line.about {
+        About::Fault => {
+            paint(text, FAULT, line.bytes)?;
+            paint(text, FAULT, words)?;
+        }
+        About::Key => {
+            text.extend_from_slice(line.bytes)?;
+            paint(text, KEY, words)?;
+        }
+        About::Tag => {
+            text.extend_from_slice(line.bytes)?;
+            paint(text, NAME, words)?;
+        }
+        About::Length | About::End | About::More => {
+            text.extend_from_slice(line.bytes)?;
+            paint(text, FAINT, words)?;
+        }
+        About::Value => {
+            text.extend_from_slice(line.bytes)?;
+            text.extend_from_slice(words)?;
+        }
+    }
+    text.extend_from_slice(end.as_bytes())
+}
+
 /// Puts a line after the others: a name or a key, the offset after a name, and what is found. A line of counts stays as it is.
 fn paint_line(text: &mut Vec<u8>, line: &[u8]) -> Result<(), AllocError> {
+    if let Some(bytes) = bytes_of(line) {
+        return paint_bytes(text, bytes);
+    }
     let indent = line.iter().take_while(|byte| **byte == b' ').count();
     let (spaces, rest) = line.split_at(indent.min(line.len()));
     let (quote, rest) = rest.split_at(quoted_len(rest).min(rest.len()));

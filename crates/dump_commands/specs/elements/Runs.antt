@@ -59,8 +59,7 @@ words_of at run = run.text ++ (if run.is_fault then codes ", byte " ++ decimal a
 
 -- the bytes of a line and, if there are words, these from the same column on
 abbrev pub with_words : List ℕ → ℕ → List ℕ → List ℕ
-with_words row depth [] = row
-with_words row depth (x ∷ xs) = row ++ replicate (50 - length row) 32 ++ indent depth ++ x ∷ xs
+with_words row depth words = row ++ cond (nat_lt 0 (length words)) (replicate (50 - length row) 32 ++ indent depth ++ words) []
 
 -- a line that begins with an offset
 abbrev pub line_at : ℕ → List ℕ → List ℕ
@@ -73,17 +72,19 @@ first_line offset at run = line_at offset (with_words (row_text (mark_of run.is_
 -- at most this number of lines, of 16 bytes each
 abbrev pub next_lines : ℕ → ℕ → List ℕ → List ℕ
 next_lines zero offset bytes = []
-next_lines (suc n) offset [] = []
-next_lines (suc n) offset (x ∷ xs) = line_at offset (row_text 32 (take 16 (x ∷ xs))) ++ next_lines n (offset + 16) (drop 16 (x ∷ xs))
+next_lines (suc n) offset bytes =
+    cond (nat_lt 0 (length bytes)) (line_at offset (row_text 32 (take 16 bytes)) ++ next_lines n (offset + 16) (drop 16 bytes)) []
+
+abbrev pub more_words : ℕ → List ℕ
+more_words n = if n == 1 then codes " more byte" else codes " more bytes"
 
 -- a number of bytes that aren't shown
 abbrev pub more_text : ℕ → List ℕ
-more_text n = codes " ... " ++ decimal n ++ (if n == 1 then codes " more byte" else codes " more bytes")
+more_text n = codes " ... " ++ decimal n ++ more_words n
 
 -- the line that stands for bytes that aren't shown
 abbrev pub more_line : ℕ → List ℕ → List ℕ
-more_line offset [] = []
-more_line offset (x ∷ xs) = line_at offset (more_text (length (x ∷ xs)))
+more_line offset bytes = cond (nat_lt 0 (length bytes)) (line_at offset (more_text (length bytes))) []
 
 -- the lines of a run after the first, of at most 256 bytes with that, and how many more it has; or of all its bytes
 abbrev pub other_lines : Option ℕ → ℕ → List ℕ → List ℕ
@@ -119,8 +120,7 @@ shown_end sheet at (r ∷ rs) = cond (is_shown sheet at) (shown_end sheet (at + 
 
 -- the line that says how many of a document's bytes aren't shown
 abbrev pub rest_line : ℕ → ℕ → List ℕ
-rest_line offset zero = []
-rest_line offset (suc n) = line_at offset (more_text (suc n) ++ codes ", not looked at here; --whole shows them")
+rest_line offset n = cond (nat_lt 0 n) (line_at offset (more_text n ++ codes ", not looked at here; --whole shows them")) []
 
 -- the lines of a document whose first runs these are, or all
 abbrev pub document_lines : Sheet → List Run → List ℕ

@@ -16,9 +16,9 @@ use Rattle.raw_view.specs.declared.error.Reason.{Reason}
 use Rattle.raw_view.specs.declared.error.Reason.TheVariants as reason
 use Rattle.raw_view.specs.declared.level.RawLevel.{RawLevel}
 use Rattle.raw_view.specs.Document.{bytes_of}
-use Rattle.dump_commands.specs.declared.elements.showing.Level.{Level}
-use Rattle.dump_commands.specs.declared.elements.showing.Next.{Next}
-use Rattle.dump_commands.specs.declared.elements.showing.Next.TheVariants as next
+use Rattle.dump_commands.specs.declared.elements.level.Level.{Level}
+use Rattle.dump_commands.specs.declared.elements.level.Next.{Next}
+use Rattle.dump_commands.specs.declared.elements.level.Next.TheVariants as next
 use Rattle.dump_commands.specs.elements.Listing.{ShowsFault, ShowsFrameFault}
 use Rattle.dump_commands.specs.elements.Runs.{Run, Sheet, document_lines, fault_run, is_shown, run_of, shown_end, shown_lines}
 
@@ -60,13 +60,17 @@ key_text key = cond (nat_lt 64 (length key)) (codes "key" ++ size_text (length k
 abbrev pub key_run : ℕ → List ℕ → Run
 key_run depth key = run_of depth (key ++ 0 ∷ []) (key_text key)
 
+-- the tag and the key of an element, and whether reading fails there
+abbrev pub head_runs : Bool → ℕ → Frame → List Run
+head_runs is_fault depth f = record { bytes = tag_of f.kind ∷ []; depth = depth; is_fault = is_fault; text = kind_text f.kind } ∷ (key_run depth f.key ∷ [])
+
 -- the runs of a sound element, of whose value this is said, without those of the level in it
 abbrev pub sound_runs : ℕ → Frame → RawValue → List ℕ → List Run
-sound_runs depth f v text = run_of depth (tag_of f.kind ∷ []) (kind_text f.kind) ∷ (key_run depth f.key ∷ value_runs depth f v text)
+sound_runs depth f v text = head_runs false depth f ++ value_runs depth f v text
 
 -- the runs of an element whose value is at fault, with the reason: reading fails at the element, and at the value
 abbrev pub faulty_runs : ℕ → Frame → List ℕ → List Run
-faulty_runs depth f text = fault_run depth (tag_of f.kind ∷ []) (kind_text f.kind) ∷ (key_run depth f.key ∷ (fault_run depth f.payload text ∷ []))
+faulty_runs depth f text = head_runs true depth f ++ fault_run depth f.payload text ∷ []
 
 -- what a byte says that is no tag
 abbrev pub no_tag_text : ℕ → List ℕ
@@ -77,16 +81,21 @@ no_tag_text (suc n) = codes "no such tag"
 abbrev pub SaysTag : ℕ → List ℕ → Type 0
 SaysTag tag text = ((what : ElementType) × (tag ≡ tag_of what) × (text ≡ kind_text what)) ⊎ (((what : ElementType) → tag ≢ tag_of what) × (text ≡ no_tag_text tag))
 
--- The runs of what is left of a level, s, where it stops for this reason: nothing; a tag, a key that isn't UTF-8, and what isn't read; or
--- a tag, its key, and the others. Reading fails at the tag, and where the reason is said.
+-- a tag, a key that isn't UTF-8 with the reason, and the others, which aren't read
+abbrev pub bad_key_runs : ℕ → (s key : List ℕ) → HasKey s key → (name why : List ℕ) → List Run
+bad_key_runs depth s key at name why =
+    fault_run depth (at.tag ∷ []) name ∷ (fault_run depth (key ++ 0 ∷ []) why ∷ (run_of depth at.behind (codes "not read") ∷ []))
+
+-- a tag, a key, and the others with the reason
+abbrev pub no_value_runs : ℕ → (s key : List ℕ) → HasKey s key → (name why : List ℕ) → List Run
+no_value_runs depth s key at name why = fault_run depth (at.tag ∷ []) name ∷ (key_run depth key ∷ (fault_run depth at.behind why ∷ []))
+
+-- the runs of what is left of a level, s, where it stops for this reason: reading fails at the tag, if one is left, and where the reason is said
 abbrev pub HasStopRuns : ℕ → List ℕ → Option (List ℕ) → List ℕ → List Run → Type 0
 HasStopRuns depth s None why runs =
     ((s ≡ []) × (runs ≡ fault_run depth s why ∷ []))
-    ⊎ ((key : List ℕ) × (at : HasKey s key) × (name : List ℕ) × SaysTag at.tag name
-    × (runs ≡ fault_run depth (at.tag ∷ []) name ∷ (fault_run depth (key ++ 0 ∷ []) why ∷ (run_of depth at.behind (codes "not read") ∷ []))))
-HasStopRuns depth s (Some key) why runs =
-    (at : HasKey s key) × (name : List ℕ) × SaysTag at.tag name
-    × (runs ≡ fault_run depth (at.tag ∷ []) name ∷ (key_run depth key ∷ (fault_run depth at.behind why ∷ [])))
+    ⊎ ((key : List ℕ) × (at : HasKey s key) × (name : List ℕ) × SaysTag at.tag name × (runs ≡ bad_key_runs depth s key at name why))
+HasStopRuns depth s (Some key) why runs = (at : HasKey s key) × (name : List ℕ) × SaysTag at.tag name × (runs ≡ no_value_runs depth s key at name why)
 
 -- the runs of what is left of a level, s, after its elements: the final 0, or a stop
 abbrev pub HasEndRuns : ℕ → List ℕ → List Run → Type 0
@@ -141,11 +150,21 @@ HasRuns zero depth extent b runs = runs ≡ fault_run depth b (codes "over 500 l
 HasRuns (suc n) depth extent b runs =
     (rest : List Run) × HasLeftRuns (HasRuns n (depth + 1)) extent depth (drop 4 b) rest × (runs ≡ length_run depth b ∷ rest)
 
--- The runs of bytes that have no envelope for this reason: reading fails at the last byte, if that should be 0; else at the length.
+-- the runs of bytes of which the last should be 0, with the reason: reading fails there
+abbrev pub unended_runs : List ℕ → List ℕ → List Run
+unended_runs b why = length_run 0 b ∷ (run_of 0 (take (length b - 5) (drop 4 b)) (codes "not read") ∷ (fault_run 0 (drop (length b - 1) b) why ∷ []))
+
+-- the runs of bytes of which there are too few, or whose length is wrong: reading fails at the length
+abbrev pub misled_runs : List ℕ → List ℕ → List Run
+misled_runs b why = fault_run 0 (take 4 b) why ∷ (run_of 0 (drop 4 b) (codes "not read") ∷ [])
+
+abbrev pub is_unended : Reason → Bool
+is_unended reason.NotTerminated = true
+is_unended _ = false
+
+-- the runs of bytes that have no envelope for this reason, which is told in these words
 abbrev pub refused_runs : List ℕ → Reason → List ℕ → List Run
-refused_runs b reason.NotTerminated why =
-    length_run 0 b ∷ (run_of 0 (take (length b - 5) (drop 4 b)) (codes "not read") ∷ (fault_run 0 (drop (length b - 1) b) why ∷ []))
-refused_runs b _ why = fault_run 0 (take 4 b) why ∷ (run_of 0 (drop 4 b) (codes "not read") ∷ [])
+refused_runs b why words = cond (is_unended why) (unended_runs b words) (misled_runs b words)
 
 -- the runs of a piece, of 500 levels at most
 abbrev pub HasPieceRuns : Extent → List ℕ → List Run → Type 0

@@ -2,7 +2,7 @@
 use Rattle.std.specs.Prelude.{◌≡◌, ◌⊎◌, ◌+◌, ◌<◌, ℕ, suc, zero, List, [], ◌∷◌, ◌++◌, Bool, true, false, Option, drop, length, map, sum_by}
 use Rattle.raw_view.specs.Document.{bytes_of}
 use Rattle.dump_io.specs.lines.Fronts.{HasFront}
-use Rattle.dump_commands.specs.declared.elements.showing.Level.{Level}
+use Rattle.dump_commands.specs.declared.elements.level.Level.{Level}
 use Rattle.dump_commands.specs.elements.Runs.{Run, Writes, sheet_of, shown_end, shown_lines}
 use Rattle.dump_commands.specs.elements.Showing.{Extent, Whole, Begun, HasLeftRuns, HasRuns, IsEnough, left_in}
 use Rattle.dump_commands.specs.declared.elements.page.Page.{Page}

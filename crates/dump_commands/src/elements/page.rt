@@ -113,16 +113,20 @@ pub fn push_rest(page: &mut Page) -> Result<(), Failure>
 {
     let offset = in_range(page.base.checked_add(page.at))?;
     let left = page.size.saturating_sub(page.at);
+    push_rest_line(&mut page.text, offset, left)?;
+    Ok(())
+}
+
+/// Appends the line that says how many bytes of a document aren't shown, if there are any.
+fn push_rest_line(text: &mut Vec<u8>, offset: u64, left: u64) -> Result<(), AllocError>
+    ensures { OnOk result (text.new.items ≡ text.old.items ++ rest_line offset left) }
+{
     if left == 0 {
         return Ok(());
     }
-    begin_line(&mut page.text, offset)?;
-    push_more(&mut page.text, left)?;
-    push_words(
-        &mut page.text,
-        ", not looked at here; --whole shows them\n",
-    )?;
-    Ok(())
+    begin_line(text, offset)?;
+    push_more(text, left)?;
+    push_words(text, ", not looked at here; --whole shows them\n")
 }
 
 /// The first bytes, this number at most, and the others.
@@ -145,26 +149,53 @@ fn push_first_line(
     ensures { OnOk result (text.new.items ≡ text.old.items ++ says.first_line (base + at) at (told_run run.entry words.now)) }
 {
     begin_line(text, base + at)?;
-    let start = text.len();
-    let row = split_at_most(run.bytes, ROW).0;
-    push_row(text, mark_of(run.is_fault), row)?;
-    if run.is_fault || !words.is_empty() {
-        let wide = text.len() - start;
-        push_spaces(text, COLUMN.saturating_sub(wide))?;
-        push_indent(text, run.depth)?;
-        text.extend_from_slice(words)?;
-        push_place(text, run.is_fault, at)?;
-    }
+    push_row_with_words(text, at, run, words)?;
     push_words(text, "\n")
 }
 
-/// Appends where reading fails, if it does.
-fn push_place(text: &mut Vec<u8>, is_fault: bool, at: u64) -> Result<(), AllocError>
-    ensures { OnOk result (text.new.items ≡ text.old.items ++ (if is_fault then codes ", byte " ++ decimal at else [])) }
+/// Appends the first bytes of a run, and its words.
+fn push_row_with_words(
+    text: &mut Vec<u8>,
+    at: u64,
+    run: Run<'_>,
+    words: &[u8],
+) -> Result<(), AllocError>
+    requires { run.depth < 2 ^ 32 }
+    ensures { OnOk result (text.new.items ≡ text.old.items
+        ++ says.with_words (row_text (says.mark_of run.entry.is_fault) (take 16 run.entry.bytes.now)) run.entry.depth (says.words_of at (told_run run.entry words.now))) }
 {
-    if !is_fault {
-        return Ok(());
+    let start = text.len();
+    push_row(text, mark_of(run.is_fault), split_at_most(run.bytes, ROW).0)?;
+    let wide = text.len() - start;
+    if run.is_fault {
+        push_column(text, wide, run.depth, words)?;
+        push_place(text, at)?;
+    } else if !words.is_empty() {
+        push_column(text, wide, run.depth, words)?;
     }
+    Ok(())
+}
+
+/// Appends words after the bytes of a line, which take this number of columns.
+fn push_column(
+    text: &mut Vec<u8>,
+    wide: usize,
+    depth: usize,
+    words: &[u8],
+) -> Result<(), AllocError>
+    requires { depth < 2 ^ 32 }
+    ensures { (row : List ℕ) → length row ≡ wide → OnOk result
+        (text.new.items ≡ text.old.items ++ (replicate (50 - length row) 32 ++ says.indent depth ++ words.now)) }
+{
+    push_spaces(text, COLUMN.saturating_sub(wide))?;
+    push_indent(text, depth)?;
+    text.extend_from_slice(words)
+}
+
+/// Appends where reading fails.
+fn push_place(text: &mut Vec<u8>, at: u64) -> Result<(), AllocError>
+    ensures { OnOk result (text.new.items ≡ text.old.items ++ (codes ", byte " ++ decimal at)) }
+{
     push_words(text, ", byte ")?;
     push_number(text, at)
 }
@@ -328,14 +359,17 @@ fn push_more(text: &mut Vec<u8>, len: u64) -> Result<(), AllocError>
 {
     push_words(text, " ... ")?;
     push_number(text, len)?;
-    push_words(
-        text,
-        if len == 1 {
-            " more byte"
-        } else {
-            " more bytes"
-        },
-    )
+    push_words(text, more_words(len))
+}
+
+fn more_words(len: u64) -> &'static str
+    ensures { result.now ≡ says.more_words len }
+{
+    if len == 1 {
+        " more byte"
+    } else {
+        " more bytes"
+    }
 }
 
 /// Appends the line that stands for bytes that aren't shown, if there are any.

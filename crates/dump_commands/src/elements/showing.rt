@@ -1,7 +1,7 @@
 //! Shows the bytes of a document with what they are, at every level.
 #![tactic(auto)]
 
-ghost use Rattle.std.specs.Prelude.{◌≡◌, ◌≤◌, ◌*◌, ◌<◌, ◌^◌, ◌∷◌, [], ◌++◌, ℕ, List, Option, codes, drop, length, take, IfErr, IfOk, OnErr, OnOk};
+ghost use Rattle.std.specs.Prelude.{◌≡◌, ◌≤◌, ◌*◌, ◌+◌, ◌-◌, ◌<◌, ◌^◌, ◌∷◌, [], ◌++◌, ℕ, List, Option, codes, drop, length, take, IfErr, IfOk, OnErr, OnOk};
 ghost use Rattle.std.specs.Io.KnownBytes.{Appends};
 ghost use Rattle.dump_io.specs.lines.Failing.{IsReading};
 ghost use Rattle.dump_commands.specs.elements.Listing.{ShowsText};
@@ -11,17 +11,20 @@ ghost use Rattle.raw_view.specs.Document.{bytes_of};
 ghost use Rattle.raw_view.specs.declared.error.Reason as reasons;
 ghost use Rattle.raw_view.specs.declared.error.ErrorKind.TheVariants.{MalformedValue};
 ghost use Rattle.bson_model.specs.Bytes.{NulFree};
-ghost use Rattle.raw_view.specs.Frame.{IsFrame};
+ghost use Rattle.raw_view.specs.Frame.{HasKey, IsFrame};
+ghost use Rattle.raw_view.specs.Frame.Kind.{kind_text};
 ghost use Rattle.raw_view.specs.Frame.ElementSteps.{frame_of};
 ghost use Rattle.raw_view.specs.Frame.Format.{tagged};
 ghost use Rattle.raw_view.specs.Frame.Front.{StopsWith};
-ghost use Rattle.raw_view.specs.Meaning.Value.{value_of};
+ghost use Rattle.raw_view.specs.Meaning.Value.{held_value, value_of};
 ghost use Rattle.std.specs.Option.{option_copied};
-ghost use Rattle.dump_commands.specs.elements.Runs.{Run, Writes, fault_run, run_of};
+ghost use Rattle.dump_commands.specs.elements.Runs as sheets;
+ghost use Rattle.dump_commands.specs.elements.Runs.{Writes, fault_run, run_of};
 ghost use Rattle.dump_commands.specs.elements.Showing.{HasEndRuns, SaysTag, ShowsPiece, ShowsPieceFront, StepsRuns, TellsFrame, key_run, left_in, length_run, payload_runs, value_runs};
 ghost use Rattle.dump_commands.specs.elements.Showing as says;
 ghost use Rattle.dump_commands.specs.elements.ShownLevels.{GoesOn, IsShown, IsShownFront, levels_after, levels_of};
 
+use crate::elements::level::{Level, Next};
 use crate::elements::listing::push_fault;
 use crate::elements::page::{Page, Run, push_rest, push_run, split_at_most};
 use crate::elements::text::shown_text;
@@ -33,7 +36,7 @@ use dump_io::lines::value::{push_behind, push_kind};
 use dump_io::lines::write::put;
 use raw_tree::behind;
 use raw_view::{
-    BorrowedError, ElementType, Elements, ErrorKind, RawBsonRef, RawDocument, RawElement,
+    BorrowedError, ElementType, Elements, ErrorKind, Holder, RawBsonRef, RawDocument, RawElement,
     RawLevel, Reason,
 };
 use std::alloc::{AllocError, Global};
@@ -44,27 +47,6 @@ const LEVELS: usize = 500;
 
 /// Longer keys aren't shown.
 const SHORT: usize = 64;
-
-/// A level of which elements, or its end, are left.
-#[derive(Clone, Copy)]
-pub struct Level<'a> {
-    /// its bytes
-    document: RawDocument<'a>,
-    /// where what is left of them begins
-    offset: usize,
-    ghost within: { (4 ≤ offset) × (offset ≤ length (bytes_of document)) },
-}
-
-/// What comes next in a level.
-#[derive(Clone, Copy)]
-pub enum Next<'a> {
-    /// its end
-    End,
-    /// an element whose value holds no level
-    Element,
-    /// an element, and the level that its value holds
-    Inside(RawLevel<'a>),
-}
 
 /// Writes the lines that show a piece at the offset `base`: what begins in its first `most` bytes, or all.
 pub fn show_piece<W: Write>(
@@ -93,14 +75,46 @@ fn push_refused(bytes: &[u8], kind: &ErrorKind, page: &mut Page) -> Result<(), F
         (says.refused_runs bytes.now why (codes "damaged: " ++ find.kind_text kind.now))) }
     ensures failed { IfErr result (λ failure. ¬ IsReading failure) }
 {
-    if !matches!(kind, ErrorKind::MalformedValue { reason: Reason::NotTerminated }) {
-        push_why_not(split_at_most(bytes, 4).0, kind, page)?;
-        return push_plain(page, 0, split_at_most(bytes, 4).1, "not read");
+    if is_unended(kind) {
+        push_unended(bytes, kind, page)
+    } else {
+        push_misled(bytes, kind, page)
     }
+}
+
+fn is_unended(kind: &ErrorKind) -> bool
+    ensures { (why : reasons.Reason) → kind.now ≡ MalformedValue why → result ≡ says.is_unended why }
+{
+    matches!(
+        kind,
+        ErrorKind::MalformedValue {
+            reason: Reason::NotTerminated
+        }
+    )
+}
+
+/// Puts the runs of bytes of which the last should be 0.
+fn push_unended(bytes: &[u8], kind: &ErrorKind, page: &mut Page) -> Result<(), Failure>
+    ensures put { OnOk result (Writes page.old page.new (says.unended_runs bytes.now (codes "damaged: " ++ find.kind_text kind.now))) }
+    ensures failed { IfErr result (λ failure. ¬ IsReading failure) }
+{
+    let len = bytes.len();
     push_length(page, 0, bytes)?;
-    let (inside, _) = split_at_most(split_at_most(bytes, 4).1, bytes.len().saturating_sub(5));
-    push_plain(page, 0, inside, "not read")?;
-    push_why_not(split_at_most(bytes, bytes.len().saturating_sub(1)).1, kind, page)
+    let inside = split_at_most(split_at_most(bytes, 4).1, len.saturating_sub(5)).0;
+    push_worded(0, inside, false, "not read", page)?;
+    push_why_not(split_at_most(bytes, len.saturating_sub(1)).1, kind, page)?;
+    Ok(())
+}
+
+/// Puts the runs of bytes of which there are too few, or whose length is wrong.
+fn push_misled(bytes: &[u8], kind: &ErrorKind, page: &mut Page) -> Result<(), Failure>
+    ensures put { OnOk result (Writes page.old page.new (says.misled_runs bytes.now (codes "damaged: " ++ find.kind_text kind.now))) }
+    ensures failed { IfErr result (λ failure. ¬ IsReading failure) }
+{
+    let (head, others) = split_at_most(bytes, 4);
+    push_why_not(head, kind, page)?;
+    push_worded(0, others, false, "not read", page)?;
+    Ok(())
 }
 
 /// Puts bytes at which a document without an envelope fails.
@@ -120,9 +134,16 @@ fn push_why_not(bytes: &[u8], kind: &ErrorKind, page: &mut Page) -> Result<(), F
 }
 
 /// Puts bytes that are this.
-fn push_plain(page: &mut Page, depth: usize, bytes: &[u8], words: &str) -> Result<(), Failure>
+fn push_worded(
+    depth: usize,
+    bytes: &[u8],
+    is_fault: bool,
+    words: &str,
+    page: &mut Page,
+) -> Result<(), Failure>
     requires { depth < 2 ^ 32 }
-    ensures put { OnOk result (Writes page.old page.new (run_of depth bytes.now words.now ∷ [])) }
+    ensures put { OnOk result (Writes page.old page.new
+        (record { bytes = bytes.now; depth = depth; is_fault = is_fault; text = words.now } ∷ [])) }
     ensures failed { IfErr result (λ failure. ¬ IsReading failure) }
 {
     page.words.clear();
@@ -130,7 +151,7 @@ fn push_plain(page: &mut Page, depth: usize, bytes: &[u8], words: &str) -> Resul
     let run = Run {
         bytes,
         depth,
-        is_fault: false,
+        is_fault,
     };
     push_run(page, run, 0)
 }
@@ -172,7 +193,7 @@ fn step<'a>(
     page: &mut Page,
 ) -> Result<bool, Failure>
     requires { length waiting.old.items < 500 }
-    ensures goes { IfOk result (λ is_over. (runs : List Run)
+    ensures goes { IfOk result (λ is_over. (runs : List sheets.Run)
         × GoesOn (levels_of waiting.old.items level.old) (levels_after is_over waiting.new.items level.new) runs × Writes page.old page.new runs) }
     ensures few { length waiting.new.items < 500 }
     ensures failed { IfErr result (λ failure. ¬ IsReading failure) }
@@ -188,7 +209,7 @@ fn step<'a>(
         Next::Element => {}
         Next::Inside(inner) => {
             if depth + 1 == LEVELS {
-                push_deep(depth + 1, inner.document, page)?;
+                push_worded(depth + 1, inner.document.as_bytes(), true, "over 500 levels", page)?;
             } else {
                 push_length(page, depth + 1, inner.document.as_bytes())?;
                 enter(inner.document, level, waiting)?;
@@ -196,22 +217,6 @@ fn step<'a>(
         }
     }
     Ok(false)
-}
-
-/// Puts the run of a level that is too deep.
-fn push_deep(depth: usize, document: RawDocument<'_>, page: &mut Page) -> Result<(), Failure>
-    requires { depth < 2 ^ 32 }
-    ensures put { OnOk result (Writes page.old page.new (fault_run depth (bytes_of document.entry) (codes "over 500 levels") ∷ [])) }
-    ensures failed { IfErr result (λ failure. ¬ IsReading failure) }
-{
-    page.words.clear();
-    push_words(&mut page.words, "over 500 levels")?;
-    let run = Run {
-        bytes: document.as_bytes(),
-        depth,
-        is_fault: true,
-    };
-    push_run(page, run, 0)
 }
 
 /// Lets a level wait, and goes into one inside it.
@@ -240,7 +245,7 @@ fn push_next<'a>(
     page: &mut Page,
 ) -> Result<Next<'a>, Failure>
     requires { depth < 2 ^ 32 }
-    ensures put { IfOk result (λ next. (runs : List Run) × StepsRuns depth (left_in level.old) (left_in level.new) runs next × Writes page.old page.new runs) }
+    ensures put { IfOk result (λ next. (runs : List sheets.Run) × StepsRuns depth (left_in level.old) (left_in level.new) runs next × Writes page.old page.new runs) }
     ensures failed { IfErr result (λ failure. ¬ IsReading failure) }
 {
     let rest = level.document.as_bytes().split_at(level.offset).1;
@@ -249,7 +254,7 @@ fn push_next<'a>(
     };
     match elements.next() {
         None => {
-            push_plain(page, depth, rest, "final 0")?;
+            push_worded(depth, rest, false, "final 0", page)?;
             Ok(Next::End)
         }
         Some(Err(error)) => {
@@ -285,27 +290,67 @@ fn push_stop(
     page: &mut Page,
 ) -> Result<(), Failure>
     requires { (depth < 2 ^ 32) × StopsWith error.now.kind (option_copied error.now.key) rest.now }
-    ensures put { OnOk result ((runs : List Run) × HasEndRuns depth rest.now runs × Writes page.old page.new runs) }
+    ensures put { OnOk result ((runs : List sheets.Run) × HasEndRuns depth rest.now runs × Writes page.old page.new runs) }
     ensures failed { IfErr result (λ failure. ¬ IsReading failure) }
 {
     if rest.is_empty() {
         return push_reason(depth, rest, error, page);
     }
-    page.words.clear();
-    push_tag(&mut page.words, rest)?;
     match error.key {
-        None => {
-            push_tag_run(depth, rest, true, page)?;
-            let (key, others) = split_key(split_at_most(rest, 1).1);
-            push_reason(depth, key, error, page)?;
-            push_plain(page, depth, others, "not read")
-        }
-        Some(key) => {
-            push_head(depth, rest, key, true, page)?;
-            let others = split_at_most(rest, key.len() + 2).1;
-            push_reason(depth, others, error, page)
-        }
+        None => push_bad_key(depth, rest, error, page),
+        Some(key) => push_no_value(depth, rest, key, error, page),
     }
+}
+
+/// Puts what is left of a level that stops at a key that isn't UTF-8.
+fn push_bad_key(
+    depth: usize,
+    rest: &[u8],
+    error: &BorrowedError<'_>,
+    page: &mut Page,
+) -> Result<(), Failure>
+    requires { depth < 2 ^ 32 }
+    ensures put { (key : List ℕ) (at : HasKey rest.now key) → OnOk result ((name : List ℕ) × SaysTag at.tag name × Writes page.old page.new
+        (says.bad_key_runs depth rest.now key at name (codes "damaged: " ++ find.kind_text error.now.kind))) }
+    ensures failed { IfErr result (λ failure. ¬ IsReading failure) }
+{
+    let (tag, others) = split_at_most(rest, 1);
+    push_any_tag(depth, tag, page)?;
+    let (key, others) = split_key(others);
+    push_reason(depth, key, error, page)?;
+    push_worded(depth, others, false, "not read", page)?;
+    Ok(())
+}
+
+/// Puts what is left of a level that stops after this key.
+fn push_no_value(
+    depth: usize,
+    rest: &[u8],
+    key: &str,
+    error: &BorrowedError<'_>,
+    page: &mut Page,
+) -> Result<(), Failure>
+    requires { depth < 2 ^ 32 }
+    ensures put { (at : HasKey rest.now key.now) → OnOk result ((name : List ℕ) × SaysTag at.tag name × Writes page.old page.new
+        (says.no_value_runs depth rest.now key.now at name (codes "damaged: " ++ find.kind_text error.now.kind))) }
+    ensures failed { IfErr result (λ failure. ¬ IsReading failure) }
+{
+    let (tag, key_bytes, others) = split_head(rest, key.len());
+    push_any_tag(depth, tag, page)?;
+    push_key(depth, key, key_bytes, page)?;
+    push_reason(depth, others, error, page)?;
+    Ok(())
+}
+
+/// The tag, the key of this length with its 0, and the others.
+fn split_head(bytes: &[u8], len: usize) -> (&[u8], &[u8], &[u8])
+    requires { len < 2 ^ 63 }
+    ensures { (tag : ℕ) (key others : List ℕ) → bytes.now ≡ tagged tag key others → length key ≡ len
+        → (result.0.now ≡ tag ∷ []) × (result.1.now ≡ key ++ 0 ∷ []) × (result.2.now ≡ others) }
+{
+    let (tag, behind) = split_at_most(bytes, 1);
+    let (key, others) = split_at_most(behind, len + 1);
+    (tag, key, others)
 }
 
 /// Splits bytes after the first 0.
@@ -313,14 +358,23 @@ fn split_key(bytes: &[u8]) -> (&[u8], &[u8])
     ensures { (key others : List ℕ) → bytes.now ≡ key ++ 0 ∷ others → NulFree key
         → (result.0.now ≡ key ++ 0 ∷ []) × (result.1.now ≡ others) }
 {
+    split_at_most(bytes, key_len(bytes))
+}
+
+/// How many bytes the first 0 and those before it are.
+fn key_len(bytes: &[u8]) -> usize
+    ensures { (key others : List ℕ) → bytes.now ≡ key ++ 0 ∷ others → NulFree key → result ≡ length key + 1 }
+{
+    let mut rest = bytes;
     let mut len = 0;
-    for &byte in bytes {
+    'bytes: while let [byte, more @ ..] = rest {
         len += 1;
-        if byte == 0 {
-            break;
+        if *byte == 0 {
+            return len;
         }
+        rest = more;
     }
-    split_at_most(bytes, len)
+    len
 }
 
 /// Puts bytes at which reading stops, with the reason.
@@ -344,58 +398,97 @@ fn push_reason(
     push_run(page, run, 0)
 }
 
-/// Appends what the tag at the front of these bytes says.
-fn push_tag(words: &mut Vec<u8>, rest: &[u8]) -> Result<(), AllocError>
-    ensures { (tag : ℕ) (others : List ℕ) → rest.now ≡ tag ∷ others → OnOk result ((name : List ℕ) × SaysTag tag name × (words.new.items ≡ words.old.items ++ name)) }
+/// Puts a tag at which reading fails.
+fn push_any_tag(depth: usize, tag: &[u8], page: &mut Page) -> Result<(), Failure>
+    requires { depth < 2 ^ 32 }
+    ensures put { (byte : ℕ) → tag.now ≡ byte ∷ [] → OnOk result ((name : List ℕ) × SaysTag byte name
+        × Writes page.old page.new (fault_run depth (byte ∷ []) name ∷ [])) }
+    ensures failed { IfErr result (λ failure. ¬ IsReading failure) }
 {
-    let Some((tag, _)) = rest.split_first() else {
+    page.words.clear();
+    push_tag_words(&mut page.words, tag)?;
+    let run = Run {
+        bytes: tag,
+        depth,
+        is_fault: true,
+    };
+    push_run(page, run, 0)
+}
+
+/// Appends what this tag says.
+fn push_tag_words(words: &mut Vec<u8>, tag: &[u8]) -> Result<(), AllocError>
+    ensures { (byte : ℕ) → tag.now ≡ byte ∷ [] → OnOk result ((name : List ℕ) × SaysTag byte name × (words.new.items ≡ words.old.items ++ name)) }
+{
+    let Some((tag, _)) = tag.split_first() else {
         return Ok(());
     };
     match ElementType::from(*tag) {
         Some(kind) => push_kind(words, kind),
-        None if *tag == 0 => push_words(words, "no such tag; a final 0 may be too early"),
-        None => push_words(words, "no such tag"),
+        None => push_words(words, no_tag_words(*tag)),
     }
 }
 
-/// Puts the tag with which these bytes begin. What is said of it is on the page.
-fn push_tag_run(
+fn no_tag_words(byte: u8) -> &'static str
+    ensures { result.now ≡ says.no_tag_text byte }
+{
+    match byte {
+        0 => "no such tag; a final 0 may be too early",
+        _ => "no such tag",
+    }
+}
+
+/// Puts the tag and the key of an element, with which these bytes begin.
+fn push_head(
     depth: usize,
     rest: &[u8],
+    element: RawElement<'_>,
     is_fault: bool,
     page: &mut Page,
 ) -> Result<(), Failure>
     requires { depth < 2 ^ 32 }
-    ensures put { (tag : ℕ) (others : List ℕ) → rest.now ≡ tag ∷ others → OnOk result (Writes page.old page.new
-        (record { bytes = tag ∷ []; depth = depth; is_fault = is_fault; text = page.old.words.items } ∷ [])) }
+    ensures put { (r : List ℕ) → IsFrame rest.now (frame_of element.entry) r → OnOk result (Writes page.old page.new
+        (says.head_runs is_fault depth (frame_of element.entry))) }
     ensures failed { IfErr result (λ failure. ¬ IsReading failure) }
 {
+    let (tag, key, _) = split_head(rest, element.key().len());
+    push_kind_run(depth, tag, element.element_type(), is_fault, page)?;
+    push_key(depth, element.key(), key, page)?;
+    Ok(())
+}
+
+/// Puts the tag of a kind.
+fn push_kind_run(
+    depth: usize,
+    tag: &[u8],
+    kind: ElementType,
+    is_fault: bool,
+    page: &mut Page,
+) -> Result<(), Failure>
+    requires { depth < 2 ^ 32 }
+    ensures put { OnOk result (Writes page.old page.new
+        (record { bytes = tag.now; depth = depth; is_fault = is_fault; text = kind_text kind } ∷ [])) }
+    ensures failed { IfErr result (λ failure. ¬ IsReading failure) }
+{
+    page.words.clear();
+    push_kind(&mut page.words, kind)?;
     let run = Run {
-        bytes: split_at_most(rest, 1).0,
+        bytes: tag,
         depth,
         is_fault,
     };
     push_run(page, run, 0)
 }
 
-/// Puts the tag and the key with which these bytes begin. What is said of the tag is on the page.
-fn push_head(
-    depth: usize,
-    rest: &[u8],
-    key: &str,
-    is_fault: bool,
-    page: &mut Page,
-) -> Result<(), Failure>
+/// Puts a key with its 0.
+fn push_key(depth: usize, key: &str, bytes: &[u8], page: &mut Page) -> Result<(), Failure>
     requires { depth < 2 ^ 32 }
-    ensures put { (tag : ℕ) (others : List ℕ) → rest.now ≡ tagged tag key.now others → OnOk result (Writes page.old page.new
-        (record { bytes = tag ∷ []; depth = depth; is_fault = is_fault; text = page.old.words.items } ∷ (key_run depth key.now ∷ []))) }
+    ensures put { OnOk result (Writes page.old page.new (run_of depth bytes.now (says.key_text key.now) ∷ [])) }
     ensures failed { IfErr result (λ failure. ¬ IsReading failure) }
 {
-    push_tag_run(depth, rest, is_fault, page)?;
     page.words.clear();
     push_key_words(&mut page.words, key)?;
     let run = Run {
-        bytes: split_at_most(split_at_most(rest, 1).1, key.len() + 1).0,
+        bytes,
         depth,
         is_fault: false,
     };
@@ -424,19 +517,17 @@ fn push_element<'a>(
     page: &mut Page,
 ) -> Result<Option<RawLevel<'a>>, Failure>
     requires { (depth < 2 ^ 32) × ((r : List ℕ) × IsFrame rest.now (frame_of element) r) }
-    ensures put { IfOk result (λ inner. (runs : List Run) × TellsFrame depth (frame_of element.entry) runs inner × Writes page.old page.new runs) }
+    ensures put { IfOk result (λ inner. (runs : List sheets.Run) × TellsFrame depth (frame_of element.entry) runs inner × Writes page.old page.new runs) }
     ensures failed { IfErr result (λ failure. ¬ IsReading failure) }
 {
-    page.words.clear();
-    push_kind(&mut page.words, element.element_type())?;
     match element.resolve() {
         Ok(value) => {
-            push_head(depth, rest, element.key(), false, page)?;
+            push_head(depth, rest, element, false, page)?;
             push_value(alloc, depth, element, value, page)?;
             Ok(value.level())
         }
         Err(error) => {
-            push_head(depth, rest, element.key(), true, page)?;
+            push_head(depth, rest, element, true, page)?;
             push_faulty(alloc, depth, element, &error, page)?;
             Ok(None)
         }
@@ -481,16 +572,36 @@ fn push_value(
         (value_runs depth (frame_of element.entry) (value_of value.entry) (drop 2 shown))) }
     ensures failed { IfErr result (λ failure. ¬ IsReading failure) }
 {
-    let payload = element.payload();
-    let own = match value {
-        RawBsonRef::Document(_) | RawBsonRef::Array(_) => return Ok(()),
-        RawBsonRef::JavaScriptCodeWithScope(code) => {
-            let len = payload.len().saturating_sub(code.scope.as_bytes().len());
-            split_at_most(payload, len).0
+    match value.level() {
+        None => push_payload(alloc, depth, element.element_type(), element.payload(), value, page),
+        Some(level) => push_beside(alloc, depth, element, value, level, page),
+    }
+}
+
+/// Puts the runs of a value that are beside the level that it holds: of a code with scope the length and the code.
+fn push_beside(
+    alloc: Global,
+    depth: usize,
+    element: RawElement<'_>,
+    value: RawBsonRef<'_>,
+    level: RawLevel<'_>,
+    page: &mut Page,
+) -> Result<(), Failure>
+    requires { (depth < 2 ^ 32) × (value_of value ≡ held_value level) }
+    ensures put { OnOk result ((shown : List ℕ) × ShowsBehind (value_of value.entry) shown × Writes page.old page.new
+        (value_runs depth (frame_of element.entry) (value_of value.entry) (drop 2 shown))) }
+    ensures failed { IfErr result (λ failure. ¬ IsReading failure) }
+{
+    match level.holder {
+        Holder::Document => Ok(()),
+        Holder::Array => Ok(()),
+        Holder::Code(_) => {
+            let payload = element.payload();
+            let len = payload.len().saturating_sub(level.document.as_bytes().len());
+            let own = split_at_most(payload, len).0;
+            push_payload(alloc, depth, element.element_type(), own, value, page)
         }
-        _ => payload,
-    };
-    push_payload(alloc, depth, element.element_type(), own, value, page)
+    }
 }
 
 /// Puts the bytes of a value of this kind: its length, if it begins with one, and the others.
