@@ -1,22 +1,32 @@
 -- Steps over the levels of a document whose bytes are shown.
-use Rattle.std.proofs.Common.{◌≡◌, ◌≢◌, ◌+◌, ◌-◌, ◌<◌, ℕ, suc, zero, Bool, true, false, List, [], ◌∷◌, ◌++◌, Option, None, Some, drop, length, length-append, length-drop, map, arith, ap, sym, ◌∙◌, subst, refl, inl, inr, append_assoc, append-nil}
+use Rattle.std.proofs.Common.{◌≡◌, ◌≢◌, ◌+◌, ◌-◌, ◌<◌, ◌≤◌, ℕ, suc, zero, Bool, true, false, List, [], ◌∷◌, ◌++◌, Option, None, Some, Ok, codes, drop, get_or, length, length-append, length-drop, map, take, arith, ap, sym, ◌∙◌, subst, refl, inl, inr, append_assoc, append-nil}
 use Rattle.std.specs.Prelude.{◌⊎◌, sum_by}
 use Rattle.std.proofs.lemmas.List.Sums.{sum_by_push}
+use Rattle.std.proofs.Math.Seq.{take-length}
 use Rattle.std.specs.Io.KnownBytes.{Appends}
 use Rattle.std.proofs.KnownBytes.{Appends-nil, Appends-trans}
 use Rattle.raw_tree.proofs.Face.{held_holds, nested_beside}
 use Rattle.raw_view.specs.Document.{bytes_of}
-use Rattle.raw_view.specs.Frame.{Frame, IsFrame, LeadsTo}
-use Rattle.raw_view.specs.Meaning.{RawValue}
-use Rattle.raw_view.specs.Meaning.Value.{HoldsLevel, holding}
+use Rattle.raw_view.specs.Frame.{Fault, Frame, HasKey, IsFrame, IsStop, LeadsTo, key_not_utf8, no_byte_left, no_payload, no_such_tag, regex_not_utf8}
+use Rattle.raw_view.specs.Frame.Format.{tagged}
+use Rattle.raw_view.specs.Frame.Kind.{tag_of}
+use Rattle.raw_view.specs.Frame.Kind as says
+use Rattle.raw_view.specs.Frame.ElementSteps.{frame_of}
+use Rattle.raw_view.specs.Frame.Front.{StepsFront, StopsWith}
+use Rattle.raw_view.specs.declared.element.RawElement.{RawElement}
+use Rattle.raw_view.specs.declared.error.BorrowedError.{BorrowedError}
+use Rattle.dump_io.specs.lines.Find.{kind_text}
+use Rattle.raw_view.specs.Meaning.{RawValue, array, document, scoped, single}
+use Rattle.raw_view.specs.Meaning.Value.{HoldsLevel, IsSingle, holding}
+use Rattle.bson_model.specs.Bytes.{NulFree}
 use Rattle.raw_view.specs.declared.level.Holder.{Holder}
 use Rattle.raw_view.specs.declared.level.RawLevel.{RawLevel}
-use Rattle.raw_view.proofs.Face.{IsFrame-shorter}
+use Rattle.raw_view.proofs.Face.{IsFrame-shorter, stop_key, stop_said}
 use Rattle.dump_io.specs.lines.Fronts.{AppendsFront, HasFront}
 use Rattle.dump_commands.specs.declared.elements.page.Page.{Page}
 use Rattle.dump_commands.specs.declared.elements.level.Level.{Level}
-use Rattle.dump_commands.specs.elements.Runs.{Run, Sheet, Writes, fault_run, is_shown, run_of, sheet_of, shown_end, shown_lines}
-use Rattle.dump_commands.specs.elements.Showing.{Extent, Whole, Begun, HasEndRuns, HasFrameRuns, HasInnerRuns, HasLeftRuns, HasRuns, TellsFrame, left_in, length_run}
+use Rattle.dump_commands.specs.elements.Runs.{Run, Sheet, Writes, fault_run, is_shown, run_lines, run_of, sheet_of, shown_end, shown_lines}
+use Rattle.dump_commands.specs.elements.Showing.{Extent, Whole, Begun, HasEndRuns, HasFrameRuns, HasInnerRuns, HasLeftRuns, HasRuns, HasStopRuns, TellsFrame, head_runs, key_text, left_in, length_run, payload_runs, value_runs}
 use Rattle.dump_commands.specs.elements.ShownLevels.{GoesOn, HaveLevelsRuns, IsShown, IsShownFront, levels_of, size_left}
 
 -- lines of runs one after the other
@@ -30,41 +40,31 @@ module _ (sheet : Sheet) where
   hidden_end at [] h = refl
   hidden_end at (r ∷ rs) h = rw h refl
 
-  mutual
-    pub lines_append : (at : ℕ) (xs ys : List Run) → shown_lines sheet at (xs ++ ys) ≡ shown_lines sheet at xs ++ shown_lines sheet (shown_end sheet at xs) ys
-    lines_append at [] ys = refl
-    lines_append at (x ∷ xs) ys = lines_case at x xs ys (is_shown sheet at) refl
+  lines_case : (at : ℕ) (x : Run) (xs ys : List Run) (is : Bool) → is_shown sheet at ≡ is
+      → shown_lines sheet (at + length x.bytes) (xs ++ ys) ≡ shown_lines sheet (at + length x.bytes) xs ++ shown_lines sheet (shown_end sheet (at + length x.bytes) xs) ys
+      → shown_lines sheet at (x ∷ (xs ++ ys)) ≡ shown_lines sheet at (x ∷ xs) ++ shown_lines sheet (shown_end sheet at (x ∷ xs)) ys
+  lines_case at x xs ys false h so = rw h (sym (hidden_lines at ys h))
+  lines_case at x xs ys true h so = rw h (ap (λ (l : List ℕ). run_lines sheet at x ++ l) so ∙ sym (append_assoc (run_lines sheet at x) _ _))
 
-    lines_case : (at : ℕ) (x : Run) (xs ys : List Run) (is : Bool) → is_shown sheet at ≡ is
-        → shown_lines sheet at (x ∷ (xs ++ ys)) ≡ shown_lines sheet at (x ∷ xs) ++ shown_lines sheet (shown_end sheet at (x ∷ xs)) ys
-    lines_case at x xs ys false h = rw h (sym (hidden_lines at ys h))
-    lines_case at x xs ys true h = rw h (rw (lines_append (at + length x.bytes) xs ys) (sym (append_assoc _ _ _)))
+  pub lines_append : (at : ℕ) (xs ys : List Run) → shown_lines sheet at (xs ++ ys) ≡ shown_lines sheet at xs ++ shown_lines sheet (shown_end sheet at xs) ys
+  lines_append at [] ys = refl
+  lines_append at (x ∷ xs) ys = lines_case at x xs ys (is_shown sheet at) refl (lines_append (at + length x.bytes) xs ys)
 
-  mutual
-    pub end_append : (at : ℕ) (xs ys : List Run) → shown_end sheet at (xs ++ ys) ≡ shown_end sheet (shown_end sheet at xs) ys
-    end_append at [] ys = refl
-    end_append at (x ∷ xs) ys = end_case at x xs ys (is_shown sheet at) refl
+  end_case : (at : ℕ) (x : Run) (xs ys : List Run) (is : Bool) → is_shown sheet at ≡ is
+      → shown_end sheet (at + length x.bytes) (xs ++ ys) ≡ shown_end sheet (shown_end sheet (at + length x.bytes) xs) ys
+      → shown_end sheet at (x ∷ (xs ++ ys)) ≡ shown_end sheet (shown_end sheet at (x ∷ xs)) ys
+  end_case at x xs ys false h so = rw h (sym (hidden_end at ys h))
+  end_case at x xs ys true h so = rw h so
 
-    end_case : (at : ℕ) (x : Run) (xs ys : List Run) (is : Bool) → is_shown sheet at ≡ is
-        → shown_end sheet at (x ∷ (xs ++ ys)) ≡ shown_end sheet (shown_end sheet at (x ∷ xs)) ys
-    end_case at x xs ys false h = rw h (sym (hidden_end at ys h))
-    end_case at x xs ys true h = rw h (end_append (at + length x.bytes) xs ys)
+  pub end_append : (at : ℕ) (xs ys : List Run) → shown_end sheet at (xs ++ ys) ≡ shown_end sheet (shown_end sheet at xs) ys
+  end_append at [] ys = refl
+  end_append at (x ∷ xs) ys = end_case at x xs ys (is_shown sheet at) refl (end_append (at + length x.bytes) xs ys)
 
 pub writes_none : (page : Page) → Writes page page []
 writes_none page = record { text = sym (append-nil page.text.items); at = refl; same = refl }
 
--- a page on which only the words changed
-pub record SamePage (a b : Page) : Type 0 where
-  pub text : b.text.items ≡ a.text.items
-  pub at : b.at ≡ a.at
-  pub same : sheet_of b ≡ sheet_of a
-
-pub writes_from : (a b c : Page) (runs : List Run) → SamePage a b → Writes b c runs → Writes a c runs
-writes_from a b c runs same w = record {
-  text = w.text ∙ (λ i. same.text i ++ shown_lines (same.same i) (same.at i) runs);
-  at = w.at ∙ (λ i. shown_end (same.same i) (same.at i) runs);
-  same = w.same ∙ same.same;
-}
+pub writes_as : (a b : Page) (runs given : List Run) → runs ≡ given → Writes a b runs → Writes a b given
+writes_as a b runs given same w = subst (Writes a b) same w
 
 pub writes_more : (a b c : Page) (xs ys : List Run) → Writes a b xs → Writes b c ys → Writes a c (xs ++ ys)
 writes_more a b c xs ys v w = record {
@@ -74,12 +74,120 @@ writes_more a b c xs ys v w = record {
   same = w.same ∙ v.same;
 }
 
+-- where a level stops
+
+abbrev pub why_of : BorrowedError → List ℕ
+why_of e = codes "damaged: " ++ kind_text e.kind
+
+-- the end of a level that stops with this error
+pub ends_stop : (depth : ℕ) (s : List ℕ) (e : BorrowedError) (key : Option (List ℕ)) (runs : List Run) → StopsWith e.kind key s
+    → ((fault : Fault) → IsStop s fault key → HasStopRuns depth s key (why_of e) runs) → HasEndRuns depth s runs
+ends_stop depth s e key runs stops has =
+    let (fault, says, stop) = stop_said e.kind key s stops in
+    inr (fault, key, why_of e, stop, (e.kind, says, e.reading, refl), has fault stop)
+
+no_key : (s : List ℕ) (fault : Fault) (key : Option (List ℕ)) → IsStop s fault key → s ≡ [] → key ≡ None
+no_key s fault None stop none = refl
+no_key s fault (Some key) stop none =
+    let bad : tagged (stop_key s fault key stop).tag key (stop_key s fault key stop).behind ≡ [] = sym (stop_key s fault key stop).spelled ∙ none in
+    absurd (cc)
+
+pub ends_nothing : (depth : ℕ) (s : List ℕ) (e : BorrowedError) (key : Option (List ℕ)) → StopsWith e.kind key s → s ≡ []
+    → HasEndRuns depth s (fault_run depth s (why_of e) ∷ [])
+ends_nothing depth s e key stops none =
+    ends_stop depth s e key (fault_run depth s (why_of e) ∷ []) stops
+    (λ fault stop. subst (λ (k : Option (List ℕ)). HasStopRuns depth s k (why_of e) (fault_run depth s (why_of e) ∷ [])) (sym (no_key s fault key stop none)) (inl (none, refl)))
+
+bad_key_at : (s : List ℕ) (fault : Fault) → IsStop s fault None → s ≢ [] → (key : List ℕ) × HasKey s key
+bad_key_at s fault (no_byte_left none a b) more = absurd (more none)
+bad_key_at s fault (key_not_utf8 k at u a b) more = (k, at)
+bad_key_at s fault (no_such_tag k at u n a b) more = absurd (cc)
+bad_key_at s fault (regex_not_utf8 k at u n t a b) more = absurd (cc)
+bad_key_at s fault (no_payload k at t why u i n m p a b) more = absurd (cc)
+
+pub bad_key : (s : List ℕ) (e : BorrowedError) → StopsWith e.kind None s → s ≢ [] → (key : List ℕ) × HasKey s key
+bad_key s e stops more =
+    let (fault, says, stop) = stop_said e.kind None s stops in
+    bad_key_at s fault stop more
+
+pub no_value : (s : List ℕ) (e : BorrowedError) (key : List ℕ) → StopsWith e.kind (Some key) s → HasKey s key
+no_value s e key stops =
+    let (fault, says, stop) = stop_said e.kind (Some key) s stops in
+    stop_key s fault key stop
+
+-- a frame that is next
+
+pub next_frame : (left new : Option (List ℕ)) (e : RawElement) (s : List ℕ) → left ≡ Some s → StepsFront left (Some (Ok e)) new → (r : List ℕ) × IsFrame s (frame_of e) r
+next_frame left new e s is steps =
+    let (r, at, same) = subst (λ (x : Option (List ℕ)). StepsFront x (Some (Ok e)) new) is steps in
+    (r, at)
+
+-- a key that is sought
+
+-- of bytes that begin with a key these are left, after some of the key
+abbrev pub HasKeyLeft : List ℕ → List ℕ → Type 0
+HasKeyLeft bytes rest = (key others : List ℕ) → bytes ≡ key ++ 0 ∷ others → NulFree key → (k : List ℕ) × (rest ≡ k ++ 0 ∷ others) × NulFree k
+
+key_step : (byte : ℕ) (more others k : List ℕ) → byte ∷ more ≡ k ++ 0 ∷ others → NulFree k → byte ≢ 0 → (j : List ℕ) × (more ≡ j ++ 0 ∷ others) × NulFree j
+key_step byte more others [] is free one = absurd (one (cc))
+key_step byte more others (x ∷ k) is free one = (k, cc, λ i d less. free (suc i) d (omega (arith, less)))
+
+-- what is left after the first byte
+abbrev pub behind_first : List ℕ → List ℕ
+behind_first rest = take (length rest - 1) (drop 1 rest)
+
+behind_is : (x : ℕ) (xs : List ℕ) → behind_first (x ∷ xs) ≡ xs
+behind_is x xs =
+    let less : length (x ∷ xs) - 1 ≡ length xs = omega arith in
+    rw less (take-length xs)
+
+pub key_goes : (bytes rest : List ℕ) → HasKeyLeft bytes rest → 1 ≤ length rest → (get_or rest 0 0 ≡ 0 → ⊥) → HasKeyLeft bytes (behind_first rest)
+key_goes bytes [] left some one key others is free = absurd (omega (arith, some))
+key_goes bytes (x ∷ xs) left some one key others is free =
+    let (k, rest, none) = left key others is free in
+    rw (behind_is x xs) (key_step x xs others k rest none one)
+
+key_at : (byte : ℕ) (more others k : List ℕ) → byte ∷ more ≡ k ++ 0 ∷ others → NulFree k → byte ≡ 0 → more ≡ others
+key_at byte more others [] is free nul = cc
+key_at byte more others (x ∷ k) is free nul =
+    let same : x ≡ 0 = cc in
+    absurd (free 0 0 (omega arith) same)
+
+pub key_found : (bytes rest : List ℕ) → HasKeyLeft bytes rest → 1 ≤ length rest → get_or rest 0 0 ≡ 0 → (key others : List ℕ) → bytes ≡ key ++ 0 ∷ others → NulFree key
+    → length bytes - length (behind_first rest) ≡ length key + 1
+key_found bytes [] left some nul key others is free = absurd (omega (arith, some))
+key_found bytes (x ∷ xs) left some nul key others is free =
+    let (k, rest, none) = left key others is free in
+    let same : xs ≡ others = key_at x xs others k rest none nul in
+    omega (arith, ap length is, length-append key (0 ∷ others), ap length same, ap length (behind_is x xs))
+
+pub key_none : (bytes rest : List ℕ) → HasKeyLeft bytes rest → rest ≡ [] → (key others : List ℕ) → bytes ≡ key ++ 0 ∷ others → NulFree key → length bytes ≡ length key + 1
+key_none bytes rest left none key others is free =
+    let (k, has, n) = left key others is free in
+    absurd (omega (arith, ap length (sym none ∙ has), length-append k (0 ∷ others)))
+
+-- values
+
+pub own_single : (depth : ℕ) (f : Frame) (v : RawValue) (text : List ℕ) → IsSingle v → payload_runs depth f.kind f.payload text ≡ value_runs depth f v text
+own_single depth f (single l) text is = refl
+own_single depth f (document d) text is = absurd is
+own_single depth f (array d) text is = absurd is
+own_single depth f (scoped code d) text is = absurd is
+
+-- the runs of a tag and a key that are cut off the bytes
+
+abbrev pub marked : Bool → ℕ → List ℕ → List ℕ → Run
+marked is_fault depth bytes text = record { bytes = bytes; depth = depth; is_fault = is_fault; text = text }
+pub heads_as : (is_fault : Bool) (depth : ℕ) (f : Frame) (tag key name text : List ℕ) → tag ≡ tag_of f.kind ∷ [] → key ≡ f.key ++ 0 ∷ [] → name ≡ says.kind_text f.kind
+    → text ≡ key_text f.key → marked is_fault depth tag name ∷ (run_of depth key text ∷ []) ≡ head_runs is_fault depth f
+heads_as is_fault depth f tag key name text t k n w = λ i. marked is_fault depth (t i) (n i) ∷ (run_of depth (k i) (w i) ∷ [])
+
 -- after these runs, what shows the new levels shows the old ones
 abbrev pub Advances : ℕ → ℕ → (old new : List (List ℕ)) → List Run → Type 0
 Advances k here old new runs = (e : Extent) (rest : List Run) → HaveLevelsRuns e k here new rest → HaveLevelsRuns e k here old (runs ++ rest)
 
 -- the same within those that wait
-module _ {k here : ℕ} {old new : List (List ℕ)} {runs : List Run} (step : Advances k here old new runs) where
+module _ (k here : ℕ) (old new : List (List ℕ)) (runs : List Run) (step : Advances k here old new runs) where
   inmost : (e : Extent) (n depth : ℕ) (rest : List Run) → n ≡ k → here ≡ depth → HaveLevelsRuns e n depth new rest → HaveLevelsRuns e n depth old (runs ++ rest)
   inmost e n depth rest levels place h =
       subst (λ (m : ℕ). HaveLevelsRuns e m depth new rest → HaveLevelsRuns e m depth old (runs ++ rest)) (sym levels)
@@ -137,7 +245,7 @@ module _ (Nested : List ℕ → List Run → Type 0) where
   inner_holding h d runs t = grind arith
 
   inner_held : (v : RawValue) (x : Option RawLevel) (runs : List Run) → HoldsLevel v x → HasHeldRuns x runs → HasInnerRuns Nested v runs
-  inner_held v None runs single t = grind arith
+  inner_held v None runs h t = grind arith
   inner_held v (Some x) runs h t = rw h (inner_holding x.holder (bytes_of x.document) runs t)
 
   frame_runs : (depth : ℕ) (f : Frame) (runs : List Run) (x : Option RawLevel) (inner : List Run) → TellsFrame depth f runs x → HasHeldRuns x inner
@@ -195,7 +303,7 @@ module _ (here : ℕ) (s : List ℕ) where
           → HasRuns (suc m) (here + 1) e (bytes_of inner.document) (length_run (here + 1) (bytes_of inner.document) ∷ rest)
       inner_runs m e rest h = (rest, one_level m (here + 1) (drop 4 (bytes_of inner.document)) e rest h, refl)
 
-      head : Run
+      abbrev head : Run
       head = length_run (here + 1) (bytes_of inner.document)
 
       joined : (a last rest : List Run) → rest ≡ a ++ last → (runs ++ head ∷ []) ++ rest ≡ (runs ++ head ∷ a) ++ last
@@ -247,7 +355,7 @@ module _ (ws : List Level) (l : Level) (few : length ws < 500) where
       → (e : Extent) (rest : List Run) → HaveLevelsRuns e 500 0 (map left_in ws ++ new) rest → HaveLevelsRuns e 500 0 (levels_of ws l) (runs ++ rest)
   lifted m new runs many step e rest h =
       subst (λ (x : List (List ℕ)). HaveLevelsRuns e 500 0 x (runs ++ rest)) (sym (levels_push ws l))
-      (outward step e 500 0 (map left_in ws) rest (omega (arith, many, length_lefts ws)) (omega (arith, length_lefts ws)) h)
+      (outward (suc m) (length ws) (left_in l ∷ []) new runs step e 500 0 (map left_in ws) rest (omega (arith, many, length_lefts ws)) (omega (arith, length_lefts ws)) h)
 
   many : 500 ≡ length ws + suc (499 - length ws)
   many = omega (arith, few)
@@ -273,7 +381,7 @@ module _ (ws : List Level) (l : Level) (few : length ws < 500) where
 
   module _ (new : Level) (f : Frame) (at : IsFrame (left_in l) f (left_in new)) where
     shorter : length (left_in new) < length (left_in l)
-    shorter = IsFrame-shorter (left_in l) f (left_in new) at
+    shorter = omega (arith, IsFrame-shorter (left_in l) f (left_in new) at)
 
     less_beside : size_left (levels_of ws new) < size_left (levels_of ws l)
     less_beside =
@@ -340,13 +448,13 @@ pub record IsShowing (d : List ℕ) (first page : Page) (old out : Option (List 
 
 pub showing_begins : (d : List ℕ) (first page : Page) (out : Option (List ℕ)) → first.text.items ≡ [] → first.at ≡ 0 → Writes first page (length_run 0 d ∷ [])
     → IsShowing d first page out out (drop 4 d ∷ [])
-showing_begins d first page out none zero w = record {
+showing_begins d first page out none start w = record {
   runs = length_run 0 d ∷ [];
   leads = λ e rest h. (rest, one_level 499 0 (drop 4 d) e rest h, refl);
   written = [];
   put = Appends-nil out;
-  lines = w.text ∙ (λ i. none i ++ shown_lines (sheet_of first) (zero i) (length_run 0 d ∷ []));
-  at = w.at ∙ ap (λ (x : ℕ). shown_end (sheet_of first) x (length_run 0 d ∷ [])) zero;
+  lines = w.text ∙ (λ i. none i ++ shown_lines (sheet_of first) (start i) (length_run 0 d ∷ []));
+  at = w.at ∙ ap (λ (x : ℕ). shown_end (sheet_of first) x (length_run 0 d ∷ [])) start;
   same = w.same;
 }
 
@@ -404,7 +512,7 @@ module _ {d : List ℕ} {first page : Page} {old out : Option (List ℕ)} {level
       extent = Begun;
       runs = is.runs;
       has = begun;
-      enough = (λ i. is_shown (is.same (~ i)) (is.at (~ i))) ∙ none;
+      enough = (λ i. is_shown (sym is.same i) (sym is.at i)) ∙ none;
       written = is.written;
       put = is.put;
       lines = is.lines;
@@ -413,14 +521,16 @@ module _ {d : List ℕ} {first page : Page} {old out : Option (List ℕ)} {level
     }
 
     pub showing_fails : IsShownFront d first old out
-    showing_fails = (is.written, is.put, Begun, is.runs, begun, (page.text.items, sym is.lines))
+    showing_fails = (is.written, is.put, (Begun, is.runs, begun, (page.text.items, sym is.lines)))
 
     pub showing_breaks : (new : Option (List ℕ)) → AppendsFront out new page.text.items → IsShownFront d first old new
     showing_breaks new front = (
       is.written ++ front.front,
       Appends-trans old out new is.written front.front is.put front.put,
-      Begun,
-      is.runs,
-      begun,
-      (front.behind, sym is.lines ∙ ap (λ (x : List ℕ). is.written ++ x) front.whole ∙ sym (append_assoc is.written front.front front.behind)),
+      (
+        Begun,
+        is.runs,
+        begun,
+        (front.behind, sym is.lines ∙ ap (λ (x : List ℕ). is.written ++ x) front.whole ∙ sym (append_assoc is.written front.front front.behind)),
+      ),
     )

@@ -294,12 +294,15 @@ fn push_stop(
     ensures failed { IfErr result (λ failure. ¬ IsReading failure) }
 {
     if rest.is_empty() {
-        return push_reason(depth, rest, error, page);
+        push_reason(depth, rest, error, page)?;
+        return Ok(());
     }
-    match error.key {
-        None => push_bad_key(depth, rest, error, page),
-        Some(key) => push_no_value(depth, rest, key, error, page),
-    }
+    let Some(key) = error.key else {
+        push_bad_key(depth, rest, error, page)?;
+        return Ok(());
+    };
+    push_no_value(depth, rest, key, error, page)?;
+    Ok(())
 }
 
 /// Puts what is left of a level that stops at a key that isn't UTF-8.
@@ -366,15 +369,13 @@ fn key_len(bytes: &[u8]) -> usize
     ensures { (key others : List ℕ) → bytes.now ≡ key ++ 0 ∷ others → NulFree key → result ≡ length key + 1 }
 {
     let mut rest = bytes;
-    let mut len = 0;
     'bytes: while let [byte, more @ ..] = rest {
-        len += 1;
         if *byte == 0 {
-            return len;
+            return bytes.len().saturating_sub(more.len());
         }
         rest = more;
     }
-    len
+    bytes.len()
 }
 
 /// Puts bytes at which reading stops, with the reason.
@@ -412,7 +413,8 @@ fn push_any_tag(depth: usize, tag: &[u8], page: &mut Page) -> Result<(), Failure
         depth,
         is_fault: true,
     };
-    push_run(page, run, 0)
+    push_run(page, run, 0)?;
+    Ok(())
 }
 
 /// Appends what this tag says.
@@ -556,7 +558,8 @@ fn push_faulty(
         depth,
         is_fault: true,
     };
-    push_run(page, run, 0)
+    push_run(page, run, 0)?;
+    Ok(())
 }
 
 /// Puts the runs of a value, without those of the level that it holds.
@@ -573,7 +576,11 @@ fn push_value(
     ensures failed { IfErr result (λ failure. ¬ IsReading failure) }
 {
     match value.level() {
-        None => push_payload(alloc, depth, element.element_type(), element.payload(), value, page),
+        None => {
+            let (kind, payload) = (element.element_type(), element.payload());
+            push_payload(alloc, depth, kind, payload, value, page)?;
+            Ok(())
+        }
         Some(level) => push_beside(alloc, depth, element, value, level, page),
     }
 }
@@ -599,7 +606,8 @@ fn push_beside(
             let payload = element.payload();
             let len = payload.len().saturating_sub(level.document.as_bytes().len());
             let own = split_at_most(payload, len).0;
-            push_payload(alloc, depth, element.element_type(), own, value, page)
+            push_payload(alloc, depth, element.element_type(), own, value, page)?;
+            Ok(())
         }
     }
 }
@@ -622,7 +630,8 @@ fn push_payload(
         return push_said(alloc, depth, bytes, value, page);
     }
     push_length(page, depth, bytes)?;
-    push_said(alloc, depth, split_at_most(bytes, 4).1, value, page)
+    push_said(alloc, depth, split_at_most(bytes, 4).1, value, page)?;
+    Ok(())
 }
 
 /// Puts bytes, and says which value they are.
