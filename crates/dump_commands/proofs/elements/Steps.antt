@@ -15,7 +15,12 @@ use Rattle.raw_view.specs.Frame.ElementSteps.{frame_of}
 use Rattle.raw_view.specs.Frame.Front.{StepsFront, StopsWith}
 use Rattle.raw_view.specs.declared.element.RawElement.{RawElement}
 use Rattle.raw_view.specs.declared.error.BorrowedError.{BorrowedError}
-use Rattle.dump_io.specs.lines.Find.{kind_text}
+use Rattle.raw_view.specs.Errors.{IsMalformed}
+use Rattle.raw_view.specs.Frame.Envelope.{IsEnvelope, Refuses}
+use Rattle.raw_view.specs.declared.error.ErrorKind.{ErrorKind}
+use Rattle.raw_view.specs.declared.error.ErrorKind.TheVariants as kind
+use Rattle.raw_view.specs.declared.error.Reason.{Reason}
+use Rattle.dump_io.specs.lines.Find.{explanation_text, kind_text, reason_explained}
 use Rattle.raw_view.specs.Meaning.{RawValue, array, document, scoped, single}
 use Rattle.raw_view.specs.Meaning.Value.{HoldsLevel, IsSingle, holding}
 use Rattle.bson_model.specs.Bytes.{NulFree}
@@ -25,9 +30,9 @@ use Rattle.raw_view.proofs.Face.{IsFrame-shorter, stop_key, stop_said}
 use Rattle.dump_io.specs.lines.Fronts.{AppendsFront, HasFront}
 use Rattle.dump_commands.specs.declared.elements.page.Page.{Page}
 use Rattle.dump_commands.specs.declared.elements.level.Level.{Level}
-use Rattle.dump_commands.specs.elements.Runs.{Run, Sheet, Writes, fault_run, is_shown, run_lines, run_of, sheet_of, shown_end, shown_lines}
-use Rattle.dump_commands.specs.elements.Showing.{Extent, Whole, Begun, HasEndRuns, HasFrameRuns, HasInnerRuns, HasLeftRuns, HasRuns, HasStopRuns, TellsFrame, head_runs, key_text, left_in, length_run, payload_runs, value_runs}
-use Rattle.dump_commands.specs.elements.ShownLevels.{GoesOn, HaveLevelsRuns, IsShown, IsShownFront, levels_of, size_left}
+use Rattle.dump_commands.specs.elements.Runs.{Run, Sheet, Writes, document_lines, fault_run, is_shown, rest_line, run_lines, run_of, sheet_of, shown_end, shown_lines}
+use Rattle.dump_commands.specs.elements.Showing.{Extent, Whole, Begun, HasEndRuns, HasFrameRuns, HasInnerRuns, HasLeftRuns, HasRuns, HasStopRuns, TellsFrame, head_runs, key_text, left_in, length_run, payload_runs, refused_runs, sheet_at, ShowsPiece, ShowsPieceFront, value_runs}
+use Rattle.dump_commands.specs.elements.ShownLevels.{GoesOn, HaveLevelsRuns, IsPartly, IsShown, IsShownFront, IsWritten, levels_of, page_text, size_left}
 
 -- lines of runs one after the other
 
@@ -161,10 +166,10 @@ key_found bytes (x ∷ xs) left some nul key others is free =
     let same : xs ≡ others = key_at x xs others k rest none nul in
     omega (arith, ap length is, length-append key (0 ∷ others), ap length same, ap length (behind_is x xs))
 
-pub key_none : (bytes rest : List ℕ) → HasKeyLeft bytes rest → rest ≡ [] → (key others : List ℕ) → bytes ≡ key ++ 0 ∷ others → NulFree key → length bytes ≡ length key + 1
+pub key_none : (bytes rest : List ℕ) → HasKeyLeft bytes rest → length rest < 1 → (key others : List ℕ) → bytes ≡ key ++ 0 ∷ others → NulFree key → length bytes ≡ length key + 1
 key_none bytes rest left none key others is free =
     let (k, has, n) = left key others is free in
-    absurd (omega (arith, ap length (sym none ∙ has), length-append k (0 ∷ others)))
+    absurd (omega (arith, none, ap length has, length-append k (0 ∷ others)))
 
 -- values
 
@@ -458,6 +463,11 @@ showing_begins d first page out none start w = record {
   same = w.same;
 }
 
+-- nothing is written
+pub shown_nothing : (d : List ℕ) (first : Page) (out : Option (List ℕ)) → IsShownFront d first out out
+shown_nothing d first out =
+    ([], Appends-nil out, (Begun, length_run 0 d ∷ [], ([], ([], drop 4 d, [], [], refl, refl, inl refl, refl), refl), (_, refl)))
+
 module _ {d : List ℕ} {first page : Page} {old out : Option (List ℕ)} {levels : List (List ℕ)} (is : IsShowing d first page old out levels) where
   pub showing_goes : (next : Page) (new : List (List ℕ)) (more : List Run) → GoesOn levels new more → Writes page next more → IsShowing d first next old out new
   showing_goes next new more goes w = record {
@@ -534,3 +544,73 @@ module _ {d : List ℕ} {first page : Page} {old out : Option (List ℕ)} {level
         (front.behind, sym is.lines ∙ ap (λ (x : List ℕ). is.written ++ x) front.whole ∙ sym (append_assoc is.written front.front front.behind)),
       ),
     )
+
+-- what is written in the end
+
+module _ {d : List ℕ} {first page : Page} {a b : Option (List ℕ)} (is : IsShown d page a b first) where
+  rest_is : page_text page ≡ page.text.items ++ rest_line (first.base + shown_end (sheet_of first) 0 is.runs) (first.size - shown_end (sheet_of first) 0 is.runs)
+  rest_is = λ i. page.text.items ++ rest_line ((is.same i).base + is.at i) ((is.same i).size - is.at i)
+
+  whole_is : is.written ++ page_text page ≡ document_lines (sheet_of first) is.runs
+  whole_is =
+      ap (λ (x : List ℕ). is.written ++ x) rest_is ∙ sym (append_assoc is.written page.text.items _)
+      ∙ ap (λ (x : List ℕ). x ++ rest_line (first.base + shown_end (sheet_of first) 0 is.runs) (first.size - shown_end (sheet_of first) 0 is.runs)) is.lines
+
+  pub all_written : (c : Option (List ℕ)) → Appends b c (page_text page) → IsWritten d (sheet_of first) a c
+  all_written c put = (is.extent, is.runs, is.has, is.enough, subst (Appends a c) whole_is (Appends-trans a b c is.written (page_text page) is.put put))
+
+  pub partly_written : (c : Option (List ℕ)) → AppendsFront b c (page_text page) → IsPartly d (sheet_of first) a c
+  partly_written c front = (
+    is.written ++ front.front,
+    Appends-trans a b c is.written front.front is.put front.put,
+    (
+      is.extent,
+      is.runs,
+      is.has,
+      inr (is.enough,
+      (front.behind, sym whole_is ∙ ap (λ (x : List ℕ). is.written ++ x) front.whole ∙ sym (append_assoc is.written front.front front.behind))),
+    ),
+  )
+
+pub partly_shown : (d : List ℕ) (first : Page) (a b : Option (List ℕ)) → IsShownFront d first a b → IsPartly d (sheet_of first) a b
+partly_shown d first a b (text, put, (extent, runs, has, front)) = (text, put, (extent, runs, has, inl front))
+
+-- pieces
+
+pub refused_text : (a b : Page) (runs : List Run) → Writes a b runs → a.text.items ≡ [] → a.at ≡ 0 → page_text b ≡ document_lines (sheet_of a) runs
+refused_text a b runs w none start =
+    let at : b.at ≡ shown_end (sheet_of a) 0 runs = w.at ∙ ap (λ (x : ℕ). shown_end (sheet_of a) x runs) start in
+    (λ i. (w.text ∙ (λ j. none j ++ shown_lines (sheet_of a) (start j) runs)) i ++ rest_line ((w.same i).base + at i) ((w.same i).size - at i))
+
+module _ (most : Option ℕ) (base : ℕ) (b : List ℕ) (old new : Option (List ℕ)) where
+  pub piece_shown : IsEnvelope b → IsWritten b (sheet_at most base b) old new → (text : List ℕ) × ShowsPiece most base b text × Appends old new text
+  piece_shown is (extent, runs, has, enough, put) = (document_lines (sheet_at most base b) runs, (extent, runs, inl (is, has), enough, refl), put)
+
+  pub piece_front : IsEnvelope b → IsPartly b (sheet_at most base b) old new → (text : List ℕ) × ShowsPieceFront most base b text × Appends old new text
+  piece_front is (text, put, (extent, runs, has, inl front)) = (text, inr (inl (extent, runs, inl (is, has), front)), put)
+  piece_front is (text, put, (extent, runs, has, inr (enough, front))) =
+      (text, inr (inr (document_lines (sheet_at most base b) runs, (extent, runs, inl (is, has), enough, refl), front)), put)
+
+abbrev pub RefusedLines : Option ℕ → ℕ → List ℕ → Reason → List ℕ
+RefusedLines most base b why = document_lines (sheet_at most base b) (refused_runs b why (codes "damaged: " ++ explanation_text (reason_explained why)))
+
+module _ (most : Option ℕ) (base : ℕ) (b : List ℕ) (why : Reason) (refuses : Refuses b why) where
+  refused_piece : ShowsPiece most base b (RefusedLines most base b why)
+  refused_piece = (Whole, refused_runs b why (codes "damaged: " ++ explanation_text (reason_explained why)), inr (why, refuses, refl), tt, refl)
+
+  pub refused_shown : (old new : Option (List ℕ)) → Appends old new (RefusedLines most base b why) → (text : List ℕ) × ShowsPiece most base b text × Appends old new text
+  refused_shown old new put = (RefusedLines most base b why, refused_piece, put)
+
+  pub refused_front : (old new : Option (List ℕ)) → AppendsFront old new (RefusedLines most base b why)
+      → (text : List ℕ) × ShowsPieceFront most base b text × Appends old new text
+  refused_front old new front = (front.front, inr (inr (RefusedLines most base b why, refused_piece, (front.behind, front.whole))), front.put)
+
+-- why bytes have no envelope
+pub reason_of : (k : ErrorKind) (b : List ℕ) → IsMalformed k (Refuses b) → (why : Reason) × Refuses b why × (k ≡ kind.MalformedValue why)
+reason_of (kind.MalformedValue why) b h = (why, h, refl)
+reason_of (kind.Utf8EncodingError e) b h = absurd h
+reason_of kind.OutOfMemory b h = absurd h
+
+pub refused_as : (most : Option ℕ) (base : ℕ) (b : List ℕ) (why : Reason) (k : ErrorKind) (sheet : Sheet) → k ≡ kind.MalformedValue why
+    → sheet ≡ sheet_at most base b → document_lines sheet (refused_runs b why (codes "damaged: " ++ kind_text k)) ≡ RefusedLines most base b why
+refused_as most base b why k sheet is same = λ i. document_lines (same i) (refused_runs b why (codes "damaged: " ++ kind_text (is i)))

@@ -1,9 +1,9 @@
 -- What is left to show of the levels of a document, of which some wait. No public contract cites this file.
-use Rattle.std.specs.Prelude.{◌≡◌, ◌⊎◌, ◌+◌, ◌<◌, ℕ, suc, zero, List, [], ◌∷◌, ◌++◌, Bool, true, false, Option, drop, length, map, sum_by}
+use Rattle.std.specs.Prelude.{◌≡◌, ◌⊎◌, ◌+◌, ◌-◌, ◌<◌, ℕ, suc, zero, List, [], ◌∷◌, ◌++◌, Bool, true, false, Option, drop, length, map, sum_by}
 use Rattle.raw_view.specs.Document.{bytes_of}
 use Rattle.dump_io.specs.lines.Fronts.{HasFront}
 use Rattle.dump_commands.specs.declared.elements.level.Level.{Level}
-use Rattle.dump_commands.specs.elements.Runs.{Run, Writes, sheet_of, shown_end, shown_lines}
+use Rattle.dump_commands.specs.elements.Runs.{Run, Sheet, Writes, document_lines, rest_line, sheet_of, shown_end, shown_lines}
 use Rattle.dump_commands.specs.elements.Showing.{Extent, Whole, Begun, HasLeftRuns, HasRuns, IsEnough, left_in}
 use Rattle.dump_commands.specs.declared.elements.page.Page.{Page}
 use Rattle.std.specs.Io.KnownBytes.{Appends}
@@ -55,3 +55,19 @@ abbrev pub IsShownFront : List ℕ → Page → (old out : Option (List ℕ)) �
 IsShownFront d first old out =
     (text : List ℕ) × Appends old out text
     × ((extent : Extent) × (runs : List Run) × HasRuns 500 0 extent d runs × HasFront (shown_lines (sheet_of first) 0 runs) text)
+
+-- what is on a page, and after that how many bytes aren't shown
+abbrev pub page_text : Page → List ℕ
+page_text page = page.text.items ++ rest_line (page.base + page.at) (page.size - page.at)
+
+-- the lines of a document are written
+abbrev pub IsWritten : List ℕ → Sheet → (old out : Option (List ℕ)) → Type 0
+IsWritten d sheet old out =
+    (extent : Extent) × (runs : List Run) × HasRuns 500 0 extent d runs × IsEnough sheet extent runs × Appends old out (document_lines sheet runs)
+
+-- a front of them is
+abbrev pub IsPartly : List ℕ → Sheet → (old out : Option (List ℕ)) → Type 0
+IsPartly d sheet old out =
+    (text : List ℕ) × Appends old out text
+    × ((extent : Extent) × (runs : List Run) × HasRuns 500 0 extent d runs
+    × (HasFront (shown_lines sheet 0 runs) text ⊎ (IsEnough sheet extent runs × HasFront (document_lines sheet runs) text)))

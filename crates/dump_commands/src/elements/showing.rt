@@ -19,10 +19,11 @@ ghost use Rattle.raw_view.specs.Frame.Front.{StopsWith};
 ghost use Rattle.raw_view.specs.Meaning.Value.{held_value, value_of};
 ghost use Rattle.std.specs.Option.{option_copied};
 ghost use Rattle.dump_commands.specs.elements.Runs as sheets;
-ghost use Rattle.dump_commands.specs.elements.Runs.{Writes, fault_run, run_of};
+ghost use Rattle.dump_commands.specs.elements.Runs.{Writes, document_lines, fault_run, run_of, sheet_of};
+ghost use Rattle.dump_io.specs.lines.Fronts.{AppendsFront};
 ghost use Rattle.dump_commands.specs.elements.Showing.{HasEndRuns, SaysTag, ShowsPiece, ShowsPieceFront, StepsRuns, TellsFrame, key_run, left_in, length_run, payload_runs, value_runs};
 ghost use Rattle.dump_commands.specs.elements.Showing as says;
-ghost use Rattle.dump_commands.specs.elements.ShownLevels.{GoesOn, IsShown, IsShownFront, levels_after, levels_of};
+ghost use Rattle.dump_commands.specs.elements.ShownLevels.{GoesOn, IsPartly, IsShown, IsShownFront, IsWritten, levels_after, levels_of, page_text};
 
 use crate::elements::level::{Level, Next};
 use crate::elements::listing::push_fault;
@@ -61,11 +62,60 @@ pub fn show_piece<W: Write>(
     ensures failed { IfErr result (λ failure. ¬ IsReading failure) }
 {
     let mut page = Page::new(alloc, most, base, bytes.len());
-    match RawDocument::from_bytes(bytes) {
-        Ok(document) => show_levels(alloc, document, &mut page, out)?,
-        Err(error) => push_refused(bytes, &error.kind, &mut page)?,
-    }
-    push_rest(&mut page)?;
+    let document = match RawDocument::from_bytes(bytes) {
+        Ok(document) => document,
+        Err(error) => {
+            show_refused(bytes, &error.kind, &mut page, out)?;
+            return Ok(());
+        }
+    };
+    show_document(alloc, document, &mut page, out)?;
+    Ok(())
+}
+
+/// Writes the lines of a document.
+fn show_document<W: Write>(
+    alloc: Global,
+    document: RawDocument<'_>,
+    page: &mut Page,
+    out: &mut W,
+) -> Result<(), Failure>
+    requires { (page.old.text.items ≡ []) × (page.old.at ≡ 0) }
+    ensures shown { OnOk result (IsWritten (bytes_of document.entry) (sheet_of page.old) (W.contents out.old) (W.contents out.new)) }
+    ensures front { OnErr result (IsPartly (bytes_of document.entry) (sheet_of page.old) (W.contents out.old) (W.contents out.new)) }
+    ensures failed { IfErr result (λ failure. ¬ IsReading failure) }
+{
+    show_levels(alloc, document, page, out)?;
+    put_page(page, out)?;
+    Ok(())
+}
+
+/// Writes the lines of bytes without an envelope.
+fn show_refused<W: Write>(
+    bytes: &[u8],
+    kind: &ErrorKind,
+    page: &mut Page,
+    out: &mut W,
+) -> Result<(), Failure>
+    requires { (page.old.text.items ≡ []) × (page.old.at ≡ 0) }
+    ensures shown { (why : reasons.Reason) → kind.now ≡ MalformedValue why → OnOk result (Appends (W.contents out.old) (W.contents out.new)
+        (document_lines (sheet_of page.old) (says.refused_runs bytes.now why (codes "damaged: " ++ find.kind_text kind.now)))) }
+    ensures front { (why : reasons.Reason) → kind.now ≡ MalformedValue why → OnErr result (AppendsFront (W.contents out.old) (W.contents out.new)
+        (document_lines (sheet_of page.old) (says.refused_runs bytes.now why (codes "damaged: " ++ find.kind_text kind.now)))) }
+    ensures failed { IfErr result (λ failure. ¬ IsReading failure) }
+{
+    push_refused(bytes, kind, page)?;
+    put_page(page, out)?;
+    Ok(())
+}
+
+/// Writes what is on a page, and how many bytes of the document aren't shown.
+fn put_page<W: Write>(page: &mut Page, out: &mut W) -> Result<(), Failure>
+    ensures written { OnOk result (Appends (W.contents out.old) (W.contents out.new) (page_text page.old)) }
+    ensures front { OnErr result (AppendsFront (W.contents out.old) (W.contents out.new) (page_text page.old)) }
+    ensures failed { IfErr result (λ failure. ¬ IsReading failure) }
+{
+    push_rest(page)?;
     put(out, &page.text)
 }
 
@@ -176,7 +226,11 @@ fn show_levels<W: Write>(
     };
     push_length(page, 0, document.as_bytes())?;
     'levels: loop {
-        if !page.goes_on() || step(alloc, &mut level, &mut waiting, page)? {
+        if !page.goes_on() {
+            return Ok(());
+        }
+        let is_over = step(alloc, &mut level, &mut waiting, page)?;
+        if is_over {
             return Ok(());
         }
         put(out, &page.text)?;

@@ -1,4 +1,4 @@
-use Rattle.std.proofs.Common.{◌≡◌, ◌∙◌, [], rules}
+use Rattle.std.proofs.Common.{◌∙◌}
 use Rattle.dump_commands.proofs.elements.Steps.{key_found, key_goes, key_none}
 use Rattle.dump_commands.proofs.elements.showing.key_len.Goals as goal
 
@@ -11,5 +11,4 @@ returns-then-byte-eq0 c = λ key others is free.
 
 pub returns : goal.returns
 returns c = λ key others is free.
-    let none : c.bytes.rest.now ≡ [] = search rules in
-    key_none c.args.bytes.now c.bytes.rest.now c.bytes.invariant none key others is free
+    key_none c.args.bytes.now c.bytes.rest.now c.bytes.invariant c.in_default.len_below key others is free
