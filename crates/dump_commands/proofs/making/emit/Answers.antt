@@ -6,7 +6,7 @@ use Rattle.dump_io.specs.declared.lines.find.Finding.TheVariants as finding
 use Rattle.dump_io.specs.lines.Fronts.{WritesFront}
 use Rattle.dump_commands.specs.Making.{IsMade, Emits, Makes, Puts}
 use Rattle.dump_io.proofs.Face.{on_any, on_err}
-use Rattle.dump_commands.proofs.Writing.{IsFormWritten, form_made, form_made_canon, form_made_unique, json_emitted, json_made, nothing_emitted, picked_emitted, picked_made}
+use Rattle.dump_commands.proofs.Emitting.{IsFormWritten, form_made, form_made_canon, form_made_unique, json_emitted, json_made, nothing_emitted, picked_emitted, picked_made}
 use Rattle.dump_commands.proofs.making.emit.Goals as goal
 use Rattle.dump_commands.proofs.making.emit.Goals.{in-Check-1, in-Sound+in-TooDeep-1, in-Canon+in-Damaged-1, in-Unique+in-Damaged-1, in-Json+in-Damaged-1, in-Pick+in-Damaged-1}
 

@@ -6,7 +6,7 @@ use Rattle.dump_commands.specs.Making.{Puts}
 use Rattle.dump_commands.specs.state.Forms.{knows, made_as}
 use Rattle.dump_commands.specs.Unique.{written_of}
 use Rattle.dump_io.proofs.Face.{on_err}
-use Rattle.dump_commands.proofs.Writing.{IsFormWritten, form_made, spelled_made}
+use Rattle.dump_commands.proofs.Emitting.{IsFormWritten, form_made, spelled_made}
 use Rattle.dump_commands.proofs.making.put_form.Goals as goal
 
 pub returns-in-Ok-clause-front : goal.returns-in-Ok-clause-front

@@ -5,7 +5,7 @@ use Rattle.dump_commands.specs.Texts.{KeepsAs, MakesKept}
 use Rattle.dump_commands.specs.Unique.{written_of}
 use Rattle.dump_commands.specs.declared.command.Command.TheVariants.{Sound}
 use Rattle.dump_commands.specs.state.Forms.{Made, knows, plain}
-use Rattle.dump_commands.proofs.Writing.{nothing_put}
+use Rattle.dump_commands.proofs.Emitting.{nothing_put}
 use Rattle.dump_commands.proofs.texts.put_kept.Goals as goal
 
 pub returns-in_default-clause-written : goal.returns-in_default-clause-written

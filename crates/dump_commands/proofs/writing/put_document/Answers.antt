@@ -7,7 +7,7 @@ use Rattle.dump_commands.specs.Unique.{written_of}
 use Rattle.dump_commands.specs.declared.command.Command.TheVariants.{Unique}
 use Rattle.dump_commands.specs.declared.making.Spelling.{Spelling}
 use Rattle.dump_io.proofs.Face.{on_err}
-use Rattle.dump_commands.proofs.making.put_document.Goals as goal
+use Rattle.dump_commands.proofs.writing.put_document.Goals as goal
 
 pub returns-in-Unique-clause-written : goal.returns-in-Unique-clause-written
 returns-in-Unique-clause-written g c =

@@ -2,11 +2,11 @@ use Rattle.std.proofs.Common.{refl, rules, subst, sym}
 use Rattle.raw_form.specs.Tokens.{HasTokens}
 use Rattle.dump_io.specs.lines.Origins.{origin_of}
 use Rattle.dump_io.proofs.Face.{on_ok}
-use Rattle.dump_commands.proofs.Counted.{counts_fields, counts_length, counts_seen}
+use Rattle.dump_commands.proofs.Gathering.{counts_fields, counts_length, counts_seen}
 use Rattle.dump_commands.specs.elements.Having.{HasEach}
 use Rattle.dump_commands.specs.elements.Pick.{comma, parts}
 use Rattle.dump_commands.specs.state.Gathered.{of_seen}
-use Rattle.dump_commands.proofs.making.count_fields.Goals as goal
+use Rattle.dump_commands.proofs.gathering.count_fields.Goals as goal
 
 pub returns-in_ok-tokens-in-Fields-Canonical-clause-counted : goal.returns-in_ok-tokens-in-Fields-Canonical-clause-counted
 returns-in_ok-tokens-in-Fields-Canonical-clause-counted c =

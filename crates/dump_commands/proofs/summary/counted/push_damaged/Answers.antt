@@ -1,7 +1,7 @@
 use Rattle.std.proofs.Common.{rules, ◌≡◌, [], ◌∷◌, ◌++◌, ◌∙◌, ap, append_assoc, codes, map, sym}
 use Rattle.dump_commands.specs.Summary.{Count, count_of, damaged_counts}
 use Rattle.dump_io.proofs.Face.{on_ok}
-use Rattle.dump_commands.proofs.summary.push_damaged.Goals as goal
+use Rattle.dump_commands.proofs.summary.counted.push_damaged.Goals as goal
 
 pub returns-in_ok-push-in-Check : goal.returns-in_ok-push-in-Check
 returns-in_ok-push-in-Check c =
