@@ -2,6 +2,6 @@ pub mod Repeating
 pub mod Emitting
 mod Listed
 mod Rowing
-mod Gathering
+mod Gathers
 mod Endings
 pub mod Face

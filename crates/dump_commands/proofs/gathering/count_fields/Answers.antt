@@ -2,7 +2,7 @@ use Rattle.std.proofs.Common.{refl, rules, subst, sym}
 use Rattle.raw_form.specs.Tokens.{HasTokens}
 use Rattle.dump_io.specs.lines.Origins.{origin_of}
 use Rattle.dump_io.proofs.Face.{on_ok}
-use Rattle.dump_commands.proofs.Gathering.{counts_fields, counts_length, counts_seen}
+use Rattle.dump_commands.proofs.Gathers.{counts_fields, counts_length, counts_seen}
 use Rattle.dump_commands.specs.elements.Having.{HasEach}
 use Rattle.dump_commands.specs.elements.Pick.{comma, parts}
 use Rattle.dump_commands.specs.state.Gathered.{of_seen}
