@@ -20,9 +20,11 @@ use Rattle.dump_commands.specs.state.Forms.{CountsOne, Made, firsts_of, knows, m
 use Rattle.dump_commands.specs.Unique.{firsts_if, kept_if, kept_of, known_if, repeats_if, writes_once, written_of}
 use Rattle.dump_commands.specs.declared.command.Command.{Command}
 use Rattle.dump_commands.specs.declared.command.Command.TheVariants as command
+use Rattle.dump_commands.specs.declared.gathering.Gathering.{Gathering}
 use Rattle.dump_commands.specs.declared.making.Making.{Making}
 use Rattle.dump_commands.specs.declared.making.Making.TheVariants as making
 use Rattle.dump_commands.specs.declared.making.Spelling.{Spelling}
+use Rattle.dump_commands.specs.declared.reporting.Report.{Report}
 use Rattle.dump_commands.specs.declared.state.kept.Kept.{Kept}
 use Rattle.dump_io.specs.declared.lines.origin.Origin.{Origin}
 use Rattle.dump_commands.proofs.Repeating.{firsts_none, repeats_none}
@@ -60,6 +62,12 @@ nothing_put c at out k = (writes_none c out k, record { placed = sym (firsts_non
 pub nothing_emitted : (c : Command) (at : Origin) (b : List ℕ) (f : Finding) (out : Option (List ℕ)) (k : Kept) → Makes c b f [] → Emits c at b f out out k k None
 nothing_emitted c at b f out k nothing = ([], nothing, nothing_put c at out k)
 
+-- the command writes nothing
+pub unwritten : (c : Command) (at : Origin) (b : List ℕ) (f : Finding) (out : Option (List ℕ)) (k : Kept)
+    → ((r : Report) × (c ≡ command.Prints r)) ⊎ ((g : Gathering) × (c ≡ command.Gathers g)) → Emits c at b f out out k k None
+unwritten c at b f out k (inl (r, e)) = nothing_emitted c at b f out k (rw e refl)
+unwritten c at b f out k (inr (g, e)) = nothing_emitted c at b f out k (rw e refl)
+
 -- no damage is found
 abbrev pub IsClean : Finding → Type 0
 IsClean f = (f ≡ finding.Canonical) ⊎ (f ≡ finding.Breached)
@@ -93,6 +101,11 @@ module _ (m : Making) (all : is_unique m ≡ false) (Is : List ℕ → Type 0) (
   text_front k (inl same) = inl same
   text_front k (inr (text, is, front)) = inr (text, (plain text ∷ [], makes (plain text ∷ []) (makes_if Is f text clean is), one_written text (knows k)), front)
 
+pub json_emitted : (style : json.Style) (at : Origin) (b : List ℕ) (f : Finding) (d d' : Option (List ℕ)) (k k' : Kept) → IsClean f
+    → (text : List ℕ) × IsJson style b text × Appends d d' (text ++ codes "\n") × CountsOne k k' → Emits (command.Writes (making.Json style)) at b f d d' k k' None
+json_emitted style at b f d d' k k' clean (text, is, put, counted) =
+    text_emitted (making.Json style) refl (IsJsonLine style b) b f (λ made is. is) clean d d' at k k' (text ++ codes "\n", (text, is, refl), put, counted)
+
 json_front : (style : json.Style) (b : List ℕ) (d d' : Option (List ℕ)) → WroteFront style b d d' → WritesFront (IsJsonLine style b) d d'
 json_front style b d d' (text, is, front) =
     let same : AppendsFront d d' text = record { front = front.front; behind = front.behind; whole = front.whole; put = front.put } in
@@ -117,6 +130,10 @@ form_made m b form = made_as (spelled m b form) form ∷ []
 
 abbrev pub IsFormWritten : Making → List ℕ → Kept → List ℕ → Type 0
 IsFormWritten m b k text = (form : List ℕ) × IsCanonicalForm b form × (text ≡ written_of (command.Writes m) (knows k) (form_made m b form))
+
+pub spelled_made : (m : Making) (b form text : List ℕ) (k : Kept) → text ≡ spelled m b form
+    → written_of (command.Writes m) (knows k) (made_as text form ∷ []) ≡ written_of (command.Writes m) (knows k) (form_made m b form)
+spelled_made m b form text k same = ap (λ (x : List ℕ). written_of (command.Writes m) (knows k) (made_as x form ∷ [])) same
 
 -- a command that makes canonical forms
 abbrev pub MakesForms : Making → Type 0
