@@ -15,7 +15,7 @@ use Rattle.dump_commands.specs.Picking.{IsPickedAs, IsPickedIn, is_dump}
 use Rattle.dump_commands.specs.declared.picking.Form.{Form}
 use Rattle.dump_commands.specs.declared.picking.Form.TheVariants as form
 use Rattle.dump_commands.specs.declared.picking.Separator.{Separator}
-use Rattle.dump_commands.specs.state.Forms.{Made, plain}
+use Rattle.dump_commands.specs.state.Forms.{Made, made_as, plain}
 use Rattle.dump_commands.specs.declared.command.Command.{Command}
 use Rattle.dump_commands.specs.declared.command.Command.TheVariants as command
 use Rattle.dump_commands.specs.declared.picking.Choice.{Choice}
@@ -78,25 +78,28 @@ no_dump_ends (form.Row s) choice b text made d other is same = let (x, ends) = r
 in_form : (picking : Picking) (f : Form) (b made : List ℕ) → picking.form ≡ f → IsPickedAs picking b made → IsPickedIn f picking.choice b picking.paths.now made
 in_form picking f b made e is = subst (λ (x : Form). IsPickedIn x picking.choice b picking.paths.now made) e is
 
-pick_makes : (picking : Picking) (f : Form) → picking.form ≡ f → MatchBool (is_dump f) (MakesBson (command.Writes (making.Pick picking))) (MakesNoBson (command.Writes (making.Pick picking)))
-pick_makes picking form.Dump e b made env (picked, is, same) =
-    let (d, ends) = dump_ends picking.choice b picking.paths.now picked (in_form picking form.Dump b picked e is) in (d, same ∙ ap one ends)
-pick_makes picking (form.Json style) e b d form (picked, is, same) =
-    no_dump_ends (form.Json style) picking.choice b picking.paths.now picked d refl (in_form picking (form.Json style) b picked e is) (sym (ap bytes_first same))
-pick_makes picking (form.Row s) e b d form (picked, is, same) =
-    no_dump_ends (form.Row s) picking.choice b picking.paths.now picked d refl (in_form picking (form.Row s) b picked e is) (sym (ap bytes_first same))
+-- of an element that is picked as a dump what is made ends with a 0, and else never
+pick_ends : (picking : Picking) (f : Form) → picking.form ≡ f → MatchBool (is_dump f) (MakesBson (command.Writes (making.Pick picking))) (MakesNoBson (command.Writes (making.Pick picking)))
+pick_ends picking form.Dump e = λ b made env h.
+    let (d, ends) = dump_ends picking.choice b picking.paths.now h.0 (in_form picking form.Dump b h.0 e h.1) in (d, h.2 ∙ ap one ends)
+pick_ends picking (form.Json style) e = λ b d known h.
+    no_dump_ends (form.Json style) picking.choice b picking.paths.now h.0 d refl (in_form picking (form.Json style) b h.0 e h.1) (sym (ap bytes_first h.2))
+pick_ends picking (form.Row s) e = λ b d known h.
+    no_dump_ends (form.Row s) picking.choice b picking.paths.now h.0 d refl (in_form picking (form.Row s) b h.0 e h.1) (sym (ap bytes_first h.2))
 
--- what is made ends with a 0, or never does
 making_ends : (m : Making) → MatchBool (is_bson m) (MakesBson (command.Writes m)) (MakesNoBson (command.Writes m))
-making_ends making.Canon b made is makes = keeps_bson made b is makes
-making_ends (making.Sound t) b made is makes = keeps_bson made b is makes
-making_ends (making.Unique s) b made is makes = keeps_bson made b is makes
-making_ends (making.Json style) b d form (line, (text, is, printed), e) = both_ends text d (sym (ap bytes_first e ∙ printed))
-making_ends (making.Pick picking) = pick_makes picking picking.form refl
+making_ends making.Canon = λ b made is makes. keeps_bson made b is makes
+making_ends (making.Sound t) = λ b made is makes. keeps_bson made b is makes
+making_ends (making.Unique s) = λ b made is makes. keeps_bson made b is makes
+making_ends (making.Json style) = λ b d known h. both_ends h.1.0 d (sym (ap bytes_first h.2 ∙ h.1.2))
+making_ends (making.Pick picking) = pick_ends picking picking.form refl
 
 pub making_made : (c : Command) (m : Making) (r : Bool) → c ≡ command.Writes m → r ≡ is_bson m → MatchBool r (MakesBson c) (MakesNoBson c)
 making_made c m r e is = rw (e, is) (making_ends m)
 
+not_one : (m : Made) → m ∷ [] ≡ [] → ⊥
+not_one m e = let n : 1 ≡ 0 = ap length e in omega (arith, n)
+
 pub nothing_made : (c : Command) → ((r : Report) × (c ≡ command.Prints r)) ⊎ ((g : Gathering) × (c ≡ command.Gathers g)) → MakesNoBson c
-nothing_made c (inl (r, e)) = rw e (λ b d form made. let n : 1 ≡ 0 = ap length made in omega (arith, n))
-nothing_made c (inr (g, e)) = rw e (λ b d form made. let n : 1 ≡ 0 = ap length made in omega (arith, n))
+nothing_made c (inl (r, e)) = rw e (λ b d known made. not_one (made_as (d ++ 0 ∷ []) known) made)
+nothing_made c (inr (g, e)) = rw e (λ b d known made. not_one (made_as (d ++ 0 ∷ []) known) made)

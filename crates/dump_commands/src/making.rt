@@ -168,7 +168,10 @@ fn put_made<'a, D: Write>(
         | (Making::Canon | Making::Unique(_), Finding::Canonical) => {
             put_document(making, origin, bytes, bytes, out, kept)
         }
-        (Making::Canon | Making::Unique(_), Finding::Breached) => {
+        (Making::Canon, Finding::Breached) => {
+            put_form(alloc, making, limits, origin, bytes, out, kept)
+        }
+        (Making::Unique(_), Finding::Breached) => {
             put_form(alloc, making, limits, origin, bytes, out, kept)
         }
         (Making::Json(style), Finding::Canonical | Finding::Breached) => {

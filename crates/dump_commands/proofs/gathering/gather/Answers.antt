@@ -23,6 +23,6 @@ returns-in_ok-tokens-in-Fields-Canonical-clause-counted c =
 pub returns-in-Measure-default-clause-counted : goal.returns-in-Measure-default-clause-counted
 returns-in-Measure-default-clause-counted c =
     on_ok c.measure.result _ _
-    (λ added. subst (λ x. Gathers c.args.limits x (origin_of c.args.origin) c.args.bytes.now c.args.finding c.args.kept.now c.measure.new.self) (sym c.in-Measure-default.is)
+    (λ added. subst (λ x. Gathers c.args.limits x (origin_of c.args.origin) c.args.bytes.now c.args.finding c.args.kept.now c.measure.new.self) (sym c.in-Measure-default.is-0)
     (added.0 ∷ [], (added.0, added.1, refl), added.2))
     c.measure.ensures.added
