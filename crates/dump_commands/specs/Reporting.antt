@@ -35,19 +35,19 @@ report_line report.List style at b told = line at.name at.offset (head_text b to
 report_line report.Count style at b told = []
 report_line report.Sizes style at b told = line at.name at.offset (head_text b told)
 
--- the lines after it: list has one for each element
-abbrev pub HasOthers : Report → List ℕ → List ℕ → Type 0
-HasOthers report.Check b lines = lines ≡ []
-HasOthers report.List b lines = ListsDocument b lines
-HasOthers report.Count b lines = lines ≡ []
-HasOthers report.Sizes b lines = lines ≡ []
+-- the lines after it, of a document at this offset: list has one for each element
+abbrev pub HasOthers : Report → (offset : ℕ) → List ℕ → List ℕ → Type 0
+HasOthers report.Check offset b lines = lines ≡ []
+HasOthers report.List offset b lines = ListsDocument b lines
+HasOthers report.Count offset b lines = lines ≡ []
+HasOthers report.Sizes offset b lines = lines ≡ []
 
 -- a front of them
-abbrev pub HasOthersFront : Report → List ℕ → List ℕ → Type 0
-HasOthersFront report.Check b front = front ≡ []
-HasOthersFront report.List b front = HasListingFront b front
-HasOthersFront report.Count b front = front ≡ []
-HasOthersFront report.Sizes b front = front ≡ []
+abbrev pub HasOthersFront : Report → (offset : ℕ) → List ℕ → List ℕ → Type 0
+HasOthersFront report.Check offset b front = front ≡ []
+HasOthersFront report.List offset b front = HasListingFront b front
+HasOthersFront report.Count offset b front = front ≡ []
+HasOthersFront report.Sizes offset b front = front ≡ []
 
 -- the line of a document in which this is found that is left out: it is damaged or too deep
 abbrev pub damage_line : Style → Origin → Finding → Option Account → List ℕ
@@ -64,27 +64,27 @@ first_line (command.Gathers g) style at b found told = damage_line style at foun
 first_line (command.Writes m) style at b found told = damage_line style at found told
 
 -- the lines after it
-abbrev pub Lists : Command → List ℕ → List ℕ → Type 0
-Lists (command.Prints r) b lines = HasOthers r b lines
-Lists (command.Gathers g) b lines = lines ≡ []
-Lists (command.Writes m) b lines = lines ≡ []
+abbrev pub Lists : Command → (offset : ℕ) → List ℕ → List ℕ → Type 0
+Lists (command.Prints r) offset b lines = HasOthers r offset b lines
+Lists (command.Gathers g) offset b lines = lines ≡ []
+Lists (command.Writes m) offset b lines = lines ≡ []
 
 -- what a command reports of a document b that begins there, in which this is found
 abbrev pub Reports : Command → Style → Origin → List ℕ → Finding → Option Account → List ℕ → Type 0
-Reports c style at b found told lines = (listing : List ℕ) × Lists c b listing × (lines ≡ first_line c style at b found told ++ listing)
+Reports c style at b found told lines = (listing : List ℕ) × Lists c at.offset b listing × (lines ≡ first_line c style at b found told ++ listing)
 
 -- the lines of repeats
 abbrev pub lines_of_repeats : Style → List Repeat → List ℕ
 lines_of_repeats style repeats = flat_map (repeat_line style) repeats
 
 -- a front of the lines after the first
-abbrev pub ListsFront : Command → List ℕ → List ℕ → Type 0
-ListsFront (command.Prints r) b front = HasOthersFront r b front
-ListsFront (command.Gathers g) b front = front ≡ []
-ListsFront (command.Writes m) b front = front ≡ []
+abbrev pub ListsFront : Command → (offset : ℕ) → List ℕ → List ℕ → Type 0
+ListsFront (command.Prints r) offset b front = HasOthersFront r offset b front
+ListsFront (command.Gathers g) offset b front = front ≡ []
+ListsFront (command.Writes m) offset b front = front ≡ []
 
 -- a front of what a command reports of a document b that begins there, in which this is found: of its first line, or of those after it
 abbrev pub ReportsFront : Command → Style → Origin → List ℕ → Finding → Option Account → List ℕ → Type 0
 ReportsFront c style at b found told text =
     HasFront (first_line c style at b found told) text
-    ⊎ ((front : List ℕ) × ListsFront c b front × (text ≡ first_line c style at b found told ++ front))
+    ⊎ ((front : List ℕ) × ListsFront c at.offset b front × (text ≡ first_line c style at b found told ++ front))

@@ -12,7 +12,7 @@ use crate::reading::Reading;
 use dump_commands::command::Summaries;
 use dump_commands::counts::Counts;
 use dump_commands::job::Job;
-use dump_commands::reporting::{put_summary, put_text_summary};
+use dump_commands::summary::{put_summary, put_text_summary};
 use dump_io::lines::failure::Failure;
 use dump_io::lines::write::put;
 use std::alloc::Global;

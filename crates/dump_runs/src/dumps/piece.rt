@@ -163,7 +163,13 @@ fn pass<'a, D: Write + Drop, A: Write + Drop, W: Write + Drop>(
     let finding = piece.judged.finding;
     let style = style_at(job.style, job.limit, tally.counts);
     put(&mut writers.report, &piece.judged.line)?;
-    put_listing(alloc, job.command, piece.bytes, &mut writers.report)?;
+    put_listing(
+        alloc,
+        job.command,
+        piece.at.offset,
+        piece.bytes,
+        &mut writers.report,
+    )?;
     let first = emit(
         alloc,
         job.command,

@@ -1,7 +1,7 @@
 use Rattle.std.proofs.Common.{◌≡◌, List, [], ◌∷◌, ◌++◌, ◌∙◌, ap, append_assoc, codes, map}
 use Rattle.dump_commands.specs.Summary.{Count, count_of, left_counts}
 use Rattle.dump_io.proofs.Face.{on_ok}
-use Rattle.dump_commands.proofs.summary.push_left.Goals as goal
+use Rattle.dump_commands.proofs.summary.counted.push_left.Goals as goal
 
 one_by_one : (l : List Count) (a b c : Count) → ((l ++ a ∷ []) ++ b ∷ []) ++ c ∷ [] ≡ l ++ a ∷ b ∷ c ∷ []
 one_by_one l a b c = append_assoc (l ++ a ∷ []) (b ∷ []) (c ∷ []) ∙ append_assoc l (a ∷ []) (b ∷ c ∷ [])

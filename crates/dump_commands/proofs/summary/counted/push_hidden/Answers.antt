@@ -1,7 +1,7 @@
 use Rattle.std.proofs.Common.{◌≡◌, ◌-◌, ◌∙◌, ℕ, [], ◌∷◌, ◌++◌, Option, ap, codes, map, sym}
 use Rattle.dump_commands.specs.Summary.{count_of, hidden_counts}
 use Rattle.dump_io.proofs.Face.{on_ok}
-use Rattle.dump_commands.proofs.summary.push_hidden.Goals as goal
+use Rattle.dump_commands.proofs.summary.counted.push_hidden.Goals as goal
 
 pub returns-in-Some : goal.returns-in-Some
 returns-in-Some c =

@@ -2,7 +2,7 @@ use Rattle.std.proofs.Common.{rules, [], ◌∷◌, ◌++◌, OnOk, codes, decim
 use Rattle.json.specs.Token.{key, number}
 use Rattle.dump_io.specs.lines.Told.{Grows}
 use Rattle.dump_io.proofs.Face.{grows_more, on_ok}
-use Rattle.dump_commands.proofs.summary.put_first.Goals as goal
+use Rattle.dump_commands.proofs.summary.lines.put_first.Goals as goal
 
 pub returns : goal.returns
 returns c =
