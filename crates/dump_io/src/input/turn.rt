@@ -2,8 +2,9 @@
 #![tactic(auto)]
 
 ghost use Rattle.std.specs.Prelude.{◌≡◌};
-ghost use Rattle.dump_io.specs.input.Texts.{turn_behind, turn_behind_document, turn_behind_gap};
-ghost use Rattle.dump_io.specs.input.Texts as says;
+ghost use Rattle.dump_io.specs.input.Between.{turn_behind_document, turn_behind_gap};
+ghost use Rattle.dump_io.specs.input.Between as says;
+ghost use Rattle.dump_io.specs.input.Scans.{turn_behind};
 
 use crate::input::scan::is_space;
 

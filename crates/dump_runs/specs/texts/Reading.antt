@@ -14,12 +14,6 @@ use Rattle.dump_io.specs.declared.input.turn.Turn.{Turn}
 use Rattle.dump_io.specs.declared.input.turn.Turn.TheVariants as turn
 use Rattle.bson_from_json.specs.JsonReason.{JsonReason}
 
--- why not
-abbrev pub reason_between : Turn → JsonReason
-reason_between turn.Comma = json.ExpectedComma
-reason_between turn.Last = json.TextBehind
-reason_between _ = json.ExpectedDocument
-
 -- bytes were read, and none passed
 pub record LooksOn (old new : Option (List ℕ)) (cursor_old cursor_new : Cursor) : Type 0 where
   pub window : IsWindow cursor_new.window

@@ -7,7 +7,9 @@ use Rattle.raw_tree.specs.WithinLimits.{ReadsWithin}
 use Rattle.raw_tree.specs.declared.reader.limits.Limits.{Limits}
 use Rattle.bson_from_json.specs.Texts.{IsCause, IsWritten, SaysNone}
 use Rattle.bson_from_json.specs.JsonReason.TheVariants as json
-use Rattle.dump_io.specs.input.Texts.{CantBe, EndsGap, HasBegun, HasBrace, HasNoLine, IsOpen, IsTextOf, IsOneText, first_position, may_begin, may_end, position_over, scanned, turn_behind_document, turn_behind_gap, turn_over}
+use Rattle.dump_io.specs.input.Between.{CantBe, IsBetween, may_begin, may_end, turn_behind_document, turn_behind_gap}
+use Rattle.dump_io.specs.input.Places.{EndsGap, HasNoLine, first_position, position_over}
+use Rattle.dump_io.specs.input.Texts.{HasBegun, IsOneText, IsTextOf, MayGoOn}
 use Rattle.dump_io.specs.lines.Fronts.{HasFront}
 use Rattle.dump_io.specs.declared.input.position.Position.{Position}
 use Rattle.dump_io.specs.declared.input.turn.Turn.{Turn}
@@ -17,8 +19,7 @@ use Rattle.dump_commands.specs.Counting.{count_fault, count_left, count_said}
 use Rattle.dump_commands.specs.declared.counts.Counts.{Counts}
 use Rattle.dump_runs.specs.Limits.{style_at}
 use Rattle.dump_runs.specs.Plays.{Event, Held, Played, count_event, counted, given, reported}
-use Rattle.dump_runs.specs.texts.Faults.{fault_line}
-use Rattle.dump_runs.specs.texts.Reading.{reason_between}
+use Rattle.dump_runs.specs.texts.Faults.{fault_line, reason_between}
 use Rattle.dump_runs.specs.declared.ends.Ended.{Ended}
 use Rattle.dump_runs.specs.declared.ends.Ended.TheVariants as how
 use Rattle.dump_runs.specs.declared.reading.TextJob.{TextJob}
@@ -98,11 +99,15 @@ style_of job here = style_at job.style job.limit here.counts
 abbrev pub Gives : Limits → List ℕ → List ℕ → Type 0
 Gives limits text bytes = IsWritten text bytes × ((t : Tree) × ReadsWithin limits bytes t)
 
+-- the text of a document, where one may come
+pub record IsWholeText (t : Turn) (text : List ℕ) : Type 0 where
+  pub may_be : may_begin t ≡ true
+  pub whole : IsOneText text
+  pub most : length text ≤ 2 ^ 27
+
 -- the whole text says this document
 pub record IsDocument (here : TextPoint) (text bytes : List ℕ) (behind : Turn) : Type 0 where
-  pub may_be : may_begin here.turn ≡ true
-  pub brace : HasBrace text
-  pub whole : IsOneText text
+  pub is_text : IsWholeText here.turn text
   pub is_written : Gives here.limits text bytes
   pub next : behind ≡ turn_behind_document here.turn
 
@@ -121,9 +126,7 @@ IsFaultOf limits text at (reason.Json why) = IsUtf8 text × (why ≢ json.OutOfM
 
 -- the whole text has a fault
 pub record IsRefused (style : Style) (here : TextPoint) (text line : List ℕ) (behind : Turn) : Type 0 where
-  pub may_be : may_begin here.turn ≡ true
-  pub brace : HasBrace text
-  pub whole : IsOneText text
+  pub is_text : IsWholeText here.turn text
   pub fault : TellsTextFault style here text line
   pub why : IsFaultOf here.limits text fault.at fault.reason
   pub next : behind ≡ turn_behind_document here.turn
@@ -155,7 +158,7 @@ pub record MeetsNoText (style : Style) (input : Option (List ℕ)) (here : TextP
   pub begun : List ℕ
   pub gap : List ℕ
   pub parts : text ≡ begun ++ gap
-  pub unended : IsOpen (scanned begun)
+  pub unended : MayGoOn begun
   pub no_line : HasNoLine (position_over here.place begun) gap
   pub fault : TellsTextFault style here begun line
   pub why : IfSome input (λ s. HasNoText here (drop here.offset s) (length begun) fault.at fault.reason)
@@ -170,7 +173,7 @@ IsSaid style input here text (refused line) behind = IsRefused style here text l
 -- what is so of a part that begins here
 pub record IsTextPart (job : TextJob) (input : Option (List ℕ)) (here : TextPoint) (p : TextPart) : Type 0 where
   pub between : Turn
-  pub fronts : turn_over here.turn p.front ≡ Some between
+  pub fronts : IsBetween here.turn p.front between
   pub is : IsSaid (style_of job here) input (passed_to here p.front between) p.text p.says p.behind
 
 -- a run goes on after this: it is a document, or that is asked for
@@ -191,7 +194,7 @@ turn_behind_texts ps = fold (λ _ p. p.behind) turns.First ps
 -- documents, and the input may end there, and is read; a fault is the last part; or reading failed, after this number of bytes.
 abbrev pub EndsTexts : Ended → List TextPart → (left : Option (List ℕ)) → List ℕ → Type 0
 EndsTexts how.Whole ps left s =
-    (behind : List ℕ) × (last : Turn) × (s ≡ bytes_of_texts ps ++ behind) × (turn_over (turn_behind_texts ps) behind ≡ Some last) × (may_end last ≡ true) × IsAtEnd left
+    (behind : List ℕ) × (last : Turn) × (s ≡ bytes_of_texts ps ++ behind) × IsBetween (turn_behind_texts ps) behind last × (may_end last ≡ true) × IsAtEnd left
 EndsTexts how.Cut ps left s = HasFront s (bytes_of_texts ps)
 EndsTexts (how.Failed failure) ps left s = HasFront s (bytes_of_texts ps) × ((read : List ℕ) × Consumes (Some s) left read × (failure.at ≡ length read))
 
