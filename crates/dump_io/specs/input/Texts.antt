@@ -28,20 +28,20 @@ pub record IsOther (b : ℕ) : Type 0 where
 
 -- What is between the quotes of a string: no quote and no line feed; but after a backslash there is one byte more, which may be a quote.
 pub data IsInQuotes : List ℕ → Type 0 where
-  no_byte : (t : List ℕ) → t ≡ [] → IsInQuotes t
-  plain : (t : List ℕ) (b : ℕ) (rest : List ℕ) → t ≡ b ∷ rest → b ≢ 34 → b ≢ 92 → b ≢ 10 → IsInQuotes rest → IsInQuotes t
-  escaped : (t : List ℕ) (b : ℕ) (rest : List ℕ) → t ≡ 92 ∷ (b ∷ rest) → b ≢ 10 → IsInQuotes rest → IsInQuotes t
+  no_byte : IsInQuotes []
+  plain : (b : ℕ) (rest : List ℕ) → b ≢ 34 → b ≢ 92 → b ≢ 10 → IsInQuotes rest → IsInQuotes (b ∷ rest)
+  escaped : (b : ℕ) (rest : List ℕ) → b ≢ 10 → IsInQuotes rest → IsInQuotes (92 ∷ (b ∷ rest))
 
 -- What is between the brackets of a level: white space, strings, other levels, colons and commas, and other bytes. A level is only where a value
 -- may be: first in an array, or after a colon or a comma, with white space before it. `may_begin` says whether one may be first here.
 pub data IsInLevel : (may_begin : Bool) → List ℕ → Type 0 where
-  nothing : (may_begin : Bool) (t : List ℕ) → t ≡ [] → IsInLevel may_begin t
-  space : (may_begin : Bool) (t : List ℕ) (b : ℕ) (rest : List ℕ) → t ≡ b ∷ rest → is_space b ≡ true → IsInLevel may_begin rest → IsInLevel may_begin t
-  string : (may_begin : Bool) (t inside rest : List ℕ) → t ≡ 34 ∷ (inside ++ 34 ∷ rest) → IsInQuotes inside → IsInLevel false rest → IsInLevel may_begin t
-  level : (t : List ℕ) (opener : ℕ) (inside : List ℕ) (closer : ℕ) (rest : List ℕ) → t ≡ opener ∷ (inside ++ closer ∷ rest)
-      → begins_level opener ≡ true → IsInLevel (opener == 91) inside → ends_level closer ≡ true → IsInLevel false rest → IsInLevel true t
-  separator : (may_begin : Bool) (t : List ℕ) (b : ℕ) (rest : List ℕ) → t ≡ b ∷ rest → is_separator b ≡ true → IsInLevel true rest → IsInLevel may_begin t
-  other : (may_begin : Bool) (t : List ℕ) (b : ℕ) (rest : List ℕ) → t ≡ b ∷ rest → IsOther b → IsInLevel false rest → IsInLevel may_begin t
+  nothing : (may_begin : Bool) → IsInLevel may_begin []
+  space : (may_begin : Bool) (b : ℕ) (rest : List ℕ) → is_space b ≡ true → IsInLevel may_begin rest → IsInLevel may_begin (b ∷ rest)
+  string : (may_begin : Bool) (inside rest : List ℕ) → IsInQuotes inside → IsInLevel false rest → IsInLevel may_begin (34 ∷ (inside ++ 34 ∷ rest))
+  level : (opener : ℕ) (inside : List ℕ) (closer : ℕ) (rest : List ℕ) → begins_level opener ≡ true → IsInLevel (opener == 91) inside → ends_level closer ≡ true
+      → IsInLevel false rest → IsInLevel true (opener ∷ (inside ++ closer ∷ rest))
+  separator : (may_begin : Bool) (b : ℕ) (rest : List ℕ) → is_separator b ≡ true → IsInLevel true rest → IsInLevel may_begin (b ∷ rest)
+  other : (may_begin : Bool) (b : ℕ) (rest : List ℕ) → IsOther b → IsInLevel false rest → IsInLevel may_begin (b ∷ rest)
 
 -- the text of a document: a brace, what is in its level, and what closes it
 pub record IsOneText (t : List ℕ) : Type 0 where

@@ -4,12 +4,13 @@ use Rattle.std.proofs.lemmas.Grind.{flat_map-append, fold-append}
 use Rattle.std.specs.Io.KnownBytes.{Consumes, IsAtEnd}
 use Rattle.std.proofs.KnownBytes.{Consumes-nil}
 use Rattle.dump_io.specs.input.Reading.{IsWindow, ahead_of}
-use Rattle.dump_io.specs.input.Texts.{EndsGap, HasNoLine, first_position, position_behind, position_over, turn_behind_gap, turn_over}
+use Rattle.dump_io.specs.input.Between.{IsBetween, turn_behind_gap}
+use Rattle.dump_io.specs.input.Places.{EndsGap, HasNoLine, first_position, position_over}
 use Rattle.dump_io.specs.lines.Fronts.{HasFront}
 use Rattle.dump_io.specs.declared.input.turn.Turn.{Turn}
 use Rattle.dump_io.specs.declared.input.turn.Turn.TheVariants as turn
 use Rattle.dump_io.specs.declared.lines.style.Style.{Style}
-use Rattle.dump_io.proofs.Face.{read_behind}
+use Rattle.dump_io.proofs.Face.{position_on, read_behind}
 use Rattle.dump_runs.specs.Plays.{Event, Held, Played}
 use Rattle.dump_runs.specs.texts.Reading.{Advances, FindsText, GoesOnTo, PassesGap}
 use Rattle.dump_runs.specs.texts.Run.{AreTexts, EndsTexts, GoesOn, HaltsTexts, IsFault, IsSaid, IsTextPart, Said, TextPart, TextPoint, after, after_all, bytes_of, bytes_of_texts, events_of, events_of_texts, first_point, passed_to, refused, said, style_of, turn_behind_texts}
@@ -325,7 +326,7 @@ module _ {job : TextJob} {name : List ℕ} {input r r' : Option (List ℕ)} {old
         let part : TextPart = record { front = f.front; text = text; says = refused line; behind = q.turn } in
         let none : HasNoLine (position_over y.place p.text) over.gap = subst (λ l. HasNoLine l over.gap) p.place over.none in
         let there : q.place ≡ position_over y.place text =
-        over.advances.place ∙ ap (λ l. position_over l over.gap) p.place ∙ sym (fold-append position_behind y.place p.text over.gap) in
+        over.advances.place ∙ ap (λ l. position_over l over.gap) p.place ∙ sym (position_on y.place p.text over.gap) in
         let both = subst (Advances r r'' x q) (append_assoc f.front p.text over.gap) (advances_on r r' r'' x z q (f.front ++ p.text) over.gap over_text over.advances) in
         let read = subst (Consumes input r'') (ap (λ l. bytes_of_texts g.ps ++ l) (append_assoc f.front text (ahead_of q.window))
         ∙ sym (append_assoc (bytes_of_texts g.ps) f.front (text ++ ahead_of q.window)) ∙ sym (append_assoc before text (ahead_of q.window)))
@@ -390,7 +391,7 @@ module _ {job : TextJob} {name : List ℕ} {input r : Option (List ℕ)} {old ne
       let bytes = bytes_of_texts g.ps in
       let read = read_behind bytes (ahead_of x.window) (f.front ++ ahead_of y.window) input r r' g.is_read f.advances.is_read in
       let same : x.turn ≡ turn_behind_texts g.ps = ap (λ (q : TextPoint). q.turn) g.to ∙ turn_behind (first_point job name old.counts) g.ps in
-      let turns = subst (λ (l : Turn). turn_over l f.front ≡ Some y.turn) same f.turns in
+      let turns = subst (λ (l : Turn). IsBetween l f.front y.turn) same f.turns in
       record {
         ps = g.ps;
         parts = g.has.parts;
