@@ -13,7 +13,7 @@ use Rattle.dump_io.specs.declared.lines.style.Style.{Style}
 use Rattle.dump_io.proofs.Face.{position_on, read_behind}
 use Rattle.dump_runs.specs.Plays.{Event, Held, Played}
 use Rattle.dump_runs.specs.texts.Reading.{Advances, FindsText, GoesOnTo, PassesGap}
-use Rattle.dump_runs.specs.texts.Run.{AreTexts, EndsTexts, GoesOn, HaltsTexts, IsFault, IsSaid, IsTextPart, Said, TextPart, TextPoint, after, after_all, bytes_of, bytes_of_texts, events_of, events_of_texts, first_point, passed_to, refused, said, style_of, turn_behind_texts}
+use Rattle.dump_runs.specs.texts.Run.{AreTexts, EndsTexts, GoesOn, HaltsTexts, IsFault, IsSaid, IsTextPart, Said, TextPart, TextPoint, after, after_all, bytes_of, bytes_of_texts, events_of, events_of_texts, first_point, passed_to, refused, said, style_of, turn_after}
 use Rattle.dump_runs.specs.texts.Steps.{Becomes, FailsAt, HaltsText, IsBegun, PassesBehind, PassesText, PassesTexts, point_of}
 use Rattle.dump_runs.specs.declared.ends.Ended.{Ended}
 use Rattle.dump_runs.specs.declared.ends.Ended.TheVariants as how
@@ -62,9 +62,9 @@ offset_behind here (p ∷ ps) =
     let rest : (after_all here (p ∷ ps)).offset ≡ (here.offset + one) + others = offset_behind (after here p) ps in
     rest ∙ add_assoc here.offset one others ∙ ap (λ (n : ℕ). here.offset + n) (sym (length-append (bytes_of p) (bytes_of_texts ps)))
 
-turn_behind : (here : TextPoint) (ps : List TextPart) → (after_all here ps).turn ≡ fold (λ _ (p : TextPart). p.behind) here.turn ps
-turn_behind here [] = refl
-turn_behind here (p ∷ ps) = turn_behind (after here p) ps
+turn_of : (here : TextPoint) (ps : List TextPart) → (after_all here ps).turn ≡ turn_after here.turn ps
+turn_of here [] = refl
+turn_of here (p ∷ ps) = turn_of (after here p) ps
 
 -- these bytes were passed of an input, and others are ahead
 pub record IsAt (input r : Option (List ℕ)) (x : Cursor) : Type 0 where
@@ -390,7 +390,7 @@ module _ {job : TextJob} {name : List ℕ} {input r : Option (List ℕ)} {old ne
   stops_end r' y f =
       let bytes = bytes_of_texts g.ps in
       let read = read_behind bytes (ahead_of x.window) (f.front ++ ahead_of y.window) input r r' g.is_read f.advances.is_read in
-      let same : x.turn ≡ turn_behind_texts g.ps = ap (λ (q : TextPoint). q.turn) g.to ∙ turn_behind (first_point job name old.counts) g.ps in
+      let same : x.turn ≡ turn_after turn.First g.ps = ap (λ (q : TextPoint). q.turn) g.to ∙ turn_of (first_point job name old.counts) g.ps in
       let turns = subst (λ (l : Turn). IsBetween l f.front y.turn) same f.turns in
       record {
         ps = g.ps;

@@ -186,15 +186,16 @@ abbrev pub AreTexts : TextJob → (input : Option (List ℕ)) → TextPoint → 
 AreTexts job input here [] = Unit {0}
 AreTexts job input here (p ∷ ps) = IsTextPart job input here p × ((ps ≡ []) ⊎ GoesOn job.keep_going p.says) × AreTexts job input (after here p) ps
 
--- what may come after these parts
-abbrev pub turn_behind_texts : List TextPart → Turn
-turn_behind_texts ps = fold (λ _ p. p.behind) turns.First ps
+-- what may come after these parts, where this may come before them
+abbrev pub turn_after : Turn → List TextPart → Turn
+turn_after t [] = t
+turn_after t (p ∷ ps) = turn_after p.behind ps
 
 -- How a run over these parts ends, where the input is known to be s, and the reader has this left: after them is only what may be between
 -- documents, and the input may end there, and is read; a fault is the last part; or reading failed, after this number of bytes.
 abbrev pub EndsTexts : Ended → List TextPart → (left : Option (List ℕ)) → List ℕ → Type 0
 EndsTexts how.Whole ps left s =
-    (behind : List ℕ) × (last : Turn) × (s ≡ bytes_of_texts ps ++ behind) × IsBetween (turn_behind_texts ps) behind last × (may_end last ≡ true) × IsAtEnd left
+    (behind : List ℕ) × (last : Turn) × (s ≡ bytes_of_texts ps ++ behind) × IsBetween (turn_after turns.First ps) behind last × (may_end last ≡ true) × IsAtEnd left
 EndsTexts how.Cut ps left s = HasFront s (bytes_of_texts ps)
 EndsTexts (how.Failed failure) ps left s = HasFront s (bytes_of_texts ps) × ((read : List ℕ) × Consumes (Some s) left read × (failure.at ≡ length read))
 
