@@ -12,7 +12,7 @@ use Rattle.json.specs.Text.{content, plain}
 use Rattle.json.specs.Token.{Token}
 use Rattle.json.specs.Tree.{items_tokens, json_tokens, members_tokens}
 use Rattle.json.specs.Word.{is_operator, is_space, word}
-use Rattle.dump_io.specs.input.Between.{may_begin}
+use Rattle.dump_io.specs.input.Between.{may_begin as may_come}
 use Rattle.dump_io.specs.input.Scans.{HasBrace, IsOpen, ScansAhead, ScansBegun, closed, in_levels, in_text, opened, scanned, start, step}
 use Rattle.dump_io.specs.input.Texts.{HasBegun, IsOneText}
 use Rattle.dump_io.specs.declared.input.scan.Scan.{Scan}
@@ -360,13 +360,13 @@ module _ (ahead : List ℕ) (found : Scanned) (brace : HasBrace ahead) (scans : 
 
   -- where the scan isn't at the end of the text, it is none
   pub torn_is_none : ¬ (found.scan ≡ scan.Whole) → ¬ IsOneText (take found.len ahead)
-  torn_is_none other whole = other (scans.scan ∙ as_text.is_whole whole)
+  torn_is_none torn whole = torn (scans.scan ∙ as_text.is_whole whole)
 
   pub has_begun : (n : ℕ) → ScansBegun (take found.len ahead) n → HasBegun (take found.len ahead) n
   has_begun n begun = (λ goes. begun.0 (as_text.is_open goes), λ no. begun.1 (λ open'. no (as_text.goes open')))
 
   -- the whole text is there
-  module _ (t : Turn) (may : may_begin t ≡ true) where
+  module _ (t : Turn) (may : may_come t ≡ true) where
     text_there : IsOneText (take found.len ahead) → IsWholeText t (take found.len ahead)
     text_there whole = record { may_be = may; whole = whole; most = subst (λ (n : ℕ). n ≤ 2 ^ 27) (sym (length-take-le found.len ahead scans.within)) scans.most }
 
