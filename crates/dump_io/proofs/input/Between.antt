@@ -1,9 +1,9 @@
 -- What is between texts, one byte after the other.
-use Rattle.std.proofs.Common.{◌≡◌, ◌⊎◌, ◌==◌, inl, inr, ℕ, Bool, true, false, Option, None, Some, List, [], ◌∷◌, ◌++◌, ap, codes, cond, if◌then◌else◌, not, refl, sym, subst, ◌∙◌}
+use Rattle.std.proofs.Common.{◌≡◌, ◌==◌, inl, inr, ℕ, Bool, true, false, Option, None, Some, List, [], ◌∷◌, ◌++◌, ap, codes, cond, if◌then◌else◌, not, refl, sym, subst}
 use Rattle.std.proofs.lemmas.Bool.{eqb-true, eqb-false}
 use Rattle.std.proofs.lemmas.List.Elements.{filter-append}
-use Rattle.dump_io.specs.input.Between.{CantBe, IsBetween, Leads, may_begin}
-use Rattle.dump_io.specs.input.Scans.{turn_behind}
+use Rattle.dump_io.specs.input.Between.{IsBetween, Leads}
+use Rattle.dump_io.specs.input.Scans.{turn_step}
 use Rattle.dump_io.specs.input.Texts.{is_space}
 use Rattle.dump_io.specs.declared.input.turn.Turn.{Turn}
 use Rattle.dump_io.specs.declared.input.turn.Turn.TheVariants as turn
@@ -100,7 +100,7 @@ last_turns : (s : Bool) (b : ℕ) → TurnsBy turn.Last s b (if s then Some turn
 last_turns true b = (refl, refl)
 last_turns false b = λ u h. no_byte b h.0
 
-turns_by : (t : Turn) (b : ℕ) → TurnsBy t (is_space b) b (turn_behind t b)
+turns_by : (t : Turn) (b : ℕ) → TurnsBy t (is_space b) b (turn_step t b)
 turns_by turn.First b = first_turns (is_space b) (b == 91) b refl
 turns_by turn.Next b = next_turns (is_space b) b
 turns_by turn.Item b = item_turns (is_space b) (b == 93) b refl
@@ -109,8 +109,8 @@ turns_by turn.Comma b = comma_turns (is_space b) (b == 44) (b == 93) b refl refl
 turns_by turn.Last b = last_turns (is_space b) b
 
 -- what may come after one byte more; none, if it can't be there
-pub between_byte : (t u : Turn) (b : ℕ) → turn_behind t b ≡ Some u → IsBetween t (b ∷ []) u
+pub between_byte : (t u : Turn) (b : ℕ) → turn_step t b ≡ Some u → IsBetween t (b ∷ []) u
 between_byte t u b is = subst (TurnsBy t (is_space b) b) is (turns_by t b)
 
-pub not_between : (t u : Turn) (b : ℕ) → turn_behind t b ≡ None → ¬ IsBetween t (b ∷ []) u
+pub not_between : (t u : Turn) (b : ℕ) → turn_step t b ≡ None → ¬ IsBetween t (b ∷ []) u
 not_between t u b is h = subst (TurnsBy t (is_space b) b) is (turns_by t b) u h

@@ -1,5 +1,5 @@
 -- The scan of a text is at its end, or may go on, where the outline is or may.
-use Rattle.std.proofs.Common.{◌≡◌, ◌≢◌, ◌⊎◌, ◌+◌, ◌-◌, ◌^◌, ◌≤◌, ◌<◌, ◌==◌, ◌&&◌, ◌||◌, inl, inr, ℕ, suc, zero, Bool, true, false, List, [], ◌∷◌, ◌++◌, add-zero, ap, append_assoc, append-nil, arith, cond, fold, if◌then◌else◌, length, length-append, length-take-le, nat_lt, refl, sym, subst, take, ◌∙◌}
+use Rattle.std.proofs.Common.{◌≡◌, ◌≢◌, ◌⊎◌, ◌+◌, ◌-◌, ◌^◌, ◌≤◌, ◌<◌, ◌==◌, ◌&&◌, ◌||◌, inl, inr, ℕ, suc, zero, Bool, true, false, List, [], ◌∷◌, ◌++◌, add-zero, ap, append_assoc, append-nil, arith, fold, if◌then◌else◌, length, length-append, length-take-le, nat_lt, refl, sym, subst, take, ◌∙◌}
 use Rattle.std.proofs.Math.Seq.{take-append_seam}
 use Rattle.std.proofs.lemmas.Bool.{eqb-true, eqb-false, lt-ltb, ltb-true, ne_eqb, or_cases}
 use Rattle.std.proofs.lemmas.List.{length-take, take-take}
@@ -71,20 +71,18 @@ record EndsLevel (may : Bool) (Behind : List ℕ → Type 0) (more : List ℕ) :
   closes : ends_level closer ≡ true
   behind : Behind rest
 
--- in a level inside of this number of others, to the end of the text
-abbrev EndsIn : (outer : ℕ) → Bool → List ℕ → Type 0
-EndsIn zero may = EndsLevel may (λ rest. rest ≡ [])
-EndsIn (suc n) may = EndsLevel may (EndsIn n false)
-
--- after the end of such a level
-abbrev EndsBehind : ℕ → List ℕ → Type 0
+-- after the end of a level in this number of others, to the end of the text
+abbrev EndsBehind : (outer : ℕ) → List ℕ → Type 0
 EndsBehind zero rest = rest ≡ []
-EndsBehind (suc n) rest = EndsIn n false rest
+EndsBehind (suc n) rest = EndsLevel false (EndsBehind n) rest
+
+-- in such a level
+abbrev EndsIn : ℕ → Bool → List ℕ → Type 0
+EndsIn n may more = EndsLevel may (EndsBehind n) more
 
 in_level : (n : ℕ) (may : Bool) (inside : List ℕ) (closer : ℕ) (rest : List ℕ) {more : List ℕ} → more ≡ inside ++ closer ∷ rest → IsInLevel may inside → ends_level closer ≡ true
     → EndsBehind n rest → EndsIn n may more
-in_level zero may inside closer rest same is closes behind = record { inside = inside; closer = closer; rest = rest; spelled = same; is_inside = is; closes = closes; behind = behind }
-in_level (suc n) may inside closer rest same is closes behind = record { inside = inside; closer = closer; rest = rest; spelled = same; is_inside = is; closes = closes; behind = behind }
+in_level n may inside closer rest same is closes behind = record { inside = inside; closer = closer; rest = rest; spelled = same; is_inside = is; closes = closes; behind = behind }
 
 record EndsText (n : ℕ) (more : List ℕ) : Type 0 where
   inside : List ℕ
@@ -110,14 +108,6 @@ Ends (scan.Escape zero) more = ⊥
 Ends (scan.Escape (suc n)) more = EndsEscape n more
 Ends scan.Whole more = more ≡ []
 Ends scan.Torn more = ⊥
-
--- the parts of what follows in a level
-abbrev Splits : (n : ℕ) (may : Bool) (more : List ℕ) → Type 0
-Splits n may more = (inside : List ℕ) × (closer : ℕ) × (rest : List ℕ) × (more ≡ inside ++ closer ∷ rest) × IsInLevel may inside × (ends_level closer ≡ true) × EndsBehind n rest
-
-splits : (n : ℕ) (may : Bool) (more : List ℕ) → EndsIn n may more → Splits n may more
-splits zero may more h = (h.inside, h.closer, h.rest, h.spelled, h.is_inside, h.closes, h.behind)
-splits (suc n) may more h = (h.inside, h.closer, h.rest, h.spelled, h.is_inside, h.closes, h.behind)
 
 -- the end of a level
 closed_more : (n : ℕ) → closed (suc (suc n)) ≡ scan.Levels (suc n) false
@@ -146,8 +136,7 @@ level_on : {may : Bool} {inside : List ℕ} → IsInLevel may inside → (n b : 
 level_on (IsInLevel.nothing may) n b more closer rest same closes behind less =
     let is : closer ≡ b = cc in
     let after : rest ≡ more = cc in
-    let ends : ends_level b ≡ true = ap ends_level (sym is) ∙ closes in
-    subst (λ s. Ends s more) (sym (at_end (suc n) may b ends)) (closed_on n more (subst (EndsBehind n) after behind))
+    subst (λ s. Ends s more) (sym (at_end (suc n) may b (ap ends_level (sym is) ∙ closes))) (closed_on n more (subst (EndsBehind n) after behind))
 level_on (IsInLevel.space may c r space h) n b more closer rest same closes behind less =
     let is : c ≡ b = cc in
     let after : more ≡ r ++ closer ∷ rest = cc in
@@ -231,7 +220,7 @@ within_step k scan.Torn b h = tt
 step_on : (k : ℕ) (s : Scan) (b : ℕ) (more : List ℕ) → IsWithin k s → k < 2 ^ 27 → Ends s (b ∷ more) → Ends (step s b) more
 step_on k (scan.Levels zero may) b more within less h = absurd h
 step_on k (scan.Levels (suc n) may) b more (some, most) less h =
-    let (inside, closer, rest, same, is, closes, behind) = splits n may (b ∷ more) h in level_on is n b more closer rest same closes behind (omega arith)
+    level_on h.is_inside n b more h.closer h.rest h.spelled h.closes h.behind (omega arith)
 step_on k (scan.Text zero) b more within less h = absurd h
 step_on k (scan.Text (suc n)) b more within less h = quotes_on h.is_inside n b more h.rest h.spelled h.behind
 step_on k (scan.Escape zero) b more within less h = absurd h
@@ -259,31 +248,32 @@ opened_off n false b more less begins h = absurd h
 opened_off n true b more false begins h = absurd h
 opened_off n true b more true begins h =
     let on : suc n + 1 ≡ suc (suc n) = omega arith in
-    let (inside, closer, rest, same, is, closes, behind) = splits (suc n) (b == 91) more (subst (λ k. Ends (scan.Levels k (b == 91)) more) on h) in
-    let (inside', closer', rest', same', is', closes', behind') = splits n false rest behind in
-    let spelled : b ∷ more ≡ (b ∷ (inside ++ closer ∷ inside')) ++ closer' ∷ rest' =
-    ap (λ l. b ∷ l) (same ∙ ap (λ l. inside ++ closer ∷ l) same' ∙ sym (append_assoc inside (closer ∷ inside') (closer' ∷ rest'))) in
-    in_level n true (b ∷ (inside ++ closer ∷ inside')) closer' rest' spelled (IsInLevel.level b inside closer inside' begins is closes is') closes' behind'
+    let k : EndsIn (suc n) (b == 91) more = subst (λ k. Ends (scan.Levels k (b == 91)) more) on h in
+    let j : EndsIn n false k.rest = k.behind in
+    let spelled : b ∷ more ≡ (b ∷ (k.inside ++ k.closer ∷ j.inside)) ++ j.closer ∷ j.rest =
+    ap (λ l. b ∷ l) (k.spelled ∙ ap (λ l. k.inside ++ k.closer ∷ l) j.spelled ∙ sym (append_assoc k.inside (k.closer ∷ j.inside) (j.closer ∷ j.rest))) in
+    in_level n true (b ∷ (k.inside ++ k.closer ∷ j.inside)) j.closer j.rest spelled (IsInLevel.level b k.inside k.closer j.inside begins k.is_inside k.closes j.is_inside) j.closes j.behind
+
+-- a byte that stays in the level
+stays_off : (n : ℕ) (may next : Bool) (b : ℕ) (more : List ℕ) → ((inside : List ℕ) → IsInLevel next inside → IsInLevel may (b ∷ inside)) → EndsIn n next more → EndsIn n may (b ∷ more)
+stays_off n may next b more first h = in_level n may (b ∷ h.inside) h.closer h.rest (ap (λ l. b ∷ l) h.spelled) (first h.inside h.is_inside) h.closes h.behind
 
 level_off : (n : ℕ) (may : Bool) (b : ℕ) (more : List ℕ) → IsKind b → Ends (in_levels (suc n) may b) more → EndsIn n may (b ∷ more)
 level_off n may b more (inl space) h =
-    let (inside, closer, rest, same, is, closes, behind) = splits n may more (subst (λ s. Ends s more) (at_space (suc n) may b space) h) in
-    in_level n may (b ∷ inside) closer rest (ap (λ l. b ∷ l) same) (IsInLevel.space may b inside space is) closes behind
+    stays_off n may may b more (λ inside. IsInLevel.space may b inside space) (subst (λ s. Ends s more) (at_space (suc n) may b space) h)
 level_off n may b more (inr (inl quote)) h =
     let ends : EndsText n more = subst (λ x. Ends (in_levels (suc n) may x) more) quote h in
-    let (inside, closer, rest, same, is, closes, behind) = splits n false ends.rest ends.behind in
-    let spelled : b ∷ more ≡ (34 ∷ (ends.inside ++ 34 ∷ inside)) ++ closer ∷ rest =
-    ap (λ x. x ∷ more) quote ∙ ap (λ l. 34 ∷ l) (ends.spelled ∙ ap (λ l. ends.inside ++ 34 ∷ l) same ∙ sym (append_assoc ends.inside (34 ∷ inside) (closer ∷ rest))) in
-    in_level n may (34 ∷ (ends.inside ++ 34 ∷ inside)) closer rest spelled (IsInLevel.string may ends.inside inside ends.is_inside is) closes behind
+    let k : EndsIn n false ends.rest = ends.behind in
+    let spelled : b ∷ more ≡ (34 ∷ (ends.inside ++ 34 ∷ k.inside)) ++ k.closer ∷ k.rest =
+    ap (λ x. x ∷ more) quote ∙ ap (λ l. 34 ∷ l) (ends.spelled ∙ ap (λ l. ends.inside ++ 34 ∷ l) k.spelled ∙ sym (append_assoc ends.inside (34 ∷ k.inside) (k.closer ∷ k.rest))) in
+    in_level n may (34 ∷ (ends.inside ++ 34 ∷ k.inside)) k.closer k.rest spelled (IsInLevel.string may ends.inside k.inside ends.is_inside k.is_inside) k.closes k.behind
 level_off n may b more (inr (inr (inl begins))) h = opened_off n may b more (nat_lt (suc n) (2 ^ 27)) begins (subst (λ s. Ends s more) (at_begin (suc n) may b begins) h)
 level_off n may b more (inr (inr (inr (inl ends)))) h =
     in_level n may [] b more refl (IsInLevel.nothing may) ends (closed_off n more (subst (λ s. Ends s more) (at_end (suc n) may b ends) h))
 level_off n may b more (inr (inr (inr (inr (inl separator))))) h =
-    let (inside, closer, rest, same, is, closes, behind) = splits n true more (subst (λ s. Ends s more) (at_separator (suc n) may b separator) h) in
-    in_level n may (b ∷ inside) closer rest (ap (λ l. b ∷ l) same) (IsInLevel.separator may b inside separator is) closes behind
+    stays_off n may true b more (λ inside. IsInLevel.separator may b inside separator) (subst (λ s. Ends s more) (at_separator (suc n) may b separator) h)
 level_off n may b more (inr (inr (inr (inr (inr other))))) h =
-    let (inside, closer, rest, same, is, closes, behind) = splits n false more (subst (λ s. Ends s more) (at_other (suc n) may b other) h) in
-    in_level n may (b ∷ inside) closer rest (ap (λ l. b ∷ l) same) (IsInLevel.other may b inside other is) closes behind
+    stays_off n may false b more (λ inside. IsInLevel.other may b inside other) (subst (λ s. Ends s more) (at_other (suc n) may b other) h)
 
 -- and in a string
 text_off : (n b : ℕ) (more : List ℕ) (q s f : Bool) → (b == 34) ≡ q → (b == 92) ≡ s → (b == 10) ≡ f
@@ -371,9 +361,7 @@ is_open scan.Torn (more, some, ends) = ends
 
 no_end : (n : ℕ) (may : Bool) → ¬ EndsIn n may []
 no_end n may h =
-    let (inside, closer, rest, same, is, closes, behind) = splits n may [] h in
-    let size : 0 ≡ length inside + suc (length rest) = ap length same ∙ length-append inside (closer ∷ rest) in
-    omega arith
+    let size : 0 ≡ length h.inside + suc (length h.rest) = ap length h.spelled ∙ length-append h.inside (h.closer ∷ h.rest) in omega arith
 
 is_whole : (s : Scan) → Ends s [] → s ≡ scan.Whole
 is_whole (scan.Levels zero may) h = absurd h

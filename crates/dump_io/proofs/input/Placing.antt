@@ -1,10 +1,10 @@
 -- The place after bytes, counted over all of them and found one by one.
-use Rattle.std.proofs.Common.{◌≡◌, ◌+◌, ◌==◌, ◌&&◌, ◌||◌, if◌then◌else◌, nat_lt, not, ℕ, Bool, true, false, List, [], ◌∷◌, ◌++◌, ap, arith, cond, count_by, fold, refl, sym, subst, ◌∙◌}
+use Rattle.std.proofs.Common.{◌≡◌, ◌+◌, ◌==◌, ◌||◌, if◌then◌else◌, ℕ, Bool, true, false, List, [], ◌∷◌, ◌++◌, ap, arith, cond, count_by, fold, refl, sym, subst, ◌∙◌}
 use Rattle.std.proofs.lemmas.Grind.{fold-append}
 use Rattle.std.proofs.lemmas.List.Sums.{sum_by-cons}
 use Rattle.std.specs.List.{list_any}
 use Rattle.dump_io.specs.input.Places.{HasNoLine, begins_character, begins_line, ends_line, last_line, position_over}
-use Rattle.dump_io.specs.input.Scans.{position_behind}
+use Rattle.dump_io.specs.input.Scans.{position_step}
 use Rattle.dump_io.specs.declared.input.position.Position.{Position}
 
 no_feed : (bs : List ℕ) → list_any ends_line bs ≡ false → last_line bs ≡ bs
@@ -35,26 +35,26 @@ column_first p b bs false true false none more = let same = ap characters (none 
 column_first p b bs false false false none more = let same = ap characters (none refl) in omega arith
 
 -- one byte more in front
-place_first : (p : Position) (b : ℕ) (bs : List ℕ) → position_over (position_behind p b) bs ≡ position_over p (b ∷ bs)
+place_first : (p : Position) (b : ℕ) (bs : List ℕ) → position_over (position_step p b) bs ≡ position_over p (b ∷ bs)
 unfolding position_over
 place_first p b bs =
     let line = line_first p (b == 10) (begins_character b) in
     let more = count_first ends_line b bs in
-    let lines : (position_behind p b).line + count_by ends_line bs ≡ p.line + count_by ends_line (b ∷ bs) = omega arith in
+    let lines : (position_step p b).line + count_by ends_line bs ≡ p.line + count_by ends_line (b ∷ bs) = omega arith in
     let column = column_first p b bs (b == 10) (begins_character b) (list_any ends_line bs) (no_feed bs) (count_first begins_character b bs) in
     λ i. record { line = lines i; column = column i }
 
-pub over_fold : (p : Position) (bs : List ℕ) → fold position_behind p bs ≡ position_over p bs
+pub over_fold : (p : Position) (bs : List ℕ) → fold position_step p bs ≡ position_over p bs
 unfolding position_over
 over_fold p [] =
     let line : p.line ≡ p.line + 0 = omega arith in
     let column : p.column ≡ p.column + 0 = omega arith in
     λ i. record { line = line i; column = column i }
-over_fold p (b ∷ bs) = over_fold (position_behind p b) bs ∙ place_first p b bs
+over_fold p (b ∷ bs) = over_fold (position_step p b) bs ∙ place_first p b bs
 
 pub position_on : (p : Position) (xs ys : List ℕ) → position_over p (xs ++ ys) ≡ position_over (position_over p xs) ys
 position_on p xs ys =
-    sym (over_fold p (xs ++ ys)) ∙ fold-append position_behind p xs ys ∙ over_fold (fold position_behind p xs) ys ∙ ap (λ (q : Position). position_over q ys) (over_fold p xs)
+    sym (over_fold p (xs ++ ys)) ∙ fold-append position_step p xs ys ∙ over_fold (fold position_step p xs) ys ∙ ap (λ (q : Position). position_over q ys) (over_fold p xs)
 
 pub position_none : (p : Position) → position_over p [] ≡ p
 position_none p = sym (over_fold p [])

@@ -39,15 +39,15 @@ may_end turn.Last = true
 may_end _ = false
 
 -- what comes after a document
-abbrev pub turn_behind_document : Turn → Turn
-turn_behind_document turn.Item = turn.Comma
-turn_behind_document turn.More = turn.Comma
-turn_behind_document turn.Comma = turn.Comma
-turn_behind_document _ = turn.Next
+abbrev pub turn_after_document : Turn → Turn
+turn_after_document turn.Item = turn.Comma
+turn_after_document turn.More = turn.Comma
+turn_after_document turn.Comma = turn.Comma
+turn_after_document _ = turn.Next
 
 -- what comes after bytes that are passed over, unless the input ends there: a document, with no comma before it
-abbrev pub turn_behind_gap : Turn → Turn
-turn_behind_gap turn.Item = turn.Item
-turn_behind_gap turn.More = turn.Item
-turn_behind_gap turn.Comma = turn.Item
-turn_behind_gap _ = turn.Next
+abbrev pub turn_after_gap : Turn → Turn
+turn_after_gap turn.Item = turn.Item
+turn_after_gap turn.More = turn.Item
+turn_after_gap turn.Comma = turn.Item
+turn_after_gap _ = turn.Next

@@ -41,6 +41,6 @@ abbrev pub HasNoLine : Position → List ℕ → Type 0
 HasNoLine p bytes = (before : List ℕ) (b : ℕ) (rest : List ℕ) → bytes ≡ before ++ b ∷ rest → begins_line (position_over p before) b ≡ false
 
 -- What is after bytes that are passed over, where this comes after them: the end of the input, or a line that begins with a brace.
-abbrev pub EndsGap : Position → (behind_gap : Turn) → List ℕ → Turn → Type 0
-EndsGap p behind_gap [] t = t ≡ turn.Last
-EndsGap p behind_gap (b ∷ bs) t = (begins_line p b ≡ true) × (t ≡ behind_gap)
+abbrev pub EndsGap : Position → (after_gap : Turn) → List ℕ → Turn → Type 0
+EndsGap p after_gap [] t = t ≡ turn.Last
+EndsGap p after_gap (b ∷ bs) t = (begins_line p b ≡ true) × (t ≡ after_gap)

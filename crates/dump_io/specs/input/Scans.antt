@@ -1,6 +1,6 @@
 -- What the code does with the bytes of a text one by one: how far it has come, what may come next, and where that is. No public contract cites
 -- this file.
-use Rattle.std.specs.Prelude.{◌≡◌, ◌+◌, ◌-◌, ◌^◌, ◌≤◌, ◌<◌, ◌==◌, ◌&&◌, ◌||◌, ℕ, List, ◌∷◌, Bool, true, false, Option, None, Some, if◌then◌else◌, fold, length, nat_lt, take}
+use Rattle.std.specs.Prelude.{◌≡◌, ◌+◌, ◌-◌, ◌^◌, ◌≤◌, ◌<◌, ◌==◌, ◌&&◌, ℕ, List, ◌∷◌, Bool, true, false, Option, None, Some, if◌then◌else◌, fold, length, nat_lt, take}
 use Rattle.dump_io.specs.input.Places.{begins_character}
 use Rattle.dump_io.specs.input.Texts.{begins_level, ends_level, is_separator, is_space}
 use Rattle.dump_io.specs.declared.input.position.Position.{Position}
@@ -75,17 +75,17 @@ pub record ScansAhead (ahead : List ℕ) (found : Scanned) : Type 0 where
   pub last : ¬ IsOpen found.scan → (0 < found.len) × IsOpen (scanned (take (found.len - 1) ahead))
 
 -- what may come after one byte more between the texts of documents
-abbrev pub turn_behind : Turn → ℕ → Option Turn
-turn_behind turn.First b = if is_space b then Some turn.First else if b == 91 then Some turn.Item else None
-turn_behind turn.Next b = if is_space b then Some turn.Next else None
-turn_behind turn.Item b = if is_space b then Some turn.Item else if b == 93 then Some turn.Last else None
-turn_behind turn.More b = if is_space b then Some turn.More else None
-turn_behind turn.Comma b = if is_space b then Some turn.Comma else if b == 44 then Some turn.More else if b == 93 then Some turn.Last else None
-turn_behind turn.Last b = if is_space b then Some turn.Last else None
+abbrev pub turn_step : Turn → ℕ → Option Turn
+turn_step turn.First b = if is_space b then Some turn.First else if b == 91 then Some turn.Item else None
+turn_step turn.Next b = if is_space b then Some turn.Next else None
+turn_step turn.Item b = if is_space b then Some turn.Item else if b == 93 then Some turn.Last else None
+turn_step turn.More b = if is_space b then Some turn.More else None
+turn_step turn.Comma b = if is_space b then Some turn.Comma else if b == 44 then Some turn.More else if b == 93 then Some turn.Last else None
+turn_step turn.Last b = if is_space b then Some turn.Last else None
 
 -- the place after one byte more
-abbrev pub position_behind : Position → ℕ → Position
-position_behind p b =
+abbrev pub position_step : Position → ℕ → Position
+position_step p b =
     if b == 10 then record { line = p.line + 1; column = 1 }
     else if begins_character b then record p { column = p.column + 1 }
     else p

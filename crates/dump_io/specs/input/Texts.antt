@@ -1,5 +1,5 @@
--- What the text of a document is, in outline: an object with its levels, which are objects and arrays, and its strings. What else JSON asks of a
--- text is in what from_json says of it.
+-- What the text of a document is, in outline: levels, which are objects and arrays, and strings. from_json checks what else JSON asks of it, as
+-- that brackets match.
 use Rattle.std.specs.Prelude.{◌≡◌, ◌≢◌, ◌⊎◌, ◌-◌, ◌^◌, ◌≤◌, ◌==◌, ◌||◌, ℕ, List, [], ◌∷◌, ◌++◌, Bool, true, false, length}
 
 -- the white space of JSON: a space, a tab, a line feed, a carriage return
@@ -26,14 +26,14 @@ pub record IsOther (b : ℕ) : Type 0 where
   pub no_end : ends_level b ≡ false
   pub no_separator : is_separator b ≡ false
 
--- What is between the quotes of a string: no quote and no line feed; but after a backslash there is one byte more, which may be a quote.
+-- What is between the quotes of a string: any bytes but a quote and a line feed. After a backslash comes one byte more, which may be a quote.
 pub data IsInQuotes : List ℕ → Type 0 where
   no_byte : IsInQuotes []
   plain : (b : ℕ) (rest : List ℕ) → b ≢ 34 → b ≢ 92 → b ≢ 10 → IsInQuotes rest → IsInQuotes (b ∷ rest)
   escaped : (b : ℕ) (rest : List ℕ) → b ≢ 10 → IsInQuotes rest → IsInQuotes (92 ∷ (b ∷ rest))
 
--- What is between the brackets of a level: white space, strings, other levels, colons and commas, and other bytes. A level is only where a value
--- may be: first in an array, or after a colon or a comma, with white space before it. `may_begin` says whether one may be first here.
+-- What is between the brackets of a level: white space, strings, levels, colons and commas, and other bytes. A level may only be first in an array,
+-- or after a colon or a comma, with white space before it. `may_begin` says whether one may be first here.
 pub data IsInLevel : (may_begin : Bool) → List ℕ → Type 0 where
   nothing : (may_begin : Bool) → IsInLevel may_begin []
   space : (may_begin : Bool) (b : ℕ) (rest : List ℕ) → is_space b ≡ true → IsInLevel may_begin rest → IsInLevel may_begin (b ∷ rest)

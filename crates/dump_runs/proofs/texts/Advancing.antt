@@ -5,7 +5,7 @@ use Rattle.dump_io.specs.input.Reading.{IsWindow, ahead_of}
 use Rattle.dump_runs.specs.texts.Reading.{Advances, FindsText, GoesOnTo, IsAhead, IsScanned, LooksOn, PassesAhead, PassesBetween, PassesGap}
 use Rattle.dump_io.specs.input.Between.{IsBetween, may_begin}
 use Rattle.dump_io.specs.input.Places.{HasNoLine, begins_line, position_over}
-use Rattle.dump_io.specs.input.Scans.{turn_behind}
+use Rattle.dump_io.specs.input.Scans.{turn_step}
 use Rattle.dump_runs.specs.declared.texts.cursor.Cursor.{Cursor}
 use Rattle.dump_io.specs.declared.input.position.Position.{Position}
 use Rattle.dump_io.specs.declared.input.turn.Turn.{Turn}
@@ -79,7 +79,7 @@ nothing_between r x is = ([], advances_none r x is, between_none x.turn)
 
 module _ {b c : Option (List ℕ)} {y z : Cursor} {o : Option ℕ} {byte : ℕ} where
   pub between_more : (a : Option (List ℕ)) (x w : Cursor) (v : Turn) → HasBetween a b x y → LooksOn b c y z × IsAhead c z o → o ≡ Some byte
-      → turn_behind z.turn byte ≡ Some v → PassesAhead (record z { turn = v }) w 1 → HasBetween a c x w
+      → turn_step z.turn byte ≡ Some v → PassesAhead (record z { turn = v }) w 1 → HasBetween a c x w
   between_more a x w v (front, p, turns) (looks, is) some now passed =
       let (rest, ahead) = subst (IsAhead c z) some is in
       let same : IsBetween x.turn front z.turn = subst (IsBetween x.turn front) (sym looks.turn) turns in (
@@ -89,13 +89,13 @@ module _ {b c : Option (List ℕ)} {y z : Cursor} {o : Option ℕ} {byte : ℕ} 
       )
 
 -- a byte after which nothing may come can't be there
-cant_stop : (t : Turn) (q : Option ℕ) → IfSome q (λ b. turn_behind t b ≡ None) → IfSome q (λ b. (u : Turn) → ¬ IsBetween t (b ∷ []) u)
+cant_stop : (t : Turn) (q : Option ℕ) → IfSome q (λ b. turn_step t b ≡ None) → IfSome q (λ b. (u : Turn) → ¬ IsBetween t (b ∷ []) u)
 cant_stop t None stops = tt
 cant_stop t (Some b) stops = λ u. not_between t u b stops
 
 module _ {b c : Option (List ℕ)} {y z : Cursor} {q : Option ℕ} where
   pub between_ends : (a : Option (List ℕ)) (x : Cursor) (o : Option ℕ) → HasBetween a b x y → LooksOn b c y z × IsAhead c z o → o ≡ q
-      → IfSome q (λ byte. turn_behind z.turn byte ≡ None) → PassesBetween a c x z q
+      → IfSome q (λ byte. turn_step z.turn byte ≡ None) → PassesBetween a c x z q
   between_ends a x o (front, p, turns) (looks, is) same stops = record {
     front = front;
     advances = advances_ahead a b c x y z front p looks;

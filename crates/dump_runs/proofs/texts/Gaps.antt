@@ -5,7 +5,7 @@ use Rattle.std.proofs.Math.Seq.{drop-append_seam}
 use Rattle.std.proofs.lemmas.List.{take-append-drop}
 use Rattle.std.specs.Io.KnownBytes.{Consumes, IsAtEnd}
 use Rattle.dump_io.specs.input.Reading.{ahead_of}
-use Rattle.dump_io.specs.input.Between.{turn_behind_gap}
+use Rattle.dump_io.specs.input.Between.{turn_after_gap}
 use Rattle.dump_io.specs.input.Places.{EndsGap, HasNoLine, begins_line, position_over}
 use Rattle.dump_io.specs.input.Scans.{HasBrace, IsOpen}
 use Rattle.dump_io.specs.input.Texts.{IsTextOf}
@@ -49,8 +49,8 @@ record HasGapIn (p : Position) (l : List ℕ) (u : Turn) : Type 0 where
   same : l ≡ gap ++ rest
   none : HasNoLine p gap
   behind : Turn
-  ends : EndsGap (position_over p gap) (turn_behind_gap u) rest behind
-  next : (behind ≡ turn_behind_gap u) ⊎ (behind ≡ turn.Last)
+  ends : EndsGap (position_over p gap) (turn_after_gap u) rest behind
+  next : (behind ≡ turn_after_gap u) ⊎ (behind ≡ turn.Last)
 
 gap_more : (p : Position) (b : ℕ) (l : List ℕ) (u : Turn) → begins_line p b ≡ false → HasGapIn (position_over p (b ∷ [])) l u → HasGapIn p (b ∷ l) u
 gap_more p b l u none h = record {
@@ -59,14 +59,14 @@ gap_more p b l u none h = record {
   same = ap (λ m. b ∷ m) h.same;
   none = no_line_first p b h.gap none h.none;
   behind = h.behind;
-  ends = subst (λ q. EndsGap q (turn_behind_gap u) h.rest h.behind) (sym (position_on p (b ∷ []) h.gap)) h.ends;
+  ends = subst (λ q. EndsGap q (turn_after_gap u) h.rest h.behind) (sym (position_on p (b ∷ []) h.gap)) h.ends;
   next = h.next;
 }
 
 gap_here : (p : Position) (b : ℕ) (l : List ℕ) (u : Turn) → begins_line p b ≡ true → HasGapIn p (b ∷ l) u
 gap_here p b l u begins =
     let here = ap (λ (q : Position). begins_line q b) (position_none p) ∙ begins in
-    record { gap = []; rest = b ∷ l; same = refl; none = no_line_none p; behind = turn_behind_gap u; ends = (here, refl); next = inl refl }
+    record { gap = []; rest = b ∷ l; same = refl; none = no_line_none p; behind = turn_after_gap u; ends = (here, refl); next = inl refl }
 
 gap_in : (p : Position) (l : List ℕ) (u : Turn) → HasGapIn p l u
 gap_in p [] u = record { gap = []; rest = []; same = refl; none = no_line_none p; behind = turn.Last; ends = refl; next = inr refl }
@@ -115,8 +115,8 @@ module _ (r : Option (List ℕ)) (ahead rest : List ℕ) (here : TextPoint) (end
 module _ {style : Style} {input : Option (List ℕ)} (r' : Option (List ℕ)) (bytes : List ℕ) (here : TextPoint) {ahead : List ℕ} {told : NextText}
     (far : here.offset ≡ length bytes) (read : Consumes input r' (bytes ++ ahead)) (is_next : IsNextText r' ahead here.turn told) where
   pub astray_of : {text line : List ℕ} (gap : List ℕ) {v : Turn} (behind : Turn) → IsBegun style here ahead told text line v
-      → HasNoLine (position_over here.place text) gap → ((behind ≡ turn_behind_gap here.turn) ⊎ (behind ≡ turn.Last))
-      → IfSome input (λ s. EndsGap (position_over here.place (text ++ gap)) (turn_behind_gap here.turn) (drop (here.offset + length (text ++ gap)) s) behind)
+      → HasNoLine (position_over here.place text) gap → ((behind ≡ turn_after_gap here.turn) ⊎ (behind ≡ turn.Last))
+      → IfSome input (λ s. EndsGap (position_over here.place (text ++ gap)) (turn_after_gap here.turn) (drop (here.offset + length (text ++ gap)) s) behind)
       → MeetsNoText style input here (text ++ gap) line behind
   astray_of {text = text} gap behind is none next ends = record {
     begun = text;
@@ -136,13 +136,13 @@ pub record GapBehind (input : Option (List ℕ)) (bytes text : List ℕ) (here :
   pub gap : List ℕ
   pub none : HasNoLine (position_over here.place text) gap
   pub behind : Turn
-  pub next : (behind ≡ turn_behind_gap here.turn) ⊎ (behind ≡ turn.Last)
-  pub ends : IfSome input (λ s. EndsGap (position_over here.place (text ++ gap)) (turn_behind_gap here.turn) (drop (here.offset + length (text ++ gap)) s) behind)
+  pub next : (behind ≡ turn_after_gap here.turn) ⊎ (behind ≡ turn.Last)
+  pub ends : IfSome input (λ s. EndsGap (position_over here.place (text ++ gap)) (turn_after_gap here.turn) (drop (here.offset + length (text ++ gap)) s) behind)
   pub in_front : IfSome input (λ s. HasFront s (bytes ++ (text ++ gap)))
 
 pub gap_behind : (input r : Option (List ℕ)) (bytes ahead text : List ℕ) (here : TextPoint) → here.offset ≡ length bytes → Consumes input r (bytes ++ ahead) → HasFront ahead text
     → GapBehind input bytes text here
-gap_behind None r bytes ahead text here far read front = record { gap = []; none = no_line_none _; behind = turn_behind_gap here.turn; next = inl refl; ends = tt; in_front = tt }
+gap_behind None r bytes ahead text here far read front = record { gap = []; none = no_line_none _; behind = turn_after_gap here.turn; next = inl refl; ends = tt; in_front = tt }
 gap_behind (Some s) None bytes ahead text here far read front = absurd read
 gap_behind (Some s) (Some rest) bytes ahead text here far read (left, split) =
     let place = here.place in
@@ -162,18 +162,18 @@ gap_behind (Some s) (Some rest) bytes ahead text here far read (left, split) =
       none = h.none;
       behind = h.behind;
       next = h.next;
-      ends = subst (λ q. EndsGap q (turn_behind_gap u) (drop (here.offset + length (text ++ h.gap)) s) h.behind) (sym there)
-          (subst (λ l. EndsGap (position_over (position_over place text) h.gap) (turn_behind_gap u) l h.behind) (sym behind) h.ends);
+      ends = subst (λ q. EndsGap q (turn_after_gap u) (drop (here.offset + length (text ++ h.gap)) s) h.behind) (sym there)
+          (subst (λ l. EndsGap (position_over (position_over place text) h.gap) (turn_after_gap u) l h.behind) (sym behind) h.ends);
       in_front = (h.rest, all);
     }
 
 -- the same of bytes that were passed over
-pub gap_ends : (r : Option (List ℕ)) (z q : Cursor) (place : Position) (u : Turn) (rest : List ℕ) → (IsAtEnd r → rest ≡ []) → z.turn ≡ turn_behind_gap u → q.place ≡ place
+pub gap_ends : (r : Option (List ℕ)) (z q : Cursor) (place : Position) (u : Turn) (rest : List ℕ) → (IsAtEnd r → rest ≡ []) → z.turn ≡ turn_after_gap u → q.place ≡ place
     → ((q.turn ≡ z.turn) × ((b : ℕ) × IsAhead r q (Some b) × (begins_line q.place b ≡ true))) ⊎ ((q.turn ≡ turn.Last) × IsAhead r q None)
-    → EndsGap place (turn_behind_gap u) (ahead_of q.window ++ rest) q.turn
+    → EndsGap place (turn_after_gap u) (ahead_of q.window ++ rest) q.turn
 gap_ends r z q place u rest end next here (inl (same, (b, (behind, is), begins))) =
     let line : begins_line place b ≡ true = subst (λ p. begins_line p b ≡ true) here begins in
-    let ends : EndsGap place (turn_behind_gap u) (b ∷ (behind ++ rest)) q.turn = (line, same ∙ next) in
-    subst (λ l. EndsGap place (turn_behind_gap u) (l ++ rest) q.turn) (sym is) ends
+    let ends : EndsGap place (turn_after_gap u) (b ∷ (behind ++ rest)) q.turn = (line, same ∙ next) in
+    subst (λ l. EndsGap place (turn_after_gap u) (l ++ rest) q.turn) (sym is) ends
 gap_ends r z q place u rest end next here (inr (last, (none, done))) =
-    subst (λ l. EndsGap place (turn_behind_gap u) l q.turn) (sym (ap (λ l. l ++ rest) none ∙ end done)) last
+    subst (λ l. EndsGap place (turn_after_gap u) l q.turn) (sym (ap (λ l. l ++ rest) none ∙ end done)) last

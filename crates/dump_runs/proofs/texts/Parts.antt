@@ -4,7 +4,7 @@ use Rattle.std.proofs.lemmas.List.{take-append-drop, take-take}
 use Rattle.std.specs.Io.KnownBytes.{Appends}
 use Rattle.dump_io.specs.lines.Fronts.{AppendsFront, HasFront}
 use Rattle.dump_io.specs.input.Reading.{ahead_of}
-use Rattle.dump_io.specs.input.Between.{turn_behind_document, turn_behind_gap}
+use Rattle.dump_io.specs.input.Between.{turn_after_document, turn_after_gap}
 use Rattle.dump_io.specs.input.Places.{position_over}
 use Rattle.dump_io.specs.input.Texts.{MayGoOn}
 use Rattle.dump_io.specs.declared.input.turn.Turn.{Turn}
@@ -52,7 +52,7 @@ first_of len ahead = (drop len ahead, sym (take-append-drop len ahead))
 module _ (job : TextJob) (name : List ℕ) (told : NextText) (y : Cursor) {old new : Held} where
   -- a document is passed
   pub passes_document : {z : Cursor} {v : Turn} (len : ℕ) (bytes : List ℕ) → PassesFirst y z len → IsWholeText y.turn (take len (ahead_of y.window)) → Gives job.limits (take len (ahead_of y.window)) bytes
-      → Played (events_of (said bytes)) old new → v ≡ turn_behind_document z.turn → PassesText job name told y (record z { turn = v }) old new went.Document
+      → Played (events_of (said bytes)) old new → v ≡ turn_after_document z.turn → PassesText job name told y (record z { turn = v }) old new went.Document
   passes_document {z = z} len bytes p h gives played next = record {
     window = p.is.0;
     text = take len (ahead_of y.window);
@@ -60,7 +60,7 @@ module _ (job : TextJob) (name : List ℕ) (told : NextText) (y : Cursor) {old n
     ahead = split y z len p;
     place = p.is.2;
     offset = offset_after y z len p;
-    is = record { is_text = h; is_written = gives; next = next ∙ ap turn_behind_document p.is.4 };
+    is = record { is_text = h; is_written = gives; next = next ∙ ap turn_after_document p.is.4 };
     played = played;
   }
 
@@ -70,7 +70,7 @@ module _ (job : TextJob) (name : List ℕ) (told : NextText) (y : Cursor) {old n
     went.Document,
     take len (ahead_of y.window),
     said bytes,
-    turn_behind_document y.turn,
+    turn_after_document y.turn,
     first_of len (ahead_of y.window),
     record { is_text = h; is_written = gives; next = refl },
     halts,
@@ -79,7 +79,7 @@ module _ (job : TextJob) (name : List ℕ) (told : NextText) (y : Cursor) {old n
   module _ (f : Fault) (within : f.at ≤ f.len) where
     -- a text with a fault is passed
     pub passes_refused : {z : Cursor} {v : Turn} → PassesFirst y z f.len → IsWholeText y.turn (take f.len (ahead_of y.window)) → IsFaultOf job.limits (take f.len (ahead_of y.window)) f.at f.reason
-        → Played (events_of (refused (line_of job name y old.counts f))) old new → v ≡ turn_behind_document z.turn → PassesText job name told y (record z { turn = v }) old new went.Refused
+        → Played (events_of (refused (line_of job name y old.counts f))) old new → v ≡ turn_after_document z.turn → PassesText job name told y (record z { turn = v }) old new went.Refused
     passes_refused {z = z} p h why played next = record {
       window = p.is.0;
       text = take f.len (ahead_of y.window);
@@ -91,7 +91,7 @@ module _ (job : TextJob) (name : List ℕ) (told : NextText) (y : Cursor) {old n
         is_text = h;
         fault = tells_fault job name y old.counts f p.fits within;
         why = why;
-        next = next ∙ ap turn_behind_document p.is.4;
+        next = next ∙ ap turn_after_document p.is.4;
       };
       played = played;
     }
@@ -103,7 +103,7 @@ module _ (job : TextJob) (name : List ℕ) (told : NextText) (y : Cursor) {old n
       went.Refused,
       take f.len (ahead_of y.window),
       refused (line_of job name y old.counts f),
-      turn_behind_document y.turn,
+      turn_after_document y.turn,
       first_of f.len (ahead_of y.window),
       record {
         is_text = h;
@@ -116,7 +116,7 @@ module _ (job : TextJob) (name : List ℕ) (told : NextText) (y : Cursor) {old n
 
     -- what is no whole text is passed
     pub passes_astray : {z : Cursor} {v : Turn} → PassesFirst y z f.len → MayGoOn (take f.len (ahead_of y.window)) → TellsNoText job.limits (ahead_of y.window) told f.len f.at f.reason
-        → Played (events_of (refused (line_of job name y old.counts f))) old new → v ≡ turn_behind_gap z.turn → PassesText job name told y (record z { turn = v }) old new went.Astray
+        → Played (events_of (refused (line_of job name y old.counts f))) old new → v ≡ turn_after_gap z.turn → PassesText job name told y (record z { turn = v }) old new went.Astray
     passes_astray {z = z} p open' why played next = record {
       window = p.is.0;
       text = take f.len (ahead_of y.window);
@@ -128,7 +128,7 @@ module _ (job : TextJob) (name : List ℕ) (told : NextText) (y : Cursor) {old n
         unended = open';
         fault = tells_fault job name y old.counts f p.fits within;
         why = subst (λ n. TellsNoText job.limits (ahead_of y.window) told n f.at f.reason) (sym (length-take-le f.len (ahead_of y.window) p.fits)) why;
-        next = next ∙ ap turn_behind_gap p.is.4;
+        next = next ∙ ap turn_after_gap p.is.4;
       };
       played = played;
     }
@@ -140,7 +140,7 @@ module _ (job : TextJob) (name : List ℕ) (told : NextText) (y : Cursor) {old n
       went.Astray,
       take f.len (ahead_of y.window),
       refused (line_of job name y old.counts f),
-      turn_behind_gap y.turn,
+      turn_after_gap y.turn,
       first_of f.len (ahead_of y.window),
       record {
         unended = open';

@@ -4,7 +4,7 @@ use Rattle.std.proofs.lemmas.Grind.{flat_map-append, fold-append}
 use Rattle.std.specs.Io.KnownBytes.{Consumes, IsAtEnd}
 use Rattle.std.proofs.KnownBytes.{Consumes-nil}
 use Rattle.dump_io.specs.input.Reading.{IsWindow, ahead_of}
-use Rattle.dump_io.specs.input.Between.{IsBetween, turn_behind_gap}
+use Rattle.dump_io.specs.input.Between.{IsBetween, turn_after_gap}
 use Rattle.dump_io.specs.input.Places.{EndsGap, HasNoLine, first_position, position_over}
 use Rattle.dump_io.specs.lines.Fronts.{HasFront}
 use Rattle.dump_io.specs.declared.input.turn.Turn.{Turn}
@@ -333,8 +333,8 @@ module _ {job : TextJob} {name : List ℕ} {input r r' : Option (List ℕ)} {old
         (read_behind (bytes_of_texts g.ps) (ahead_of x.window) ((f.front ++ text) ++ ahead_of q.window) input r r'' g.is_read both.is_read) in
         let size : length (before ++ text) ≡ length before + length text = length-append before text in
         let end : y.window.offset + length text ≡ length (before ++ text) = ap (λ n. n + length text) far_found ∙ sym size in
-        let next : (q.turn ≡ turn_behind_gap y.turn) ⊎ (q.turn ≡ turn.Last) = elim over.ends [ inl on ↦ inl (on.0 ∙ is.next) | inr last ↦ inr last.0 ] in
-        let ends = behind_of input r'' (before ++ text) (ahead_of q.window) (λ l. EndsGap (position_over y.place text) (turn_behind_gap y.turn) l q.turn) read
+        let next : (q.turn ≡ turn_after_gap y.turn) ⊎ (q.turn ≡ turn.Last) = elim over.ends [ inl on ↦ inl (on.0 ∙ is.next) | inr last ↦ inr last.0 ] in
+        let ends = behind_of input r'' (before ++ text) (ahead_of q.window) (λ l. EndsGap (position_over y.place text) (turn_after_gap y.turn) l q.turn) read
         (λ rest done. gap_ends r'' z q (position_over y.place text) y.turn rest done is.next there over.ends) (y.window.offset + length text) end in
         let astray = astray_of r' before here far_found read_found f.is over.gap q.turn is none next ends in
         let played : Played (events_of (refused line)) mid new = subst (λ (s : Said). Played (events_of s) mid new) says p.played in

@@ -7,7 +7,7 @@ use Rattle.raw_tree.specs.WithinLimits.{ReadsWithin}
 use Rattle.raw_tree.specs.declared.reader.limits.Limits.{Limits}
 use Rattle.bson_from_json.specs.Texts.{IsCause, IsWritten, SaysNone}
 use Rattle.bson_from_json.specs.JsonReason.TheVariants as json
-use Rattle.dump_io.specs.input.Between.{CantBe, IsBetween, may_begin, may_end, turn_behind_document, turn_behind_gap}
+use Rattle.dump_io.specs.input.Between.{CantBe, IsBetween, may_begin, may_end, turn_after_document, turn_after_gap}
 use Rattle.dump_io.specs.input.Places.{EndsGap, HasNoLine, first_position, position_over}
 use Rattle.dump_io.specs.input.Texts.{HasBegun, IsOneText, IsTextOf, MayGoOn}
 use Rattle.dump_io.specs.lines.Fronts.{HasFront}
@@ -109,7 +109,7 @@ pub record IsWholeText (t : Turn) (text : List ℕ) : Type 0 where
 pub record IsDocument (here : TextPoint) (text bytes : List ℕ) (behind : Turn) : Type 0 where
   pub is_text : IsWholeText here.turn text
   pub is_written : Gives here.limits text bytes
-  pub next : behind ≡ turn_behind_document here.turn
+  pub next : behind ≡ turn_after_document here.turn
 
 -- this is the line of a fault in a text that begins here, and this number of its bytes are before the fault
 pub record TellsTextFault (style : Style) (here : TextPoint) (text line : List ℕ) : Type 0 where
@@ -129,7 +129,7 @@ pub record IsRefused (style : Style) (here : TextPoint) (text line : List ℕ) (
   pub is_text : IsWholeText here.turn text
   pub fault : TellsTextFault style here text line
   pub why : IsFaultOf here.limits text fault.at fault.reason
-  pub next : behind ≡ turn_behind_document here.turn
+  pub next : behind ≡ turn_after_document here.turn
 
 -- What is wrong with a text that doesn't come to its end, of which `text` was read, and `begun` bytes are passed: 128 MiB were read, which is
 -- too many; or what was read has a fault. A fault after the bytes that are passed is told at their end.
@@ -162,8 +162,8 @@ pub record MeetsNoText (style : Style) (input : Option (List ℕ)) (here : TextP
   pub no_line : HasNoLine (position_over here.place begun) gap
   pub fault : TellsTextFault style here begun line
   pub why : IfSome input (λ s. HasNoText here (drop here.offset s) (length begun) fault.at fault.reason)
-  pub next : (behind ≡ turn_behind_gap here.turn) ⊎ (behind ≡ turns.Last)
-  pub ends : IfSome input (λ s. EndsGap (position_over here.place text) (turn_behind_gap here.turn) (drop (here.offset + length text) s) behind)
+  pub next : (behind ≡ turn_after_gap here.turn) ⊎ (behind ≡ turns.Last)
+  pub ends : IfSome input (λ s. EndsGap (position_over here.place text) (turn_after_gap here.turn) (drop (here.offset + length text) s) behind)
 
 -- what a text says that begins here, or what is passed in its place, and what may come after it
 abbrev pub IsSaid : Style → (input : Option (List ℕ)) → TextPoint → (text : List ℕ) → Said → (behind : Turn) → Type 0

@@ -2,7 +2,7 @@
 use Rattle.std.specs.Prelude.{◌≡◌, ◌⊎◌, ◌+◌, ◌≤◌, ℕ, List, [], ◌++◌, true, Option, IfSome, Result, Ok, Err, length, take}
 use Rattle.raw_tree.specs.declared.reader.limits.Limits.{Limits}
 use Rattle.dump_io.specs.input.Reading.{IsWindow, ahead_of, offset_of}
-use Rattle.dump_io.specs.input.Between.{may_begin, turn_behind_gap}
+use Rattle.dump_io.specs.input.Between.{may_begin, turn_after_gap}
 use Rattle.dump_io.specs.input.Places.{position_over}
 use Rattle.dump_io.specs.input.Scans.{HasBrace, ScansAhead}
 use Rattle.dump_io.specs.input.Texts.{HasBegun, IsOneText, MayGoOn}
@@ -50,7 +50,7 @@ pub record IsBegun (style : Style) (here : TextPoint) (ahead : List ℕ) (told :
   pub unended : MayGoOn text
   pub fault : TellsTextFault style here text line
   pub why : TellsNoText here.limits ahead told (length text) fault.at fault.reason
-  pub next : behind ≡ turn_behind_gap here.turn
+  pub next : behind ≡ turn_after_gap here.turn
 
 -- what came of the bytes ahead, of which this was told: a document, a text with a fault, or what is no text
 abbrev pub Becomes : Style → TextPoint → (ahead : List ℕ) → NextText → Went → (text : List ℕ) → Said → (behind : Turn) → Type 0
