@@ -4,15 +4,16 @@ use Rattle.std.proofs.lemmas.Grind.{flat_map-append, fold-append}
 use Rattle.std.specs.Io.KnownBytes.{Consumes, IsAtEnd}
 use Rattle.std.proofs.KnownBytes.{Consumes-nil}
 use Rattle.dump_io.specs.input.Reading.{IsWindow, ahead_of}
-use Rattle.dump_io.specs.input.Texts.{EndsGap, HasNoLine, first_position, position_behind, position_over, turn_behind_gap, turn_over}
+use Rattle.dump_io.specs.input.Between.{IsBetween, turn_after_gap}
+use Rattle.dump_io.specs.input.Places.{EndsGap, HasNoLine, first_position, position_over}
 use Rattle.dump_io.specs.lines.Fronts.{HasFront}
 use Rattle.dump_io.specs.declared.input.turn.Turn.{Turn}
 use Rattle.dump_io.specs.declared.input.turn.Turn.TheVariants as turn
 use Rattle.dump_io.specs.declared.lines.style.Style.{Style}
-use Rattle.dump_io.proofs.Face.{read_behind}
+use Rattle.dump_io.proofs.Face.{position_on, read_behind}
 use Rattle.dump_runs.specs.Plays.{Event, Held, Played}
 use Rattle.dump_runs.specs.texts.Reading.{Advances, FindsText, GoesOnTo, PassesGap}
-use Rattle.dump_runs.specs.texts.Run.{AreTexts, EndsTexts, GoesOn, HaltsTexts, IsFault, IsSaid, IsTextPart, Said, TextPart, TextPoint, after, after_all, bytes_of, bytes_of_texts, events_of, events_of_texts, first_point, passed_to, refused, said, style_of, turn_behind_texts}
+use Rattle.dump_runs.specs.texts.Run.{AreTexts, EndsTexts, GoesOn, HaltsTexts, IsFault, IsSaid, IsTextPart, Said, TextPart, TextPoint, after, after_all, bytes_of, bytes_of_texts, events_of, events_of_texts, first_point, passed_to, refused, said, style_of, turn_after}
 use Rattle.dump_runs.specs.texts.Steps.{Becomes, FailsAt, HaltsText, IsBegun, PassesBehind, PassesText, PassesTexts, point_of}
 use Rattle.dump_runs.specs.declared.ends.Ended.{Ended}
 use Rattle.dump_runs.specs.declared.ends.Ended.TheVariants as how
@@ -61,9 +62,9 @@ offset_behind here (p ∷ ps) =
     let rest : (after_all here (p ∷ ps)).offset ≡ (here.offset + one) + others = offset_behind (after here p) ps in
     rest ∙ add_assoc here.offset one others ∙ ap (λ (n : ℕ). here.offset + n) (sym (length-append (bytes_of p) (bytes_of_texts ps)))
 
-turn_behind : (here : TextPoint) (ps : List TextPart) → (after_all here ps).turn ≡ fold (λ _ (p : TextPart). p.behind) here.turn ps
-turn_behind here [] = refl
-turn_behind here (p ∷ ps) = turn_behind (after here p) ps
+turn_of : (here : TextPoint) (ps : List TextPart) → (after_all here ps).turn ≡ turn_after here.turn ps
+turn_of here [] = refl
+turn_of here (p ∷ ps) = turn_of (after here p) ps
 
 -- these bytes were passed of an input, and others are ahead
 pub record IsAt (input r : Option (List ℕ)) (x : Cursor) : Type 0 where
@@ -325,15 +326,15 @@ module _ {job : TextJob} {name : List ℕ} {input r r' : Option (List ℕ)} {old
         let part : TextPart = record { front = f.front; text = text; says = refused line; behind = q.turn } in
         let none : HasNoLine (position_over y.place p.text) over.gap = subst (λ l. HasNoLine l over.gap) p.place over.none in
         let there : q.place ≡ position_over y.place text =
-        over.advances.place ∙ ap (λ l. position_over l over.gap) p.place ∙ sym (fold-append position_behind y.place p.text over.gap) in
+        over.advances.place ∙ ap (λ l. position_over l over.gap) p.place ∙ sym (position_on y.place p.text over.gap) in
         let both = subst (Advances r r'' x q) (append_assoc f.front p.text over.gap) (advances_on r r' r'' x z q (f.front ++ p.text) over.gap over_text over.advances) in
         let read = subst (Consumes input r'') (ap (λ l. bytes_of_texts g.ps ++ l) (append_assoc f.front text (ahead_of q.window))
         ∙ sym (append_assoc (bytes_of_texts g.ps) f.front (text ++ ahead_of q.window)) ∙ sym (append_assoc before text (ahead_of q.window)))
         (read_behind (bytes_of_texts g.ps) (ahead_of x.window) ((f.front ++ text) ++ ahead_of q.window) input r r'' g.is_read both.is_read) in
         let size : length (before ++ text) ≡ length before + length text = length-append before text in
         let end : y.window.offset + length text ≡ length (before ++ text) = ap (λ n. n + length text) far_found ∙ sym size in
-        let next : (q.turn ≡ turn_behind_gap y.turn) ⊎ (q.turn ≡ turn.Last) = elim over.ends [ inl on ↦ inl (on.0 ∙ is.next) | inr last ↦ inr last.0 ] in
-        let ends = behind_of input r'' (before ++ text) (ahead_of q.window) (λ l. EndsGap (position_over y.place text) (turn_behind_gap y.turn) l q.turn) read
+        let next : (q.turn ≡ turn_after_gap y.turn) ⊎ (q.turn ≡ turn.Last) = elim over.ends [ inl on ↦ inl (on.0 ∙ is.next) | inr last ↦ inr last.0 ] in
+        let ends = behind_of input r'' (before ++ text) (ahead_of q.window) (λ l. EndsGap (position_over y.place text) (turn_after_gap y.turn) l q.turn) read
         (λ rest done. gap_ends r'' z q (position_over y.place text) y.turn rest done is.next there over.ends) (y.window.offset + length text) end in
         let astray = astray_of r' before here far_found read_found f.is over.gap q.turn is none next ends in
         let played : Played (events_of (refused line)) mid new = subst (λ (s : Said). Played (events_of s) mid new) says p.played in
@@ -389,8 +390,8 @@ module _ {job : TextJob} {name : List ℕ} {input r : Option (List ℕ)} {old ne
   stops_end r' y f =
       let bytes = bytes_of_texts g.ps in
       let read = read_behind bytes (ahead_of x.window) (f.front ++ ahead_of y.window) input r r' g.is_read f.advances.is_read in
-      let same : x.turn ≡ turn_behind_texts g.ps = ap (λ (q : TextPoint). q.turn) g.to ∙ turn_behind (first_point job name old.counts) g.ps in
-      let turns = subst (λ (l : Turn). turn_over l f.front ≡ Some y.turn) same f.turns in
+      let same : x.turn ≡ turn_after turn.First g.ps = ap (λ (q : TextPoint). q.turn) g.to ∙ turn_of (first_point job name old.counts) g.ps in
+      let turns = subst (λ (l : Turn). IsBetween l f.front y.turn) same f.turns in
       record {
         ps = g.ps;
         parts = g.has.parts;

@@ -2,7 +2,10 @@
 use Rattle.std.specs.Prelude.{◌≡◌, ◌⊎◌, ◌+◌, ◌≤◌, ℕ, List, [], ◌++◌, true, Option, IfSome, Result, Ok, Err, length, take}
 use Rattle.raw_tree.specs.declared.reader.limits.Limits.{Limits}
 use Rattle.dump_io.specs.input.Reading.{IsWindow, ahead_of, offset_of}
-use Rattle.dump_io.specs.input.Texts.{HasBegun, HasBrace, IsOpen, IsOneText, ScansAhead, may_begin, position_over, scanned, turn_behind_gap}
+use Rattle.dump_io.specs.input.Between.{may_begin, turn_after_gap}
+use Rattle.dump_io.specs.input.Places.{position_over}
+use Rattle.dump_io.specs.input.Scans.{HasBrace, ScansAhead}
+use Rattle.dump_io.specs.input.Texts.{HasBegun, IsOneText, MayGoOn}
 use Rattle.dump_io.specs.lines.Failing.{IsReading}
 use Rattle.dump_io.specs.lines.Fronts.{HasFront}
 use Rattle.dump_io.specs.declared.input.turn.Turn.{Turn}
@@ -44,10 +47,10 @@ TellsNoText limits ahead next.End begun at why = ⊥
 
 -- what is begun of a text that doesn't come to its end is passed; nothing, where none is there
 pub record IsBegun (style : Style) (here : TextPoint) (ahead : List ℕ) (told : NextText) (text line : List ℕ) (behind : Turn) : Type 0 where
-  pub unended : IsOpen (scanned text)
+  pub unended : MayGoOn text
   pub fault : TellsTextFault style here text line
   pub why : TellsNoText here.limits ahead told (length text) fault.at fault.reason
-  pub next : behind ≡ turn_behind_gap here.turn
+  pub next : behind ≡ turn_after_gap here.turn
 
 -- what came of the bytes ahead, of which this was told: a document, a text with a fault, or what is no text
 abbrev pub Becomes : Style → TextPoint → (ahead : List ℕ) → NextText → Went → (text : List ℕ) → Said → (behind : Turn) → Type 0

@@ -21,7 +21,7 @@ returns g c job name told gives =
     held (written (g.D.Write.contents c.put.new.writer.inner) (g.A.Write.contents c.writers.inside.alone.inner) (g.W.Write.contents c.writers.inside.report.inner))
     (record t { counts = c.in_ok-counted.counted }) in
     subst (λ (v : Written). PassesText job name told y (record c.pass.new.self { turn = c.behind_document-cursor.result }) (held v t) new went.Document) c.writers.view_is
-    (passes_document job name told y c.args.len bytes (record { fits = c.requires.3; is = c.in_ok-pass.ensures.passed }) (record { may = c.requires.1; brace = c.requires.2; whole = c.requires.4 })
+    (passes_document job name told y c.args.len bytes (record { fits = c.requires.1; is = c.in_ok-pass.ensures.passed }) c.requires.2
     is (said_played bytes c.in_ok-put.ensures.written counted) c.behind_document-cursor.ensures)
 
 pub returns-in_err-counted : goal.returns-in_err-counted
@@ -44,6 +44,6 @@ returns-in_err-put g c job name told gives =
     let e = err_from_is_err_and c.from_residual-in_err-put.result c.from_residual-in_err-put.ensures.1 in
     rw (e.1, e.2) (
       subst (λ (v : Written). HaltsText job name told y (held v t) new) c.writers.view_is
-          (halts_document job name told y c.args.len bytes (record { may = c.requires.1; brace = c.requires.2; whole = c.requires.4 }) is (said_front bytes c.in_err-put.ensures.front)),
+          (halts_document job name told y c.args.len bytes c.requires.2 is (said_front bytes c.in_err-put.ensures.front)),
       c.in_err-put.ensures.failed,
     )

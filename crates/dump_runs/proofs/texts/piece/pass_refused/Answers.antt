@@ -7,8 +7,8 @@ returns g c next =
     let f = c.args.fault in
     let t = c.args.input in
     let told = c.in_ok-tell_fault.ensures in
-    passes_refused t.job t.name.now next c.args.cursor.now f c.requires.5 (record { fits = c.requires.3; is = told.passed })
-    (record { may = c.requires.1; brace = c.requires.2; whole = c.requires.4 }) c.requires.6 told.told c.behind_document-cursor.ensures
+    passes_refused t.job t.name.now next c.args.cursor.now f c.requires.3 (record { fits = c.requires.1; is = told.passed })
+    c.requires.2 c.requires.4 told.told c.behind_document-cursor.ensures
 
 pub returns-in_err-tell_fault : goal.returns-in_err-tell_fault
 returns-in_err-tell_fault g c next =
@@ -17,6 +17,6 @@ returns-in_err-tell_fault g c next =
     let told = c.in_err-tell_fault.ensures in
     let e = err_from_is_err_and c.from_residual.result c.from_residual.ensures.1 in
     rw (e.1, e.2) (
-      halts_refused t.job t.name.now next c.args.cursor.now f c.requires.5 c.requires.3 (record { may = c.requires.1; brace = c.requires.2; whole = c.requires.4 }) c.requires.6 told.front,
+      halts_refused t.job t.name.now next c.args.cursor.now f c.requires.3 c.requires.1 c.requires.2 c.requires.4 told.front,
       told.failed,
     )
