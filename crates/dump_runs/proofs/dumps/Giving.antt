@@ -45,7 +45,7 @@ pub record IsFound (job : Job) (p : Piece) (n : Counts) : Type 0 where
 -- that line is written, and the listing
 pub record IsReported (job : Job) (p : Piece) (w w' : Option (List ℕ)) : Type 0 where
   pub lines : List ℕ
-  pub lists : Lists job.command p.bytes.now lines
+  pub lists : Lists job.command p.at.offset p.bytes.now lines
   pub put : Appends w w' (p.judged.line.items ++ lines)
 
 -- and what is made of the document
@@ -70,7 +70,7 @@ module _ {job : Job} {p : Piece} {n : Counts} (j : IsFound job p n) where
   )
 
   -- that line, and a front of the listing
-  pub front_listing : {d a w w' : Option (List ℕ)} {k : Kept} (v : Option (List ℕ)) → Appends w v p.judged.line.items → (lines : List ℕ) × ListsFront job.command p.bytes.now lines × Appends v w' lines
+  pub front_listing : {d a w w' : Option (List ℕ)} {k : Kept} (v : Option (List ℕ)) → Appends w v p.judged.line.items → (lines : List ℕ) × ListsFront job.command p.at.offset p.bytes.now lines × Appends v w' lines
       → HaltsPiece job p (holds d a w n k) (holds d a w' n k)
   front_listing {d = d} {a = a} {w = w} {w' = w'} {k = k} v first (lines, front, put) =
       let text = p.judged.line.items ++ lines in (
