@@ -1,5 +1,5 @@
 -- How the parts of an input of texts that were passed grow by one more.
-use Rattle.std.proofs.Common.{◌≡◌, ◌≢◌, ◌⊎◌, ◌+◌, inl, inr, ℕ, List, [], ◌∷◌, ◌++◌, Bool, true, false, Option, None, Some, IfSome, add-zero, add_assoc, append_assoc, append-nil, ap, arith, flat_map, fold, length, length-append, refl, sym, subst, zero-add, ◌∙◌}
+use Rattle.std.proofs.Common.{◌≡◌, ◌≢◌, ◌⊎◌, ◌+◌, inl, inr, ℕ, List, [], ◌∷◌, ◌++◌, Bool, true, false, Option, None, Some, IfSome, add-zero, add_assoc, append_assoc, append-nil, ap, arith, flat_map, length, length-append, refl, sym, subst, zero-add, ◌∙◌}
 use Rattle.std.proofs.lemmas.Grind.{flat_map-append, fold-append}
 use Rattle.std.specs.Io.KnownBytes.{Consumes, IsAtEnd}
 use Rattle.std.proofs.KnownBytes.{Consumes-nil}
