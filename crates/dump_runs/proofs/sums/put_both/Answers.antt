@@ -1,4 +1,4 @@
-use Rattle.std.proofs.Common.{ap, subst, None}
+use Rattle.std.proofs.Common.{List, ap, subst, ℕ, None}
 use Rattle.std.proofs.KnownBytes.{Appends-trans}
 use Rattle.std.specs.Io.KnownBytes.{Appends}
 use Rattle.dump_io.specs.lines.Fronts.{AppendsFront}
