@@ -391,35 +391,6 @@ module _ (t : List ℕ) (most : suc (length t) ≤ 2 ^ 27) where
   off : (more : List ℕ) → Ends (scanned (123 ∷ t)) more → IsOneText (123 ∷ (t ++ more))
   off more h = text_of (t ++ more) (scan_off t 1 (scan.Levels 1 false) more (omega arith, omega arith) h)
 
--- what the scan says of a text of at most 128 MiB that begins with a brace
-module _ (t : List ℕ) (brace : HasBrace t) (most : length t ≤ 2 ^ 27) where
-  abbrev after : List ℕ
-  after = brace.0
-
-  size : suc (length after) ≤ 2 ^ 27
-  size = subst (λ l. length l ≤ 2 ^ 27) brace.1 most
-
-  whole_text : scanned t ≡ scan.Whole → IsOneText t
-  whole_text is =
-      let whole : IsOneText (123 ∷ (after ++ [])) = off after size [] (subst (λ s. Ends s []) (sym is ∙ ap scanned brace.1) refl) in
-      subst IsOneText (ap (λ l. 123 ∷ l) (append-nil after) ∙ sym brace.1) whole
-
-  text_whole : IsOneText t → scanned t ≡ scan.Whole
-  text_whole is =
-      let whole : IsOneText (123 ∷ (after ++ [])) = subst IsOneText (brace.1 ∙ ap (λ l. 123 ∷ l) (sym (append-nil after))) is in
-      ap scanned brace.1 ∙ is_whole (scanned (123 ∷ after)) (on after size [] whole)
-
-  open_text : IsOpen (scanned t) → MayGoOn t
-  open_text open' =
-      let within = within_scan after 1 (scan.Levels 1 false) (omega arith, omega arith) in
-      let (more, some, ends) = can_end (1 + length after) (scanned (123 ∷ after)) within (subst (λ l. IsOpen (scanned l)) brace.1 open') in
-      record { more = more; some = some; whole = subst (λ l. IsOneText (l ++ more)) (sym brace.1) (off after size more ends) }
-
-  text_open : MayGoOn t → IsOpen (scanned t)
-  text_open goes =
-      let whole : IsOneText (123 ∷ (after ++ goes.more)) = subst (λ l. IsOneText (l ++ goes.more)) brace.1 goes.whole in
-      subst (λ l. IsOpen (scanned l)) (sym brace.1) (is_open (scanned (123 ∷ after)) (goes.more, goes.some, on after size goes.more whole))
-
 -- a text may begin
 pub nothing_goes_on : MayGoOn []
 nothing_goes_on = record { more = 123 ∷ 125 ∷ []; some = λ none. cc; whole = text_of (125 ∷ []) (in_level zero false [] 125 [] refl (IsInLevel.nothing false) refl refl) }
@@ -442,6 +413,17 @@ pub record ScansAs (t : List ℕ) : Type 0 where
   pub goes : IsOpen (scanned t) → MayGoOn t
   pub is_open : MayGoOn t → IsOpen (scanned t)
 
+-- after a brace
+scans_brace : (t : List ℕ) → suc (length t) ≤ 2 ^ 27 → ScansAs (123 ∷ t)
+scans_brace t most =
+    let within = within_scan t 1 (scan.Levels 1 false) (omega arith, omega arith) in
+    record {
+      whole = λ is. subst (λ l. IsOneText (123 ∷ l)) (append-nil t) (off t most [] (subst (λ s. Ends s []) (sym is) refl));
+      is_whole = λ whole. is_whole (scanned (123 ∷ t)) (on t most [] (subst (λ l. IsOneText (123 ∷ l)) (sym (append-nil t)) whole));
+      goes = λ open'. let (more, some, ends) = can_end (1 + length t) (scanned (123 ∷ t)) within open' in record { more = more; some = some; whole = off t most more ends };
+      is_open = λ goes. is_open (scanned (123 ∷ t)) (goes.more, goes.some, on t most goes.more goes.whole);
+    }
+
 not_begun : scan.Levels 0 true ≡ scan.Whole → ⊥
 not_begun same = cc
 
@@ -449,17 +431,11 @@ no_text : ¬ IsOneText []
 no_text is = let same : [] ≡ 123 ∷ (is.inside ++ is.closer ∷ []) = is.spelled in cc
 
 pub scans_as : (ahead : List ℕ) (n : ℕ) → HasBrace ahead → n ≤ 2 ^ 27 → ScansAs (take n ahead)
-scans_as ahead zero brace most = record {
-  whole = λ is. absurd (not_begun is);
-  is_whole = λ is. absurd (no_text is);
-  goes = λ open'. nothing_goes_on;
-  is_open = λ goes. tt;
-}
+scans_as ahead zero brace most =
+    record { whole = λ is. absurd (not_begun is); is_whole = λ is. absurd (no_text is); goes = λ open'. nothing_goes_on; is_open = λ goes. tt }
 scans_as ahead (suc n) (rest, same) most =
-    let t = take (suc n) ahead in
-    let brace : HasBrace t = (take n rest, ap (take (suc n)) same) in
-    let less : length t ≤ 2 ^ 27 = omega (arith, length-take (suc n) ahead) in
-    record { whole = whole_text t brace less; is_whole = text_whole t brace less; goes = open_text t brace less; is_open = text_open t brace less }
+    let less : suc (length (take n rest)) ≤ 2 ^ 27 = omega (arith, length-take n rest) in
+    subst (λ l. ScansAs (take (suc n) l)) (sym same) (scans_brace (take n rest) less)
 
 open_or : (s : Scan) → IsOpen s ⊎ (¬ IsOpen s)
 open_or (scan.Levels d may) = inl tt

@@ -4,8 +4,14 @@ use Rattle.std.proofs.lemmas.Grind.{fold-append}
 use Rattle.std.proofs.lemmas.List.Sums.{sum_by-cons}
 use Rattle.std.specs.List.{list_any}
 use Rattle.dump_io.specs.input.Places.{HasNoLine, begins_character, begins_line, ends_line, last_line, position_over}
-use Rattle.dump_io.specs.input.Scans.{position_step}
 use Rattle.dump_io.specs.declared.input.position.Position.{Position}
+
+-- the place after one byte more
+abbrev pub position_step : Position → ℕ → Position
+position_step p b =
+    if b == 10 then record { line = p.line + 1; column = 1 }
+    else if begins_character b then record p { column = p.column + 1 }
+    else p
 
 no_feed : (bs : List ℕ) → list_any ends_line bs ≡ false → last_line bs ≡ bs
 no_feed [] none = refl

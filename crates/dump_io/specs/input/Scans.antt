@@ -1,9 +1,6 @@
--- What the code does with the bytes of a text one by one: how far it has come, what may come next, and where that is. No public contract cites
--- this file.
+-- What the code does with the bytes of a text one by one: how far it has come, and what may come next. No public contract cites this file.
 use Rattle.std.specs.Prelude.{◌≡◌, ◌+◌, ◌-◌, ◌^◌, ◌≤◌, ◌<◌, ◌==◌, ◌&&◌, ℕ, List, ◌∷◌, Bool, true, false, Option, None, Some, if◌then◌else◌, fold, length, nat_lt, take}
-use Rattle.dump_io.specs.input.Places.{begins_character}
 use Rattle.dump_io.specs.input.Texts.{begins_level, ends_level, is_separator, is_space}
-use Rattle.dump_io.specs.declared.input.position.Position.{Position}
 use Rattle.dump_io.specs.declared.input.scan.Scan.{Scan}
 use Rattle.dump_io.specs.declared.input.scan.Scan.TheVariants as scan
 use Rattle.dump_io.specs.declared.input.turn.Turn.{Turn}
@@ -82,10 +79,3 @@ turn_step turn.Item b = if is_space b then Some turn.Item else if b == 93 then S
 turn_step turn.More b = if is_space b then Some turn.More else None
 turn_step turn.Comma b = if is_space b then Some turn.Comma else if b == 44 then Some turn.More else if b == 93 then Some turn.Last else None
 turn_step turn.Last b = if is_space b then Some turn.Last else None
-
--- the place after one byte more
-abbrev pub position_step : Position → ℕ → Position
-position_step p b =
-    if b == 10 then record { line = p.line + 1; column = 1 }
-    else if begins_character b then record p { column = p.column + 1 }
-    else p

@@ -1,4 +1,4 @@
-//! Where the text of a document ends.
+//! Where the text of a document ends. `specs/input/Texts.antt` says what one is, `Scans.antt` what is found of it byte by byte.
 #![tactic(auto)]
 
 ghost use Rattle.std.specs.Prelude.{◌≡◌, ◌-◌, ℕ, List, ◌≤◌, ◌<◌, ◌^◌, fold, length, min, MatchBool, take};

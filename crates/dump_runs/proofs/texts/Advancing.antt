@@ -121,9 +121,12 @@ module _ {b c : Option (List ℕ)} {y z : Cursor} {o : Option ℕ} {byte : ℕ} 
   gap_more a x w (gap, p, none, same) (looks, is) some now passed =
       let (rest, ahead) = subst (IsAhead c z) some is in
       let first = advances_ahead a b c x y z gap p looks in
-      let here : begins_line (position_over x.place gap) byte ≡ false = subst (λ (q : Position). begins_line q byte ≡ false) first.place now in
-      (gap ++ byte ∷ [], advances_byte a c x z w gap byte rest z.turn first ahead passed,
-      no_line_on x.place gap (byte ∷ []) none (no_line_first (position_over x.place gap) byte [] here (no_line_none _)), passed.4 ∙ looks.turn ∙ same)
+      let here : begins_line (position_over x.place gap) byte ≡ false = subst (λ (q : Position). begins_line q byte ≡ false) first.place now in (
+        gap ++ byte ∷ [],
+        advances_byte a c x z w gap byte rest z.turn first ahead passed,
+        no_line_on x.place gap (byte ∷ []) none (no_line_first (position_over x.place gap) byte [] here (no_line_none _)),
+        passed.4 ∙ looks.turn ∙ same,
+      )
 
 -- up to the end of the input
 module _ {b c : Option (List ℕ)} {y z : Cursor} {o : Option ℕ} where

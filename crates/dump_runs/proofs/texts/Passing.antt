@@ -1,5 +1,5 @@
 -- How the parts of an input of texts that were passed grow by one more.
-use Rattle.std.proofs.Common.{◌≡◌, ◌≢◌, ◌⊎◌, ◌+◌, inl, inr, ℕ, List, [], ◌∷◌, ◌++◌, Bool, true, false, Option, None, Some, IfSome, add-zero, add_assoc, append_assoc, append-nil, ap, arith, flat_map, fold, length, length-append, refl, sym, subst, zero-add, ◌∙◌}
+use Rattle.std.proofs.Common.{◌≡◌, ◌≢◌, ◌⊎◌, ◌+◌, inl, inr, ℕ, List, [], ◌∷◌, ◌++◌, Bool, true, false, Option, None, Some, IfSome, add-zero, add_assoc, append_assoc, append-nil, ap, arith, flat_map, length, length-append, refl, sym, subst, zero-add, ◌∙◌}
 use Rattle.std.proofs.lemmas.Grind.{flat_map-append, fold-append}
 use Rattle.std.specs.Io.KnownBytes.{Consumes, IsAtEnd}
 use Rattle.std.proofs.KnownBytes.{Consumes-nil}
@@ -262,29 +262,29 @@ module _ {job : TextJob} {name : List ℕ} {input r r' : Option (List ℕ)} {old
   -- a run that fails, and of what is next a front was played
   pub halts_next : {new : Held} → HaltsText job name told y mid new → HaltsTexts job name input old new
   halts_next (inl none) = record { ps = g.ps; parts = g.has.parts; in_front = g.has.in_front; es = []; next = inl refl; played = played_on g.has.played none }
-  halts_next (inr (what, text, says, v, front, is, (es, played, inl none))) =
+  halts_next (inr (what, v, part, (es, played, inl none))) =
       record { ps = g.ps; parts = g.has.parts; in_front = g.has.in_front; es = es; next = inl none; played = played_on g.has.played played }
-  halts_next (inr (what, text, says, v, front, is, (es, played, inr begun))) =
-      let (gap, behind, next, there) = completed what text says v front is in
-      let part : TextPart = record { front = f.front; text = text ++ gap; says = says; behind = behind } in
+  halts_next (inr (what, v, part, (es, played, inr begun))) =
+      let (gap, behind, next, there) = completed what part.text part.says v part.front part.is in
+      let last : TextPart = record { front = f.front; text = part.text ++ gap; says = part.says; behind = behind } in
       record {
         ps = g.ps;
         parts = g.has.parts;
         in_front = g.has.in_front;
         es = es;
-        next = inr (part, parts_more g part next, subst (λ l. IfSome input (λ s. HasFront s l)) (one_more bytes_of g.ps part) there, begun);
+        next = inr (last, parts_more g last next, subst (λ l. IfSome input (λ s. HasFront s l)) (one_more bytes_of g.ps last) there, begun);
         played = played_on g.has.played played;
       }
 
   module _ {z : Cursor} {new : Held} {what : Went} (p : PassesText job name told y z mid new what) where
-    over_text : Advances r r' x z (f.front ++ p.text)
-    over_text = advances_more r r' x y z f.front p.text f.advances p.window p.ahead p.place p.offset
+    over_text : Advances r r' x z (f.front ++ p.part.text)
+    over_text = advances_more r r' x y z f.front p.part.text f.advances p.window p.ahead p.place p.offset
 
     -- it is the last part
-    last_part : (q : TextPart) × (q.says ≡ p.says) × HasTexts job name input old new (g.ps ++ q ∷ [])
+    last_part : (q : TextPart) × (q.says ≡ p.part.says) × HasTexts job name input old new (g.ps ++ q ∷ [])
     last_part =
-        let (gap, behind, next, there) = completed what p.text p.says z.turn (ahead_of z.window, p.ahead) p.is in
-        let part : TextPart = record { front = f.front; text = p.text ++ gap; says = p.says; behind = behind } in
+        let (gap, behind, next, there) = completed what p.part.text p.part.says z.turn (ahead_of z.window, p.ahead) p.part.is in
+        let part : TextPart = record { front = f.front; text = p.part.text ++ gap; says = p.part.says; behind = behind } in
         (part, refl, has_more g part next there p.played)
 
     -- it has a fault, and the run stops after it
@@ -295,7 +295,7 @@ module _ {job : TextJob} {name : List ℕ} {input r r' : Option (List ℕ)} {old
           ps = g.ps ++ q ∷ [];
           parts = h.parts;
           ends = h.in_front;
-          stops = (asked, (g.ps, q, refl, subst IsFault (sym same) (fault_of shown here (ahead_of y.window) told what p.text p.says z.turn p.is other)));
+          stops = (asked, (g.ps, q, refl, subst IsFault (sym same) (fault_of shown here (ahead_of y.window) told what p.part.text p.part.says z.turn p.part.is other)));
           played = h.played;
         }
 
@@ -305,29 +305,29 @@ module _ {job : TextJob} {name : List ℕ} {input r r' : Option (List ℕ)} {old
     fails_behind r'' q e asked goes is =
         let (part, same, h) = last_part in
         let on : GoesOn job.keep_going part.says =
-        subst (GoesOn job.keep_going) (sym same) (on_of shown here (ahead_of y.window) told what p.text p.says z.turn job.keep_going p.is asked) in
-        fails_at e h (go_more job.keep_going g.ps part g.all on) (at_more input r' r'' z q (at_more input r r' x z (at_of g) (f.front ++ p.text, over_text)) goes) is
+        subst (GoesOn job.keep_going) (sym same) (on_of shown here (ahead_of y.window) told what p.part.text p.part.says z.turn job.keep_going p.part.is asked) in
+        fails_at e h (go_more job.keep_going g.ps part g.all on) (at_more input r' r'' z q (at_more input r r' x z (at_of g) (f.front ++ p.part.text, over_text)) goes) is
 
     -- or writing does
     pub halts_passed : HaltsTexts job name input old new
     halts_passed = let (part, same, h) = last_part in halts_has h
 
     -- nothing is passed after it
-    goes_whole : GoesOn job.keep_going p.says → IsSaid shown input here p.text p.says z.turn → GoesOnBehind job name input r' old new z
+    goes_whole : GoesOn job.keep_going p.part.says → IsSaid shown input here p.part.text p.part.says z.turn → GoesOnBehind job name input r' old new z
     goes_whole on is =
-        let part : TextPart = record { front = f.front; text = p.text; says = p.says; behind = z.turn } in
-        goes_more g part (part_of p.text p.says z.turn is) over_text p.played on refl
+        let part : TextPart = record { front = f.front; text = p.part.text; says = p.part.says; behind = z.turn } in
+        goes_more g part (part_of p.part.text p.part.says z.turn is) over_text p.played on refl
 
     -- bytes are
-    goes_gap : (r'' : Option (List ℕ)) (q : Cursor) (line : List ℕ) → p.says ≡ refused line → IsBegun shown here (ahead_of y.window) told p.text line z.turn → PassesGap r' r'' z q
+    goes_gap : (r'' : Option (List ℕ)) (q : Cursor) (line : List ℕ) → p.part.says ≡ refused line → IsBegun shown here (ahead_of y.window) told p.part.text line z.turn → PassesGap r' r'' z q
         → job.keep_going ≡ true → GoesOnBehind job name input r'' old new q
     goes_gap r'' q line says is over asked =
-        let text = p.text ++ over.gap in
+        let text = p.part.text ++ over.gap in
         let part : TextPart = record { front = f.front; text = text; says = refused line; behind = q.turn } in
-        let none : HasNoLine (position_over y.place p.text) over.gap = subst (λ l. HasNoLine l over.gap) p.place over.none in
+        let none : HasNoLine (position_over y.place p.part.text) over.gap = subst (λ l. HasNoLine l over.gap) p.place over.none in
         let there : q.place ≡ position_over y.place text =
-        over.advances.place ∙ ap (λ l. position_over l over.gap) p.place ∙ sym (position_on y.place p.text over.gap) in
-        let both = subst (Advances r r'' x q) (append_assoc f.front p.text over.gap) (advances_on r r' r'' x z q (f.front ++ p.text) over.gap over_text over.advances) in
+        over.advances.place ∙ ap (λ l. position_over l over.gap) p.place ∙ sym (position_on y.place p.part.text over.gap) in
+        let both = subst (Advances r r'' x q) (append_assoc f.front p.part.text over.gap) (advances_on r r' r'' x z q (f.front ++ p.part.text) over.gap over_text over.advances) in
         let read = subst (Consumes input r'') (ap (λ l. bytes_of_texts g.ps ++ l) (append_assoc f.front text (ahead_of q.window))
         ∙ sym (append_assoc (bytes_of_texts g.ps) f.front (text ++ ahead_of q.window)) ∙ sym (append_assoc before text (ahead_of q.window)))
         (read_behind (bytes_of_texts g.ps) (ahead_of x.window) ((f.front ++ text) ++ ahead_of q.window) input r r'' g.is_read both.is_read) in
@@ -351,8 +351,8 @@ module _ {job : TextJob} {name : List ℕ} {input r r' : Option (List ℕ)} {old
   goes_on_whole : (what : Went) → PassesText job name told y z mid new what → (what ≡ went.Astray → ⊥)
       → (what ≡ went.Document) ⊎ (job.keep_going ≡ true) → GoesOnBehind job name input r' old new z
   goes_on_whole what p whole asked =
-      let on = on_of (shown g f) (here g f) (ahead_of y.window) told what p.text p.says z.turn job.keep_going p.is asked in
-      goes_whole g f p on (said_of (shown g f) input (here g f) (ahead_of y.window) told what p.text p.says z.turn whole p.is)
+      let on = on_of (shown g f) (here g f) (ahead_of y.window) told what p.part.text p.part.says z.turn job.keep_going p.part.is asked in
+      goes_whole g f p on (said_of (shown g f) input (here g f) (ahead_of y.window) told what p.part.text p.part.says z.turn whole p.part.is)
 
   -- what is next is passed, and the bytes after it
   pub goes_next : (what : Went) (r'' : Option (List ℕ)) (q : Cursor) → PassesText job name told y z mid new what
@@ -361,7 +361,7 @@ module _ {job : TextJob} {name : List ℕ} {input r r' : Option (List ℕ)} {old
   goes_next went.Refused r'' q p same asked = same_behind same (goes_on_whole went.Refused p (λ other. let none : ⊥ = cc in none) asked)
   goes_next went.Astray r'' q p over (inl other) = let none : ⊥ = cc in absurd none
   goes_next went.Astray r'' q p over (inr asked) =
-      let (line, says, is) = begun_of (shown g f) (here g f) (ahead_of y.window) told p.text p.says z.turn p.is in
+      let (line, says, is) = begun_of (shown g f) (here g f) (ahead_of y.window) told p.part.text p.part.says z.turn p.part.is in
       goes_gap g f p r'' q line says is over asked
 
 pub window_behind : (what : Went) (r r' : Option (List ℕ)) (z q : Cursor) → PassesBehind what r r' z q → IsWindow z.window → IsWindow q.window

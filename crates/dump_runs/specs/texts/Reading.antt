@@ -15,7 +15,6 @@ use Rattle.dump_runs.specs.declared.texts.fault.TextReason.{TextReason}
 use Rattle.dump_runs.specs.declared.texts.fault.TextReason.TheVariants as reason
 use Rattle.dump_io.specs.declared.input.turn.Turn.{Turn}
 use Rattle.dump_io.specs.declared.input.turn.Turn.TheVariants as turn
-use Rattle.bson_from_json.specs.JsonReason.{JsonReason}
 
 -- bytes were read, and none passed
 pub record LooksOn (old new : Option (List ℕ)) (cursor_old cursor_new : Cursor) : Type 0 where

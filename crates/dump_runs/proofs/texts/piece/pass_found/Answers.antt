@@ -1,4 +1,4 @@
-use Rattle.std.proofs.Common.{rules, ◌≡◌, ◌^◌, ◌≤◌, ◌∙◌, ℕ, List, arith, length, length-take-le, subst, sym, take}
+use Rattle.std.proofs.Common.{rules, ◌≡◌, ◌≤◌, ℕ, List, arith, length, length-take-le, subst, sym, take}
 use Rattle.raw_tree.specs.declared.reader.limits.Limits.{Limits}
 use Rattle.dump_io.specs.input.Reading.{ahead_of}
 use Rattle.dump_io.specs.input.Texts.{MayGoOn}
@@ -35,8 +35,7 @@ pass_refused-requires g c =
     let ahead = ahead_of c.args.cursor.now.window in
     let is : found.scan ≡ scan.Whole = search rules in
     let fault = made_as c.args.input.job.limits found.len c.ahead.ensures c.in-Fault.is c.in_ok-document.ensures.made in
-    let size = length-take-le found.len ahead c.requires.3.within in
-    (
+    let size = length-take-le found.len ahead c.requires.3.within in (
       c.requires.0,
       c.requires.3.within,
       scanned_there ahead found c.requires.2 c.requires.3 c.args.cursor.now.turn c.requires.1 is,
@@ -55,8 +54,7 @@ pass_astray-requires g c =
     let f = c.fault_of-fault.result in
     let same : f.len ≡ c.begun.result = c.fault_of-fault.ensures.begun in
     let less : c.begun.result ≤ found.len = c.begun.ensures.less in
-    let goes : MayGoOn (take c.begun.result ahead) = (scans_as ahead c.begun.result c.requires.2 (omega (arith, scans.most))).goes (c.begun.ensures.open ahead scans) in
-    (
+    let goes : MayGoOn (take c.begun.result ahead) = (scans_as ahead c.begun.result c.requires.2 (omega (arith, scans.most))).goes (c.begun.ensures.open ahead scans) in (
       c.requires.0,
       omega (arith, scans.within),
       subst (λ (n : ℕ). MayGoOn (take n ahead)) (sym same) goes,
@@ -75,8 +73,7 @@ returns-in-Fault-2 g c =
     let fault = made_as limits found.len c.ahead.ensures c.in-Fault.is c.in_ok-document.ensures.made in
     let f = c.fault_of-fault.result in
     let n = c.begun.result in
-    let told : TellsNoText limits ahead (next.Text found) n f.at f.reason =
-    (
+    let told : TellsNoText limits ahead (next.Text found) n f.at f.reason = (
       torn_is_none ahead found c.requires.2 scans other,
       has_begun ahead found c.requires.2 scans n (c.begun.ensures.begun text scans.scan size),
       c.fault_of-fault.ensures.fault limits text (sym size) fault.1,

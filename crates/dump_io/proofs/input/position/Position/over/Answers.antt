@@ -1,7 +1,6 @@
 use Rattle.std.proofs.Common.{◌∙◌, ap, fold}
 use Rattle.std.proofs.lemmas.List.{take_all}
-use Rattle.dump_io.specs.input.Scans.{position_step}
-use Rattle.dump_io.proofs.input.Placing.{over_fold}
+use Rattle.dump_io.proofs.input.Placing.{over_fold, position_step}
 use Rattle.dump_io.proofs.input.position.Position.over.Goals as goal
 
 pub returns-clause-over : goal.returns-clause-over

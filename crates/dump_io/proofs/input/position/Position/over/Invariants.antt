@@ -1,5 +1,5 @@
 use Rattle.std.proofs.Common.{◌≡◌, ◌+◌, ◌≤◌, fold, take}
-use Rattle.dump_io.specs.input.Scans.{position_step}
+use Rattle.dump_io.proofs.input.Placing.{position_step}
 use Rattle.dump_io.specs.declared.input.position.Position.{Position}
 use Rattle.dump_io.proofs.input.position.Position.over.Given as goal
 
