@@ -6,23 +6,25 @@ use Rattle.raw_view.specs.Frame.Format.{framed, inside_of}
 use Rattle.raw_view.specs.Frame.Number.{le32}
 use Rattle.raw_view.proofs.Face.{document_framed}
 use Rattle.bson_to_json.specs.declared.style.Style as json
-use Rattle.dump_commands.specs.Binary.{MakesBson, MakesNoBson, is_dump}
+use Rattle.dump_commands.specs.Binary.{MakesBson, MakesNoBson}
 use Rattle.dump_commands.specs.elements.Chosen.{IsChosen}
 use Rattle.dump_commands.specs.elements.Pick.{comma, parts}
 use Rattle.dump_commands.specs.elements.Row.{IsRow, separator_byte, written}
-use Rattle.dump_commands.specs.Making.{IsPickedAs, IsPickedIn}
+use Rattle.dump_commands.specs.Making.{is_bson}
+use Rattle.dump_commands.specs.Picking.{IsPickedAs, IsPickedIn, is_dump}
 use Rattle.dump_commands.specs.declared.picking.Form.{Form}
 use Rattle.dump_commands.specs.declared.picking.Form.TheVariants as form
 use Rattle.dump_commands.specs.declared.picking.Separator.{Separator}
-use Rattle.dump_commands.specs.state.Forms.{Made, plain}
+use Rattle.dump_commands.specs.state.Forms.{Made, made_as, plain}
 use Rattle.dump_commands.specs.declared.command.Command.{Command}
 use Rattle.dump_commands.specs.declared.command.Command.TheVariants as command
 use Rattle.dump_commands.specs.declared.picking.Choice.{Choice}
 use Rattle.dump_commands.specs.declared.picking.Choice.TheVariants as choice
-use Rattle.dump_commands.specs.declared.state.gathered.Measure.{Measure}
-use Rattle.dump_commands.specs.declared.making.Spelling.{Spelling}
+use Rattle.dump_commands.specs.declared.gathering.Gathering.{Gathering}
+use Rattle.dump_commands.specs.declared.making.Making.{Making}
+use Rattle.dump_commands.specs.declared.making.Making.TheVariants as making
+use Rattle.dump_commands.specs.declared.reporting.Report.{Report}
 use Rattle.dump_commands.specs.declared.picking.Picking.{Picking}
-use Rattle.dump_commands.specs.declared.texts.Texts.{Texts}
 
 -- no bytes end both ways
 both_ends : (x y : List ℕ) → x ++ 10 ∷ [] ≡ y ++ 0 ∷ [] → ⊥
@@ -45,36 +47,6 @@ bytes_first made = (get_or made 0 (plain [])).bytes
 
 keeps_bson : (made : List Made) (b : List ℕ) → IsEnvelope b → made ≡ plain b ∷ [] → (d : List ℕ) × (made ≡ plain (d ++ 0 ∷ []) ∷ [])
 keeps_bson made b is same = (front_of_framed (inside_of b), same ∙ ap one (document_framed b is ∙ framed_ends (inside_of b)))
-
-sound_makes : (texts : Texts) → MakesBson (command.Sound texts)
-sound_makes texts b made is makes = keeps_bson made b is makes
-
-canon_makes : MakesBson command.Canon
-canon_makes b made is makes = keeps_bson made b is makes
-
-unique_makes : (spelling : Spelling) → MakesBson (command.Unique spelling)
-unique_makes spelling b made is makes = keeps_bson made b is makes
-
-check_makes_none : MakesNoBson command.Check
-check_makes_none b d form e = let n : 1 ≡ 0 = ap length e in omega (arith, n)
-
-list_makes_none : MakesNoBson command.List
-list_makes_none b d form e = let n : 1 ≡ 0 = ap length e in omega (arith, n)
-
-count_makes_none : MakesNoBson command.Count
-count_makes_none b d form e = let n : 1 ≡ 0 = ap length e in omega (arith, n)
-
-sizes_makes_none : MakesNoBson command.Sizes
-sizes_makes_none b d form e = let n : 1 ≡ 0 = ap length e in omega (arith, n)
-
-measure_makes_none : (measure : Measure) → MakesNoBson (command.Measure measure)
-measure_makes_none measure b d form e = let n : 1 ≡ 0 = ap length e in omega (arith, n)
-
-fields_makes_none : MakesNoBson command.Fields
-fields_makes_none b d form e = let n : 1 ≡ 0 = ap length e in omega (arith, n)
-
-json_makes_none : (style : json.Style) → MakesNoBson (command.Json style)
-json_makes_none style b d form (text, is, e) = both_ends text d (sym (ap bytes_first e))
 
 -- what is picked is a document
 chosen_framed : (choice : Choice) (b text document : List ℕ) → IsChosen choice b text document → (elements : List ℕ) × (document ≡ framed elements)
@@ -106,36 +78,28 @@ no_dump_ends (form.Row s) choice b text made d other is same = let (x, ends) = r
 in_form : (picking : Picking) (f : Form) (b made : List ℕ) → picking.form ≡ f → IsPickedAs picking b made → IsPickedIn f picking.choice b picking.paths.now made
 in_form picking f b made e is = subst (λ (x : Form). IsPickedIn x picking.choice b picking.paths.now made) e is
 
-pick_makes : (picking : Picking) → picking.form ≡ form.Dump → MakesBson (command.Pick picking)
-pick_makes picking e b made env (picked, is, same) =
-    let (d, ends) = dump_ends picking.choice b picking.paths.now picked (in_form picking form.Dump b picked e is) in (d, same ∙ ap one ends)
+-- of an element that is picked as a dump what is made ends with a 0, and else never
+pick_ends : (picking : Picking) (f : Form) → picking.form ≡ f → MatchBool (is_dump f) (MakesBson (command.Writes (making.Pick picking))) (MakesNoBson (command.Writes (making.Pick picking)))
+pick_ends picking form.Dump e = λ b made env h.
+    let (d, ends) = dump_ends picking.choice b picking.paths.now h.0 (in_form picking form.Dump b h.0 e h.1) in (d, h.2 ∙ ap one ends)
+pick_ends picking (form.Json style) e = λ b d known h.
+    no_dump_ends (form.Json style) picking.choice b picking.paths.now h.0 d refl (in_form picking (form.Json style) b h.0 e h.1) (sym (ap bytes_first h.2))
+pick_ends picking (form.Row s) e = λ b d known h.
+    no_dump_ends (form.Row s) picking.choice b picking.paths.now h.0 d refl (in_form picking (form.Row s) b h.0 e h.1) (sym (ap bytes_first h.2))
 
-pick_makes_none : (picking : Picking) (f : Form) → picking.form ≡ f → is_dump f ≡ false → MakesNoBson (command.Pick picking)
-pick_makes_none picking f e other b d form (picked, is, same) =
-    no_dump_ends f picking.choice b picking.paths.now picked d other (in_form picking f b picked e is) (sym (ap bytes_first same))
+making_ends : (m : Making) → MatchBool (is_bson m) (MakesBson (command.Writes m)) (MakesNoBson (command.Writes m))
+making_ends making.Canon = λ b made is makes. keeps_bson made b is makes
+making_ends (making.Sound t) = λ b made is makes. keeps_bson made b is makes
+making_ends (making.Unique s) = λ b made is makes. keeps_bson made b is makes
+making_ends (making.Json style) = λ b d known h. both_ends h.1.0 d (sym (ap bytes_first h.2 ∙ h.1.2))
+making_ends (making.Pick picking) = pick_ends picking picking.form refl
 
-pub bson_made : (c : Command) → (c ≡ command.Canon) ⊎ ((texts : Texts) × (c ≡ command.Sound texts)) ⊎ ((spelling : Spelling) × (c ≡ command.Unique spelling)) → MakesBson c
-bson_made c (inl e) = subst MakesBson (sym e) canon_makes
-bson_made c (inr (inl (texts, e))) = subst MakesBson (sym e) (sound_makes texts)
-bson_made c (inr (inr (spelling, e))) = subst MakesBson (sym e) (unique_makes spelling)
+pub making_made : (c : Command) (m : Making) (r : Bool) → c ≡ command.Writes m → r ≡ is_bson m → MatchBool r (MakesBson c) (MakesNoBson c)
+making_made c m r e is = rw (e, is) (making_ends m)
 
-pub none_made : (c : Command)
-    → (c ≡ command.Check) ⊎ (c ≡ command.List) ⊎ (c ≡ command.Count) ⊎ (c ≡ command.Sizes) ⊎ ((measure : Measure) × (c ≡ command.Measure measure))
-    ⊎ (c ≡ command.Fields) ⊎ ((style : json.Style) × (c ≡ command.Json style)) → MakesNoBson c
-none_made c (inl e) = subst MakesNoBson (sym e) check_makes_none
-none_made c (inr (inl e)) = subst MakesNoBson (sym e) list_makes_none
-none_made c (inr (inr (inl e))) = subst MakesNoBson (sym e) count_makes_none
-none_made c (inr (inr (inr (inl e)))) = subst MakesNoBson (sym e) sizes_makes_none
-none_made c (inr (inr (inr (inr (inl (measure, e)))))) = subst MakesNoBson (sym e) (measure_makes_none measure)
-none_made c (inr (inr (inr (inr (inr (inl e)))))) = subst MakesNoBson (sym e) fields_makes_none
-none_made c (inr (inr (inr (inr (inr (inr (style, e))))))) = subst MakesNoBson (sym e) (json_makes_none style)
+not_one : (m : Made) → m ∷ [] ≡ [] → ⊥
+not_one m e = let n : 1 ≡ 0 = ap length e in omega (arith, n)
 
-pick_either : (picking : Picking) (f : Form) → picking.form ≡ f → MatchBool (is_dump f) (MakesBson (command.Pick picking)) (MakesNoBson (command.Pick picking))
-pick_either picking form.Dump e = pick_makes picking e
-pick_either picking (form.Json style) e = pick_makes_none picking (form.Json style) e refl
-pick_either picking (form.Row s) e = pick_makes_none picking (form.Row s) e refl
-
-pub pick_made : (c : Command) (picking : Picking) (r : Bool) → c ≡ command.Pick picking → r ≡ is_dump picking.form → MatchBool r (MakesBson c) (MakesNoBson c)
-pick_made c picking r e is =
-    subst (λ x. MatchBool r (MakesBson x) (MakesNoBson x)) (sym e)
-    (subst (λ (t : Bool). MatchBool t (MakesBson (command.Pick picking)) (MakesNoBson (command.Pick picking))) (sym is) (pick_either picking picking.form refl))
+pub nothing_made : (c : Command) → ((r : Report) × (c ≡ command.Prints r)) ⊎ ((g : Gathering) × (c ≡ command.Gathers g)) → MakesNoBson c
+nothing_made c (inl (r, e)) = rw e (λ b d known made. not_one (made_as (d ++ 0 ∷ []) known) made)
+nothing_made c (inr (g, e)) = rw e (λ b d known made. not_one (made_as (d ++ 0 ∷ []) known) made)

@@ -1,4 +1,3 @@
 -- The lemmas of this crate that crates above may cite; they cite no other.
 
-pub use Rattle.dump_commands.proofs.Repeating.{firsts_none, repeats_none}
-pub use Rattle.dump_commands.proofs.Writing.{writes_kept, writes_none}
+pub use Rattle.dump_commands.proofs.Emitting.{writes_kept}

@@ -1,7 +1,7 @@
 pub mod Repeating
-pub mod Writing
+pub mod Emitting
 mod Listed
 mod Rowing
-mod Counted
+mod Gathers
 mod Endings
 pub mod Face

@@ -5,7 +5,7 @@ use Rattle.json.specs.Token.{Token, key, string, number}
 use Rattle.dump_commands.specs.declared.command.Breaches.{Breaches}
 use Rattle.dump_commands.specs.declared.command.Breaches.TheVariants as breaches
 use Rattle.dump_commands.specs.declared.counts.Counts.{Counts}
-use Rattle.dump_commands.specs.declared.summary.Count as summary
+use Rattle.dump_commands.specs.declared.summary.counted.Count as summary
 use Rattle.dump_io.specs.declared.lines.style.Style.{Style}
 use Rattle.dump_io.specs.declared.lines.style.Style.TheVariants as style
 use Rattle.dump_io.specs.lines.Told.{object_line}

@@ -22,5 +22,6 @@ pub mod making;
 pub mod picking;
 pub mod reporting;
 pub mod state;
-mod summary;
+pub mod summary;
 pub mod texts;
+mod writing;

@@ -1,4 +1,4 @@
-//! Makes documents or texts of documents, and writes them.
+//! Makes documents of documents, or texts.
 #![tactic(auto)]
 
 ghost use Rattle.std.specs.Prelude.{◌≡◌, ℕ, List, Option, [], ◌∷◌, ◌++◌, codes, IfOk, IfErr, OnErr, OnOk};
@@ -17,18 +17,16 @@ ghost use Rattle.raw_tree.specs.CanonicalForm.{IsCanonicalForm};
 ghost use Rattle.raw_view.specs.Frame.Envelope.{IsEnvelope};
 ghost use Rattle.bson_to_json.specs.Json.{IsJson};
 ghost use Rattle.dump_commands.specs.declared.command.Command.TheVariants.{Writes};
-ghost use Rattle.dump_commands.specs.declared.making.Making.TheVariants.{Unique};
-ghost use Rattle.dump_commands.specs.declared.making.Spelling as spells;
 
 use crate::command::{Breaches, Command, Profile, Summaries};
 use crate::picking::{Picking, put_picked};
-use crate::state::kept::{Added, Kept};
+use crate::state::kept::Kept;
 use crate::texts::{Texts, put_kept};
+use crate::writing::{put_document, put_one};
 use bson_to_json::{Style as JsonStyle, WriteJsonError, write_json};
 use dump_io::lines::failure::Failure;
 use dump_io::lines::find::Finding;
 use dump_io::lines::origin::Origin;
-use dump_io::lines::write::put;
 use raw_form::canonical_within;
 use raw_tree::Limits;
 use raw_view::RawDocument;
@@ -86,6 +84,13 @@ impl<'a> Making<'a> {
             Making::Json(_) => false,
             Making::Pick(picking) => picking.form.is_dump(),
         }
+    }
+
+    /// Whether it writes one document of each form, and no other.
+    pub fn is_unique(self) -> bool
+        ensures { result ≡ says.is_unique self.entry }
+    {
+        matches!(self, Making::Unique(_))
     }
 
     /// What comes of texts that aren't UTF-8.
@@ -163,7 +168,10 @@ fn put_made<'a, D: Write>(
         | (Making::Canon | Making::Unique(_), Finding::Canonical) => {
             put_document(making, origin, bytes, bytes, out, kept)
         }
-        (Making::Canon | Making::Unique(_), Finding::Breached) => {
+        (Making::Canon, Finding::Breached) => {
+            put_form(alloc, making, limits, origin, bytes, out, kept)
+        }
+        (Making::Unique(_), Finding::Breached) => {
             put_form(alloc, making, limits, origin, bytes, out, kept)
         }
         (Making::Json(style), Finding::Canonical | Finding::Breached) => {
@@ -245,70 +253,5 @@ pub(crate) fn put_json<D: Write>(
         Ok(()) => put_one(b"\n", out, kept),
         Err(WriteJsonError::Writing(error)) => Err(Failure::Writing(error)),
         Err(_) => Err(Failure::Memory),
-    }
-}
-
-/// Writes a document that the command makes of one at this place: of `unique` where the digest of its form is new. Returns the place of
-/// the first document with that digest, if one came before.
-pub fn put_document<'a, D: Write>(
-    making: Making<'_>,
-    origin: Origin<'a>,
-    document: &[u8],
-    form: &[u8],
-    out: &mut D,
-    kept: &mut Kept<'a>,
-) -> Result<Option<Origin<'a>>, Failure>
-    ensures written { IfOk result
-        (Puts (Writes making.entry) origin.entry (made_as document.now form.now ∷ []) (D.contents out.old) (D.contents out.new) kept.old kept.new) }
-    ensures front { OnErr result (AppendsFront (D.contents out.old) (D.contents out.new) (written_of (Writes making.entry) (knows kept.old) (made_as document.now form.now ∷ []))) }
-    ensures table { KeepsCounted kept.old kept.new }
-    ensures failed { IfErr result (λ failure. ¬ IsReading failure) }
-{
-    match making {
-        Making::Unique(_) => put_new(origin, document, form, out, kept),
-        Making::Canon | Making::Sound(_) | Making::Json(_) | Making::Pick(_) => {
-            put_one(document, out, kept)?;
-            Ok(None)
-        }
-    }
-}
-
-/// Writes these bytes, with which a document more is written.
-pub(crate) fn put_one<D: Write>(
-    bytes: &[u8],
-    out: &mut D,
-    kept: &mut Kept<'_>,
-) -> Result<(), Failure>
-    ensures written { OnOk result
-        (Appends (D.contents out.old) (D.contents out.new) bytes.now × CountsOne kept.old kept.new) }
-    ensures front { OnErr result (AppendsFront (D.contents out.old) (D.contents out.new) bytes.now) }
-    ensures table { KeepsCounted kept.old kept.new }
-    ensures failed { IfErr result (λ failure. ¬ IsReading failure) }
-{
-    put(out, bytes)?;
-    kept.count_one()
-}
-
-/// Writes a document whose form has a new digest, which is known then. Of another it returns the place of the first with its digest.
-fn put_new<'a, D: Write>(
-    origin: Origin<'a>,
-    document: &[u8],
-    form: &[u8],
-    out: &mut D,
-    kept: &mut Kept<'a>,
-) -> Result<Option<Origin<'a>>, Failure>
-    ensures written { IfOk result (λ first. (spelling : spells.Spelling)
-        → Puts (Writes (Unique spelling)) origin.entry (made_as document.now form.now ∷ []) (D.contents out.old) (D.contents out.new) kept.old kept.new first) }
-    ensures front { OnErr result ((spelling : spells.Spelling)
-        → AppendsFront (D.contents out.old) (D.contents out.new) (written_of (Writes (Unique spelling)) (knows kept.old) (made_as document.now form.now ∷ []))) }
-    ensures table { KeepsCounted kept.old kept.new }
-    ensures failed { IfErr result (λ failure. ¬ IsReading failure) }
-{
-    match kept.add(origin, form)? {
-        Added::New => {
-            put_one(document, out, kept)?;
-            Ok(None)
-        }
-        Added::Repeat(first) => Ok(first),
     }
 }

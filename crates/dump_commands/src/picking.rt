@@ -12,8 +12,9 @@ ghost use Rattle.dump_commands.specs.state.Gathered.{KeepsCounted};
 
 use crate::elements::chosen::chosen;
 use crate::elements::row::{header, row};
-use crate::making::{put_json, put_one};
+use crate::making::put_json;
 use crate::state::kept::Kept;
+use crate::writing::put_one;
 use bson_to_json::Style;
 use dump_io::lines::failure::Failure;
 use dump_io::lines::write::put;

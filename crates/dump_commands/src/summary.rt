@@ -1,310 +1,109 @@
-//! The lines that tell what was counted.
+//! Writes the line that tells what was counted.
 #![tactic(auto)]
 
-ghost use Rattle.std.specs.Prelude.{◌≡◌, ◌++◌, ◌∷◌, [], IfOk, OnOk, flat_map, map};
+ghost use Rattle.std.specs.Prelude.{◌≡◌, IfErr, IfOk, OnErr, OnOk, map};
 ghost use Rattle.std.specs.Option.{option_copied};
-ghost use Rattle.dump_io.specs.lines.Told.{Grows};
-ghost use Rattle.dump_commands.specs.Summary.{breached_counts, count_members, count_of, count_text, counts_line, damaged_counts, first_counts, hidden_counts, kept_line, kept_text, left_counts, left_out_counts, name_members, name_text, next_text, some_text, text_counts, things_text};
-ghost use Rattle.dump_commands.specs.Commands.{counts_of};
-ghost use Rattle.dump_io.specs.declared.lines.style.Style.TheVariants.{Json, Words};
+ghost use Rattle.std.specs.Io.KnownBytes.{Appends};
+ghost use Rattle.dump_io.specs.lines.Failing.{IsReading};
+ghost use Rattle.dump_io.specs.lines.Fronts.{AppendsFront};
+ghost use Rattle.dump_commands.specs.Commands.{summary_line};
+ghost use Rattle.dump_commands.specs.Summary.{count_of, counts_line, kept_line, text_summary};
 
-use crate::command::{Breaches, Command};
+pub(crate) mod counted;
+pub(crate) mod lines;
+
 use crate::counts::Counts;
-use dump_io::lines::object::{begun, ended, put_number, put_text};
-use dump_io::lines::quote::push_quoted;
-use dump_io::lines::text::{push_number, push_words};
-use json::Writer;
+use crate::job::Job;
+use counted::{Count, counted, text_counted};
+use dump_io::lines::failure::Failure;
+use dump_io::lines::style::Style;
+use dump_io::lines::write::put;
+use lines::{counts_object, counts_words, kept_object, kept_words};
 use std::alloc::{AllocError, Global};
+use std::io::Write;
 
-/// A number that is counted.
-#[derive(Clone, Copy)]
-pub struct Count {
-    /// what is counted
-    pub name: &'static str,
-    /// how many
-    pub number: u64,
-}
-
-fn push(counts: &mut Vec<Count>, name: &'static str, number: u64) -> Result<(), AllocError>
-    ensures { OnOk result (map count_of counts.new.items ≡ map count_of counts.old.items ++ (name.now, number) ∷ []) }
-{
-    counts.push(Count { name, number })?;
-    Ok(())
-}
-
-/// How many documents stand alone, and how many others were left out, where the command keeps any.
-fn push_left_out(
-    all: &mut Vec<Count>,
-    keeps: bool,
-    counts: &Counts,
-    kept: u64,
-) -> Result<(), AllocError>
-    ensures { OnOk result (map count_of all.new.items ≡ map count_of all.old.items ++ left_out_counts keeps counts.now kept) }
-{
-    if !keeps {
-        return Ok(());
-    }
-    push(all, "alone", counts.alone)?;
-    let others = counts.documents.saturating_sub(counts.alone);
-    push(all, "left out", others.saturating_sub(kept))
-}
-
-/// How many documents aren't canonical, where the command counts them.
-fn push_breached(
-    all: &mut Vec<Count>,
-    breaches: Breaches,
-    counts: &Counts,
-) -> Result<(), AllocError>
-    ensures { OnOk result (map count_of all.new.items ≡ map count_of all.old.items ++ breached_counts breaches counts.now) }
-{
-    match breaches {
-        Breaches::Ignored => Ok(()),
-        Breaches::Counted | Breaches::Found => push(all, "not canonical", counts.breached),
-    }
-}
-
-/// How many documents are damaged or too deep, where the command looks into them.
-fn push_damaged(all: &mut Vec<Count>, looks: bool, counts: &Counts) -> Result<(), AllocError>
-    ensures { OnOk result (map count_of all.new.items ≡ map count_of all.old.items ++ damaged_counts looks counts.now) }
-{
-    if !looks {
-        return Ok(());
-    }
-    push(all, "damaged", counts.damaged)?;
-    push(all, "too deep", counts.too_deep)
-}
-
-/// Of what no document was made.
-fn push_left(all: &mut Vec<Count>, counts: &Counts) -> Result<(), AllocError>
-    ensures { OnOk result (map count_of all.new.items ≡ map count_of all.old.items ++ left_counts counts.now) }
-{
-    push(all, "bytes passed over", counts.passed_over)?;
-    push(all, "bytes not read", counts.not_read)?;
-    push(all, "files not read to the end", counts.files)
-}
-
-/// The findings that weren't printed, where at most `limit` are.
-fn push_hidden(all: &mut Vec<Count>, limit: Option<u64>, counts: &Counts) -> Result<(), AllocError>
-    ensures { OnOk result (map count_of all.new.items ≡ map count_of all.old.items ++ hidden_counts limit counts.now) }
-{
-    match limit {
-        Some(most) => push(
-            all,
-            "findings not printed",
-            counts.findings.saturating_sub(most),
-        ),
-        None => Ok(()),
-    }
-}
-
-/// All that a command counted beside the documents and what is told first.
-pub fn counted(
+/// Writes the line that tells what a command counted of an input, or of all.
+pub fn put_summary<W: Write>(
     alloc: Global,
-    limit: Option<u64>,
-    command: Command<'_>,
-    counts: &Counts,
-    kept: u64,
-) -> Result<Vec<Count>, AllocError>
-    ensures { IfOk result (λ all. map count_of all.items ≡ counts_of limit command.entry counts.now kept) }
-{
-    let profile = command.profile();
-    let mut all = Vec::new(alloc);
-    push(&mut all, "bytes", counts.bytes)?;
-    push_left_out(&mut all, command.keeps(), counts, kept)?;
-    push_breached(&mut all, profile.breaches, counts)?;
-    push_damaged(&mut all, profile.looks, counts)?;
-    push_left(&mut all, counts)?;
-    push_hidden(&mut all, limit, counts)?;
-    Ok(all)
-}
-
-/// All that was counted of texts beside the documents.
-pub fn text_counted(
-    alloc: Global,
-    limit: Option<u64>,
-    counts: &Counts,
-) -> Result<Vec<Count>, AllocError>
-    ensures { IfOk result (λ all. map count_of all.items ≡ text_counts limit counts.now) }
-{
-    let mut all = Vec::new(alloc);
-    push(&mut all, "bytes", counts.bytes)?;
-    push(&mut all, "faults", counts.damaged)?;
-    push(&mut all, "files that can't be read", counts.files)?;
-    push_hidden(&mut all, limit, counts)?;
-    Ok(all)
-}
-
-/// Appends a number to the text, after its name.
-fn push_count(text: &mut Vec<u8>, name: &str, number: u64) -> Result<(), AllocError>
-    ensures { OnOk result (text.new.items ≡ text.old.items ++ count_text (name.now, number)) }
-{
-    push_words(text, name)?;
-    push_words(text, ": ")?;
-    push_number(text, number)
-}
-
-fn push_counts(text: &mut Vec<u8>, counts: &[Count]) -> Result<(), AllocError>
-    ensures { OnOk result (text.new.items ≡ text.old.items ++ flat_map next_text (map count_of counts.now)) }
-{
-    for count in counts {
-        push_words(text, ", ")?;
-        push_count(text, count.name, count.number)?;
-    }
-    Ok(())
-}
-
-fn push_name(text: &mut Vec<u8>, name: Option<&str>) -> Result<(), AllocError>
-    ensures { OnOk result
-        (text.new.items ≡ text.old.items ++ name_text (option_copied name.entry)) }
-{
-    match name {
-        Some(name) => {
-            push_quoted(text, name)?;
-            push_words(text, ": ")
-        }
-        None => Ok(()),
-    }
-}
-
-/// The line that tells these counts of an input, or of all.
-pub fn counts_words(
-    alloc: Global,
+    job: Job<'_>,
     name: Option<&str>,
-    documents: u64,
-    counts: &[Count],
-) -> Result<Vec<u8>, AllocError>
-    ensures { IfOk result (λ text. text.items ≡ counts_line Words (option_copied name.entry) documents (map count_of counts.now)) }
+    counts: &Counts,
+    kept: u64,
+    report: &mut W,
+) -> Result<(), Failure>
+    ensures written { OnOk result (Appends (W.contents report.old) (W.contents report.new)
+        (summary_line job.entry.style (option_copied name.entry) job.entry.limit job.entry.command counts.now kept)) }
+    ensures front { OnErr result (AppendsFront (W.contents report.old) (W.contents report.new)
+        (summary_line job.entry.style (option_copied name.entry) job.entry.limit job.entry.command counts.now kept)) }
+    ensures failed { IfErr result (λ failure. ¬ IsReading failure) }
 {
-    let mut text = Vec::new(alloc);
-    push_name(&mut text, name)?;
-    push_count(&mut text, "documents", documents)?;
-    push_counts(&mut text, counts)?;
-    push_words(&mut text, "\n")?;
-    Ok(text)
-}
-
-/// Appends a number to the text, after its name, unless it is 0.
-fn push_some(text: &mut Vec<u8>, name: &str, number: u64) -> Result<(), AllocError>
-    ensures { OnOk result (text.new.items ≡ text.old.items ++ some_text (name.now, number)) }
-{
-    match number {
-        0 => Ok(()),
-        _ => {
-            push_words(text, ", ")?;
-            push_count(text, name, number)
-        }
+    if matches!(job.style, Style::Quiet) {
+        return Ok(());
     }
-}
-
-fn push_some_counts(text: &mut Vec<u8>, counts: &[Count]) -> Result<(), AllocError>
-    ensures { OnOk result (text.new.items ≡ text.old.items ++ flat_map some_text (map count_of counts.now)) }
-{
-    for count in counts {
-        push_some(text, count.name, count.number)?;
+    let all = counted(alloc, job.limit, job.command, counts, kept)?;
+    if job.command.keeps() {
+        let text = kept_text(alloc, job.style, name, counts, kept, &all)?;
+        return put(report, &text);
     }
-    Ok(())
-}
-
-/// Appends a number and what it counts, named by its singular.
-fn push_things(text: &mut Vec<u8>, number: u64, one: &str) -> Result<(), AllocError>
-    ensures { OnOk result (text.new.items ≡ text.old.items ++ things_text number one.now) }
-{
-    push_number(text, number)?;
-    push_words(text, one)?;
-    match number {
-        1 => Ok(()),
-        _ => push_words(text, "s"),
-    }
-}
-
-/// What a command that keeps documents tells first.
-fn push_kept(text: &mut Vec<u8>, counts: &Counts, kept: u64) -> Result<(), AllocError>
-    ensures { OnOk result (text.new.items ≡ text.old.items ++ kept_text counts.now kept) }
-{
-    push_number(text, kept)?;
-    push_words(text, " kept; ")?;
-    push_things(text, counts.regions, " damaged region")?;
-    push_words(text, ", ")?;
-    push_things(text, counts.lost, " byte")?;
-    push_words(text, " lost")
+    put_counts(alloc, job.style, name, counts.documents, &all, report)
 }
 
 /// The line that tells what a command that keeps documents counted.
-pub fn kept_words(
+fn kept_text(
     alloc: Global,
+    style: Style,
     name: Option<&str>,
     counts: &Counts,
     kept: u64,
     others: &[Count],
 ) -> Result<Vec<u8>, AllocError>
-    ensures { IfOk result (λ text. text.items ≡ kept_line Words (option_copied name.entry) counts.now kept (map count_of others.now)) }
+    ensures { IfOk result (λ text. text.items ≡ kept_line style (option_copied name.entry) counts.now kept (map count_of others.now)) }
 {
-    let mut text = Vec::new(alloc);
-    push_name(&mut text, name)?;
-    push_kept(&mut text, counts, kept)?;
-    push_some(&mut text, "documents", counts.documents)?;
-    push_some_counts(&mut text, others)?;
-    push_words(&mut text, "\n")?;
-    Ok(text)
-}
-
-fn put_counts(object: &mut Writer, counts: &[Count]) -> Result<(), AllocError>
-    ensures { OnOk result
-        (Grows object.old object.new (flat_map count_members (map count_of counts.now))) }
-{
-    for count in counts {
-        put_number(object, count.name, count.number)?;
-    }
-    Ok(())
-}
-
-fn put_name(object: &mut Writer, name: Option<&str>) -> Result<(), AllocError>
-    ensures { OnOk result (Grows object.old object.new (name_members (option_copied name.entry))) }
-{
-    match name {
-        Some(name) => put_text(object, "file", name),
-        None => Ok(()),
+    match style {
+        Style::Words => kept_words(alloc, name, counts, kept, others),
+        Style::Json => kept_object(alloc, name, counts, kept, others),
+        Style::Quiet => Ok(Vec::new(alloc)),
     }
 }
 
-/// The same as an object of JSON.
-pub fn counts_object(
+/// Writes the line that tells what was counted of texts.
+pub fn put_text_summary<W: Write>(
     alloc: Global,
+    style: Style,
+    limit: Option<u64>,
+    counts: &Counts,
+    report: &mut W,
+) -> Result<(), Failure>
+    ensures written { OnOk result (Appends (W.contents report.old) (W.contents report.new) (text_summary style limit counts.now)) }
+    ensures front { OnErr result (AppendsFront (W.contents report.old) (W.contents report.new) (text_summary style limit counts.now)) }
+    ensures failed { IfErr result (λ failure. ¬ IsReading failure) }
+{
+    if matches!(style, Style::Quiet) {
+        return Ok(());
+    }
+    let all = text_counted(alloc, limit, counts)?;
+    put_counts(alloc, style, None, counts.documents, &all, report)
+}
+
+/// Writes the line that tells these counts of an input, or of all.
+fn put_counts<W: Write>(
+    alloc: Global,
+    style: Style,
     name: Option<&str>,
     documents: u64,
     counts: &[Count],
-) -> Result<Vec<u8>, AllocError>
-    ensures { IfOk result (λ text. text.items ≡ counts_line Json (option_copied name.entry) documents (map count_of counts.now)) }
+    report: &mut W,
+) -> Result<(), Failure>
+    ensures written { OnOk result (Appends (W.contents report.old) (W.contents report.new)
+        (counts_line style (option_copied name.entry) documents (map count_of counts.now))) }
+    ensures front { OnErr result (AppendsFront (W.contents report.old) (W.contents report.new)
+        (counts_line style (option_copied name.entry) documents (map count_of counts.now))) }
+    ensures failed { IfErr result (λ failure. ¬ IsReading failure) }
 {
-    let mut object = begun(alloc)?;
-    put_name(&mut object, name)?;
-    put_number(&mut object, "documents", documents)?;
-    put_counts(&mut object, counts)?;
-    ended(object)
-}
-
-fn put_first(object: &mut Writer, counts: &Counts, kept: u64) -> Result<(), AllocError>
-    ensures { OnOk result (Grows object.old object.new (flat_map count_members (first_counts counts.now kept))) }
-{
-    put_number(object, "kept", kept)?;
-    put_number(object, "damaged regions", counts.regions)?;
-    put_number(object, "bytes lost", counts.lost)
-}
-
-/// The same as an object of JSON.
-pub fn kept_object(
-    alloc: Global,
-    name: Option<&str>,
-    counts: &Counts,
-    kept: u64,
-    others: &[Count],
-) -> Result<Vec<u8>, AllocError>
-    ensures { IfOk result (λ text. text.items ≡ kept_line Json (option_copied name.entry) counts.now kept (map count_of others.now)) }
-{
-    let mut object = begun(alloc)?;
-    put_name(&mut object, name)?;
-    put_number(&mut object, "documents", counts.documents)?;
-    put_first(&mut object, counts, kept)?;
-    put_counts(&mut object, others)?;
-    ended(object)
+    let text = match style {
+        Style::Words => counts_words(alloc, name, documents, counts)?,
+        Style::Json => counts_object(alloc, name, documents, counts)?,
+        Style::Quiet => Vec::new(alloc),
+    };
+    put(report, &text)
 }

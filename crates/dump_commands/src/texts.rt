@@ -14,8 +14,9 @@ ghost use Rattle.dump_io.specs.lines.Failing.{IsReading};
 ghost use Rattle.dump_io.specs.lines.Find.{account_of};
 ghost use Rattle.dump_io.specs.lines.Fronts.{WritesFront};
 
-use crate::making::{Making, put_document};
+use crate::making::Making;
 use crate::state::kept::Kept;
+use crate::writing::put_document;
 use dump_io::lines::failure::Failure;
 use dump_io::lines::find::{Finding, Found, Told};
 use dump_io::lines::origin::Origin;

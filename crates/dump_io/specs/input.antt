@@ -6,3 +6,6 @@ pub mod Resync
 pub mod Status
 pub mod Done
 pub mod Texts
+pub mod Between
+pub mod Places
+pub mod Scans

@@ -33,9 +33,13 @@ input_line job name n = after_each (profile_of job.command).summaries (summary_l
 abbrev pub last_line : Job → Counts → Kept → List ℕ
 last_line job n kept = after_all (profile_of job.command).summaries (summary_line job.style None job.limit job.command n (written_count kept))
 
--- the lines that tell what was gathered of all, and then what was counted
+-- the lines of what was gathered of all
+abbrev pub gathered_lines : Job → Kept → List ℕ
+gathered_lines job kept = lines_of job.style job.command (tabled kept)
+
+-- these, and then what was counted
 abbrev pub all_line : Job → Counts → Kept → List ℕ
-all_line job n kept = lines_of job.style job.command (tabled kept) ++ last_line job n kept
+all_line job n kept = gathered_lines job kept ++ last_line job n kept
 
 -- the same of any input; after one of texts there is none
 abbrev pub line_of_input : Reading → List ℕ → Counts → List ℕ

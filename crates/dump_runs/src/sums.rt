@@ -1,18 +1,19 @@
 //! Writes what was counted: after one input, and after all.
 #![tactic(auto)]
 
-ghost use Rattle.std.specs.Prelude.{◌++◌, IfErr, OnErr, OnOk};
+ghost use Rattle.std.specs.Prelude.{IfErr, OnErr, OnOk};
 ghost use Rattle.std.specs.Io.KnownBytes.{Appends};
 ghost use Rattle.dump_io.specs.lines.Failing.{IsReading};
 ghost use Rattle.dump_io.specs.lines.Fronts.{AppendsFront};
-ghost use Rattle.dump_runs.specs.Sums.{all_line, input_line, last_line, line_of_all, line_of_input};
+ghost use Rattle.dump_runs.specs.Sums.{all_line, gathered_lines, input_line, last_line, line_of_all, line_of_input};
 
 use crate::batch::Totals;
 use crate::reading::Reading;
 use dump_commands::command::Summaries;
 use dump_commands::counts::Counts;
 use dump_commands::job::Job;
-use dump_commands::reporting::{put_summary, put_text_summary};
+use dump_commands::state::kept::Kept;
+use dump_commands::summary::{put_summary, put_text_summary};
 use dump_io::lines::failure::Failure;
 use dump_io::lines::write::put;
 use std::alloc::Global;
@@ -97,9 +98,23 @@ fn put_all<W: Write>(
         (AppendsFront (W.contents report.old) (W.contents report.new) (all_line job.entry totals.now.counts totals.now.tally.kept)) }
     ensures failed { IfErr result (λ failure. ¬ IsReading failure) }
 {
-    let lines = totals.tally.kept.lines(alloc, job.style, job.command)?;
-    put(report, &lines)?;
+    put_gathered(alloc, job, &totals.tally.kept, report)?;
     put_last(alloc, job, totals, report)
+}
+
+/// Writes the lines of what was gathered of all dumps.
+fn put_gathered<W: Write>(
+    alloc: Global,
+    job: Job<'_>,
+    kept: &Kept<'_>,
+    report: &mut W,
+) -> Result<(), Failure>
+    ensures written { OnOk result (Appends (W.contents report.old) (W.contents report.new) (gathered_lines job.entry kept.now)) }
+    ensures front { OnErr result (AppendsFront (W.contents report.old) (W.contents report.new) (gathered_lines job.entry kept.now)) }
+    ensures failed { IfErr result (λ failure. ¬ IsReading failure) }
+{
+    let lines = kept.lines(alloc, job.style, job.command)?;
+    put(report, &lines)
 }
 
 /// Writes what was counted of all dumps, if the command tells that.

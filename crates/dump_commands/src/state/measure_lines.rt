@@ -7,7 +7,8 @@ ghost use Rattle.dump_commands.specs.state.Measures.{range_line, ranked_line, ra
 ghost use Rattle.dump_commands.specs.state.Measures as says;
 
 use crate::state::measures::{Ranked, Share};
-use crate::summary::{Count, counts_object, counts_words};
+use crate::summary::counted::Count;
+use crate::summary::lines::{counts_object, counts_words};
 use dump_io::lines::style::Style;
 use dump_io::lines::text::{line_of, push_number, push_words};
 use std::alloc::{AllocError, Global};

@@ -2,7 +2,7 @@
 use Rattle.std.proofs.Common.{◌≡◌, ℕ, ◌+◌, ◌-◌, ◌^◌, ◌≤◌, ◌<◌, List, arith, ap, drop, fold, length, sym, subst, take, ◌∙◌}
 use Rattle.std.proofs.lemmas.Grind.{fold-append}
 use Rattle.std.proofs.lemmas.List.{take-take}
-use Rattle.dump_io.specs.input.Texts.{ScansAhead, IsOpen, scanned, start, step}
+use Rattle.dump_io.specs.input.Scans.{ScansAhead, IsOpen, scanned, start, step}
 use Rattle.dump_io.specs.declared.input.scan.Scan.{Scan}
 use Rattle.dump_io.specs.declared.input.scan.Scanned.{Scanned}
 use lib.Seq.{take-add}

@@ -3,8 +3,8 @@
 
 ghost use Rattle.std.specs.Prelude.{◌≡◌, IfErr, IfOk, OnErr, length};
 ghost use Rattle.dump_io.specs.lines.Failing.{IsReading};
-ghost use Rattle.dump_io.specs.input.Texts.{IsFar, first_position, position_over};
-ghost use Rattle.dump_io.specs.input.Texts as says;
+ghost use Rattle.dump_io.specs.input.Places.{IsFar, first_position, position_over};
+ghost use Rattle.dump_io.specs.input.Places as says;
 
 use crate::lines::failure::{Failure, in_range};
 

@@ -1,8 +1,8 @@
-//! Where the text of a document ends.
+//! Where the text of a document ends. `specs/input/Texts.antt` says what one is, `Scans.antt` what is found of it byte by byte.
 #![tactic(auto)]
 
 ghost use Rattle.std.specs.Prelude.{◌≡◌, ◌-◌, ℕ, List, ◌≤◌, ◌<◌, ◌^◌, fold, length, min, MatchBool, take};
-ghost use Rattle.dump_io.specs.input.Texts.{HasBegun, IsOpen, closed, in_levels, in_text, opened, scanned, start, step, ScansAhead};
+ghost use Rattle.dump_io.specs.input.Scans.{IsOpen, ScansAhead, ScansBegun, closed, in_levels, in_text, opened, scanned, start, step};
 ghost use Rattle.dump_io.specs.input.Texts as says;
 ghost use Rattle.dump_io.specs.declared.input.scan.Scan.TheVariants.{Whole};
 
@@ -60,7 +60,7 @@ impl Scanned {
     /// The number of bytes, without the last if the text can't go on after it.
     pub fn begun(self) -> usize
         ensures less { result ≤ self.len }
-        ensures begun { (text : List ℕ) → self.scan ≡ scanned text → self.len ≡ length text → HasBegun text result }
+        ensures begun { (text : List ℕ) → self.scan ≡ scanned text → self.len ≡ length text → ScansBegun text result }
         ensures open { (ahead : List ℕ) → ScansAhead ahead self → IsOpen (scanned (take result ahead)) }
     {
         if self.scan.is_open() {

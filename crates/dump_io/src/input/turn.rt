@@ -2,8 +2,9 @@
 #![tactic(auto)]
 
 ghost use Rattle.std.specs.Prelude.{◌≡◌};
-ghost use Rattle.dump_io.specs.input.Texts.{turn_behind, turn_behind_document, turn_behind_gap};
-ghost use Rattle.dump_io.specs.input.Texts as says;
+ghost use Rattle.dump_io.specs.input.Between.{turn_after_document, turn_after_gap};
+ghost use Rattle.dump_io.specs.input.Between as says;
+ghost use Rattle.dump_io.specs.input.Scans.{turn_step};
 
 use crate::input::scan::is_space;
 
@@ -27,7 +28,7 @@ pub enum Turn {
 impl Turn {
     /// What may come after one byte more between documents; `None` if the byte can't be there.
     pub fn behind(self, byte: u8) -> Option<Turn>
-        ensures { result ≡ turn_behind self byte }
+        ensures { result ≡ turn_step self byte }
     {
         if is_space(byte) {
             return Some(self);
@@ -62,7 +63,7 @@ impl Turn {
 
     /// What may come after a document.
     pub fn behind_document(self) -> Turn
-        ensures { result ≡ turn_behind_document self }
+        ensures { result ≡ turn_after_document self }
     {
         match self {
             Turn::First | Turn::Next | Turn::Last => Turn::Next,
@@ -72,7 +73,7 @@ impl Turn {
 
     /// What may come after bytes that are passed over.
     pub fn behind_gap(self) -> Turn
-        ensures { result ≡ turn_behind_gap self }
+        ensures { result ≡ turn_after_gap self }
     {
         match self {
             Turn::First | Turn::Next | Turn::Last => Turn::Next,

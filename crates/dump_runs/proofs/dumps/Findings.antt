@@ -1,12 +1,14 @@
 -- A document in which no damage is found.
-use Rattle.std.proofs.Common.{ℕ, List, Option, refl, inl, inr}
+use Rattle.std.proofs.Common.{Bool, true, false, ℕ, List, Option, refl, inl, inr}
 use Rattle.bson_model.specs.Tree.{document}
 use Rattle.raw_tree.specs.declared.reader.limits.Limits.{Limits}
 use Rattle.raw_tree.proofs.Face.{document_reads, read_within}
 use Rattle.raw_resync.specs.Resync.{IsSound}
 use Rattle.dump_io.specs.input.Cut.{IsPiece}
 use Rattle.dump_io.specs.lines.Find.{Account, Finds, MayBeDamaged}
-use Rattle.dump_commands.specs.Findings.{FindsFor}
+use Rattle.dump_commands.specs.Findings.{FindsFor, FindsIf}
+use Rattle.dump_commands.specs.Gathering.{gathering_profile}
+use Rattle.dump_commands.specs.Reporting.{report_profile}
 use Rattle.dump_commands.specs.declared.command.Command.{Command}
 use Rattle.dump_commands.specs.declared.command.Command.TheVariants as command
 use Rattle.dump_io.specs.declared.lines.find.Finding.{Finding}
@@ -21,15 +23,11 @@ sound_of b finding.Damaged told piece found clean = absurd (clean (inl refl))
 sound_of b finding.TooDeep told piece found clean = absurd (clean (inr (inl refl)))
 sound_of b finding.Unvalidated told piece found clean = absurd found
 
+sound_if : {limits : Limits} (looks : Bool) (b : List ℕ) (f : Finding) (told : Option Account) → IsPiece limits.bytes b → FindsIf looks limits b f told → ¬ MayBeDamaged f → IsSound limits b
+sound_if true b f told piece found clean = sound_of b f told piece found clean
+sound_if false b f told piece found clean = absurd (clean (inr (inr found.0)))
+
 pub finds_sound : {limits : Limits} (c : Command) (b : List ℕ) (f : Finding) (told : Option Account) → IsPiece limits.bytes b → FindsFor limits c b f told → ¬ MayBeDamaged f → IsSound limits b
-finds_sound command.Count b f told piece found clean = absurd (clean (inr (inr found.0)))
-finds_sound command.Sizes b f told piece found clean = absurd (clean (inr (inr found.0)))
-finds_sound (command.Measure measure) b f told piece found clean = absurd (clean (inr (inr found.0)))
-finds_sound command.Check b f told piece found clean = sound_of b f told piece found clean
-finds_sound command.List b f told piece found clean = sound_of b f told piece found clean
-finds_sound command.Canon b f told piece found clean = sound_of b f told piece found clean
-finds_sound (command.Sound texts) b f told piece (account, found, tells) clean = sound_of b f account piece found clean
-finds_sound command.Fields b f told piece found clean = sound_of b f told piece found clean
-finds_sound (command.Unique spelling) b f told piece found clean = sound_of b f told piece found clean
-finds_sound (command.Json style) b f told piece found clean = sound_of b f told piece found clean
-finds_sound (command.Pick picking) b f told piece found clean = sound_of b f told piece found clean
+finds_sound (command.Prints r) b f told piece found clean = sound_if (report_profile r).looks b f told piece found clean
+finds_sound (command.Gathers g) b f told piece found clean = sound_if (gathering_profile g).looks b f told piece found clean
+finds_sound (command.Writes m) b f told piece (account, found, tells) clean = sound_of b f account piece found clean

@@ -25,8 +25,8 @@ use Rattle.dump_io.specs.declared.lines.find.Finding.{Finding}
 use Rattle.dump_io.specs.declared.lines.style.Style.{Style}
 use Rattle.dump_io.proofs.Face.{front_kept, goes_ahead, passes_none, searches_on, stays_on, tells_doubted, tells_other, tells_taken}
 use Rattle.dump_commands.specs.Counting.{count_document}
-use Rattle.dump_commands.specs.Findings.{FindsFor}
-use Rattle.dump_commands.specs.Reporting.{IsJudged, lines_of_repeats}
+use Rattle.dump_commands.specs.Findings.{FindsFor, IsJudged}
+use Rattle.dump_commands.specs.Reporting.{lines_of_repeats}
 use Rattle.dump_commands.specs.declared.counts.Counts.{Counts}
 use Rattle.dump_commands.specs.declared.job.Job.{Job}
 use Rattle.dump_runs.specs.dumps.Halting.{IsNextFront, IsNextPiece, IsPieceFront}

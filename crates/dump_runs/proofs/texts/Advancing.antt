@@ -1,22 +1,23 @@
 -- How bytes of an input of texts are passed, one piece after the other.
 use Rattle.std.proofs.Common.{◌≡◌, ◌+◌, ℕ, List, [], ◌∷◌, ◌++◌, true, false, Option, None, Some, IfSome, append_assoc, ap, arith, drop, inl, inr, length, length-append, refl, take, sym, subst, ◌∙◌}
-use Rattle.std.proofs.lemmas.Grind.{fold-append}
 use Rattle.std.specs.Io.KnownBytes.{Consumes}
 use Rattle.dump_io.specs.input.Reading.{IsWindow, ahead_of}
 use Rattle.dump_runs.specs.texts.Reading.{Advances, FindsText, GoesOnTo, IsAhead, IsScanned, LooksOn, PassesAhead, PassesBetween, PassesGap}
-use Rattle.dump_io.specs.input.Texts.{HasNoLine, begins_line, may_begin, position_behind, position_over, turn_behind, turn_over, turn_step}
+use Rattle.dump_io.specs.input.Between.{IsBetween, may_begin}
+use Rattle.dump_io.specs.input.Places.{HasNoLine, begins_line, position_over}
+use Rattle.dump_io.specs.input.Scans.{turn_step}
 use Rattle.dump_runs.specs.declared.texts.cursor.Cursor.{Cursor}
 use Rattle.dump_io.specs.declared.input.position.Position.{Position}
 use Rattle.dump_io.specs.declared.input.turn.Turn.{Turn}
 use Rattle.dump_runs.specs.declared.texts.cursor.NextText.TheVariants as next
 use Rattle.dump_io.specs.declared.input.scan.Scanned.{Scanned}
 use Rattle.dump_io.specs.declared.input.turn.Turn.TheVariants as turn
-use Rattle.dump_io.proofs.Face.{front_kept, read_behind}
+use Rattle.dump_io.proofs.Face.{between_byte, between_none, between_on, front_kept, no_line_first, no_line_none, no_line_on, not_between, position_none, position_on, read_behind}
 
 -- nothing is passed
 pub advances_none : (r : Option (List ℕ)) (x : Cursor) → IsWindow x.window → Advances r r x x []
 advances_none r x is =
-    let zero : x.window.offset ≡ x.window.offset + 0 = omega arith in record { window = is; place = refl; offset = zero; is_read = λ before read. read }
+    let zero : x.window.offset ≡ x.window.offset + 0 = omega arith in record { window = is; place = sym (position_none x.place); offset = zero; is_read = λ before read. read }
 
 -- more is read ahead
 pub advances_ahead : (a b c : Option (List ℕ)) (x y z : Cursor) (bytes : List ℕ) → Advances a b x y bytes → LooksOn b c y z → Advances a c x z bytes
@@ -36,7 +37,7 @@ advances_more a b x y z bytes more p is ahead place offset =
     let first : y.window.offset ≡ x.window.offset + length bytes = p.offset in
     record {
       window = is;
-      place = place ∙ ap (λ q. position_over q more) p.place ∙ sym (fold-append position_behind x.place bytes more);
+      place = place ∙ ap (λ q. position_over q more) p.place ∙ sym (position_on x.place bytes more);
       offset = omega (arith, size, first, offset);
       is_read = λ before read.
           subst (Consumes before b) (ap (λ l. bytes ++ l) ahead ∙ sym (append_assoc bytes more (ahead_of z.window))) (p.is_read before read);
@@ -50,7 +51,7 @@ advances_on a b c x y z bytes more p q =
     let second : z.window.offset ≡ y.window.offset + length more = q.offset in
     record {
       window = q.window;
-      place = q.place ∙ ap (λ s. position_over s more) p.place ∙ sym (fold-append position_behind x.place bytes more);
+      place = q.place ∙ ap (λ s. position_over s more) p.place ∙ sym (position_on x.place bytes more);
       offset = omega (arith, size, first, second);
       is_read = λ before read.
           subst (Consumes before c) (sym (append_assoc bytes more (ahead_of z.window)))
@@ -60,15 +61,6 @@ advances_on a b c x y z bytes more p q =
 -- some bytes were passed, and more is read ahead
 pub goes_on_to : (a b c : Option (List ℕ)) (x y z : Cursor) (bytes : List ℕ) → Advances a b x y bytes → LooksOn b c y z → GoesOnTo a c x z
 goes_on_to a b c x y z bytes p looks = (bytes, advances_ahead a b c x y z bytes p looks)
-
--- what may come after one byte more
-pub turn_more : (t u v : Turn) (front : List ℕ) (b : ℕ) → turn_over t front ≡ Some u → turn_behind u b ≡ Some v → turn_over t (front ++ b ∷ []) ≡ Some v
-turn_more t u v front b before now = fold-append turn_step (Some t) front (b ∷ []) ∙ ap (λ o. turn_step o b) before ∙ now
-
--- one byte more with which no line begins
-pub no_line_more : (p : Position) (gap : List ℕ) (b : ℕ) → HasNoLine p gap → begins_line (position_over p gap) b ≡ false → HasNoLine p (gap ++ b ∷ [])
-no_line_more p [] b none now = (now, tt)
-no_line_more p (x ∷ gap) b (first, rest) now = (first, no_line_more (position_behind p x) gap b rest now)
 
 -- one byte is ahead, and is passed
 advances_byte : (a b : Option (List ℕ)) (x y z : Cursor) (bytes : List ℕ) (byte : ℕ) (rest : List ℕ) (t : Turn) → Advances a b x y bytes → ahead_of y.window ≡ byte ∷ rest
@@ -80,31 +72,36 @@ advances_byte a b x y z bytes byte rest t p ahead passed =
 
 -- this was passed between documents
 abbrev pub HasBetween : (a b : Option (List ℕ)) (x y : Cursor) → Type 0
-HasBetween a b x y = (front : List ℕ) × Advances a b x y front × (turn_over x.turn front ≡ Some y.turn)
+HasBetween a b x y = (front : List ℕ) × Advances a b x y front × IsBetween x.turn front y.turn
 
-pub between_none : (r : Option (List ℕ)) (x : Cursor) → IsWindow x.window → HasBetween r r x x
-between_none r x is = ([], advances_none r x is, refl)
+pub nothing_between : (r : Option (List ℕ)) (x : Cursor) → IsWindow x.window → HasBetween r r x x
+nothing_between r x is = ([], advances_none r x is, between_none x.turn)
 
 module _ {b c : Option (List ℕ)} {y z : Cursor} {o : Option ℕ} {byte : ℕ} where
   pub between_more : (a : Option (List ℕ)) (x w : Cursor) (v : Turn) → HasBetween a b x y → LooksOn b c y z × IsAhead c z o → o ≡ Some byte
-      → turn_behind z.turn byte ≡ Some v → PassesAhead (record z { turn = v }) w 1 → HasBetween a c x w
+      → turn_step z.turn byte ≡ Some v → PassesAhead (record z { turn = v }) w 1 → HasBetween a c x w
   between_more a x w v (front, p, turns) (looks, is) some now passed =
       let (rest, ahead) = subst (IsAhead c z) some is in
-      let same : turn_over x.turn front ≡ Some z.turn = turns ∙ ap Some (sym looks.turn) in (
+      let same : IsBetween x.turn front z.turn = subst (IsBetween x.turn front) (sym looks.turn) turns in (
         front ++ byte ∷ [],
         advances_byte a c x z w front byte rest v (advances_ahead a b c x y z front p looks) ahead passed,
-        turn_more x.turn z.turn v front byte same now ∙ ap Some (sym passed.4),
+        subst (IsBetween x.turn (front ++ byte ∷ [])) (sym passed.4) (between_on x.turn z.turn v front (byte ∷ []) same (between_byte z.turn v byte now)),
       )
+
+-- a byte after which nothing may come can't be there
+cant_stop : (t : Turn) (q : Option ℕ) → IfSome q (λ b. turn_step t b ≡ None) → IfSome q (λ b. (u : Turn) → ¬ IsBetween t (b ∷ []) u)
+cant_stop t None stops = tt
+cant_stop t (Some b) stops = λ u. not_between t u b stops
 
 module _ {b c : Option (List ℕ)} {y z : Cursor} {q : Option ℕ} where
   pub between_ends : (a : Option (List ℕ)) (x : Cursor) (o : Option ℕ) → HasBetween a b x y → LooksOn b c y z × IsAhead c z o → o ≡ q
-      → IfSome q (λ byte. turn_behind z.turn byte ≡ None) → PassesBetween a c x z q
+      → IfSome q (λ byte. turn_step z.turn byte ≡ None) → PassesBetween a c x z q
   between_ends a x o (front, p, turns) (looks, is) same stops = record {
     front = front;
     advances = advances_ahead a b c x y z front p looks;
-    turns = turns ∙ ap Some (sym looks.turn);
+    turns = subst (IsBetween x.turn front) (sym looks.turn) turns;
     is = subst (IsAhead c z) same is;
-    stops = stops;
+    stops = cant_stop z.turn q stops;
   }
 
 -- and reading failed after it
@@ -116,7 +113,7 @@ abbrev pub HasGap : (a b : Option (List ℕ)) (x y : Cursor) → Type 0
 HasGap a b x y = (gap : List ℕ) × Advances a b x y gap × HasNoLine x.place gap × (y.turn ≡ x.turn)
 
 pub gap_none : (r : Option (List ℕ)) (x : Cursor) → IsWindow x.window → HasGap r r x x
-gap_none r x is = ([], advances_none r x is, tt, refl)
+gap_none r x is = ([], advances_none r x is, no_line_none x.place, refl)
 
 module _ {b c : Option (List ℕ)} {y z : Cursor} {o : Option ℕ} {byte : ℕ} where
   pub gap_more : (a : Option (List ℕ)) (x w : Cursor) → HasGap a b x y → LooksOn b c y z × IsAhead c z o → o ≡ Some byte
@@ -124,8 +121,12 @@ module _ {b c : Option (List ℕ)} {y z : Cursor} {o : Option ℕ} {byte : ℕ} 
   gap_more a x w (gap, p, none, same) (looks, is) some now passed =
       let (rest, ahead) = subst (IsAhead c z) some is in
       let first = advances_ahead a b c x y z gap p looks in
-      let here : begins_line (position_over x.place gap) byte ≡ false = subst (λ (q : Position). begins_line q byte ≡ false) first.place now in
-      (gap ++ byte ∷ [], advances_byte a c x z w gap byte rest z.turn first ahead passed, no_line_more x.place gap byte none here, passed.4 ∙ looks.turn ∙ same)
+      let here : begins_line (position_over x.place gap) byte ≡ false = subst (λ (q : Position). begins_line q byte ≡ false) first.place now in (
+        gap ++ byte ∷ [],
+        advances_byte a c x z w gap byte rest z.turn first ahead passed,
+        no_line_on x.place gap (byte ∷ []) none (no_line_first (position_over x.place gap) byte [] here (no_line_none _)),
+        passed.4 ∙ looks.turn ∙ same,
+      )
 
 -- up to the end of the input
 module _ {b c : Option (List ℕ)} {y z : Cursor} {o : Option ℕ} where
@@ -164,7 +165,7 @@ module _ {a b c : Option (List ℕ)} {x y z : Cursor} {o : Option ℕ} where
       record {
         front = p.front;
         advances = advances_ahead a b c x y z p.front p.advances looks;
-        turns = p.turns ∙ ap Some (sym looks.turn);
+        turns = subst (IsBetween x.turn p.front) (sym looks.turn) p.turns;
         is = (ap may_begin looks.turn ∙ may, (rest ++ more, here), scans);
       }
 

@@ -1,11 +1,12 @@
 -- What is passed of an input of texts.
-use Rattle.std.proofs.Common.{◌≡◌, ◌≤◌, ◌+◌, ℕ, suc, zero, List, [], ◌∷◌, ◌++◌, true, Option, ap, drop, inl, inr, length, length-take-le, refl, subst, sym, take, ◌∙◌}
+use Rattle.std.proofs.Common.{◌≡◌, ◌≤◌, ◌+◌, ℕ, List, [], ◌∷◌, ◌++◌, Option, ap, drop, inl, inr, length, length-take-le, refl, subst, sym, take, ◌∙◌}
 use Rattle.std.proofs.lemmas.List.{take-append-drop, take-take}
 use Rattle.std.specs.Io.KnownBytes.{Appends}
 use Rattle.dump_io.specs.lines.Fronts.{AppendsFront, HasFront}
 use Rattle.dump_io.specs.input.Reading.{ahead_of}
-use Rattle.dump_io.specs.input.Texts.{HasBrace, IsOpen, IsOneText, may_begin, position_over, scanned, turn_behind_document, turn_behind_gap}
-use Rattle.dump_io.specs.declared.input.scan.Scan.TheVariants as scan
+use Rattle.dump_io.specs.input.Between.{turn_after_document, turn_after_gap}
+use Rattle.dump_io.specs.input.Places.{position_over}
+use Rattle.dump_io.specs.input.Texts.{MayGoOn}
 use Rattle.dump_io.specs.declared.input.turn.Turn.{Turn}
 use Rattle.dump_commands.specs.Counting.{count_fault, count_said}
 use Rattle.dump_commands.specs.declared.counts.Counts.{Counts}
@@ -14,17 +15,21 @@ use Rattle.dump_runs.specs.Limits.{style_at}
 use Rattle.dump_runs.specs.Plays.{Held, Played, given, reported}
 use Rattle.dump_runs.specs.texts.Faults.{fault_line}
 use Rattle.dump_runs.specs.texts.Reading.{PassesAhead}
-use Rattle.dump_runs.specs.texts.Run.{Gives, IsFaultOf, TellsTextFault, events_of, refused, said, style_of}
-use Rattle.dump_runs.specs.texts.Steps.{HaltsSaid, HaltsText, PassesText, TellsNoText, line_of, point_of}
+use Rattle.dump_runs.specs.texts.Run.{Gives, IsFaultOf, IsWholeText, TellsTextFault, events_of, refused, said, style_of}
+use Rattle.dump_runs.specs.texts.Steps.{HaltsSaid, HaltsText, PartAhead, PassesText, TellsNoText, line_of, point_of}
 use Rattle.dump_runs.specs.declared.reading.TextJob.{TextJob}
 use Rattle.dump_runs.specs.declared.texts.cursor.Cursor.{Cursor}
 use Rattle.dump_runs.specs.declared.texts.cursor.NextText.{NextText}
 use Rattle.dump_runs.specs.declared.texts.piece.Fault.{Fault}
+use Rattle.dump_runs.specs.declared.texts.piece.Went.{Went}
 use Rattle.dump_runs.specs.declared.texts.piece.Went.TheVariants as went
 use Rattle.dump_runs.proofs.Plays.{holds, played_count, played_given, played_none, played_text}
 
+pub front_of_len : (len : ℕ) (ahead : List ℕ) → HasFront ahead (take len ahead)
+front_of_len len ahead = (drop len ahead, sym (take-append-drop len ahead))
+
 -- the line of a fault in the front of what is ahead
-abbrev tells_fault : (job : TextJob) (name : List ℕ) (y : Cursor) (n : Counts) (f : Fault) → f.len ≤ length (ahead_of y.window) → f.at ≤ f.len
+abbrev pub tells_fault : (job : TextJob) (name : List ℕ) (y : Cursor) (n : Counts) (f : Fault) → f.len ≤ length (ahead_of y.window) → f.at ≤ f.len
     → TellsTextFault (style_of job (point_of job name y n)) (point_of job name y n) (take f.len (ahead_of y.window)) (line_of job name y n f)
 tells_fault job name y n f fits within = record {
   at = f.at;
@@ -33,140 +38,55 @@ tells_fault job name y n f fits within = record {
   told = ap (λ l. fault_line (style_at job.style job.limit n) name (position_over y.place l) f.reason) (sym (take-take f.at f.len (ahead_of y.window) within));
 }
 
--- a text that isn't empty begins with the brace that is ahead
-no_byte : (ahead : List ℕ) → ¬ IsOneText (take 0 ahead)
-no_byte ahead whole = let same : scan.Levels 0 true ≡ scan.Whole = whole in let none : ⊥ = cc in none
-
-brace_first : (len : ℕ) (ahead : List ℕ) → HasBrace ahead → IsOneText (take len ahead) → HasBrace (take len ahead)
-brace_first zero ahead brace whole = absurd (no_byte ahead whole)
-brace_first (suc n) ahead (rest, same) whole = (take n rest, ap (take (suc n)) same)
-
--- this number of bytes were passed
-pub record PassesFirst (y z : Cursor) (len : ℕ) : Type 0 where
-  pub fits : len ≤ length (ahead_of y.window)
-  pub is : PassesAhead y z len
-
-split : (y z : Cursor) (len : ℕ) → PassesFirst y z len → ahead_of y.window ≡ take len (ahead_of y.window) ++ ahead_of z.window
-split y z len p = sym (take-append-drop len (ahead_of y.window)) ∙ ap (λ l. take len (ahead_of y.window) ++ l) (sym p.is.1)
-
-offset_after : (y z : Cursor) (len : ℕ) → PassesFirst y z len → z.window.offset ≡ y.window.offset + length (take len (ahead_of y.window))
-offset_after y z len p = p.is.3 ∙ ap (λ n. y.window.offset + n) (sym (length-take-le len (ahead_of y.window) p.fits))
-
--- the text is in front of what is ahead
-first_of : (len : ℕ) (ahead : List ℕ) → HasFront ahead (take len ahead)
-first_of len ahead = (drop len ahead, sym (take-append-drop len ahead))
-
--- a whole text of this length is there
-pub record HasWhole (y : Cursor) (len : ℕ) : Type 0 where
-  pub may : may_begin y.turn ≡ true
-  pub brace : HasBrace (ahead_of y.window)
-  pub whole : IsOneText (take len (ahead_of y.window))
-
-module _ (job : TextJob) (name : List ℕ) (told : NextText) (y : Cursor) {old new : Held} where
-  -- a document is passed
-  pub passes_document : {z : Cursor} {v : Turn} (len : ℕ) (bytes : List ℕ) → PassesFirst y z len → HasWhole y len → Gives job.limits (take len (ahead_of y.window)) bytes
-      → Played (events_of (said bytes)) old new → v ≡ turn_behind_document z.turn → PassesText job name told y (record z { turn = v }) old new went.Document
-  passes_document {z = z} len bytes p h gives played next = record {
-    window = p.is.0;
+-- the part that these bytes begin with: a document, a text with a fault, or what is no whole text
+module _ (job : TextJob) (name : List ℕ) (told : NextText) (y : Cursor) {n : Counts} {v : Turn} where
+  abbrev pub document_ahead : (len : ℕ) (bytes : List ℕ) → IsWholeText y.turn (take len (ahead_of y.window)) → Gives job.limits (take len (ahead_of y.window)) bytes
+      → v ≡ turn_after_document y.turn → PartAhead job name told y n went.Document v
+  document_ahead len bytes whole gives next = record {
     text = take len (ahead_of y.window);
     says = said bytes;
-    ahead = split y z len p;
-    place = p.is.2;
-    offset = offset_after y z len p;
-    is = record { may_be = h.may; brace = brace_first len (ahead_of y.window) h.brace h.whole; whole = h.whole; is_written = gives; next = next ∙ ap turn_behind_document p.is.4 };
-    played = played;
+    front = front_of_len len (ahead_of y.window);
+    is = record { is_text = whole; is_written = gives; next = next };
   }
 
-  -- a front of it is given
-  pub halts_document : (len : ℕ) (bytes : List ℕ) → HasWhole y len → Gives job.limits (take len (ahead_of y.window)) bytes → HaltsSaid (said bytes) old new → HaltsText job name told y old new
-  halts_document len bytes h gives halts = inr (
-    went.Document,
-    take len (ahead_of y.window),
-    said bytes,
-    turn_behind_document y.turn,
-    first_of len (ahead_of y.window),
-    record { may_be = h.may; brace = brace_first len (ahead_of y.window) h.brace h.whole; whole = h.whole; is_written = gives; next = refl },
-    halts,
-  )
-
-  module _ (f : Fault) (within : f.at ≤ f.len) where
-    -- a text with a fault is passed
-    pub passes_refused : {z : Cursor} {v : Turn} → PassesFirst y z f.len → HasWhole y f.len → IsFaultOf job.limits (take f.len (ahead_of y.window)) f.at f.reason
-        → Played (events_of (refused (line_of job name y old.counts f))) old new → v ≡ turn_behind_document z.turn → PassesText job name told y (record z { turn = v }) old new went.Refused
-    passes_refused {z = z} p h why played next = record {
-      window = p.is.0;
+  module _ (f : Fault) (within : f.at ≤ f.len) (fits : f.len ≤ length (ahead_of y.window)) where
+    abbrev pub refused_ahead : IsWholeText y.turn (take f.len (ahead_of y.window)) → IsFaultOf job.limits (take f.len (ahead_of y.window)) f.at f.reason
+        → v ≡ turn_after_document y.turn → PartAhead job name told y n went.Refused v
+    refused_ahead whole why next = record {
       text = take f.len (ahead_of y.window);
-      says = refused (line_of job name y old.counts f);
-      ahead = split y z f.len p;
-      place = p.is.2;
-      offset = offset_after y z f.len p;
-      is = record {
-        may_be = h.may;
-        brace = brace_first f.len (ahead_of y.window) h.brace h.whole;
-        whole = h.whole;
-        fault = tells_fault job name y old.counts f p.fits within;
-        why = why;
-        next = next ∙ ap turn_behind_document p.is.4;
-      };
-      played = played;
+      says = refused (line_of job name y n f);
+      front = front_of_len f.len (ahead_of y.window);
+      is = record { is_text = whole; fault = tells_fault job name y n f fits within; why = why; next = next };
     }
 
-    -- a front of its line is told
-    pub halts_refused : f.len ≤ length (ahead_of y.window) → HasWhole y f.len → IsFaultOf job.limits (take f.len (ahead_of y.window)) f.at f.reason
-        → HaltsSaid (refused (line_of job name y old.counts f)) old new → HaltsText job name told y old new
-    halts_refused fits h why halts = inr (
-      went.Refused,
-      take f.len (ahead_of y.window),
-      refused (line_of job name y old.counts f),
-      turn_behind_document y.turn,
-      first_of f.len (ahead_of y.window),
-      record {
-        may_be = h.may;
-        brace = brace_first f.len (ahead_of y.window) h.brace h.whole;
-        whole = h.whole;
-        fault = tells_fault job name y old.counts f fits within;
-        why = why;
-        next = refl;
-      },
-      halts,
-    )
-
-    -- what is no whole text is passed
-    pub passes_astray : {z : Cursor} {v : Turn} → PassesFirst y z f.len → IsOpen (scanned (take f.len (ahead_of y.window))) → TellsNoText job.limits (ahead_of y.window) told f.len f.at f.reason
-        → Played (events_of (refused (line_of job name y old.counts f))) old new → v ≡ turn_behind_gap z.turn → PassesText job name told y (record z { turn = v }) old new went.Astray
-    passes_astray {z = z} p open' why played next = record {
-      window = p.is.0;
+    abbrev pub astray_ahead : MayGoOn (take f.len (ahead_of y.window)) → TellsNoText job.limits (ahead_of y.window) told f.len f.at f.reason
+        → v ≡ turn_after_gap y.turn → PartAhead job name told y n went.Astray v
+    astray_ahead goes why next = record {
       text = take f.len (ahead_of y.window);
-      says = refused (line_of job name y old.counts f);
-      ahead = split y z f.len p;
-      place = p.is.2;
-      offset = offset_after y z f.len p;
+      says = refused (line_of job name y n f);
+      front = front_of_len f.len (ahead_of y.window);
       is = record {
-        unended = open';
-        fault = tells_fault job name y old.counts f p.fits within;
-        why = subst (λ n. TellsNoText job.limits (ahead_of y.window) told n f.at f.reason) (sym (length-take-le f.len (ahead_of y.window) p.fits)) why;
-        next = next ∙ ap turn_behind_gap p.is.4;
-      };
-      played = played;
-    }
-
-    -- a front of its line is told
-    pub halts_astray : f.len ≤ length (ahead_of y.window) → IsOpen (scanned (take f.len (ahead_of y.window))) → TellsNoText job.limits (ahead_of y.window) told f.len f.at f.reason
-        → HaltsSaid (refused (line_of job name y old.counts f)) old new → HaltsText job name told y old new
-    halts_astray fits open' why halts = inr (
-      went.Astray,
-      take f.len (ahead_of y.window),
-      refused (line_of job name y old.counts f),
-      turn_behind_gap y.turn,
-      first_of f.len (ahead_of y.window),
-      record {
-        unended = open';
-        fault = tells_fault job name y old.counts f fits within;
+        unended = goes;
+        fault = tells_fault job name y n f fits within;
         why = subst (λ n. TellsNoText job.limits (ahead_of y.window) told n f.at f.reason) (sym (length-take-le f.len (ahead_of y.window) fits)) why;
-        next = refl;
-      },
-      halts,
-    )
+        next = next;
+      };
+    }
+
+-- it is passed
+pub passes_ahead : {job : TextJob} {name : List ℕ} {told : NextText} {y z : Cursor} {old new : Held} {what : Went} {v : Turn} (len : ℕ) → len ≤ length (ahead_of y.window) → PassesAhead y z len
+    → (part : PartAhead job name told y old.counts what v) → part.text ≡ take len (ahead_of y.window) → Played (events_of part.says) old new
+    → PassesText job name told y (record z { turn = v }) old new what
+passes_ahead {y = y} {z = z} len fits (window, ahead, place, offset, turn) part same played =
+    let size : length part.text ≡ len = ap length same ∙ length-take-le len (ahead_of y.window) fits in
+    record {
+      window = window;
+      part = part;
+      ahead = sym (take-append-drop len (ahead_of y.window)) ∙ (let first = sym same in let rest = sym ahead in λ i. first i ++ rest i);
+      place = place ∙ ap (position_over y.place) (sym same);
+      offset = offset ∙ ap (λ m. y.window.offset + m) (sym size);
+      played = played;
+    }
 
 -- nothing is played
 pub halts_none : (job : TextJob) (name : List ℕ) (told : NextText) (y : Cursor) (old : Held) → HaltsText job name told y old old

@@ -1,18 +1,19 @@
 -- How the parts of an input of texts that were passed grow by one more.
-use Rattle.std.proofs.Common.{◌≡◌, ◌≢◌, ◌⊎◌, ◌+◌, inl, inr, ℕ, List, [], ◌∷◌, ◌++◌, Bool, true, false, Option, None, Some, IfSome, add-zero, add_assoc, append_assoc, append-nil, ap, arith, flat_map, fold, length, length-append, refl, sym, subst, zero-add, ◌∙◌}
+use Rattle.std.proofs.Common.{◌≡◌, ◌≢◌, ◌⊎◌, ◌+◌, inl, inr, ℕ, List, [], ◌∷◌, ◌++◌, Bool, true, false, Option, None, Some, IfSome, add-zero, add_assoc, append_assoc, append-nil, ap, arith, flat_map, length, length-append, refl, sym, subst, zero-add, ◌∙◌}
 use Rattle.std.proofs.lemmas.Grind.{flat_map-append, fold-append}
 use Rattle.std.specs.Io.KnownBytes.{Consumes, IsAtEnd}
 use Rattle.std.proofs.KnownBytes.{Consumes-nil}
 use Rattle.dump_io.specs.input.Reading.{IsWindow, ahead_of}
-use Rattle.dump_io.specs.input.Texts.{EndsGap, HasNoLine, first_position, position_behind, position_over, turn_behind_gap, turn_over}
+use Rattle.dump_io.specs.input.Between.{IsBetween, turn_after_gap}
+use Rattle.dump_io.specs.input.Places.{EndsGap, HasNoLine, first_position, position_over}
 use Rattle.dump_io.specs.lines.Fronts.{HasFront}
 use Rattle.dump_io.specs.declared.input.turn.Turn.{Turn}
 use Rattle.dump_io.specs.declared.input.turn.Turn.TheVariants as turn
 use Rattle.dump_io.specs.declared.lines.style.Style.{Style}
-use Rattle.dump_io.proofs.Face.{read_behind}
+use Rattle.dump_io.proofs.Face.{position_on, read_behind}
 use Rattle.dump_runs.specs.Plays.{Event, Held, Played}
 use Rattle.dump_runs.specs.texts.Reading.{Advances, FindsText, GoesOnTo, PassesGap}
-use Rattle.dump_runs.specs.texts.Run.{AreTexts, EndsTexts, GoesOn, HaltsTexts, IsFault, IsSaid, IsTextPart, Said, TextPart, TextPoint, after, after_all, bytes_of, bytes_of_texts, events_of, events_of_texts, first_point, passed_to, refused, said, style_of, turn_behind_texts}
+use Rattle.dump_runs.specs.texts.Run.{AreTexts, EndsTexts, GoesOn, HaltsTexts, IsFault, IsSaid, IsTextPart, Said, TextPart, TextPoint, after, after_all, bytes_of, bytes_of_texts, events_of, events_of_texts, first_point, passed_to, refused, said, style_of, turn_after}
 use Rattle.dump_runs.specs.texts.Steps.{Becomes, FailsAt, HaltsText, IsBegun, PassesBehind, PassesText, PassesTexts, point_of}
 use Rattle.dump_runs.specs.declared.ends.Ended.{Ended}
 use Rattle.dump_runs.specs.declared.ends.Ended.TheVariants as how
@@ -61,9 +62,9 @@ offset_behind here (p ∷ ps) =
     let rest : (after_all here (p ∷ ps)).offset ≡ (here.offset + one) + others = offset_behind (after here p) ps in
     rest ∙ add_assoc here.offset one others ∙ ap (λ (n : ℕ). here.offset + n) (sym (length-append (bytes_of p) (bytes_of_texts ps)))
 
-turn_behind : (here : TextPoint) (ps : List TextPart) → (after_all here ps).turn ≡ fold (λ _ (p : TextPart). p.behind) here.turn ps
-turn_behind here [] = refl
-turn_behind here (p ∷ ps) = turn_behind (after here p) ps
+turn_of : (here : TextPoint) (ps : List TextPart) → (after_all here ps).turn ≡ turn_after here.turn ps
+turn_of here [] = refl
+turn_of here (p ∷ ps) = turn_of (after here p) ps
 
 -- these bytes were passed of an input, and others are ahead
 pub record IsAt (input r : Option (List ℕ)) (x : Cursor) : Type 0 where
@@ -261,29 +262,29 @@ module _ {job : TextJob} {name : List ℕ} {input r r' : Option (List ℕ)} {old
   -- a run that fails, and of what is next a front was played
   pub halts_next : {new : Held} → HaltsText job name told y mid new → HaltsTexts job name input old new
   halts_next (inl none) = record { ps = g.ps; parts = g.has.parts; in_front = g.has.in_front; es = []; next = inl refl; played = played_on g.has.played none }
-  halts_next (inr (what, text, says, v, front, is, (es, played, inl none))) =
+  halts_next (inr (what, v, part, (es, played, inl none))) =
       record { ps = g.ps; parts = g.has.parts; in_front = g.has.in_front; es = es; next = inl none; played = played_on g.has.played played }
-  halts_next (inr (what, text, says, v, front, is, (es, played, inr begun))) =
-      let (gap, behind, next, there) = completed what text says v front is in
-      let part : TextPart = record { front = f.front; text = text ++ gap; says = says; behind = behind } in
+  halts_next (inr (what, v, part, (es, played, inr begun))) =
+      let (gap, behind, next, there) = completed what part.text part.says v part.front part.is in
+      let last : TextPart = record { front = f.front; text = part.text ++ gap; says = part.says; behind = behind } in
       record {
         ps = g.ps;
         parts = g.has.parts;
         in_front = g.has.in_front;
         es = es;
-        next = inr (part, parts_more g part next, subst (λ l. IfSome input (λ s. HasFront s l)) (one_more bytes_of g.ps part) there, begun);
+        next = inr (last, parts_more g last next, subst (λ l. IfSome input (λ s. HasFront s l)) (one_more bytes_of g.ps last) there, begun);
         played = played_on g.has.played played;
       }
 
   module _ {z : Cursor} {new : Held} {what : Went} (p : PassesText job name told y z mid new what) where
-    over_text : Advances r r' x z (f.front ++ p.text)
-    over_text = advances_more r r' x y z f.front p.text f.advances p.window p.ahead p.place p.offset
+    over_text : Advances r r' x z (f.front ++ p.part.text)
+    over_text = advances_more r r' x y z f.front p.part.text f.advances p.window p.ahead p.place p.offset
 
     -- it is the last part
-    last_part : (q : TextPart) × (q.says ≡ p.says) × HasTexts job name input old new (g.ps ++ q ∷ [])
+    last_part : (q : TextPart) × (q.says ≡ p.part.says) × HasTexts job name input old new (g.ps ++ q ∷ [])
     last_part =
-        let (gap, behind, next, there) = completed what p.text p.says z.turn (ahead_of z.window, p.ahead) p.is in
-        let part : TextPart = record { front = f.front; text = p.text ++ gap; says = p.says; behind = behind } in
+        let (gap, behind, next, there) = completed what p.part.text p.part.says z.turn (ahead_of z.window, p.ahead) p.part.is in
+        let part : TextPart = record { front = f.front; text = p.part.text ++ gap; says = p.part.says; behind = behind } in
         (part, refl, has_more g part next there p.played)
 
     -- it has a fault, and the run stops after it
@@ -294,7 +295,7 @@ module _ {job : TextJob} {name : List ℕ} {input r r' : Option (List ℕ)} {old
           ps = g.ps ++ q ∷ [];
           parts = h.parts;
           ends = h.in_front;
-          stops = (asked, (g.ps, q, refl, subst IsFault (sym same) (fault_of shown here (ahead_of y.window) told what p.text p.says z.turn p.is other)));
+          stops = (asked, (g.ps, q, refl, subst IsFault (sym same) (fault_of shown here (ahead_of y.window) told what p.part.text p.part.says z.turn p.part.is other)));
           played = h.played;
         }
 
@@ -304,36 +305,36 @@ module _ {job : TextJob} {name : List ℕ} {input r r' : Option (List ℕ)} {old
     fails_behind r'' q e asked goes is =
         let (part, same, h) = last_part in
         let on : GoesOn job.keep_going part.says =
-        subst (GoesOn job.keep_going) (sym same) (on_of shown here (ahead_of y.window) told what p.text p.says z.turn job.keep_going p.is asked) in
-        fails_at e h (go_more job.keep_going g.ps part g.all on) (at_more input r' r'' z q (at_more input r r' x z (at_of g) (f.front ++ p.text, over_text)) goes) is
+        subst (GoesOn job.keep_going) (sym same) (on_of shown here (ahead_of y.window) told what p.part.text p.part.says z.turn job.keep_going p.part.is asked) in
+        fails_at e h (go_more job.keep_going g.ps part g.all on) (at_more input r' r'' z q (at_more input r r' x z (at_of g) (f.front ++ p.part.text, over_text)) goes) is
 
     -- or writing does
     pub halts_passed : HaltsTexts job name input old new
     halts_passed = let (part, same, h) = last_part in halts_has h
 
     -- nothing is passed after it
-    goes_whole : GoesOn job.keep_going p.says → IsSaid shown input here p.text p.says z.turn → GoesOnBehind job name input r' old new z
+    goes_whole : GoesOn job.keep_going p.part.says → IsSaid shown input here p.part.text p.part.says z.turn → GoesOnBehind job name input r' old new z
     goes_whole on is =
-        let part : TextPart = record { front = f.front; text = p.text; says = p.says; behind = z.turn } in
-        goes_more g part (part_of p.text p.says z.turn is) over_text p.played on refl
+        let part : TextPart = record { front = f.front; text = p.part.text; says = p.part.says; behind = z.turn } in
+        goes_more g part (part_of p.part.text p.part.says z.turn is) over_text p.played on refl
 
     -- bytes are
-    goes_gap : (r'' : Option (List ℕ)) (q : Cursor) (line : List ℕ) → p.says ≡ refused line → IsBegun shown here (ahead_of y.window) told p.text line z.turn → PassesGap r' r'' z q
+    goes_gap : (r'' : Option (List ℕ)) (q : Cursor) (line : List ℕ) → p.part.says ≡ refused line → IsBegun shown here (ahead_of y.window) told p.part.text line z.turn → PassesGap r' r'' z q
         → job.keep_going ≡ true → GoesOnBehind job name input r'' old new q
     goes_gap r'' q line says is over asked =
-        let text = p.text ++ over.gap in
+        let text = p.part.text ++ over.gap in
         let part : TextPart = record { front = f.front; text = text; says = refused line; behind = q.turn } in
-        let none : HasNoLine (position_over y.place p.text) over.gap = subst (λ l. HasNoLine l over.gap) p.place over.none in
+        let none : HasNoLine (position_over y.place p.part.text) over.gap = subst (λ l. HasNoLine l over.gap) p.place over.none in
         let there : q.place ≡ position_over y.place text =
-        over.advances.place ∙ ap (λ l. position_over l over.gap) p.place ∙ sym (fold-append position_behind y.place p.text over.gap) in
-        let both = subst (Advances r r'' x q) (append_assoc f.front p.text over.gap) (advances_on r r' r'' x z q (f.front ++ p.text) over.gap over_text over.advances) in
+        over.advances.place ∙ ap (λ l. position_over l over.gap) p.place ∙ sym (position_on y.place p.part.text over.gap) in
+        let both = subst (Advances r r'' x q) (append_assoc f.front p.part.text over.gap) (advances_on r r' r'' x z q (f.front ++ p.part.text) over.gap over_text over.advances) in
         let read = subst (Consumes input r'') (ap (λ l. bytes_of_texts g.ps ++ l) (append_assoc f.front text (ahead_of q.window))
         ∙ sym (append_assoc (bytes_of_texts g.ps) f.front (text ++ ahead_of q.window)) ∙ sym (append_assoc before text (ahead_of q.window)))
         (read_behind (bytes_of_texts g.ps) (ahead_of x.window) ((f.front ++ text) ++ ahead_of q.window) input r r'' g.is_read both.is_read) in
         let size : length (before ++ text) ≡ length before + length text = length-append before text in
         let end : y.window.offset + length text ≡ length (before ++ text) = ap (λ n. n + length text) far_found ∙ sym size in
-        let next : (q.turn ≡ turn_behind_gap y.turn) ⊎ (q.turn ≡ turn.Last) = elim over.ends [ inl on ↦ inl (on.0 ∙ is.next) | inr last ↦ inr last.0 ] in
-        let ends = behind_of input r'' (before ++ text) (ahead_of q.window) (λ l. EndsGap (position_over y.place text) (turn_behind_gap y.turn) l q.turn) read
+        let next : (q.turn ≡ turn_after_gap y.turn) ⊎ (q.turn ≡ turn.Last) = elim over.ends [ inl on ↦ inl (on.0 ∙ is.next) | inr last ↦ inr last.0 ] in
+        let ends = behind_of input r'' (before ++ text) (ahead_of q.window) (λ l. EndsGap (position_over y.place text) (turn_after_gap y.turn) l q.turn) read
         (λ rest done. gap_ends r'' z q (position_over y.place text) y.turn rest done is.next there over.ends) (y.window.offset + length text) end in
         let astray = astray_of r' before here far_found read_found f.is over.gap q.turn is none next ends in
         let played : Played (events_of (refused line)) mid new = subst (λ (s : Said). Played (events_of s) mid new) says p.played in
@@ -350,8 +351,8 @@ module _ {job : TextJob} {name : List ℕ} {input r r' : Option (List ℕ)} {old
   goes_on_whole : (what : Went) → PassesText job name told y z mid new what → (what ≡ went.Astray → ⊥)
       → (what ≡ went.Document) ⊎ (job.keep_going ≡ true) → GoesOnBehind job name input r' old new z
   goes_on_whole what p whole asked =
-      let on = on_of (shown g f) (here g f) (ahead_of y.window) told what p.text p.says z.turn job.keep_going p.is asked in
-      goes_whole g f p on (said_of (shown g f) input (here g f) (ahead_of y.window) told what p.text p.says z.turn whole p.is)
+      let on = on_of (shown g f) (here g f) (ahead_of y.window) told what p.part.text p.part.says z.turn job.keep_going p.part.is asked in
+      goes_whole g f p on (said_of (shown g f) input (here g f) (ahead_of y.window) told what p.part.text p.part.says z.turn whole p.part.is)
 
   -- what is next is passed, and the bytes after it
   pub goes_next : (what : Went) (r'' : Option (List ℕ)) (q : Cursor) → PassesText job name told y z mid new what
@@ -360,7 +361,7 @@ module _ {job : TextJob} {name : List ℕ} {input r r' : Option (List ℕ)} {old
   goes_next went.Refused r'' q p same asked = same_behind same (goes_on_whole went.Refused p (λ other. let none : ⊥ = cc in none) asked)
   goes_next went.Astray r'' q p over (inl other) = let none : ⊥ = cc in absurd none
   goes_next went.Astray r'' q p over (inr asked) =
-      let (line, says, is) = begun_of (shown g f) (here g f) (ahead_of y.window) told p.text p.says z.turn p.is in
+      let (line, says, is) = begun_of (shown g f) (here g f) (ahead_of y.window) told p.part.text p.part.says z.turn p.part.is in
       goes_gap g f p r'' q line says is over asked
 
 pub window_behind : (what : Went) (r r' : Option (List ℕ)) (z q : Cursor) → PassesBehind what r r' z q → IsWindow z.window → IsWindow q.window
@@ -389,8 +390,8 @@ module _ {job : TextJob} {name : List ℕ} {input r : Option (List ℕ)} {old ne
   stops_end r' y f =
       let bytes = bytes_of_texts g.ps in
       let read = read_behind bytes (ahead_of x.window) (f.front ++ ahead_of y.window) input r r' g.is_read f.advances.is_read in
-      let same : x.turn ≡ turn_behind_texts g.ps = ap (λ (q : TextPoint). q.turn) g.to ∙ turn_behind (first_point job name old.counts) g.ps in
-      let turns = subst (λ (l : Turn). turn_over l f.front ≡ Some y.turn) same f.turns in
+      let same : x.turn ≡ turn_after turn.First g.ps = ap (λ (q : TextPoint). q.turn) g.to ∙ turn_of (first_point job name old.counts) g.ps in
+      let turns = subst (λ (l : Turn). IsBetween l f.front y.turn) same f.turns in
       record {
         ps = g.ps;
         parts = g.has.parts;

@@ -1,5 +1,5 @@
 -- A text that says a document is whole, where no front of it is: the scan of its bytes goes by the levels of its tokens.
-use Rattle.std.proofs.Common.{◌≡◌, ◌-◌, ◌+◌, ◌^◌, ◌<◌, ◌⊎◌, ℕ, suc, Bool, true, false, ◌==◌, ◌||◌, if◌then◌else◌, List, [], ◌∷◌, ◌++◌, Option, Some, None, ap, append-nil, append_assoc, arith, drop, fold, inl, inr, length, length-take-le, nat_lt, refl, subst, sym, take, ◌∙◌}
+use Rattle.std.proofs.Common.{◌≡◌, ◌-◌, ◌+◌, ◌^◌, ◌≤◌, ◌<◌, ◌⊎◌, ℕ, suc, Bool, true, false, ◌==◌, ◌||◌, if◌then◌else◌, List, [], ◌∷◌, ◌++◌, Option, Some, None, ap, append-nil, append_assoc, arith, drop, fold, inl, inr, length, length-take-le, nat_lt, refl, subst, sym, take, ◌∙◌}
 use Rattle.std.proofs.lemmas.Bool.{eqb-true, false≢true, lt-ltb, or_cases, true≢false}
 use Rattle.std.proofs.lemmas.Grind.{fold-append}
 use Rattle.std.proofs.lemmas.List.{take-append-drop, take-take}
@@ -12,10 +12,15 @@ use Rattle.json.specs.Text.{content, plain}
 use Rattle.json.specs.Token.{Token}
 use Rattle.json.specs.Tree.{items_tokens, json_tokens, members_tokens}
 use Rattle.json.specs.Word.{is_operator, is_space, word}
-use Rattle.dump_io.specs.input.Texts.{ScansAhead, IsOpen, IsOneText, closed, in_levels, in_text, opened, scanned, start, step}
+use Rattle.dump_io.specs.input.Between.{may_begin as may_come}
+use Rattle.dump_io.specs.input.Scans.{HasBrace, IsOpen, ScansAhead, ScansBegun, closed, in_levels, in_text, opened, scanned, start, step}
+use Rattle.dump_io.specs.input.Texts.{HasBegun, IsOneText}
 use Rattle.dump_io.specs.declared.input.scan.Scan.{Scan}
 use Rattle.dump_io.specs.declared.input.scan.Scan.TheVariants as scan
 use Rattle.dump_io.specs.declared.input.scan.Scanned.{Scanned}
+use Rattle.dump_io.specs.declared.input.turn.Turn.{Turn}
+use Rattle.dump_io.proofs.Face.{ScansAs, scans_as}
+use Rattle.dump_runs.specs.texts.Run.{IsWholeText}
 use Rattle.dump_runs.proofs.texts.Words.{IsBare, IsBareByte, IsOf, IsWordOf, differ, is_of_class, word_of}
 
 -- what is left of the tokens of an object, where so many levels are open, and a level may begin or not: each level ends, and the first one last
@@ -286,10 +291,13 @@ unfolding lex
 goes [] m = λ p n flag may fits free h stays. absurd (no_end p n may h)
 goes (x ∷ xs) m = λ p n flag may fits free h stays. byte_goes x xs (goes xs) m (class x) p n flag may (is_of_class x, λ b. b) (fits, free) h stays.1
 
-object_is_whole : (text : List ℕ) (ms : Members) → StaysOpen start text → tokens text ≡ json_tokens (json.object ms) → IsOneText text
+abbrev ScansWhole : List ℕ → Type 0
+ScansWhole text = scanned text ≡ scan.Whole
+
+object_is_whole : (text : List ℕ) (ms : Members) → StaysOpen start text → tokens text ≡ json_tokens (json.object ms) → ScansWhole text
 object_is_whole text ms stays is = goes text between fresh 0 true true tt (λ e. absurd (true≢false e)) (subst (λ l. EndsLevels 0 true l) (sym is) (object_ends ms)) stays
 
-says_whole : (text : List ℕ) (es : Entries) → StaysOpen start text → Says text es → IsOneText text
+says_whole : (text : List ℕ) (es : Entries) → StaysOpen start text → Says text es → ScansWhole text
 says_whole text es stays (json.null, is, means) = absurd means
 says_whole text es stays (json.boolean b, is, means) = absurd means
 says_whole text es stays (json.number s, is, means) = absurd means
@@ -323,7 +331,7 @@ open_front text n h =
     was_open (scanned (take n text)) (drop n text)
     (subst (λ (s : Scan). IsOpen s) (ap scanned (sym (take-append-drop n text)) ∙ fold-append step start (take n text) (drop n text)) h)
 
-whole_if : (text : List ℕ) (s : Scan) → scanned text ≡ s → (¬ IsOpen s → IsOpen (scanned (take (length text - 1) text))) → (StaysOpen start text → IsOneText text) → IsOneText text
+whole_if : (text : List ℕ) (s : Scan) → scanned text ≡ s → (¬ IsOpen s → IsOpen (scanned (take (length text - 1) text))) → (StaysOpen start text → ScansWhole text) → ScansWhole text
 whole_if text (scan.Levels n may) is last shown = shown (stays_open start text (open_front text (length text - 1) (subst (λ (s : Scan). IsOpen s) (sym is) tt)))
 whole_if text (scan.Text n) is last shown = shown (stays_open start text (open_front text (length text - 1) (subst (λ (s : Scan). IsOpen s) (sym is) tt)))
 whole_if text (scan.Escape n) is last shown = shown (stays_open start text (open_front text (length text - 1) (subst (λ (s : Scan). IsOpen s) (sym is) tt)))
@@ -331,7 +339,7 @@ whole_if text scan.Whole is last shown = is
 whole_if text scan.Torn is last shown = shown (stays_open start text (last (λ h. h)))
 
 -- what is read for a text is whole, if it says a document
-said_is_whole : (ahead : List ℕ) (found : Scanned) (es : Entries) → ScansAhead ahead found → Says (take found.len ahead) es → IsOneText (take found.len ahead)
+said_is_whole : (ahead : List ℕ) (found : Scanned) (es : Entries) → ScansAhead ahead found → Says (take found.len ahead) es → ScansWhole (take found.len ahead)
 said_is_whole ahead found es scans says =
     let text = take found.len ahead in
     let same : take (length text - 1) text ≡ take (found.len - 1) ahead =
@@ -340,8 +348,30 @@ said_is_whole ahead found es scans says =
     λ done. subst (λ l. IsOpen (scanned l)) (sym same) (scans.last (λ h. done (subst (λ (s : Scan). IsOpen s) scans.scan h))).1 in
     whole_if text (scanned text) refl last (λ stays. says_whole text es stays says)
 
-pub written_is_whole : (ahead document : List ℕ) (found : Scanned) → ScansAhead ahead found → IsWritten (take found.len ahead) document → IsOneText (take found.len ahead)
-written_is_whole ahead document found scans written = said_is_whole ahead found written.0 scans written.1
+module _ (ahead : List ℕ) (found : Scanned) (brace : HasBrace ahead) (scans : ScansAhead ahead found) where
+  as_text : ScansAs (take found.len ahead)
+  as_text = scans_as ahead found.len brace scans.most
 
-pub unended_says_none : (ahead : List ℕ) (found : Scanned) → ScansAhead ahead found → ¬ IsOneText (take found.len ahead) → SaysNone (take found.len ahead)
-unended_says_none ahead found scans never = λ es says. never (said_is_whole ahead found es scans says)
+  says_whole_text : (es : Entries) → Says (take found.len ahead) es → IsOneText (take found.len ahead)
+  says_whole_text es says = as_text.whole (said_is_whole ahead found es scans says)
+
+  pub unended_says_none : ¬ IsOneText (take found.len ahead) → SaysNone (take found.len ahead)
+  unended_says_none never = λ es says. never (says_whole_text es says)
+
+  -- where the scan isn't at the end of the text, it is none
+  pub torn_is_none : ¬ (found.scan ≡ scan.Whole) → ¬ IsOneText (take found.len ahead)
+  torn_is_none torn whole = torn (scans.scan ∙ as_text.is_whole whole)
+
+  pub has_begun : (n : ℕ) → ScansBegun (take found.len ahead) n → HasBegun (take found.len ahead) n
+  has_begun n begun = (λ goes. begun.0 (as_text.is_open goes), λ no. begun.1 (λ open'. no (as_text.goes open')))
+
+  -- the whole text is there
+  module _ (t : Turn) (may : may_come t ≡ true) where
+    text_there : IsOneText (take found.len ahead) → IsWholeText t (take found.len ahead)
+    text_there whole = record { may_be = may; whole = whole; most = subst (λ (n : ℕ). n ≤ 2 ^ 27) (sym (length-take-le found.len ahead scans.within)) scans.most }
+
+    pub written_there : (document : List ℕ) → IsWritten (take found.len ahead) document → IsWholeText t (take found.len ahead)
+    written_there document written = text_there (says_whole_text written.0 written.1)
+
+    pub scanned_there : found.scan ≡ scan.Whole → IsWholeText t (take found.len ahead)
+    scanned_there is = text_there (as_text.whole (sym scans.scan ∙ is))

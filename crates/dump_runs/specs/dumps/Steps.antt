@@ -20,7 +20,7 @@ use Rattle.dump_io.specs.declared.input.window.Next.{Next}
 use Rattle.dump_io.specs.declared.input.window.Next.TheVariants as next
 use Rattle.dump_io.specs.declared.input.window.Window.{Window}
 use Rattle.dump_io.specs.declared.lines.find.Finding.{Finding}
-use Rattle.dump_commands.specs.Reporting.{IsJudged}
+use Rattle.dump_commands.specs.Findings.{IsJudged}
 use Rattle.dump_commands.specs.declared.counts.Counts.{Counts}
 use Rattle.dump_commands.specs.declared.job.Job.{Job}
 use Rattle.dump_runs.specs.dumps.Ends.{events_of_rest}

@@ -3,7 +3,10 @@ use Rattle.std.specs.Prelude.{◌≡◌, ◌⊎◌, ◌+◌, ◌^◌, ◌≤◌,
 use Rattle.std.specs.Io.KnownBytes.{Consumes, IsAtEnd}
 use Rattle.dump_io.specs.input.Reading.{IsWindow, ReadsAhead, ahead_of, offset_of}
 use Rattle.bson_from_json.specs.JsonReason.TheVariants as json
-use Rattle.dump_io.specs.input.Texts.{CantBe, HasBrace, HasNoLine, IsOpen, begins_line, may_begin, may_end, position_over, turn_behind, turn_over, ScansAhead}
+use Rattle.dump_io.specs.input.Between.{CantBe, IsBetween, may_begin, may_end}
+use Rattle.dump_io.specs.input.Places.{HasNoLine, begins_line, position_over}
+use Rattle.dump_io.specs.input.Scans.{HasBrace, IsOpen, ScansAhead}
+use Rattle.dump_runs.specs.texts.Faults.{reason_between}
 use Rattle.dump_runs.specs.declared.texts.cursor.Cursor.{Cursor}
 use Rattle.dump_runs.specs.declared.texts.cursor.NextText.{NextText}
 use Rattle.dump_runs.specs.declared.texts.cursor.NextText.TheVariants as next
@@ -12,13 +15,6 @@ use Rattle.dump_runs.specs.declared.texts.fault.TextReason.{TextReason}
 use Rattle.dump_runs.specs.declared.texts.fault.TextReason.TheVariants as reason
 use Rattle.dump_io.specs.declared.input.turn.Turn.{Turn}
 use Rattle.dump_io.specs.declared.input.turn.Turn.TheVariants as turn
-use Rattle.bson_from_json.specs.JsonReason.{JsonReason}
-
--- why not
-abbrev pub reason_between : Turn → JsonReason
-reason_between turn.Comma = json.ExpectedComma
-reason_between turn.Last = json.TextBehind
-reason_between _ = json.ExpectedDocument
 
 -- bytes were read, and none passed
 pub record LooksOn (old new : Option (List ℕ)) (cursor_old cursor_new : Cursor) : Type 0 where
@@ -61,9 +57,9 @@ PassesAhead cursor_old cursor_new count =
 pub record PassesBetween (old new : Option (List ℕ)) (cursor_old cursor_new : Cursor) (behind : Option ℕ) : Type 0 where
   pub front : List ℕ
   pub advances : Advances old new cursor_old cursor_new front
-  pub turns : turn_over cursor_old.turn front ≡ Some cursor_new.turn
+  pub turns : IsBetween cursor_old.turn front cursor_new.turn
   pub is : IsAhead new cursor_new behind
-  pub stops : IfSome behind (λ b. turn_behind cursor_new.turn b ≡ None)
+  pub stops : IfSome behind (λ b. (t : Turn) → ¬ IsBetween cursor_new.turn (b ∷ []) t)
 
 -- bytes were passed in which no line begins with a brace, up to such a line, or to the end of the input
 pub record PassesGap (old new : Option (List ℕ)) (cursor_old cursor_new : Cursor) : Type 0 where
@@ -94,5 +90,5 @@ IsNextText new ahead t next.End = (may_end t ≡ true) × (ahead ≡ []) × IsAt
 pub record FindsText (old new : Option (List ℕ)) (cursor_old cursor_new : Cursor) (told : NextText) : Type 0 where
   pub front : List ℕ
   pub advances : Advances old new cursor_old cursor_new front
-  pub turns : turn_over cursor_old.turn front ≡ Some cursor_new.turn
+  pub turns : IsBetween cursor_old.turn front cursor_new.turn
   pub is : IsNextText new (ahead_of cursor_new.window) cursor_new.turn told

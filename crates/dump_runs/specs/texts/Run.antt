@@ -7,7 +7,9 @@ use Rattle.raw_tree.specs.WithinLimits.{ReadsWithin}
 use Rattle.raw_tree.specs.declared.reader.limits.Limits.{Limits}
 use Rattle.bson_from_json.specs.Texts.{IsCause, IsWritten, SaysNone}
 use Rattle.bson_from_json.specs.JsonReason.TheVariants as json
-use Rattle.dump_io.specs.input.Texts.{CantBe, EndsGap, HasBegun, HasBrace, HasNoLine, IsOpen, IsTextOf, IsOneText, first_position, may_begin, may_end, position_over, scanned, turn_behind_document, turn_behind_gap, turn_over}
+use Rattle.dump_io.specs.input.Between.{CantBe, IsBetween, may_begin, may_end, turn_after_document, turn_after_gap}
+use Rattle.dump_io.specs.input.Places.{EndsGap, HasNoLine, first_position, position_over}
+use Rattle.dump_io.specs.input.Texts.{HasBegun, IsOneText, IsTextOf, MayGoOn}
 use Rattle.dump_io.specs.lines.Fronts.{HasFront}
 use Rattle.dump_io.specs.declared.input.position.Position.{Position}
 use Rattle.dump_io.specs.declared.input.turn.Turn.{Turn}
@@ -17,8 +19,7 @@ use Rattle.dump_commands.specs.Counting.{count_fault, count_left, count_said}
 use Rattle.dump_commands.specs.declared.counts.Counts.{Counts}
 use Rattle.dump_runs.specs.Limits.{style_at}
 use Rattle.dump_runs.specs.Plays.{Event, Held, Played, count_event, counted, given, reported}
-use Rattle.dump_runs.specs.texts.Faults.{fault_line}
-use Rattle.dump_runs.specs.texts.Reading.{reason_between}
+use Rattle.dump_runs.specs.texts.Faults.{fault_line, reason_between}
 use Rattle.dump_runs.specs.declared.ends.Ended.{Ended}
 use Rattle.dump_runs.specs.declared.ends.Ended.TheVariants as how
 use Rattle.dump_runs.specs.declared.reading.TextJob.{TextJob}
@@ -98,13 +99,17 @@ style_of job here = style_at job.style job.limit here.counts
 abbrev pub Gives : Limits → List ℕ → List ℕ → Type 0
 Gives limits text bytes = IsWritten text bytes × ((t : Tree) × ReadsWithin limits bytes t)
 
+-- the text of a document, where one may come
+pub record IsWholeText (t : Turn) (text : List ℕ) : Type 0 where
+  pub may_be : may_begin t ≡ true
+  pub whole : IsOneText text
+  pub most : length text ≤ 2 ^ 27
+
 -- the whole text says this document
 pub record IsDocument (here : TextPoint) (text bytes : List ℕ) (behind : Turn) : Type 0 where
-  pub may_be : may_begin here.turn ≡ true
-  pub brace : HasBrace text
-  pub whole : IsOneText text
+  pub is_text : IsWholeText here.turn text
   pub is_written : Gives here.limits text bytes
-  pub next : behind ≡ turn_behind_document here.turn
+  pub next : behind ≡ turn_after_document here.turn
 
 -- this is the line of a fault in a text that begins here, and this number of its bytes are before the fault
 pub record TellsTextFault (style : Style) (here : TextPoint) (text line : List ℕ) : Type 0 where
@@ -121,12 +126,10 @@ IsFaultOf limits text at (reason.Json why) = IsUtf8 text × (why ≢ json.OutOfM
 
 -- the whole text has a fault
 pub record IsRefused (style : Style) (here : TextPoint) (text line : List ℕ) (behind : Turn) : Type 0 where
-  pub may_be : may_begin here.turn ≡ true
-  pub brace : HasBrace text
-  pub whole : IsOneText text
+  pub is_text : IsWholeText here.turn text
   pub fault : TellsTextFault style here text line
   pub why : IsFaultOf here.limits text fault.at fault.reason
-  pub next : behind ≡ turn_behind_document here.turn
+  pub next : behind ≡ turn_after_document here.turn
 
 -- What is wrong with a text that doesn't come to its end, of which `text` was read, and `begun` bytes are passed: 128 MiB were read, which is
 -- too many; or what was read has a fault. A fault after the bytes that are passed is told at their end.
@@ -155,12 +158,12 @@ pub record MeetsNoText (style : Style) (input : Option (List ℕ)) (here : TextP
   pub begun : List ℕ
   pub gap : List ℕ
   pub parts : text ≡ begun ++ gap
-  pub unended : IsOpen (scanned begun)
+  pub unended : MayGoOn begun
   pub no_line : HasNoLine (position_over here.place begun) gap
   pub fault : TellsTextFault style here begun line
   pub why : IfSome input (λ s. HasNoText here (drop here.offset s) (length begun) fault.at fault.reason)
-  pub next : (behind ≡ turn_behind_gap here.turn) ⊎ (behind ≡ turns.Last)
-  pub ends : IfSome input (λ s. EndsGap (position_over here.place text) (turn_behind_gap here.turn) (drop (here.offset + length text) s) behind)
+  pub next : (behind ≡ turn_after_gap here.turn) ⊎ (behind ≡ turns.Last)
+  pub ends : IfSome input (λ s. EndsGap (position_over here.place text) (turn_after_gap here.turn) (drop (here.offset + length text) s) behind)
 
 -- what a text says that begins here, or what is passed in its place, and what may come after it
 abbrev pub IsSaid : Style → (input : Option (List ℕ)) → TextPoint → (text : List ℕ) → Said → (behind : Turn) → Type 0
@@ -170,7 +173,7 @@ IsSaid style input here text (refused line) behind = IsRefused style here text l
 -- what is so of a part that begins here
 pub record IsTextPart (job : TextJob) (input : Option (List ℕ)) (here : TextPoint) (p : TextPart) : Type 0 where
   pub between : Turn
-  pub fronts : turn_over here.turn p.front ≡ Some between
+  pub fronts : IsBetween here.turn p.front between
   pub is : IsSaid (style_of job here) input (passed_to here p.front between) p.text p.says p.behind
 
 -- a run goes on after this: it is a document, or that is asked for
@@ -183,15 +186,16 @@ abbrev pub AreTexts : TextJob → (input : Option (List ℕ)) → TextPoint → 
 AreTexts job input here [] = Unit {0}
 AreTexts job input here (p ∷ ps) = IsTextPart job input here p × ((ps ≡ []) ⊎ GoesOn job.keep_going p.says) × AreTexts job input (after here p) ps
 
--- what may come after these parts
-abbrev pub turn_behind_texts : List TextPart → Turn
-turn_behind_texts ps = fold (λ _ p. p.behind) turns.First ps
+-- what may come after these parts, where this may come before them
+abbrev pub turn_after : Turn → List TextPart → Turn
+turn_after t [] = t
+turn_after t (p ∷ ps) = turn_after p.behind ps
 
 -- How a run over these parts ends, where the input is known to be s, and the reader has this left: after them is only what may be between
 -- documents, and the input may end there, and is read; a fault is the last part; or reading failed, after this number of bytes.
 abbrev pub EndsTexts : Ended → List TextPart → (left : Option (List ℕ)) → List ℕ → Type 0
 EndsTexts how.Whole ps left s =
-    (behind : List ℕ) × (last : Turn) × (s ≡ bytes_of_texts ps ++ behind) × (turn_over (turn_behind_texts ps) behind ≡ Some last) × (may_end last ≡ true) × IsAtEnd left
+    (behind : List ℕ) × (last : Turn) × (s ≡ bytes_of_texts ps ++ behind) × IsBetween (turn_after turns.First ps) behind last × (may_end last ≡ true) × IsAtEnd left
 EndsTexts how.Cut ps left s = HasFront s (bytes_of_texts ps)
 EndsTexts (how.Failed failure) ps left s = HasFront s (bytes_of_texts ps) × ((read : List ℕ) × Consumes (Some s) left read × (failure.at ≡ length read))
 

@@ -2,7 +2,10 @@
 use Rattle.std.specs.Prelude.{◌≡◌, ◌⊎◌, ◌+◌, ◌≤◌, ℕ, List, [], ◌++◌, true, Option, IfSome, Result, Ok, Err, length, take}
 use Rattle.raw_tree.specs.declared.reader.limits.Limits.{Limits}
 use Rattle.dump_io.specs.input.Reading.{IsWindow, ahead_of, offset_of}
-use Rattle.dump_io.specs.input.Texts.{HasBegun, HasBrace, IsOpen, IsOneText, ScansAhead, may_begin, position_over, scanned, turn_behind_gap}
+use Rattle.dump_io.specs.input.Between.{may_begin, turn_after_gap}
+use Rattle.dump_io.specs.input.Places.{position_over}
+use Rattle.dump_io.specs.input.Scans.{HasBrace, ScansAhead}
+use Rattle.dump_io.specs.input.Texts.{HasBegun, IsOneText, MayGoOn}
 use Rattle.dump_io.specs.lines.Failing.{IsReading}
 use Rattle.dump_io.specs.lines.Fronts.{HasFront}
 use Rattle.dump_io.specs.declared.input.turn.Turn.{Turn}
@@ -44,10 +47,10 @@ TellsNoText limits ahead next.End begun at why = ⊥
 
 -- what is begun of a text that doesn't come to its end is passed; nothing, where none is there
 pub record IsBegun (style : Style) (here : TextPoint) (ahead : List ℕ) (told : NextText) (text line : List ℕ) (behind : Turn) : Type 0 where
-  pub unended : IsOpen (scanned text)
+  pub unended : MayGoOn text
   pub fault : TellsTextFault style here text line
   pub why : TellsNoText here.limits ahead told (length text) fault.at fault.reason
-  pub next : behind ≡ turn_behind_gap here.turn
+  pub next : behind ≡ turn_after_gap here.turn
 
 -- what came of the bytes ahead, of which this was told: a document, a text with a fault, or what is no text
 abbrev pub Becomes : Style → TextPoint → (ahead : List ℕ) → NextText → Went → (text : List ℕ) → Said → (behind : Turn) → Type 0
@@ -56,16 +59,21 @@ Becomes style here ahead told went.Refused text (refused line) behind = IsRefuse
 Becomes style here ahead told went.Astray text (refused line) behind = IsBegun style here ahead told text line behind
 Becomes style here ahead told what text says behind = ⊥
 
--- a part is passed, of which these bytes are ahead, and this was told
-pub record PassesText (job : TextJob) (name : List ℕ) (told : NextText) (x y : Cursor) (old new : Held) (what : Went) : Type 0 where
-  pub window : IsWindow y.window
+-- the part that the bytes ahead begin with, of which this was told, after these counts; and what may come after it
+pub record PartAhead (job : TextJob) (name : List ℕ) (told : NextText) (x : Cursor) (n : Counts) (what : Went) (behind : Turn) : Type 0 where
   pub text : List ℕ
   pub says : Said
-  pub ahead : ahead_of x.window ≡ text ++ ahead_of y.window
-  pub place : y.place ≡ position_over x.place text
-  pub offset : offset_of y.window ≡ offset_of x.window + length text
-  pub is : Becomes (style_of job (point_of job name x old.counts)) (point_of job name x old.counts) (ahead_of x.window) told what text says y.turn
-  pub played : Played (events_of says) old new
+  pub front : HasFront (ahead_of x.window) text
+  pub is : Becomes (style_of job (point_of job name x n)) (point_of job name x n) (ahead_of x.window) told what text says behind
+
+-- it is passed
+pub record PassesText (job : TextJob) (name : List ℕ) (told : NextText) (x y : Cursor) (old new : Held) (what : Went) : Type 0 where
+  pub window : IsWindow y.window
+  pub part : PartAhead job name told x old.counts what y.turn
+  pub ahead : ahead_of x.window ≡ part.text ++ ahead_of y.window
+  pub place : y.place ≡ position_over x.place part.text
+  pub offset : offset_of y.window ≡ offset_of x.window + length part.text
+  pub played : Played (events_of part.says) old new
 
 -- nothing is played, or a front of what a text gives
 abbrev pub HaltsSaid : Said → (old new : Held) → Type 0
@@ -74,10 +82,7 @@ HaltsSaid says old new = (es : List Event) × Played es old new × ((es ≡ []) 
 -- nothing is played of these bytes, or a front of what a part gives that they begin with
 abbrev pub HaltsText : TextJob → List ℕ → NextText → Cursor → (old new : Held) → Type 0
 HaltsText job name told x old new =
-    Played [] old new
-    ⊎ ((what : Went) × (text : List ℕ) × (says : Said) × (behind : Turn) × HasFront (ahead_of x.window) text
-    × Becomes (style_of job (point_of job name x old.counts)) (point_of job name x old.counts) (ahead_of x.window) told what text says behind
-    × HaltsSaid says old new)
+    Played [] old new ⊎ ((what : Went) × (behind : Turn) × (part : PartAhead job name told x old.counts what behind) × HaltsSaid part.says old new)
 
 -- What comes of the part that is ahead, of which this was told: it is passed; or it isn't counted, and nothing is written, or a front of what
 -- it gives.

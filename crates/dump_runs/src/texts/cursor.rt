@@ -4,8 +4,9 @@
 ghost use Rattle.std.specs.Prelude.{◌≡◌, ◌+◌, ◌≤◌, ◌<◌, ◌^◌, ◌⊎◌, [], length, IfErr, IfOk, OnErr, OnOk};
 ghost use Rattle.dump_io.specs.input.Reading.{IsWindow, ahead_of, offset_of};
 ghost use Rattle.dump_io.specs.lines.Failing.{IsReading};
-ghost use Rattle.dump_runs.specs.texts.Reading.{FindsText, GoesOnTo, IsAhead, IsScanned, LooksFar, LooksOn, PassesAhead, PassesBetween, PassesGap, reason_between};
-ghost use Rattle.dump_io.specs.input.Texts.{IsFar, first_position};
+ghost use Rattle.dump_runs.specs.texts.Faults.{reason_between};
+ghost use Rattle.dump_runs.specs.texts.Reading.{FindsText, GoesOnTo, IsAhead, IsScanned, LooksFar, LooksOn, PassesAhead, PassesBetween, PassesGap};
+ghost use Rattle.dump_io.specs.input.Places.{IsFar, first_position};
 ghost use Rattle.dump_io.specs.declared.input.turn.Turn.TheVariants.{First};
 ghost use Rattle.dump_runs.specs.declared.texts.fault.TextReason.TheVariants.{Json};
 

@@ -4,13 +4,16 @@
 ghost use Rattle.std.specs.Prelude.{◌≡◌, ◌^◌, ◌≤◌, ℕ, List, length, take, IfErr, IfOk, OnErr, OnOk, true};
 ghost use Rattle.raw_tree.specs.declared.reader.limits.Limits.{Limits};
 ghost use Rattle.dump_io.specs.input.Reading.{IsWindow, ahead_of};
-ghost use Rattle.dump_io.specs.input.Texts.{ScansAhead, HasBrace, IsOpen, IsOneText, may_begin, position_over, scanned};
+ghost use Rattle.dump_io.specs.input.Between.{may_begin};
+ghost use Rattle.dump_io.specs.input.Places.{position_over};
+ghost use Rattle.dump_io.specs.input.Scans.{HasBrace, ScansAhead};
+ghost use Rattle.dump_io.specs.input.Texts.{MayGoOn};
 ghost use Rattle.dump_io.specs.lines.Failing.{IsReading};
 ghost use Rattle.dump_runs.specs.Plays.{Played, held};
 ghost use Rattle.dump_runs.specs.texts.Faults.{fault_line};
 ghost use Rattle.dump_runs.specs.texts.Reading.{PassesAhead};
 ghost use Rattle.dump_runs.specs.texts.Run as says;
-ghost use Rattle.dump_runs.specs.texts.Run.{Gives, IsFaultOf, IsUnendedFault, events_of};
+ghost use Rattle.dump_runs.specs.texts.Run.{Gives, IsFaultOf, IsUnendedFault, IsWholeText, events_of};
 ghost use Rattle.dump_runs.specs.texts.Steps.{HaltsSaid, HasNext, IsMadeOf, PassesPart, TellsNoText, line_of};
 ghost use Rattle.dump_runs.specs.declared.reading.TextJob.{TextJob};
 ghost use Rattle.dump_runs.specs.declared.texts.cursor.NextText.{NextText as Told};
@@ -175,8 +178,7 @@ fn pass_document<D: Write + Drop, A: Write + Drop, W: Write + Drop>(
     writers: &mut Writers<D, A, W>,
     tally: &mut Tally<'_>,
 ) -> Result<Went, Failure>
-    requires { IsWindow cursor.old.window × (may_begin cursor.old.turn ≡ true) × HasBrace (ahead_of cursor.old.window)
-        × (len ≤ length (ahead_of cursor.old.window)) × IsOneText (take len (ahead_of cursor.old.window)) }
+    requires { IsWindow cursor.old.window × (len ≤ length (ahead_of cursor.old.window)) × IsWholeText cursor.old.turn (take len (ahead_of cursor.old.window)) }
     ensures { (job : TextJob) (name : List ℕ) (told : Told) → Gives job.limits (take len (ahead_of cursor.old.window)) document.now
         → PassesPart job name told cursor.old cursor.new (held writers.old tally.old) (held writers.new tally.new) result }
 {
@@ -198,8 +200,8 @@ fn pass_refused<D: Write + Drop, A: Write + Drop, W: Write + Drop>(
     writers: &mut Writers<D, A, W>,
     tally: &mut Tally<'_>,
 ) -> Result<Went, Failure>
-    requires { IsWindow cursor.old.window × (may_begin cursor.old.turn ≡ true) × HasBrace (ahead_of cursor.old.window)
-        × (fault.len ≤ length (ahead_of cursor.old.window)) × IsOneText (take fault.len (ahead_of cursor.old.window)) × (fault.at ≤ fault.len)
+    requires { IsWindow cursor.old.window × (fault.len ≤ length (ahead_of cursor.old.window))
+        × IsWholeText cursor.old.turn (take fault.len (ahead_of cursor.old.window)) × (fault.at ≤ fault.len)
         × IsFaultOf input.job.limits (take fault.len (ahead_of cursor.old.window)) fault.at fault.reason }
     ensures { (told : Told) → PassesPart input.entry.job input.entry.name.now told cursor.old cursor.new (held writers.old tally.old) (held writers.new tally.new) result }
 {
@@ -218,7 +220,7 @@ fn pass_astray<D: Write + Drop, A: Write + Drop, W: Write + Drop>(
     tally: &mut Tally<'_>,
 ) -> Result<Went, Failure>
     requires { IsWindow cursor.old.window × (fault.len ≤ length (ahead_of cursor.old.window))
-        × IsOpen (scanned (take fault.len (ahead_of cursor.old.window))) × (fault.at ≤ fault.len) }
+        × MayGoOn (take fault.len (ahead_of cursor.old.window)) × (fault.at ≤ fault.len) }
     ensures { (told : Told) → TellsNoText input.entry.job.limits (ahead_of cursor.old.window) told fault.len fault.at fault.reason
         → PassesPart input.entry.job input.entry.name.now told cursor.old cursor.new (held writers.old tally.old) (held writers.new tally.new) result }
 {

@@ -5,7 +5,8 @@ use Rattle.bson_to_json.specs.Errors.{TellsWriteError}
 use Rattle.bson_to_json.specs.Json.{IsJson}
 use Rattle.dump_io.specs.lines.Fronts.{AppendsFront, WritesFront}
 use Rattle.dump_io.proofs.Face.{on_err}
-use Rattle.dump_commands.proofs.Writing.{IsJsonLine, json_failed, json_unended}
+use Rattle.dump_commands.specs.Making.{IsJsonLine}
+use Rattle.dump_commands.proofs.Emitting.{json_failed, json_unended}
 use Rattle.dump_commands.proofs.making.put_json.Goals as goal
 
 pub returns-in-Ok-write_json-clause-front : goal.returns-in-Ok-write_json-clause-front

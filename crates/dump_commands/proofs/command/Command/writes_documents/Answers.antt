@@ -1,11 +1,8 @@
-use Rattle.dump_commands.proofs.Endings.{bson_made, none_made, pick_made}
+use Rattle.dump_commands.proofs.Endings.{making_made, nothing_made}
 use Rattle.dump_commands.proofs.command.Command.writes_documents.Goals as goal
 
-pub returns-in-Canon : goal.returns-in-Canon
-returns-in-Canon c = bson_made c.args.self c.in-Canon.is
+pub returns-in-Prints : goal.returns-in-Prints
+returns-in-Prints c = nothing_made c.args.self c.in-Prints.is
 
-pub returns-in-Pick : goal.returns-in-Pick
-returns-in-Pick c = pick_made c.args.self c.in-Pick.picking c.is_dump.result c.in-Pick.is c.is_dump.ensures
-
-pub returns-in-Check : goal.returns-in-Check
-returns-in-Check c = none_made c.args.self c.in-Check.is
+pub returns-in-Writes : goal.returns-in-Writes
+returns-in-Writes c = making_made c.args.self c.in-Writes.making c.is_bson.result c.in-Writes.is c.is_bson.ensures

@@ -2,8 +2,7 @@ use Rattle.std.proofs.Common.{List, refl, subst, sym, ℕ, ◌∙◌}
 use Rattle.dump_io.specs.lines.Origins.{origin_of}
 use Rattle.dump_io.specs.declared.input.ending.Ending.TheVariants as ending
 use Rattle.dump_io.proofs.Face.{if_err_reading, on_any, stays_on}
-use Rattle.dump_commands.specs.Findings.{FindsFor}
-use Rattle.dump_commands.specs.Reporting.{IsJudged}
+use Rattle.dump_commands.specs.Findings.{FindsFor, IsJudged}
 use Rattle.dump_runs.specs.Plays.{held}
 use Rattle.dump_runs.specs.dumps.Run.{piece}
 use Rattle.dump_runs.specs.declared.dumps.piece.Piece.{Piece}

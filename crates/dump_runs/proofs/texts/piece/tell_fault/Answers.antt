@@ -2,7 +2,7 @@ use Rattle.std.proofs.Common.{rules, ◌≡◌, ◌∙◌, ℕ, List, [], ap, in
 use Rattle.std.specs.Io.KnownBytes.{Appends}
 use Rattle.dump_commands.specs.Counting.{count_fault}
 use Rattle.dump_io.specs.input.Reading.{ahead_of}
-use Rattle.dump_io.specs.input.Texts.{position_over}
+use Rattle.dump_io.specs.input.Places.{position_over}
 use Rattle.dump_io.specs.lines.Fronts.{AppendsFront}
 use Rattle.dump_io.specs.declared.lines.style.Style.{Style}
 use Rattle.dump_io.proofs.Face.{on_any}

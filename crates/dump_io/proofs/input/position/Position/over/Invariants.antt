@@ -1,5 +1,5 @@
-use Rattle.std.proofs.Common.{◌≡◌, ◌+◌, ◌≤◌, take}
-use Rattle.dump_io.specs.input.Texts.{position_over}
+use Rattle.std.proofs.Common.{◌≡◌, ◌+◌, ◌≤◌, fold, take}
+use Rattle.dump_io.proofs.input.Placing.{position_step}
 use Rattle.dump_io.specs.declared.input.position.Position.{Position}
 use Rattle.dump_io.proofs.input.position.Position.over.Given as goal
 
@@ -7,4 +7,4 @@ use Rattle.dump_io.proofs.input.position.Position.over.Given as goal
 abbrev pub invariant-loop-byte : goal.invariant-loop-byte
 invariant-loop-byte l =
     let here : Position = record { line = l.line; column = l.column } in
-    (here ≡ position_over l.fn.self (take l.byte-index l.bytes)) × (l.line ≤ l.fn.self.line + l.byte-index) × (l.column ≤ l.fn.self.column + l.byte-index)
+    (here ≡ fold position_step l.fn.self (take l.byte-index l.bytes)) × (l.line ≤ l.fn.self.line + l.byte-index) × (l.column ≤ l.fn.self.column + l.byte-index)

@@ -1,5 +1,5 @@
 use Rattle.std.proofs.Common.{◌≡◌, fold, take}
-use Rattle.dump_io.specs.input.Texts.{IsOpen, step}
+use Rattle.dump_io.specs.input.Scans.{IsOpen, step}
 use Rattle.dump_io.proofs.input.scan.Scan.over.Given as goal
 
 -- this is how far the text comes, and it may go on

@@ -1,10 +1,10 @@
 use Rattle.std.proofs.Common.{rules, sym}
-use Rattle.dump_runs.proofs.texts.Advancing.{between_ends, between_fails, between_more, between_none}
+use Rattle.dump_runs.proofs.texts.Advancing.{between_ends, between_fails, between_more, nothing_between}
 use Rattle.dump_io.proofs.Face.{if_err_reading}
 use Rattle.dump_runs.proofs.texts.cursor.Cursor.pass_between.Goals as goal
 
 pub loop-init : goal.loop-init
-loop-init g c = between_none _ c.args.self.now c.requires
+loop-init g c = nothing_between _ c.args.self.now c.requires
 
 pub returns-in_default-clause-passed : goal.returns-in_default-clause-passed
 returns-in_default-clause-passed g c =

@@ -1,6 +1,6 @@
 use Rattle.dump_io.specs.input.Reading.{ahead_of}
 use Rattle.dump_runs.specs.texts.Reading.{LooksOn}
-use Rattle.dump_io.specs.input.Texts.{ScansAhead, IsOpen}
+use Rattle.dump_io.specs.input.Scans.{IsOpen, ScansAhead}
 use Rattle.dump_runs.proofs.texts.cursor.Cursor.scan.Given as goal
 
 -- so far the text comes, and may go on

@@ -1,5 +1,0 @@
-use Rattle.dump_io.proofs.Face.{front_none, on_any}
-use Rattle.dump_commands.proofs.reporting.put_counts.Goals as goal
-
-pub returns-in_err-text-in-Words-clause-front : goal.returns-in_err-text-in-Words-clause-front
-returns-in_err-text-in-Words-clause-front g c = on_any _ _ (front_none (g.W.Write.contents c.args.report.now) _)

@@ -1,6 +1,0 @@
-use Rattle.std.proofs.Common.{◌≡◌, ◌++◌, flat_map, map, take}
-use Rattle.dump_commands.specs.Summary.{count_of, some_text}
-use Rattle.dump_commands.proofs.summary.push_some_counts.Given as goal
-
-abbrev pub invariant-loop-count : goal.invariant-loop-count
-invariant-loop-count l = l.text.items ≡ l.initial.text.items ++ flat_map some_text (map count_of (take l.count-index l.counts))

@@ -1,0 +1,5 @@
+use Rattle.dump_io.proofs.Face.{front_none, on_any}
+use Rattle.dump_commands.proofs.summary.put_counts.Goals as goal
+
+pub returns-in_err-text-in-Words-clause-front : goal.returns-in_err-text-in-Words-clause-front
+returns-in_err-text-in-Words-clause-front g c = on_any _ _ (front_none (g.W.Write.contents c.args.report.now) _)
