@@ -3,7 +3,7 @@
 
 ghost use Rattle.std.specs.Prelude.{None};
 
-use crate::files::bytes::{About, Bytes, bytes_of};
+use crate::files::bytes::{About, Bytes, bytes_of, parted};
 use std::alloc::{AllocError, Global};
 use std::io;
 use std::io::Write;
@@ -22,7 +22,7 @@ body { margin: 2em; background: var(--ground); color: var(--text) }
 pre { font: 14px/1.45 ui-monospace, 'Cascadia Mono', 'DejaVu Sans Mono', Menlo, Consolas, monospace; tab-size: 4 }
 h1 { font: 600 1.1em system-ui, sans-serif }
 b { display: inline-block; margin: 1em 0 .3em }
-.o, .l, .e, .m { color: var(--faint) }
+i { color: var(--faint); font-style: normal }
 .t { color: var(--tag) }
 .k { color: var(--key) }
 .v { color: var(--value) }
@@ -81,57 +81,46 @@ fn marked_up(alloc: Global, lines: &[u8]) -> Result<Vec<u8>, AllocError> {
     for line in lines.split_inclusive(|byte| *byte == b'\n') {
         match bytes_of(line) {
             Some(bytes) => push_bytes(&mut text, bytes)?,
-            None => push_in(&mut text, "<b>", line, "</b>")?,
+            None => push_head(&mut text, line)?,
         }
     }
     Ok(text)
 }
 
+/// Puts a line that says which document comes.
+fn push_head(text: &mut Vec<u8>, line: &[u8]) -> Result<(), AllocError> {
+    let words = line.strip_suffix(b"\n").unwrap_or(line);
+    push_in(text, "<b>", words, "</b>")?;
+    text.extend_from_slice(b"\n")
+}
+
 /// Puts a line that shows bytes.
 fn push_bytes(text: &mut Vec<u8>, line: Bytes<'_>) -> Result<(), AllocError> {
-    push_in(text, "<span class=o>", line.offset, "</span>")?;
+    text.extend_from_slice(b"  ")?;
+    push_in(text, "<i>", line.offset, "</i>")?;
+    let (before, marked, after) = parted(line.bytes);
+    text.extend_from_slice(before)?;
+    push_in(text, "<mark>", marked, "</mark>")?;
+    text.extend_from_slice(after)?;
     let (open, close) = match line.about {
         About::Fault => ("<mark>", "</mark>"),
         About::Tag => ("<span class=t>", "</span>"),
         About::Key => ("<span class=k>", "</span>"),
         About::Value => ("<span class=v>", "</span>"),
-        About::Length => ("<span class=l>", "</span>"),
-        About::End => ("<span class=e>", "</span>"),
-        About::More => ("<span class=m>", "</span>"),
+        About::Length | About::End | About::More => ("<i>", "</i>"),
     };
-    if matches!(line.about, About::Fault) {
-        push_fault(text, line.bytes)?;
-    } else {
-        escape(text, line.bytes)?;
-    }
-    let words = line.words.trim_ascii_start();
-    let spaces = line.words.len().saturating_sub(words.len());
-    escape(text, line.words.split_at(spaces.min(line.words.len())).0)?;
-    push_in(text, open, words, close)
+    push_in(text, open, line.words, close)?;
+    text.extend_from_slice(b"\n")
 }
 
-/// Puts bytes of which the first is at fault: the mark and the digits after it.
-fn push_fault(text: &mut Vec<u8>, bytes: &[u8]) -> Result<(), AllocError> {
-    let before = bytes.iter().take_while(|byte| **byte != b'>').count();
-    let (spaces, rest) = bytes.split_at(before.min(bytes.len()));
-    escape(text, spaces)?;
-    let (first, others) = rest.split_at(3.min(rest.len()));
-    push_in(text, "<mark>", first, "</mark>")?;
-    escape(text, others)
-}
-
-/// Puts a text between two tags, and the end of its line after them.
+/// Puts a text between two tags, if it isn't empty.
 fn push_in(text: &mut Vec<u8>, open: &str, inside: &[u8], close: &str) -> Result<(), AllocError> {
-    let (inside, end) = match inside.strip_suffix(b"\n") {
-        Some(inside) => (inside, "\n"),
-        None => (inside, ""),
-    };
-    if !inside.is_empty() {
-        text.extend_from_slice(open.as_bytes())?;
-        escape(text, inside)?;
-        text.extend_from_slice(close.as_bytes())?;
+    if inside.is_empty() {
+        return Ok(());
     }
-    text.extend_from_slice(end.as_bytes())
+    text.extend_from_slice(open.as_bytes())?;
+    escape(text, inside)?;
+    text.extend_from_slice(close.as_bytes())
 }
 
 /// Puts a text with what a browser reads as its language escaped.

@@ -1,8 +1,8 @@
 //! Lines that show bytes, in their parts.
 #![tactic(auto)]
 
-/// How many columns the bytes of a line take, with the spaces after them.
-const COLUMNS: usize = 50;
+/// How many columns the bytes of a line take, with the spaces around them.
+const COLUMNS: usize = 51;
 
 /// What the words of a line say.
 #[derive(Clone, Copy)]
@@ -17,41 +17,38 @@ pub enum About {
     More,
 }
 
-/// A line that shows bytes.
+/// A line that shows bytes: two spaces, and then these parts.
 #[derive(Clone, Copy)]
 pub struct Bytes<'a> {
-    /// the digits of the offset, with what is before them
+    /// the digits of the offset
     pub offset: &'a [u8],
-    /// the digits of the bytes, with what is around them
+    /// the digits of the bytes, with the spaces around them
     pub bytes: &'a [u8],
-    /// the words, with the spaces before them and the end of the line
+    /// the words
     pub words: &'a [u8],
     pub about: About,
 }
 
-/// The parts of a line, if it shows bytes: it begins with two spaces and the digits of an offset.
+/// The parts of a line, if it shows bytes.
 pub fn bytes_of(line: &[u8]) -> Option<Bytes<'_>> {
-    if !line.starts_with(b"  ") {
-        return None;
-    }
+    let line = line.strip_prefix(b"  ")?;
     let digits = line
         .iter()
-        .skip(2)
         .take_while(|byte| byte.is_ascii_hexdigit())
         .count();
     if digits != 8 && digits != 16 {
         return None;
     }
-    let (offset, rest) = split(line, digits.saturating_add(2));
-    if rest.starts_with(b"  ... ") {
-        return Some(Bytes {
-            offset,
-            bytes: b"",
-            words: rest,
-            about: About::More,
-        });
-    }
-    let (bytes, words) = split(rest, COLUMNS.saturating_add(1));
+    let (offset, rest) = split(line, digits);
+    let rest = rest.strip_suffix(b"\n").unwrap_or(rest);
+    let columns = if rest.starts_with(b"  ... ") {
+        2
+    } else {
+        COLUMNS
+    };
+    let (_, words) = split(rest, columns);
+    let words = words.trim_ascii_start();
+    let (bytes, words) = split(rest, rest.len().saturating_sub(words.len()));
     Some(Bytes {
         offset,
         bytes,
@@ -60,34 +57,35 @@ pub fn bytes_of(line: &[u8]) -> Option<Bytes<'_>> {
     })
 }
 
+/// The bytes of a line before the one where reading fails, that one with its mark, and those after it.
+pub fn parted(bytes: &[u8]) -> (&[u8], &[u8], &[u8]) {
+    let before = bytes.iter().take_while(|byte| **byte != b'>').count();
+    let (before, rest) = split(bytes, before);
+    let (marked, after) = split(rest, 3);
+    (before, marked, after)
+}
+
 fn split(bytes: &[u8], at: usize) -> (&[u8], &[u8]) {
     bytes.split_at(at.min(bytes.len()))
 }
 
-/// What the words of these bytes say.
+/// What these words of bytes say.
 fn said_by(bytes: &[u8], words: &[u8]) -> About {
-    let words = words.trim_ascii_start();
-    if is_marked(bytes) {
-        return About::Fault;
+    if bytes.iter().any(|byte| *byte == b'>') {
+        About::Fault
+    } else if words.starts_with(b"key") {
+        About::Key
+    } else if words.starts_with(b"length") {
+        About::Length
+    } else if words.starts_with(b"final 0") {
+        About::End
+    } else if words.starts_with(b"... ") {
+        About::More
+    } else if is_kind(words) {
+        About::Tag
+    } else {
+        About::Value
     }
-    if words.starts_with(b"key") {
-        return About::Key;
-    }
-    if words.starts_with(b"length") {
-        return About::Length;
-    }
-    if words.starts_with(b"final 0") {
-        return About::End;
-    }
-    if is_kind(words.trim_ascii_end()) {
-        return About::Tag;
-    }
-    About::Value
-}
-
-/// Whether reading fails at these bytes.
-pub fn is_marked(bytes: &[u8]) -> bool {
-    bytes.iter().any(|byte| *byte == b'>')
 }
 
 /// The names of kinds.

@@ -3,7 +3,7 @@
 
 ghost use Rattle.std.specs.Prelude.{None, if◌then◌else◌};
 
-use crate::files::bytes::{About, Bytes, bytes_of};
+use crate::files::bytes::{About, Bytes, bytes_of, parted};
 use std::alloc::{AllocError, Global};
 use std::io::Write;
 use std::{env, io};
@@ -98,36 +98,29 @@ fn painted(alloc: Global, lines: &[u8]) -> Result<Vec<u8>, AllocError> {
     Ok(text)
 }
 
-/// Puts a line after the others that shows bytes: the offset, where reading fails, and keys.
+/// Puts a line after the others that shows bytes.
 fn paint_bytes(text: &mut Vec<u8>, line: Bytes<'_>) -> Result<(), AllocError> {
+    text.extend_from_slice(b"  ")?;
     paint(text, NUMBER, line.offset)?;
-    let (words, end) = match line.words.strip_suffix(b"\n") {
-        Some(words) => (words, "\n"),
-        None => (line.words, ""),
-    };
-    match line.about {
-        About::Fault => {
-            paint(text, FAULT, line.bytes)?;
-            paint(text, FAULT, words)?;
-        }
-        About::Key => {
-            text.extend_from_slice(line.bytes)?;
-            paint(text, KEY, words)?;
-        }
-        About::Tag => {
-            text.extend_from_slice(line.bytes)?;
-            paint(text, NAME, words)?;
-        }
-        About::Length | About::End | About::More => {
-            text.extend_from_slice(line.bytes)?;
-            paint(text, FAINT, words)?;
-        }
-        About::Value => {
-            text.extend_from_slice(line.bytes)?;
-            text.extend_from_slice(words)?;
-        }
+    let (before, marked, after) = parted(line.bytes);
+    text.extend_from_slice(before)?;
+    paint(text, FAULT, marked)?;
+    text.extend_from_slice(after)?;
+    match color_of(line.about) {
+        Some(color) => paint(text, color, line.words)?,
+        None => text.extend_from_slice(line.words)?,
     }
-    text.extend_from_slice(end.as_bytes())
+    text.extend_from_slice(b"\n")
+}
+
+fn color_of(about: About) -> Option<&'static [u8]> {
+    match about {
+        About::Fault => Some(FAULT),
+        About::Key => Some(KEY),
+        About::Tag => Some(NAME),
+        About::Length | About::End | About::More => Some(FAINT),
+        About::Value => None,
+    }
 }
 
 /// Puts a line after the others: a name or a key, the offset after a name, and what is found. A line of counts stays as it is.

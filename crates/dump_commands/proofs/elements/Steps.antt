@@ -183,6 +183,7 @@ own_single depth f (scoped code d) text is = absurd is
 
 abbrev pub marked : Bool → ℕ → List ℕ → List ℕ → Run
 marked is_fault depth bytes text = record { bytes = bytes; depth = depth; is_fault = is_fault; text = text }
+
 pub heads_as : (is_fault : Bool) (depth : ℕ) (f : Frame) (tag key name text : List ℕ) → tag ≡ tag_of f.kind ∷ [] → key ≡ f.key ++ 0 ∷ [] → name ≡ says.kind_text f.kind
     → text ≡ key_text f.key → marked is_fault depth tag name ∷ (run_of depth key text ∷ []) ≡ head_runs is_fault depth f
 heads_as is_fault depth f tag key name text t k n w = λ i. marked is_fault depth (t i) (n i) ∷ (run_of depth (k i) (w i) ∷ [])
@@ -567,8 +568,10 @@ module _ {d : List ℕ} {first page : Page} {a b : Option (List ℕ)} (is : IsSh
       is.extent,
       is.runs,
       is.has,
-      inr (is.enough,
-      (front.behind, sym whole_is ∙ ap (λ (x : List ℕ). is.written ++ x) front.whole ∙ sym (append_assoc is.written front.front front.behind))),
+      inr (
+        is.enough,
+        (front.behind, sym whole_is ∙ ap (λ (x : List ℕ). is.written ++ x) front.whole ∙ sym (append_assoc is.written front.front front.behind)),
+      ),
     ),
   )
 

@@ -230,11 +230,7 @@ fn push_other_lines(
         return push_next_lines(text, bytes.len(), offset_of_others, others);
     }
     push_next_lines(text, ROWS, offset_of_others, others)?;
-    push_more_line(
-        text,
-        offset + SHOWN as u64,
-        split_at_most(bytes, SHOWN).1,
-    )
+    push_more_line(text, offset + SHOWN as u64, split_at_most(bytes, SHOWN).1)
 }
 
 /// What is before the first byte of a run.

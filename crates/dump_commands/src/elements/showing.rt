@@ -263,7 +263,13 @@ fn step<'a>(
         Next::Element => {}
         Next::Inside(inner) => {
             if depth + 1 == LEVELS {
-                push_worded(depth + 1, inner.document.as_bytes(), true, "over 500 levels", page)?;
+                push_worded(
+                    depth + 1,
+                    inner.document.as_bytes(),
+                    true,
+                    "over 500 levels",
+                    page,
+                )?;
             } else {
                 push_length(page, depth + 1, inner.document.as_bytes())?;
                 enter(inner.document, level, waiting)?;
@@ -658,7 +664,9 @@ fn push_beside(
         Holder::Array => Ok(()),
         Holder::Code(_) => {
             let payload = element.payload();
-            let len = payload.len().saturating_sub(level.document.as_bytes().len());
+            let len = payload
+                .len()
+                .saturating_sub(level.document.as_bytes().len());
             let own = split_at_most(payload, len).0;
             push_payload(alloc, depth, element.element_type(), own, value, page)?;
             Ok(())
@@ -752,5 +760,8 @@ fn push_length_words(words: &mut Vec<u8>, head: &[u8]) -> Result<(), AllocError>
     };
     push_words(words, "length: ")?;
     let low = u64::from(*a) + 256 * u64::from(*b);
-    push_number(words, low + 65_536 * u64::from(*c) + 16_777_216 * u64::from(*d))
+    push_number(
+        words,
+        low + 65_536 * u64::from(*c) + 16_777_216 * u64::from(*d),
+    )
 }

@@ -16,5 +16,5 @@ returns-clause-put c = λ key at.
       name,
       says,
       writes_as _ _ _ _ (λ i. fault_run d (at.tag ∷ []) name ∷ (fault_run d (bytes i) why ∷ (run_of d (others i) (codes "not read") ∷ [])))
-      (writes_more _ _ _ _ _ first (writes_more _ _ _ _ _ c.in_ok-push_reason.ensures.put c.in_ok-push_worded.ensures.put)),
+          (writes_more _ _ _ _ _ first (writes_more _ _ _ _ _ c.in_ok-push_reason.ensures.put c.in_ok-push_worded.ensures.put)),
     )

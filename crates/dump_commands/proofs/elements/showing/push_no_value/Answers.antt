@@ -15,5 +15,5 @@ returns-clause-put c = λ at.
       name,
       says,
       writes_as _ _ _ _ (λ i. fault_run d (at.tag ∷ []) name ∷ (run_of d (bytes i) (key_text key) ∷ (fault_run d (others i) why ∷ [])))
-      (writes_more _ _ _ _ _ first (writes_more _ _ _ _ _ c.in_ok-push_key.ensures.put c.in_ok-push_reason.ensures.put)),
+          (writes_more _ _ _ _ _ first (writes_more _ _ _ _ _ c.in_ok-push_key.ensures.put c.in_ok-push_reason.ensures.put)),
     )
