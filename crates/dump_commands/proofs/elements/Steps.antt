@@ -1,13 +1,12 @@
 -- Steps over the levels of a document whose bytes are shown.
 use Rattle.std.proofs.Common.{◌≡◌, ◌≢◌, ◌+◌, ◌-◌, ◌<◌, ◌≤◌, ℕ, suc, zero, Bool, true, false, List, [], ◌∷◌, ◌++◌, Option, None, Some, Ok, codes, drop, get_or, length, length-append, length-drop, map, take, arith, ap, sym, ◌∙◌, subst, refl, inl, inr, append_assoc, append-nil}
-use Rattle.std.specs.Prelude.{◌⊎◌, sum_by}
 use Rattle.std.proofs.lemmas.List.Sums.{sum_by_push}
 use Rattle.std.proofs.Math.Seq.{take-length}
 use Rattle.std.specs.Io.KnownBytes.{Appends}
 use Rattle.std.proofs.KnownBytes.{Appends-nil, Appends-trans}
 use Rattle.raw_tree.proofs.Face.{held_holds, nested_beside}
 use Rattle.raw_view.specs.Document.{bytes_of}
-use Rattle.raw_view.specs.Frame.{Fault, Frame, HasKey, IsFrame, IsStop, LeadsTo, key_not_utf8, no_byte_left, no_payload, no_such_tag, regex_not_utf8}
+use Rattle.raw_view.specs.Frame.{Fault, Frame, HasKey, IsFrame, IsStop, key_not_utf8, no_byte_left, no_payload, no_such_tag, regex_not_utf8}
 use Rattle.raw_view.specs.Frame.Format.{tagged}
 use Rattle.raw_view.specs.Frame.Kind.{tag_of}
 use Rattle.raw_view.specs.Frame.Kind as says
@@ -27,7 +26,7 @@ use Rattle.bson_model.specs.Bytes.{NulFree}
 use Rattle.raw_view.specs.declared.level.Holder.{Holder}
 use Rattle.raw_view.specs.declared.level.RawLevel.{RawLevel}
 use Rattle.raw_view.proofs.Face.{IsFrame-shorter, stop_key, stop_said}
-use Rattle.dump_io.specs.lines.Fronts.{AppendsFront, HasFront}
+use Rattle.dump_io.specs.lines.Fronts.{AppendsFront}
 use Rattle.dump_commands.specs.declared.elements.page.Page.{Page}
 use Rattle.dump_commands.specs.declared.elements.level.Level.{Level}
 use Rattle.dump_commands.specs.elements.Runs.{Run, Sheet, Writes, document_lines, fault_run, is_shown, rest_line, run_lines, run_of, sheet_of, shown_end, shown_lines}

@@ -1,9 +1,8 @@
 -- What is left to show of the levels of a document, of which some wait. No public contract cites this file.
-use Rattle.std.specs.Prelude.{◌≡◌, ◌⊎◌, ◌+◌, ◌-◌, ◌<◌, ℕ, suc, zero, List, [], ◌∷◌, ◌++◌, Bool, true, false, Option, drop, length, map, sum_by}
-use Rattle.raw_view.specs.Document.{bytes_of}
+use Rattle.std.specs.Prelude.{◌≡◌, ◌⊎◌, ◌+◌, ◌-◌, ◌<◌, ℕ, suc, zero, List, [], ◌∷◌, ◌++◌, Bool, true, false, Option, length, map, sum_by}
 use Rattle.dump_io.specs.lines.Fronts.{HasFront}
 use Rattle.dump_commands.specs.declared.elements.level.Level.{Level}
-use Rattle.dump_commands.specs.elements.Runs.{Run, Sheet, Writes, document_lines, rest_line, sheet_of, shown_end, shown_lines}
+use Rattle.dump_commands.specs.elements.Runs.{Run, Sheet, document_lines, rest_line, sheet_of, shown_end, shown_lines}
 use Rattle.dump_commands.specs.elements.Showing.{Extent, Whole, Begun, HasLeftRuns, HasRuns, IsEnough, left_in}
 use Rattle.dump_commands.specs.declared.elements.page.Page.{Page}
 use Rattle.std.specs.Io.KnownBytes.{Appends}

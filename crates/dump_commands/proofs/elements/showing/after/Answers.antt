@@ -1,4 +1,4 @@
-use Rattle.std.proofs.Common.{◌≡◌, ◌+◌, ◌∙◌, ℕ, List, ap, arith, drop, length-drop, subst, sym}
+use Rattle.std.proofs.Common.{◌≡◌, ◌+◌, ◌∙◌, ℕ, ap, arith, drop, length-drop, sym}
 use Rattle.std.proofs.lemmas.List.{drop-drop}
 use Rattle.raw_tree.proofs.Face.{drop_frame, envelope_fits, frame_size}
 use Rattle.raw_tree.specs.walk.Looking.{size_of}

@@ -1,7 +1,7 @@
 use Rattle.std.proofs.Common.{◌≡◌, ◌-◌, ◌∙◌, ap, drop, length, refl, rules, sym, take}
 use Rattle.raw_view.specs.Document.{bytes_of}
 use Rattle.raw_view.specs.Frame.ElementSteps.{frame_of}
-use Rattle.raw_view.specs.Meaning.{RawValue, array, document, scoped}
+use Rattle.raw_view.specs.Meaning.{RawValue, array, document}
 use Rattle.raw_view.specs.Meaning.Value.{holding, value_of}
 use Rattle.raw_view.specs.declared.level.Holder.{Holder}
 use Rattle.dump_io.specs.lines.Values.{size_text}

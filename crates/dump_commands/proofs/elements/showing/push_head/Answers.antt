@@ -1,4 +1,4 @@
-use Rattle.std.proofs.Common.{[], ◌∷◌, ◌++◌, ap, length, sym}
+use Rattle.std.proofs.Common.{◌++◌, ap, length, sym}
 use Rattle.raw_view.specs.Frame.ElementSteps.{frame_of}
 use Rattle.raw_view.specs.Frame.Kind.{kind_text, tag_of}
 use Rattle.dump_commands.specs.elements.Showing.{key_text}

@@ -1,4 +1,4 @@
-use Rattle.std.proofs.Common.{◌≡◌, ◌+◌, List, Option, None, Some, Result, Ok, rules, subst, sym, ℕ}
+use Rattle.std.proofs.Common.{◌≡◌, List, Option, Some, Result, rules, subst, sym, ℕ}
 use Rattle.raw_view.specs.Frame.{IsFrame}
 use Rattle.raw_view.specs.Frame.ElementSteps.{frame_of}
 use Rattle.raw_view.specs.Frame.Front.{StepsFront}

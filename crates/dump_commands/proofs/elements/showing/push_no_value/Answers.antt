@@ -1,4 +1,4 @@
-use Rattle.std.proofs.Common.{◌≡◌, ◌∙◌, [], ◌∷◌, ◌++◌, List, ap, codes, length, refl, rules, ℕ}
+use Rattle.std.proofs.Common.{[], ◌∷◌, ◌++◌, codes, refl}
 use Rattle.dump_io.specs.lines.Find as find
 use Rattle.dump_commands.specs.elements.Runs.{fault_run, run_of}
 use Rattle.dump_commands.specs.elements.Showing.{key_text}

@@ -1,4 +1,4 @@
-use Rattle.std.proofs.Common.{◌≡◌, ◌-◌, ◌∙◌, [], ◌∷◌, ◌++◌, ap, codes, drop, length, rules, take}
+use Rattle.std.proofs.Common.{◌≡◌, ◌-◌, ◌∙◌, [], ◌∷◌, ◌++◌, codes, drop, length, rules, take}
 use Rattle.dump_io.specs.lines.Find as find
 use Rattle.dump_commands.specs.elements.Runs.{fault_run, run_of}
 use Rattle.dump_commands.specs.elements.Showing.{length_run}

@@ -1,4 +1,4 @@
-use Rattle.std.proofs.Common.{◌≡◌, [], ◌∷◌, Bool, List, arith, false, refl, rules, subst, true}
+use Rattle.std.proofs.Common.{◌≡◌, [], ◌∷◌, Bool, List, arith, false, refl, rules, subst}
 use Rattle.std.specs.Io.KnownBytes.{Appends}
 use Rattle.dump_io.proofs.Face.{on_any}
 use Rattle.dump_io.specs.lines.Fronts.{AppendsFront}

@@ -1,7 +1,7 @@
-use Rattle.std.proofs.Common.{◌≡◌, ◌≢◌, ◌+◌, ◌∙◌, [], ◌∷◌, ◌++◌, List, ap, codes, length, refl, rules, subst, ℕ}
+use Rattle.std.proofs.Common.{◌≡◌, ◌≢◌, ◌+◌, [], ◌∷◌, ◌++◌, codes, length, refl, rules, subst, ℕ}
 use Rattle.raw_view.specs.Document.{bytes_of}
 use Rattle.dump_commands.specs.declared.elements.level.Next.{Next}
-use Rattle.dump_commands.specs.elements.Runs.{Run, Writes, fault_run}
+use Rattle.dump_commands.specs.elements.Runs.{fault_run}
 use Rattle.dump_commands.specs.elements.Showing.{StepsRuns, left_in, length_run}
 use Rattle.dump_commands.proofs.elements.Steps.{goes_deep, goes_element, goes_end, goes_inside, goes_outward, writes_as, writes_more}
 use Rattle.dump_commands.proofs.elements.showing.step.Goals as goal
