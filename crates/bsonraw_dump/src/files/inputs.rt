@@ -139,6 +139,7 @@ impl Files<'_, '_> {
             name: String::from_str(self.rt.alloc(), name).ok(),
             style: self.style,
             most: self.most,
+            is_any: self.hex,
         }
     }
 
