@@ -8,6 +8,7 @@ mod folders;
 mod names;
 mod numbers;
 mod picks;
+mod shows;
 mod task;
 mod words;
 

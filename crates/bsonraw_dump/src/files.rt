@@ -3,7 +3,10 @@
 #![tactic(auto)]
 
 pub mod alone;
+pub mod browser;
+mod bytes;
 pub mod colors;
+mod digits;
 pub mod findings;
 mod guess;
 pub mod header;

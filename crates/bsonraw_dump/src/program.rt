@@ -4,6 +4,7 @@
 use crate::asked::{divided, wrong_with};
 use crate::command_line::{Printing, Task, Words, copied, expanded, given_words, parsed, refusal};
 use crate::files::alone::{Alone, failed};
+use crate::files::browser::Browser;
 use crate::files::colors::{Colors, When, are_colored};
 use crate::files::findings::Findings;
 use crate::files::header::{begin, ended_by};
@@ -41,6 +42,8 @@ struct Run<'a> {
     unread: Unread<'a>,
     /// when lines are in colors
     color: When,
+    /// whether inputs are texts of hex digits in place of bytes
+    hex: bool,
 }
 
 /// Does what the arguments ask for.
@@ -162,6 +165,7 @@ fn with_names(rt: &HostRuntime, task: &Task<'_>, words: &Words) -> Result<Status
                 packed_words: way_of_packed.as_str(),
             },
             color: task.color,
+            hex: task.hex,
         },
     ))
 }
@@ -192,6 +196,7 @@ fn start(rt: &HostRuntime, run: &Run<'_>) -> Status {
             let mut lines = colored(rt, run, out, rt.stdout().is_terminal());
             each(rt, run, &mut io::sink(), &mut lines).status
         }
+        Printing::Page => page(rt, run, out),
         Printing::Documents => {
             let mut findings = Findings {
                 rt,
@@ -202,6 +207,28 @@ fn start(rt: &HostRuntime, run: &Run<'_>) -> Status {
             each(rt, run, &mut out, &mut findings).status
         }
     }
+}
+
+/// Prints lines as a page for a browser.
+fn page<W: Write + Drop>(rt: &HostRuntime, run: &Run<'_>, out: W) -> Status {
+    let mut page = Browser {
+        writer: out,
+        alloc: rt.alloc(),
+    };
+    if let Err(error) = page.begin() {
+        return unwritten(rt, run, error);
+    }
+    let status = each(rt, run, &mut io::sink(), &mut page).status;
+    match page.end() {
+        Ok(()) => status,
+        Err(error) => unwritten(rt, run, error),
+    }
+}
+
+/// Tells that a page can't be written.
+fn unwritten(rt: &HostRuntime, run: &Run<'_>, error: io::Error) -> Status {
+    tell_failure(rt, run, &Failure::Writing(error));
+    Status::Output
 }
 
 /// The writer of lines, which are in colors where that is asked for.
@@ -312,6 +339,7 @@ fn files_of<'a, 'b>(
             Some(_) => None,
         },
         unread: run.unread,
+        hex: run.hex,
         goes_on: match run.reading {
             Reading::Dumps(job) => job.resync,
             Reading::Texts(job) => job.keep_going,

@@ -1,4 +1,6 @@
 mod Levels
+mod Steps
+mod Lines
 pub mod Picked
 mod Cutting
 mod Had

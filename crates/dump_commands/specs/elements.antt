@@ -5,3 +5,6 @@ pub mod Having
 pub mod Row
 pub mod Id
 pub mod Listing
+pub mod Runs
+pub mod Showing
+pub mod ShownLevels

@@ -15,6 +15,7 @@ ghost use Rattle.dump_commands.specs.Reporting as says;
 
 use crate::command::{Breaches, Command, Profile, Summaries};
 use crate::elements::listing::list_levels;
+use crate::elements::showing::show_piece;
 use dump_io::lines::failure::Failure;
 use dump_io::lines::find::{Finding, Found, Told};
 use dump_io::lines::object::{repeat_object, told_object};
@@ -33,6 +34,8 @@ pub enum Report {
     Check,
     /// the elements of each, at every level
     List,
+    /// the bytes of each and what they are: of what begins in this number of its first bytes, or of all
+    Show(Option<u64>),
     /// how many there are, and of how many bytes, by their lengths alone
     Count,
     /// where each begins, and how many bytes it has, by its length alone
@@ -46,7 +49,7 @@ impl Report {
     {
         let (looks, breaches, summaries) = match self {
             Report::Check => (true, Breaches::Found, Summaries::Each),
-            Report::List => (true, Breaches::Ignored, Summaries::Never),
+            Report::List | Report::Show(_) => (true, Breaches::Ignored, Summaries::Never),
             Report::Count => (false, Breaches::Ignored, Summaries::Each),
             Report::Sizes => (false, Breaches::Ignored, Summaries::Never),
         };
@@ -72,14 +75,15 @@ fn report_line(
     match command {
         Report::Check => text_of(alloc, style, at, told),
         Report::Count => Ok(Vec::new(alloc)),
-        Report::List | Report::Sizes => {
+        Report::List | Report::Show(_) | Report::Sizes => {
             let head = sized(alloc, bytes.len(), told)?;
             line_of(alloc, at.name, at.offset, &head)
         }
     }
 }
 
-/// Writes the lines of such a command on a document at this offset after the first: of `list` one for each element, at every level.
+/// Writes the lines of such a command on a document at this offset after the first: of `list` one for each element, at every level, of
+/// `show` those of its bytes.
 fn put_others<W: Write>(
     alloc: Global,
     command: Report,
@@ -93,6 +97,7 @@ fn put_others<W: Write>(
 {
     match command {
         Report::List => put_elements(alloc, bytes, report),
+        Report::Show(most) => show_piece(alloc, most, offset, bytes, report),
         Report::Check | Report::Count | Report::Sizes => Ok(()),
     }
 }

@@ -106,10 +106,9 @@ pub(super) fn limits<'a>(
 }
 
 /// Which documents of an input are asked for.
-fn portion<'a>(alloc: Global, command: CommandBuilder<'a>) -> CommandBuilder<'a> {
+fn portion<'a>(alloc: Global, command: CommandBuilder<'a>, take: &'a str) -> CommandBuilder<'a> {
     let at = "Reads each FILE from this offset on, as 4096, 0x1000, 4K, 48M or 2G";
     let skip = "Passes over the first N documents of each FILE, by their lengths";
-    let take = "Reads at most N documents of each FILE";
     command
         .arg(size(alloc, "at", "OFFSET", at))
         .arg(size(alloc, "skip", "N", skip))
@@ -118,9 +117,18 @@ fn portion<'a>(alloc: Global, command: CommandBuilder<'a>) -> CommandBuilder<'a>
 
 /// A command that reads FILEs.
 pub(super) fn reading<'a>(alloc: Global, command: CommandBuilder<'a>) -> CommandBuilder<'a> {
+    reading_few(alloc, command, "Reads at most N documents of each FILE")
+}
+
+/// The same, with what is said of the option that says how many documents are read.
+pub(super) fn reading_few<'a>(
+    alloc: Global,
+    command: CommandBuilder<'a>,
+    take: &'a str,
+) -> CommandBuilder<'a> {
     let help = "Continues after an unsound length, at the next document that counts";
     let bytes = "A length over N bytes is unsound; 16793600 if it isn't given";
-    limits(alloc, portion(alloc, command), bytes)
+    limits(alloc, portion(alloc, command, take), bytes)
         .arg(switch(alloc, "resync", help))
         .arg(files(alloc, "Dumps; nothing or -: standard input"))
 }

@@ -7,6 +7,7 @@ use crate::command_line::args::{
 };
 use crate::command_line::builder::CommandBuilder;
 use crate::command_line::picks::{documents_as_json, json_style_of, picking_of, picks};
+use crate::command_line::shows::{show_of, shows};
 use crate::command_line::task::limits_of;
 use clap::ArgMatches;
 use dump_commands::command::Command;
@@ -26,6 +27,8 @@ pub enum Printing {
     Lines,
     /// few lines, which are shown as soon as they are there
     Soon,
+    /// lines, as a page for a browser
+    Page,
 }
 
 /// What the command of this name asks for, with what was given to it, and what it prints; nothing of the one that reads texts.
@@ -33,6 +36,8 @@ pub fn asked_by<'a>(name: &str, matches: &ArgMatches<'a>) -> Option<(Command<'a>
     match name {
         "check" => prints(Report::Check, Printing::Soon),
         "list" => prints(Report::List, Printing::Lines),
+        "show" if matches.get_flag("html") => prints(show_of(matches), Printing::Page),
+        "show" => prints(show_of(matches), Printing::Lines),
         "count" => Some((count_of(matches), Printing::Soon)),
         "sizes" => prints(Report::Sizes, Printing::Lines),
         "largest" => gathers(Gathering::Measure(largest_of(matches))),
@@ -70,6 +75,7 @@ pub fn command_line<'a>(alloc: Global, version: &'a str) -> Result<clap::Command
 fn with_reports<'a>(alloc: Global, line: CommandBuilder<'a>) -> CommandBuilder<'a> {
     line.subcommand(checks(alloc))
         .subcommand(lists(alloc))
+        .subcommand(shows(alloc))
         .subcommand(counts(alloc))
         .subcommand(sizes(alloc))
         .subcommand(largest(alloc))

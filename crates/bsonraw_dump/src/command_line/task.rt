@@ -8,6 +8,7 @@ use clap::error::ErrorKind;
 use clap::{ArgMatches, Error};
 use dump_commands::command::Command;
 use dump_commands::job::Job;
+use dump_commands::reporting::Report;
 use dump_io::input::portion::Portion;
 use dump_io::lines::find::most_allowed;
 use dump_io::lines::style::Style;
@@ -30,6 +31,8 @@ pub struct Task<'a> {
     pub inputs: Vec<&'a str>,
     /// when lines are in colors
     pub color: When,
+    /// whether inputs are texts of hex digits in place of bytes
+    pub hex: bool,
 }
 
 /// When lines are in colors.
@@ -96,12 +99,26 @@ fn size_of(
 }
 
 /// Which documents of each input are asked for.
-fn portion_of(alloc: Global, version: &str, matches: &ArgMatches<'_>) -> Result<Portion, Error> {
+fn portion_of(
+    alloc: Global,
+    version: &str,
+    command: Command<'_>,
+    matches: &ArgMatches<'_>,
+) -> Result<Portion, Error> {
+    let take = size_of(alloc, version, matches, "take")?;
     Ok(Portion {
         at: size_of(alloc, version, matches, "at")?.unwrap_or(0),
         skip: size_of(alloc, version, matches, "skip")?.unwrap_or(0),
-        take: size_of(alloc, version, matches, "take")?,
+        take: take.or(taken_by(command)),
     })
+}
+
+/// How many documents of each input a command takes where no number is given.
+fn taken_by(command: Command<'_>) -> Option<u64> {
+    match command {
+        Command::Prints(Report::Show(_)) => Some(1),
+        Command::Prints(_) | Command::Gathers(_) | Command::Writes(_) => None,
+    }
 }
 
 /// The task of a command that was given, which reads dumps. What a command may not be given is as if it wasn't.
@@ -120,7 +137,7 @@ fn task_of<'a>(
             repeats: matches.get_flag("repeats"),
             limit: matches.get_one("limit"),
             limits: limits_of(matches),
-            portion: portion_of(alloc, version, matches)?,
+            portion: portion_of(alloc, version, command, matches)?,
             paths: matches.get_one("paths").unwrap_or(PATHS),
         }),
         printing,
@@ -128,6 +145,7 @@ fn task_of<'a>(
         alone: matches.get_str("alone"),
         inputs: inputs_of(alloc, matches)?,
         color: color_of(matches),
+        hex: matches.get_flag("hex"),
     })
 }
 
@@ -161,6 +179,7 @@ fn text_task<'a>(alloc: Global, matches: &ArgMatches<'a>) -> Result<Task<'a>, Er
         alone: None,
         inputs: inputs_of(alloc, matches)?,
         color: color_of(matches),
+        hex: false,
     })
 }
 

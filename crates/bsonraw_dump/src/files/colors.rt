@@ -3,6 +3,7 @@
 
 ghost use Rattle.std.specs.Prelude.{None, if◌then◌else◌};
 
+use crate::files::bytes::{About, Bytes, bytes_of, parted};
 use std::alloc::{AllocError, Global};
 use std::io::Write;
 use std::{env, io};
@@ -23,6 +24,8 @@ const NUMBER: &[u8] = b"\x1b[32m";
 const KEY: &[u8] = b"\x1b[36m";
 
 const FAULT: &[u8] = b"\x1b[1;31m";
+
+const FAINT: &[u8] = b"\x1b[2m";
 
 const END: &[u8] = b"\x1b[m";
 
@@ -95,8 +98,36 @@ fn painted(alloc: Global, lines: &[u8]) -> Result<Vec<u8>, AllocError> {
     Ok(text)
 }
 
+/// Puts a line after the others that shows bytes.
+fn paint_bytes(text: &mut Vec<u8>, line: Bytes<'_>) -> Result<(), AllocError> {
+    text.extend_from_slice(b"  ")?;
+    paint(text, NUMBER, line.offset)?;
+    let (before, marked, after) = parted(line.bytes);
+    text.extend_from_slice(before)?;
+    paint(text, FAULT, marked)?;
+    text.extend_from_slice(after)?;
+    match color_of(line.about) {
+        Some(color) => paint(text, color, line.words)?,
+        None => text.extend_from_slice(line.words)?,
+    }
+    text.extend_from_slice(b"\n")
+}
+
+fn color_of(about: About) -> Option<&'static [u8]> {
+    match about {
+        About::Fault => Some(FAULT),
+        About::Key => Some(KEY),
+        About::Tag => Some(NAME),
+        About::Length | About::End | About::More => Some(FAINT),
+        About::Value => None,
+    }
+}
+
 /// Puts a line after the others: a name or a key, the offset after a name, and what is found. A line of counts stays as it is.
 fn paint_line(text: &mut Vec<u8>, line: &[u8]) -> Result<(), AllocError> {
+    if let Some(bytes) = bytes_of(line) {
+        return paint_bytes(text, bytes);
+    }
     let indent = line.iter().take_while(|byte| **byte == b' ').count();
     let (spaces, rest) = line.split_at(indent.min(line.len()));
     let (quote, rest) = rest.split_at(quoted_len(rest).min(rest.len()));

@@ -1,6 +1,7 @@
 //! The files of a run, as its inputs.
 #![tactic(auto)]
 
+use crate::files::digits::Digits;
 use crate::files::guess::{FRONT, hint_at};
 use crate::files::tell::{tell, tell_text};
 use crate::files::watch::{About, Progress, Watched};
@@ -84,6 +85,8 @@ pub struct Files<'a, 'b> {
     pub most: Option<usize>,
     /// whether a file is read that doesn't look like what it has to be
     pub goes_on: bool,
+    /// whether they are texts of hex digits in place of bytes
+    pub hex: bool,
     /// the file that is written by redirection, if it is one, which isn't read
     pub written: Option<Node>,
     /// which of them can't be opened
@@ -136,6 +139,7 @@ impl Files<'_, '_> {
             name: String::from_str(self.rt.alloc(), name).ok(),
             style: self.style,
             most: self.most,
+            is_any: self.hex,
         }
     }
 
@@ -149,7 +153,7 @@ impl Files<'_, '_> {
 
     /// Why this file isn't read, if it looks like something else and isn't read then.
     fn why_not(&self, name: &str) -> Option<&'static str> {
-        if self.goes_on || node_of(self.rt, name).is_none() {
+        if self.goes_on || self.hex || node_of(self.rt, name).is_none() {
             return None;
         }
         let mut file = File::open(self.rt, name).ok()?;
@@ -160,9 +164,24 @@ impl Files<'_, '_> {
 }
 
 impl<'a, 'b> Inputs for Files<'a, 'b> {
-    type Input = Source<'a, 'b>;
+    type Input = Digits<Source<'a, 'b>>;
 
-    fn open(&self, name: &str) -> io::Result<Source<'a, 'b>> {
+    fn open(&self, name: &str) -> io::Result<Digits<Source<'a, 'b>>> {
+        Ok(Digits::new(self.rt.alloc(), self.source(name)?, self.hex))
+    }
+
+    fn tell(&self, name: &str, at: Option<u64>, error: &io::Error) {
+        match self.unread.words_of(name) {
+            Some("") => (),
+            Some(words) => tell_text(self.rt, self.style, name, words),
+            None => tell(self.rt, self.style, name, at, error),
+        }
+    }
+}
+
+impl<'a, 'b> Files<'a, 'b> {
+    /// Opens what has this name.
+    fn source(&self, name: &str) -> io::Result<Source<'a, 'b>> {
         if self.unread.words_of(name).is_some() {
             return Err(io::Error::other("not read"));
         }
@@ -181,13 +200,5 @@ impl<'a, 'b> Inputs for Files<'a, 'b> {
             return Err(io::Error::other(words));
         }
         Ok(Source::File(Watched::new(self.rt, file, about, self.progress)))
-    }
-
-    fn tell(&self, name: &str, at: Option<u64>, error: &io::Error) {
-        match self.unread.words_of(name) {
-            Some("") => (),
-            Some(words) => tell_text(self.rt, self.style, name, words),
-            None => tell(self.rt, self.style, name, at, error),
-        }
     }
 }

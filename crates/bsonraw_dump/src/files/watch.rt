@@ -105,6 +105,8 @@ pub struct About {
     pub style: Style,
     /// how many bytes a document of it has at most, if it has to be a dump
     pub most: Option<usize>,
+    /// whether it may look like anything
+    pub is_any: bool,
 }
 
 /// A reader that shows how many bytes it gave.
@@ -148,7 +150,8 @@ impl<'a, 'b, R> Watched<'a, 'b, R> {
     /// Says what the first bytes look like, if that isn't what the input has to be, and shows how many bytes came.
     fn show(&self, read: &[u8]) {
         let name = self.about.name.as_ref().map_or("", |name| name.as_str());
-        if let (false, Some(words)) = (self.is_begun, hint_at(self.about.most, read)) {
+        let is_known = self.is_begun || self.about.is_any;
+        if let (false, Some(words)) = (is_known, hint_at(self.about.most, read)) {
             tell(
                 self.rt,
                 self.about.style,

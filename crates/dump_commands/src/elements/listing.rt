@@ -146,7 +146,7 @@ fn deep_line(depth: usize, line: &mut Vec<u8>) -> Result<(), AllocError>
 }
 
 /// Appends the reason of a fault to the text.
-fn push_fault(text: &mut Vec<u8>, error: &BorrowedError<'_>) -> Result<(), AllocError>
+pub fn push_fault(text: &mut Vec<u8>, error: &BorrowedError<'_>) -> Result<(), AllocError>
     ensures { OnOk result
         (text.new.items ≡ text.old.items ++ (codes "damaged: " ++ find.kind_text error.now.kind)) }
 {

@@ -72,7 +72,11 @@ fn name_of(kind: ElementType) -> &'static str
 }
 
 /// Puts what shows a value after the name of its kind.
-fn push_behind(alloc: Global, text: &mut Vec<u8>, value: RawBsonRef<'_>) -> Result<(), AllocError>
+pub fn push_behind(
+    alloc: Global,
+    text: &mut Vec<u8>,
+    value: RawBsonRef<'_>,
+) -> Result<(), AllocError>
     ensures { OnOk result ((shown : List ℕ) × ShowsBehind (value_of value.entry) shown
         × (text.new.items ≡ text.old.items ++ shown)) }
 {
