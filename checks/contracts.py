@@ -23,7 +23,7 @@ CRATES = ["bson_model", "raw_view", "raw_tree", "values_from_json", *USED]
 PROGRAMS = {
     "bsonraw/src/answer.rt": ["answer"],
     "bsonraw/src/run.rt": ["run"],
-    "dump_commands/src/reporting.rt": ["put_summary"],
+    "dump_commands/src/summary.rt": ["put_summary"],
     "dump_runs/src/batch.rt": ["run_all"],
     "dump_runs/src/dumps/run.rt": ["run"],
     "dump_runs/src/texts/reading.rt": ["read_texts"],

@@ -307,10 +307,10 @@ fn over_each<'a, D: Write, A: Write, W: Write>(
     };
     let progress = Progress::new(rt, shows, size);
     let inputs = files_of(&*rt, &*run, &progress);
-    let mut writers = Writers::new(data, alone, report);
-    if let Err(failure) = begin(rt, run.reading, &mut writers.out) {
-        return ended_by(writers.cause_of(failure));
+    if let Err(failure) = begin(rt, run.reading, &mut *data) {
+        return ended_by(failure);
     }
+    let mut writers = Writers::new(data, alone, report);
     run_all(rt.alloc(), run.reading, &inputs, &run.inputs, &mut writers)
 }
 

@@ -14,10 +14,10 @@ use Rattle.dump_commands.proofs.state.Known.{known_same}
 use Rattle.dump_commands.specs.state.Gathered.{KeepsWritten}
 use Rattle.dump_io.specs.lines.Fronts.{AppendsFront, WritesFront}
 use Rattle.dump_commands.specs.Emitting.{Emits, IsMade, Puts, Writes}
-use Rattle.dump_commands.specs.Making.{IsJsonLine, Makes, MakesForm, MakesIf, MakesOf, is_unique, spelled}
+use Rattle.dump_commands.specs.Making.{IsJsonLine, Makes, MakesIf, MakesOf, is_unique, spelled}
 use Rattle.dump_io.proofs.Face.{front_behind, front_first}
 use Rattle.dump_commands.specs.state.Forms.{CountsOne, Made, firsts_of, knows, made_as, origins_of, plain}
-use Rattle.dump_commands.specs.Unique.{firsts_if, kept_if, kept_of, known_if, repeats_if, writes_once, written_of}
+use Rattle.dump_commands.specs.Unique.{kept_if, kept_of, known_if, writes_once, written_of}
 use Rattle.dump_commands.specs.declared.command.Command.{Command}
 use Rattle.dump_commands.specs.declared.command.Command.TheVariants as command
 use Rattle.dump_commands.specs.declared.gathering.Gathering.{Gathering}

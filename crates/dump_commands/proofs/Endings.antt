@@ -1,11 +1,10 @@
 -- What a command makes of a canonical document ends with a 0, or with the end of a line.
-use Rattle.std.proofs.Common.{◌≡◌, ℕ, pos, suc, ◌+◌, ◌⊎◌, List, [], ◌∷◌, ◌++◌, Bool, true, false, MatchBool, inl, inr, ap, append_assoc, arith, drop, get_or, length, length-append, refl, subst, sym, ◌∙◌}
+use Rattle.std.proofs.Common.{◌≡◌, ℕ, pos, suc, ◌+◌, ◌⊎◌, List, [], ◌∷◌, ◌++◌, Bool, false, MatchBool, inl, inr, ap, append_assoc, arith, drop, get_or, length, length-append, refl, subst, sym, ◌∙◌}
 use Rattle.std.proofs.lemmas.Bool.{false≢true}
 use Rattle.raw_view.specs.Frame.Envelope.{IsEnvelope}
 use Rattle.raw_view.specs.Frame.Format.{framed, inside_of}
 use Rattle.raw_view.specs.Frame.Number.{le32}
 use Rattle.raw_view.proofs.Face.{document_framed}
-use Rattle.bson_to_json.specs.declared.style.Style as json
 use Rattle.dump_commands.specs.Binary.{MakesBson, MakesNoBson}
 use Rattle.dump_commands.specs.elements.Chosen.{IsChosen}
 use Rattle.dump_commands.specs.elements.Pick.{comma, parts}

@@ -1,5 +1,5 @@
 -- A document of which something is gathered.
-use Rattle.std.proofs.Common.{◌≡◌, ◌⊎◌, List, [], ◌∷◌, inl, inr, refl}
+use Rattle.std.proofs.Common.{◌≡◌, ◌⊎◌, [], ◌∷◌, inl, inr, refl}
 use Rattle.dump_io.specs.declared.lines.find.Finding.{Finding}
 use Rattle.dump_io.specs.declared.lines.find.Finding.TheVariants as finding
 use Rattle.dump_commands.specs.Gathering.{GathersIf, PutsAll}

@@ -71,7 +71,7 @@ pub enum Command<'a> {
 impl Command<'_> {
     /// What is so of it.
     pub fn profile(self) -> Profile
-        ensures { result ≡ says.profile_of self.entry }
+        ensures { says.profile_of self.entry ≡ result }
     {
         match self {
             Command::Prints(report) => report.profile(),

@@ -1,7 +1,7 @@
 -- The lemmas of this crate that crates above may cite; they cite no other.
 
 pub use Rattle.dump_io.proofs.input.Ahead.{all_ahead, front_kept, input_behind, nil_of_none}
-pub use Rattle.dump_io.proofs.input.Between.{between_byte, between_none, between_on, not_between}
+pub use Rattle.dump_io.proofs.input.Between.{between_none, between_on}
 pub use Rattle.dump_io.proofs.input.Deciding.{searches_on, stays_on, tells_document, tells_doubted, tells_other, tells_taken}
 pub use Rattle.dump_io.proofs.input.Going.{ends_all, said_front, unsound_behind}
 pub use Rattle.dump_io.proofs.input.Outlines.{ScansAs, last_goes, nothing_goes_on, scans_as}

@@ -1,5 +1,5 @@
 -- The values of a document at paths as a row of a table, in which commas or tabs are between the cells.
-use Rattle.std.specs.Prelude.{◌≡◌, ◌-◌, ℕ, List, [], ◌∷◌, ◌++◌, Bool, true, false, Option, None, Some, bytes_eq, codes, cond, drop, flat_map, length, nat_eq, take}
+use Rattle.std.specs.Prelude.{◌≡◌, ◌-◌, ℕ, List, [], ◌∷◌, ◌++◌, Bool, true, Option, None, Some, bytes_eq, codes, cond, drop, flat_map, length, nat_eq, take}
 use Rattle.std.specs.List.{list_any}
 use Rattle.bson_to_json.specs.Json.{IsJson}
 use Rattle.bson_to_json.specs.declared.style.Format.TheVariants.{Relaxed}

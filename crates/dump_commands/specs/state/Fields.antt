@@ -1,5 +1,5 @@
 -- What the elements of documents have under each path, and how that is printed.
-use Rattle.std.specs.Prelude.{⊤, ◌≡◌, ◌+◌, ◌-◌, ◌≤◌, ℕ, List, [], ◌∷◌, ◌++◌, Bool, false, Option, None, Some, bytes_eq, codes, cond, decimal, drop, flat_map, fold, get_or, length, map, max, nat_eq, nat_lt, position, replicate, set, take}
+use Rattle.std.specs.Prelude.{⊤, ◌+◌, ◌-◌, ◌≤◌, ℕ, List, [], ◌∷◌, ◌++◌, Bool, false, Option, None, Some, bytes_eq, codes, cond, decimal, drop, flat_map, fold, get_or, length, map, max, nat_eq, nat_lt, position, replicate, set, take}
 use Rattle.std.specs.List.{AllByRecursion}
 use Rattle.dump_io.specs.lines.Quoting.{quoted}
 use Rattle.raw_form.specs.declared.token.Token.{Token}

@@ -229,7 +229,8 @@ step_on k (scan.Escape (suc n)) b more within less h =
     let is : h.byte ≡ b = cc in
     let after : h.rest ≡ more = cc in
     let no = ne_eqb h.byte 10 h.no_feed in
-    let to : step (scan.Escape (suc n)) b ≡ scan.Text (suc n) = ap (λ x. if x == 10 then scan.Torn else scan.Text (suc n)) (sym is) ∙ ap (λ (c : Bool). if c then scan.Torn else scan.Text (suc n)) no in
+    let to : step (scan.Escape (suc n)) b ≡ scan.Text (suc n) =
+    ap (λ x. if x == 10 then scan.Torn else scan.Text (suc n)) (sym is) ∙ ap (λ (c : Bool). if c then scan.Torn else scan.Text (suc n)) no in
     subst (λ s. Ends s more) (sym to) (subst (EndsText n) after h.behind)
 step_on k scan.Whole b more within less h = let none : ⊥ = cc in absurd none
 step_on k scan.Torn b more within less h = absurd h

@@ -1,6 +1,6 @@
 -- What is between the texts of documents in an input, which follow one another or are the items of one array. `Turn` (src/input/turn.rt) says
 -- what may come at a place between them.
-use Rattle.std.specs.Prelude.{◌≡◌, ◌⊎◌, ℕ, List, [], ◌∷◌, Bool, true, false, codes, not}
+use Rattle.std.specs.Prelude.{◌≡◌, ◌⊎◌, ℕ, List, [], ◌∷◌, Bool, true, false, Option, None, Some, codes, not}
 use Rattle.std.specs.List.{filter}
 use Rattle.dump_io.specs.input.Texts.{is_space}
 use Rattle.dump_io.specs.declared.input.turn.Turn.{Turn}
@@ -21,6 +21,11 @@ Leads turn.Last marks next = (marks ≡ []) × (next ≡ turn.Last)
 abbrev pub IsBetween : Turn → (bytes : List ℕ) → (next : Turn) → Type 0
 IsBetween here bytes next = Leads here (filter (λ b. not (is_space b)) bytes) next
 
+-- what may come after one byte more; nothing, if it can't be there
+abbrev pub TurnsTo : Turn → ℕ → Option Turn → Type 0
+TurnsTo here b (Some next) = IsBetween here (b ∷ []) next
+TurnsTo here b None = (next : Turn) → ¬ IsBetween here (b ∷ []) next
+
 -- whether a document may come
 abbrev pub may_begin : Turn → Bool
 may_begin turn.Comma = false
@@ -29,7 +34,7 @@ may_begin _ = true
 
 -- a byte can't be where this may come: it is neither what may be between documents nor the brace of one
 abbrev pub CantBe : Turn → ℕ → Type 0
-CantBe t b = ((next : Turn) → ¬ IsBetween t (b ∷ []) next) × (b ≡ 123 → may_begin t ≡ false)
+CantBe t b = TurnsTo t b None × (b ≡ 123 → may_begin t ≡ false)
 
 -- whether the input may end
 abbrev pub may_end : Turn → Bool

@@ -1,10 +1,8 @@
--- What the code does with the bytes of a text one by one: how far it has come, and what may come next. No public contract cites this file.
-use Rattle.std.specs.Prelude.{◌≡◌, ◌+◌, ◌-◌, ◌^◌, ◌≤◌, ◌<◌, ◌==◌, ◌&&◌, ℕ, List, ◌∷◌, Bool, true, false, Option, None, Some, if◌then◌else◌, fold, length, nat_lt, take}
+-- How far the text of a document has come, byte by byte. No public contract cites this file.
+use Rattle.std.specs.Prelude.{◌≡◌, ◌+◌, ◌-◌, ◌^◌, ◌≤◌, ◌<◌, ◌==◌, ◌&&◌, ℕ, List, ◌∷◌, Bool, true, false, if◌then◌else◌, fold, length, nat_lt, take}
 use Rattle.dump_io.specs.input.Texts.{begins_level, ends_level, is_separator, is_space}
 use Rattle.dump_io.specs.declared.input.scan.Scan.{Scan}
 use Rattle.dump_io.specs.declared.input.scan.Scan.TheVariants as scan
-use Rattle.dump_io.specs.declared.input.turn.Turn.{Turn}
-use Rattle.dump_io.specs.declared.input.turn.Turn.TheVariants as turn
 use Rattle.dump_io.specs.declared.input.scan.Scanned.{Scanned}
 
 -- A level begins: at the front, or after a colon, a comma or the bracket of an array. Each takes a byte of the 128 MiB that a text may have.
@@ -70,12 +68,3 @@ pub record ScansAhead (ahead : List ℕ) (found : Scanned) : Type 0 where
   pub most : found.len ≤ 2 ^ 27
   pub scan : found.scan ≡ scanned (take found.len ahead)
   pub last : ¬ IsOpen found.scan → (0 < found.len) × IsOpen (scanned (take (found.len - 1) ahead))
-
--- what may come after one byte more between the texts of documents
-abbrev pub turn_step : Turn → ℕ → Option Turn
-turn_step turn.First b = if is_space b then Some turn.First else if b == 91 then Some turn.Item else None
-turn_step turn.Next b = if is_space b then Some turn.Next else None
-turn_step turn.Item b = if is_space b then Some turn.Item else if b == 93 then Some turn.Last else None
-turn_step turn.More b = if is_space b then Some turn.More else None
-turn_step turn.Comma b = if is_space b then Some turn.Comma else if b == 44 then Some turn.More else if b == 93 then Some turn.Last else None
-turn_step turn.Last b = if is_space b then Some turn.Last else None

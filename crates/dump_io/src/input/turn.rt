@@ -2,9 +2,8 @@
 #![tactic(auto)]
 
 ghost use Rattle.std.specs.Prelude.{◌≡◌};
-ghost use Rattle.dump_io.specs.input.Between.{turn_after_document, turn_after_gap};
+ghost use Rattle.dump_io.specs.input.Between.{TurnsTo, turn_after_document, turn_after_gap};
 ghost use Rattle.dump_io.specs.input.Between as says;
-ghost use Rattle.dump_io.specs.input.Scans.{turn_step};
 
 use crate::input::scan::is_space;
 
@@ -28,7 +27,7 @@ pub enum Turn {
 impl Turn {
     /// What may come after one byte more between documents; `None` if the byte can't be there.
     pub fn behind(self, byte: u8) -> Option<Turn>
-        ensures { result ≡ turn_step self byte }
+        ensures { TurnsTo self byte result }
     {
         if is_space(byte) {
             return Some(self);

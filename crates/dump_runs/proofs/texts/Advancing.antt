@@ -3,16 +3,15 @@ use Rattle.std.proofs.Common.{◌≡◌, ◌+◌, ℕ, List, [], ◌∷◌, ◌+
 use Rattle.std.specs.Io.KnownBytes.{Consumes}
 use Rattle.dump_io.specs.input.Reading.{IsWindow, ahead_of}
 use Rattle.dump_runs.specs.texts.Reading.{Advances, FindsText, GoesOnTo, IsAhead, IsScanned, LooksOn, PassesAhead, PassesBetween, PassesGap}
-use Rattle.dump_io.specs.input.Between.{IsBetween, may_begin}
+use Rattle.dump_io.specs.input.Between.{IsBetween, TurnsTo, may_begin}
 use Rattle.dump_io.specs.input.Places.{HasNoLine, begins_line, position_over}
-use Rattle.dump_io.specs.input.Scans.{turn_step}
 use Rattle.dump_runs.specs.declared.texts.cursor.Cursor.{Cursor}
 use Rattle.dump_io.specs.declared.input.position.Position.{Position}
 use Rattle.dump_io.specs.declared.input.turn.Turn.{Turn}
 use Rattle.dump_runs.specs.declared.texts.cursor.NextText.TheVariants as next
 use Rattle.dump_io.specs.declared.input.scan.Scanned.{Scanned}
 use Rattle.dump_io.specs.declared.input.turn.Turn.TheVariants as turn
-use Rattle.dump_io.proofs.Face.{between_byte, between_none, between_on, front_kept, no_line_first, no_line_none, no_line_on, not_between, position_none, position_on, read_behind}
+use Rattle.dump_io.proofs.Face.{between_none, between_on, front_kept, no_line_first, no_line_none, no_line_on, position_none, position_on, read_behind}
 
 -- nothing is passed
 pub advances_none : (r : Option (List ℕ)) (x : Cursor) → IsWindow x.window → Advances r r x x []
@@ -79,29 +78,24 @@ nothing_between r x is = ([], advances_none r x is, between_none x.turn)
 
 module _ {b c : Option (List ℕ)} {y z : Cursor} {o : Option ℕ} {byte : ℕ} where
   pub between_more : (a : Option (List ℕ)) (x w : Cursor) (v : Turn) → HasBetween a b x y → LooksOn b c y z × IsAhead c z o → o ≡ Some byte
-      → turn_step z.turn byte ≡ Some v → PassesAhead (record z { turn = v }) w 1 → HasBetween a c x w
+      → TurnsTo z.turn byte (Some v) → PassesAhead (record z { turn = v }) w 1 → HasBetween a c x w
   between_more a x w v (front, p, turns) (looks, is) some now passed =
       let (rest, ahead) = subst (IsAhead c z) some is in
       let same : IsBetween x.turn front z.turn = subst (IsBetween x.turn front) (sym looks.turn) turns in (
         front ++ byte ∷ [],
         advances_byte a c x z w front byte rest v (advances_ahead a b c x y z front p looks) ahead passed,
-        subst (IsBetween x.turn (front ++ byte ∷ [])) (sym passed.4) (between_on x.turn z.turn v front (byte ∷ []) same (between_byte z.turn v byte now)),
+        subst (IsBetween x.turn (front ++ byte ∷ [])) (sym passed.4) (between_on x.turn z.turn v front (byte ∷ []) same now),
       )
-
--- a byte after which nothing may come can't be there
-cant_stop : (t : Turn) (q : Option ℕ) → IfSome q (λ b. turn_step t b ≡ None) → IfSome q (λ b. (u : Turn) → ¬ IsBetween t (b ∷ []) u)
-cant_stop t None stops = tt
-cant_stop t (Some b) stops = λ u. not_between t u b stops
 
 module _ {b c : Option (List ℕ)} {y z : Cursor} {q : Option ℕ} where
   pub between_ends : (a : Option (List ℕ)) (x : Cursor) (o : Option ℕ) → HasBetween a b x y → LooksOn b c y z × IsAhead c z o → o ≡ q
-      → IfSome q (λ byte. turn_step z.turn byte ≡ None) → PassesBetween a c x z q
+      → IfSome q (λ byte. TurnsTo z.turn byte None) → PassesBetween a c x z q
   between_ends a x o (front, p, turns) (looks, is) same stops = record {
     front = front;
     advances = advances_ahead a b c x y z front p looks;
     turns = subst (IsBetween x.turn front) (sym looks.turn) turns;
     is = subst (IsAhead c z) same is;
-    stops = cant_stop z.turn q stops;
+    stops = stops;
   }
 
 -- and reading failed after it

@@ -1,5 +1,5 @@
 -- What the code tells of an input that is read, and of the part that is next in it. No public contract cites this file.
-use Rattle.std.specs.Prelude.{◌≡◌, ◌⊎◌, ◌+◌, ℕ, List, [], ◌∷◌, ◌++◌, Bool, true, false, Option, Some, IsNone, drop, length, take}
+use Rattle.std.specs.Prelude.{◌≡◌, ◌⊎◌, ◌+◌, ℕ, List, [], ◌∷◌, ◌++◌, Bool, true, false, Option, IsNone, drop, length, take}
 use Rattle.std.specs.Io.KnownBytes.{Consumes, IsAtEnd}
 use Rattle.raw_resync.specs.Seeking.{IsWork, no_work}
 use Rattle.raw_resync.specs.declared.work.Work.{Work}

@@ -3,7 +3,7 @@ use Rattle.std.specs.Prelude.{◌≡◌, ◌⊎◌, ◌+◌, ◌^◌, ◌≤◌,
 use Rattle.std.specs.Io.KnownBytes.{Consumes, IsAtEnd}
 use Rattle.dump_io.specs.input.Reading.{IsWindow, ReadsAhead, ahead_of, offset_of}
 use Rattle.bson_from_json.specs.JsonReason.TheVariants as json
-use Rattle.dump_io.specs.input.Between.{CantBe, IsBetween, may_begin, may_end}
+use Rattle.dump_io.specs.input.Between.{CantBe, IsBetween, TurnsTo, may_begin, may_end}
 use Rattle.dump_io.specs.input.Places.{HasNoLine, begins_line, position_over}
 use Rattle.dump_io.specs.input.Scans.{HasBrace, IsOpen, ScansAhead}
 use Rattle.dump_runs.specs.texts.Faults.{reason_between}
@@ -59,7 +59,7 @@ pub record PassesBetween (old new : Option (List ℕ)) (cursor_old cursor_new : 
   pub advances : Advances old new cursor_old cursor_new front
   pub turns : IsBetween cursor_old.turn front cursor_new.turn
   pub is : IsAhead new cursor_new behind
-  pub stops : IfSome behind (λ b. (t : Turn) → ¬ IsBetween cursor_new.turn (b ∷ []) t)
+  pub stops : IfSome behind (λ b. TurnsTo cursor_new.turn b None)
 
 -- bytes were passed in which no line begins with a brace, up to such a line, or to the end of the input
 pub record PassesGap (old new : Option (List ℕ)) (cursor_old cursor_new : Cursor) : Type 0 where

@@ -2,27 +2,19 @@ use Rattle.std.proofs.Common.{[], ◌∷◌, refl, rules, subst, sym}
 use Rattle.raw_form.specs.Tokens.{HasTokens}
 use Rattle.dump_io.specs.lines.Origins.{origin_of}
 use Rattle.dump_io.proofs.Face.{on_ok}
-use Rattle.dump_commands.specs.Gathering.{AreFields, Gathers}
+use Rattle.dump_commands.specs.Gathering.{AreFields}
 use Rattle.dump_commands.proofs.Gathers.{gathers_one}
 use Rattle.dump_commands.proofs.gathering.gather.Goals as goal
 
 pub returns-in_ok-tokens-in-Fields-Canonical-clause-counted : goal.returns-in_ok-tokens-in-Fields-Canonical-clause-counted
 returns-in_ok-tokens-in-Fields-Canonical-clause-counted c =
-    let place = origin_of c.args.origin in
     let b = c.args.bytes.now in
     let limits = c.args.limits in
-    let f = c.args.finding in
-    let k = c.args.kept.now in
-    let k' = c.add_document.new.self in
     let has = subst (HasTokens limits.depth 0 0 b) (sym c.deref.ensures.value) c.in_ok-tokens-in-Fields-Canonical.ensures.tokens in
-    on_ok c.add_document.result _ _
-    (λ added. subst (λ x. Gathers limits x place b f k k') (sym c.in-Fields-Canonical.is-0)
-    (gathers_one (AreFields limits place b) f _ k k' (search rules) (c.deref.result.now, has, refl) added))
-    c.add_document.ensures.added
+    rw c.in-Fields-Canonical.is-0 (on_ok c.add_document.result _ _
+    (λ added. gathers_one (AreFields limits (origin_of c.args.origin) b) c.args.finding _ c.args.kept.now c.add_document.new.self (search rules) (c.deref.result.now, has, refl) added)
+    c.add_document.ensures.added)
 
 pub returns-in-Measure-default-clause-counted : goal.returns-in-Measure-default-clause-counted
 returns-in-Measure-default-clause-counted c =
-    on_ok c.measure.result _ _
-    (λ added. subst (λ x. Gathers c.args.limits x (origin_of c.args.origin) c.args.bytes.now c.args.finding c.args.kept.now c.measure.new.self) (sym c.in-Measure-default.is-0)
-    (added.0 ∷ [], (added.0, added.1, refl), added.2))
-    c.measure.ensures.added
+    rw c.in-Measure-default.is-0 (on_ok c.measure.result _ _ (λ added. (added.0 ∷ [], (added.0, added.1, refl), added.2)) c.measure.ensures.added)

@@ -1,8 +1,8 @@
-use Rattle.std.proofs.Common.{rules, ◌≡◌, ℕ, List, [], Bool, true, false, Option, refl, subst, sym, ◌∙◌}
+use Rattle.std.proofs.Common.{rules, ◌≡◌, ℕ, List, [], Bool, true, false, Option, refl, subst, sym}
 use Rattle.std.proofs.KnownBytes.{Appends-nil}
 use Rattle.std.specs.Io.KnownBytes.{Appends}
 use Rattle.std.specs.Option.{option_copied}
-use Rattle.dump_commands.specs.Commands.{counts_of, keeps, summary_line}
+use Rattle.dump_commands.specs.Commands.{counts_of, keeps}
 use Rattle.dump_commands.specs.Summary.{Count, line_of}
 use Rattle.dump_commands.specs.declared.counts.Counts.{Counts}
 use Rattle.dump_io.specs.declared.lines.style.Style.{Style}

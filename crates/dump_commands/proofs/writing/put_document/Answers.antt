@@ -1,12 +1,10 @@
-use Rattle.std.proofs.Common.{◌≡◌, [], ◌∷◌, true, sym, ◌∙◌}
+use Rattle.std.proofs.Common.{[], ◌∷◌, sym, ◌∙◌}
 use Rattle.std.proofs.lemmas.Result.{IfOk-weaker}
 use Rattle.dump_io.specs.lines.Fronts.{AppendsFront}
 use Rattle.dump_commands.specs.Emitting.{Puts}
-use Rattle.dump_commands.specs.Making.{is_unique}
 use Rattle.dump_commands.specs.state.Forms.{knows, made_as}
 use Rattle.dump_commands.specs.Unique.{written_of}
 use Rattle.dump_commands.specs.declared.command.Command.TheVariants.{Writes}
-use Rattle.dump_commands.specs.declared.making.Making.{Making}
 use Rattle.dump_io.proofs.Face.{on_err}
 use Rattle.dump_commands.proofs.writing.put_document.Goals as goal
 

@@ -1,4 +1,3 @@
-use Rattle.std.proofs.Common.{List, ℕ}
 use Rattle.std.proofs.KnownBytes.{Appends-trans}
 use Rattle.dump_io.proofs.Face.{front_behind, front_first, on_any, on_err, on_ok}
 use Rattle.dump_runs.proofs.sums.put_all.Goals as goal

@@ -1,4 +1,4 @@
-use Rattle.std.proofs.Common.{◌≡◌, List, arith, refl, rules, subst, sym, ℕ}
+use Rattle.std.proofs.Common.{arith, refl, rules, subst, sym}
 use Rattle.std.proofs.lemmas.Str.Pattern.{split_parts}
 use Rattle.raw_view.specs.Document.{bytes_of}
 use Rattle.dump_commands.specs.elements.Pick.{comma, parts}

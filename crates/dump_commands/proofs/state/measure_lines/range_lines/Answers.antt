@@ -1,4 +1,4 @@
-use Rattle.std.proofs.Common.{arith, rules}
+use Rattle.std.proofs.Common.{arith}
 use Rattle.std.proofs.lemmas.Grind.{common_steps}
 use Rattle.dump_commands.proofs.Rowing.{ranges_end, ranges_next}
 use Rattle.dump_commands.proofs.state.measure_lines.range_lines.Goals as goal

@@ -1,4 +1,4 @@
-use Rattle.std.proofs.Common.{◌≡◌, ◌∙◌, List, ap, map, nat_lt, ℕ}
+use Rattle.std.proofs.Common.{◌∙◌, List, ap, map, nat_lt, ℕ}
 use Rattle.std.specs.List.{insert, position_or_len}
 use Rattle.dump_commands.specs.state.Measures.{Ranked, ranked_of}
 use Rattle.dump_commands.specs.declared.state.measures.Ranked as code

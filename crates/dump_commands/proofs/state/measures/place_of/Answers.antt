@@ -1,4 +1,4 @@
-use Rattle.std.proofs.Common.{◌≡◌, ◌∙◌, ap, arith, false, get_or, length, map, nat_lt, rules, sym, true}
+use Rattle.std.proofs.Common.{◌≡◌, ◌∙◌, ap, arith, false, get_or, map, nat_lt, sym, true}
 use Rattle.std.proofs.lemmas.List.{get_or-map, length-map}
 use Rattle.dump_commands.specs.state.Measures.{Ranked, ranked_of}
 use Rattle.dump_commands.proofs.state.Ranking.{passes_one, stays_there}

@@ -1,4 +1,4 @@
-use Rattle.std.proofs.Common.{rules, [], ◌∷◌, ◌++◌, OnOk, codes, decimal}
+use Rattle.std.proofs.Common.{[], ◌∷◌, ◌++◌, OnOk, codes, decimal}
 use Rattle.json.specs.Token.{key, number}
 use Rattle.dump_io.specs.lines.Told.{Grows}
 use Rattle.dump_io.proofs.Face.{grows_more, on_ok}

@@ -1,4 +1,4 @@
-use Rattle.std.proofs.Common.{ap, length, refl, sym}
+use Rattle.std.proofs.Common.{ap, length, refl}
 use Rattle.dump_io.specs.lines.Origins.{origin_of}
 use Rattle.dump_io.proofs.Face.{on_ok}
 use Rattle.dump_commands.specs.state.Gathered.{gathered_of, of_length, of_place, of_rank}

@@ -1,4 +1,4 @@
-use Rattle.std.proofs.Common.{rules, sym}
+use Rattle.std.proofs.Common.{rules}
 use Rattle.dump_runs.proofs.texts.Advancing.{between_ends, between_fails, between_more, nothing_between}
 use Rattle.dump_io.proofs.Face.{if_err_reading}
 use Rattle.dump_runs.proofs.texts.cursor.Cursor.pass_between.Goals as goal
@@ -20,7 +20,7 @@ pub loop-preserved : goal.loop-preserved
 loop-preserved g c =
     let r = g.R.Read.remaining in
     between_more (r c.args.reader.now) c.args.self.now c.pass.new.self _
-    c.loop.invariant c.in_ok-byte.ensures.next c.in-Some.is (sym c.in-Some-behind.ensures) c.in_ok-pass.ensures.passed
+    c.loop.invariant c.in_ok-byte.ensures.next c.in-Some.is c.in-Some-behind.ensures c.in_ok-pass.ensures.passed
 
 pub returns-in_err-byte-clause-fails : goal.returns-in_err-byte-clause-fails
 returns-in_err-byte-clause-fails g c =
