@@ -75,7 +75,10 @@ impl<R: Read> Read for Digits<R> {
             return self.reader.read(buf);
         }
         let mut room = [0; ROOM];
-        while !buf.is_empty() {
+        if buf.is_empty() {
+            return Ok(0);
+        }
+        for _ in 0..u64::MAX {
             if let Some(at) = self.wrong {
                 return Err(self.error("no hex digit", at));
             }
