@@ -77,13 +77,17 @@ makes_if Is f text (inl canonical) is = rw canonical (text, is, refl)
 makes_if Is f text (inr breached) is = rw breached (text, is, refl)
 
 -- of each of these documents one text is made, and all are written
+-- such a text is written, and counted
+abbrev pub IsTextPut : (Is : List ℕ → Type 0) → (d d' : Option (List ℕ)) → (kept : Kept × Kept) → Type 0
+IsTextPut Is d d' kept = (text : List ℕ) × Is text × Appends d d' text × CountsOne kept.0 kept.1
+
 module _ (m : Making) (all : is_unique m ≡ false) (Is : List ℕ → Type 0) (b : List ℕ) (f : Finding)
     (makes : (made : List Made) → MakesIf Is f made → MakesOf m b f made) (clean : IsClean f) (d d' : Option (List ℕ)) where
   one_written : (text : List ℕ) (known : List ℕ → Bool) → text ≡ flat_map (λ (m : Made). m.bytes) (kept_if (is_unique m) known (plain text ∷ []))
   one_written text known = rw all (sym (append-nil text))
 
-  pub text_emitted : (at : Origin) (k k' : Kept) → (text : List ℕ) × Is text × Appends d d' text × CountsOne k k' → Emits (command.Writes m) at b f d d' k k' None
-  text_emitted at k k' (text, is, put, (counted, same)) = (
+  pub text_emitted : (at : Origin) (kept : Kept × Kept) → IsTextPut Is d d' kept → Emits (command.Writes m) at b f d d' kept.0 kept.1 None
+  text_emitted at (k, k') (text, is, put, (counted, same)) = (
     plain text ∷ [],
     makes (plain text ∷ []) (makes_if Is f text clean is),
     (
@@ -104,7 +108,7 @@ module _ (m : Making) (all : is_unique m ≡ false) (Is : List ℕ → Type 0) (
 pub json_emitted : (style : json.Style) (at : Origin) (b : List ℕ) (f : Finding) (d d' : Option (List ℕ)) (k k' : Kept) → IsClean f
     → (text : List ℕ) × IsJson style b text × Appends d d' (text ++ codes "\n") × CountsOne k k' → Emits (command.Writes (making.Json style)) at b f d d' k k' None
 json_emitted style at b f d d' k k' clean (text, is, put, counted) =
-    text_emitted (making.Json style) refl (IsJsonLine style b) b f (λ made is. is) clean d d' at k k' (text ++ codes "\n", (text, is, refl), put, counted)
+    text_emitted (making.Json style) refl (IsJsonLine style b) b f (λ made is. is) clean d d' at (k, k') (text ++ codes "\n", (text, is, refl), put, counted)
 
 json_front : (style : json.Style) (b : List ℕ) (d d' : Option (List ℕ)) → WroteFront style b d d' → WritesFront (IsJsonLine style b) d d'
 json_front style b d d' (text, is, front) =
@@ -143,9 +147,13 @@ makes_form : (m : Making) (b form : List ℕ) (f : Finding) → MakesForms m →
 makes_form m b form f (inl e) breached is = rw (e, breached) (form, is, refl)
 makes_form m b form f (inr (s, e)) breached is = rw (e, breached) (form, is, refl)
 
+-- it is put
+abbrev pub IsFormPut : Making → Origin → (b : List ℕ) → (d d' : Option (List ℕ)) → (k k' : Kept) → Option Origin → Type 0
+IsFormPut m at b d d' k k' first = (form : List ℕ) × IsCanonicalForm b form × Puts (command.Writes m) at (form_made m b form) d d' k k' first
+
 -- of a document that isn't canonical it is written
 pub form_emitted : (m : Making) (at : Origin) (b : List ℕ) (f : Finding) (d d' : Option (List ℕ)) (k k' : Kept) (first : Option Origin) → MakesForms m → f ≡ finding.Breached
-    → (form : List ℕ) × IsCanonicalForm b form × Puts (command.Writes m) at (form_made m b form) d d' k k' first → Emits (command.Writes m) at b f d d' k k' first
+    → IsFormPut m at b d d' k k' first → Emits (command.Writes m) at b f d d' k k' first
 form_emitted m at b f d d' k k' first makes breached (form, is, puts) = (form_made m b form, makes_form m b form f makes breached is, puts)
 
 -- or a front of it

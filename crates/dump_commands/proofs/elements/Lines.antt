@@ -12,9 +12,9 @@ next_step (suc n) at (x ∷ xs) h more =
     rw (yes, less) refl
 
 -- a line more is put
-pub next_put : (text new row rest behind all : List ℕ) (n at : ℕ) → text ++ next_lines n at rest ≡ all → 0 < n → 0 < length rest → row ≡ take 16 rest
-    → behind ≡ drop 16 rest → new ≡ text ++ line_at at (row_text 32 row) → new ++ next_lines (n - 1) (at + 16) behind ≡ all
-next_put text new row rest behind all n at so h more front back put =
+pub next_put : (text new row rest behind all : List ℕ) (n at : ℕ) → text ++ next_lines n at rest ≡ all → (0 < n) × (0 < length rest)
+    → (row ≡ take 16 rest) × (behind ≡ drop 16 rest) → new ≡ text ++ line_at at (row_text 32 row) → new ++ next_lines (n - 1) (at + 16) behind ≡ all
+next_put text new row rest behind all n at so (h, more) (front, back) put =
     (λ i. put i ++ next_lines (n - 1) (at + 16) (back i)) ∙ append_assoc text (line_at at (row_text 32 row)) (next_lines (n - 1) (at + 16) (drop 16 rest))
     ∙ ap (λ (x : List ℕ). text ++ (line_at at (row_text 32 x) ++ next_lines (n - 1) (at + 16) (drop 16 rest))) front
     ∙ ap (λ (x : List ℕ). text ++ x) (sym (next_step n at rest h more)) ∙ so

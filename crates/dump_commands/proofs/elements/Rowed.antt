@@ -14,9 +14,6 @@ IsCellAt b path text = (goal : Option Frame) × LeadsTo b (parts dot path) goal 
 abbrev pub RowOn : Separator → (b text done rest : List ℕ) → Type 0
 RowOn s b text done rest = (row : List ℕ) → IsRow s b (parts comma rest) row → IsRow s b (parts comma text) (done ++ row)
 
-pub row_begins : (s : Separator) (b text done : List ℕ) → done ≡ [] → RowOn s b text done text
-row_begins s b text done none row is = subst (λ (x : List ℕ). IsRow s b (parts comma text) (x ++ row)) (sym none) is
-
 -- what a path's row begins with: its cell, and what is after it
 abbrev pub with_cell : Separator → (done cell : List ℕ) → (byte : ℕ) → List ℕ
 with_cell s done cell byte = (done ++ written s cell) ++ byte ∷ []

@@ -193,28 +193,31 @@ Advances k here old new runs = (e : Extent) (rest : List Run) → HaveLevelsRuns
 
 -- the same within those that wait
 module _ (k here : ℕ) (old new : List (List ℕ)) (runs : List Run) (step : Advances k here old new runs) where
-  inmost : (e : Extent) (n depth : ℕ) (rest : List Run) → n ≡ k → here ≡ depth → HaveLevelsRuns e n depth new rest → HaveLevelsRuns e n depth old (runs ++ rest)
-  inmost e n depth rest levels place h =
+  inmost : (e : Extent) (n depth : ℕ) (rest : List Run) → (n ≡ k) × (here ≡ depth) → HaveLevelsRuns e n depth new rest → HaveLevelsRuns e n depth old (runs ++ rest)
+  inmost e n depth rest (levels, place) h =
       subst (λ (m : ℕ). HaveLevelsRuns e m depth new rest → HaveLevelsRuns e m depth old (runs ++ rest)) (sym levels)
       (subst (λ (d : ℕ). HaveLevelsRuns e k d new rest → HaveLevelsRuns e k d old (runs ++ rest)) place (step e rest)) h
 
-  outward : (e : Extent) (n depth : ℕ) (ws : List (List ℕ)) (rest : List Run) → n ≡ length ws + k → here ≡ depth + length ws
-      → HaveLevelsRuns e n depth (ws ++ new) rest → HaveLevelsRuns e n depth (ws ++ old) (runs ++ rest)
-  outward e n depth [] rest many at h = inmost e n depth rest (omega arith) (omega arith) h
-  outward Whole zero depth (w ∷ ws) rest many at h = absurd h
-  outward Begun zero depth (w ∷ ws) rest many at h = absurd h
-  outward Whole (suc n) depth (w ∷ ws) rest many at (inner, last, levels, left, is) = (
+  -- what shows the new levels, within these that wait
+  abbrev ShowsAround : Extent → (n depth : ℕ) → (ws : List (List ℕ)) → List Run → Type 0
+  ShowsAround e n depth ws rest = (n ≡ length ws + k) × (here ≡ depth + length ws) × HaveLevelsRuns e n depth (ws ++ new) rest
+
+  outward : (e : Extent) (n depth : ℕ) (ws : List (List ℕ)) (rest : List Run) → ShowsAround e n depth ws rest → HaveLevelsRuns e n depth (ws ++ old) (runs ++ rest)
+  outward e n depth [] rest (many, at, h) = inmost e n depth rest (omega (arith, many), omega (arith, at)) h
+  outward Whole zero depth (w ∷ ws) rest (many, at, h) = absurd h
+  outward Begun zero depth (w ∷ ws) rest (many, at, h) = absurd h
+  outward Whole (suc n) depth (w ∷ ws) rest (many, at, (inner, last, levels, left, is)) = (
     runs ++ inner,
     last,
-    outward Whole n (depth + 1) ws inner (omega arith) (omega arith) levels,
+    outward Whole n (depth + 1) ws inner (omega (arith, many), omega (arith, at), levels),
     left,
     ap (λ (x : List Run). runs ++ x) is ∙ sym (append_assoc runs inner last),
   )
-  outward Begun (suc n) depth (w ∷ ws) rest many at (inl h) = inl (outward Begun n (depth + 1) ws rest (omega arith) (omega arith) h)
-  outward Begun (suc n) depth (w ∷ ws) rest many at (inr (inner, last, levels, left, is)) = inr (
+  outward Begun (suc n) depth (w ∷ ws) rest (many, at, inl h) = inl (outward Begun n (depth + 1) ws rest (omega (arith, many), omega (arith, at), h))
+  outward Begun (suc n) depth (w ∷ ws) rest (many, at, inr (inner, last, levels, left, is)) = inr (
     runs ++ inner,
     last,
-    outward Whole n (depth + 1) ws inner (omega arith) (omega arith) levels,
+    outward Whole n (depth + 1) ws inner (omega (arith, many), omega (arith, at), levels),
     left,
     ap (λ (x : List Run). runs ++ x) is ∙ sym (append_assoc runs inner last),
   )
@@ -315,18 +318,18 @@ module _ (here : ℕ) (s : List ℕ) where
       joined a last rest is =
           append_assoc runs (head ∷ []) rest ∙ ap (λ (x : List Run). runs ++ head ∷ x) is ∙ sym (append_assoc runs (head ∷ a) last)
 
-      after_inner : (m : ℕ) (e : Extent) (a last : List Run) → HaveLevelsRuns Whole (suc m) (here + 1) (drop 4 (bytes_of inner.document) ∷ []) a
-          → HasLeftRuns (HasRuns (suc m) (here + 1)) e here t last → HasLeftRuns (HasRuns (suc m) (here + 1)) e here s ((runs ++ head ∷ a) ++ last)
-      after_inner m e a last levels left =
-          left_more (suc m) e (runs ++ head ∷ a) last (held_runs (HasRuns (suc m) (here + 1) Whole) (head ∷ a) (inner_runs m Whole a levels)) left
+      -- the runs of the level inside, after what its element has
+      has_inside : (m : ℕ) (a : List Run) → HaveLevelsRuns Whole (suc m) (here + 1) (drop 4 (bytes_of inner.document) ∷ []) a
+          → HasFrameRuns (HasRuns (suc m) (here + 1) Whole) here f (runs ++ head ∷ a)
+      has_inside m a levels = held_runs (HasRuns (suc m) (here + 1) Whole) (head ∷ a) (inner_runs m Whole a levels)
 
       advance_inside : (m : ℕ) → Advances (suc (suc m)) here (s ∷ []) (t ∷ drop 4 (bytes_of inner.document) ∷ []) (runs ++ head ∷ [])
       advance_inside m Whole rest (a, last, levels, left, is) =
           subst (HaveLevelsRuns Whole (suc (suc m)) here (s ∷ [])) (sym (joined a last rest is))
-          (alone (suc m) here s Whole ((runs ++ head ∷ a) ++ last) (after_inner m Whole a last levels left))
+          (alone (suc m) here s Whole ((runs ++ head ∷ a) ++ last) (left_more (suc m) Whole (runs ++ head ∷ a) last (has_inside m a levels) left))
       advance_inside m Begun rest (inr (a, last, levels, left, is)) =
           subst (HaveLevelsRuns Begun (suc (suc m)) here (s ∷ [])) (sym (joined a last rest is))
-          (alone (suc m) here s Begun ((runs ++ head ∷ a) ++ last) (after_inner m Begun a last levels left))
+          (alone (suc m) here s Begun ((runs ++ head ∷ a) ++ last) (left_more (suc m) Begun (runs ++ head ∷ a) last (has_inside m a levels) left))
       advance_inside m Begun rest (inl h) =
           let first = held_runs (HasRuns (suc m) (here + 1) Begun) (head ∷ rest) (inner_runs m Begun rest h) in
           subst (HaveLevelsRuns Begun (suc (suc m)) here (s ∷ [])) (sym (append_assoc runs (head ∷ []) rest))
@@ -360,7 +363,8 @@ module _ (ws : List Level) (l : Level) (few : length ws < 500) where
       → (e : Extent) (rest : List Run) → HaveLevelsRuns e 500 0 (map left_in ws ++ new) rest → HaveLevelsRuns e 500 0 (levels_of ws l) (runs ++ rest)
   lifted m new runs many step e rest h =
       subst (λ (x : List (List ℕ)). HaveLevelsRuns e 500 0 x (runs ++ rest)) (sym (levels_push ws l))
-      (outward (suc m) (length ws) (left_in l ∷ []) new runs step e 500 0 (map left_in ws) rest (omega (arith, many, length_lefts ws)) (omega (arith, length_lefts ws)) h)
+      (outward (suc m) (length ws) (left_in l ∷ []) new runs step e 500 0 (map left_in ws) rest
+      (omega (arith, many, length_lefts ws), omega (arith, length_lefts ws), h))
 
   many : 500 ≡ length ws + suc (499 - length ws)
   many = omega (arith, few)

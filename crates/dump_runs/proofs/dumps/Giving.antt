@@ -70,7 +70,8 @@ module _ {job : Job} {p : Piece} {n : Counts} (j : IsFound job p n) where
   )
 
   -- that line, and a front of the listing
-  pub front_listing : {d a w w' : Option (List ℕ)} {k : Kept} (v : Option (List ℕ)) → Appends w v p.judged.line.items → (lines : List ℕ) × ListsFront job.command p.at.offset p.bytes.now lines × Appends v w' lines
+  pub front_listing : {d a w w' : Option (List ℕ)} {k : Kept} (v : Option (List ℕ)) → Appends w v p.judged.line.items
+      → (lines : List ℕ) × ListsFront job.command p.at.offset p.bytes.now lines × Appends v w' lines
       → HaltsPiece job p (holds d a w n k) (holds d a w' n k)
   front_listing {d = d} {a = a} {w = w} {w' = w'} {k = k} v first (lines, front, put) =
       let text = p.judged.line.items ++ lines in (

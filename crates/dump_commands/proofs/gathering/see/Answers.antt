@@ -13,4 +13,5 @@ returns-in_ok-flags-in-Some-Canonical-clause-counted c =
     let b = c.args.bytes.now in
     let picks : picking_of c.args.making ≡ Some picking = sym c.picking.ensures ∙ c.in-Some-Canonical.is-0 in
     let has = subst (HasEach picking.choice b (parts comma picking.paths.now)) (sym c.deref.ensures.value) c.in_ok-flags-in-Some-Canonical.ensures in
-    rw picks (on_ok c.see.result _ _ (λ added. gathers_one (AreSeen picking b) c.args.finding _ c.args.kept.now c.see.new.self (search rules) (c.deref.result.now, has, refl) added) c.see.ensures.added)
+    rw picks (on_ok c.see.result _ _ (λ added. gathers_one (AreSeen picking b) c.args.finding _ c.args.kept.now c.see.new.self (search rules) (c.deref.result.now, has, refl) added)
+    c.see.ensures.added)

@@ -13,7 +13,8 @@ returns-in_default-clause-goes c =
     let new = c.push_next.new.level in
     let len : c.len-depth.result ≡ length ws = search rules in
     let (runs, steps, put) = c.in_ok-push_next.ensures.put in
-    let ends = subst (λ (n : Next). StepsRuns (length ws) (left_in l) (left_in new) runs n) c.in-End.is (subst (λ (d : ℕ). StepsRuns d (left_in l) (left_in new) runs c.in_ok-push_next.field-0) len steps) in
+    let ends = subst (λ (n : Next). StepsRuns (length ws) (left_in l) (left_in new) runs n) c.in-End.is
+    (subst (λ (d : ℕ). StepsRuns d (left_in l) (left_in new) runs c.in_ok-push_next.field-0) len steps) in
     let none : ws ≡ [] = search rules in
     (runs, goes_end ws l c.requires runs none ends, put)
 
@@ -24,7 +25,8 @@ returns-in-Some-clause-goes c =
     let new = c.push_next.new.level in
     let len : c.len-depth.result ≡ length ws = search rules in
     let (runs, steps, put) = c.in_ok-push_next.ensures.put in
-    let ends = subst (λ (n : Next). StepsRuns (length ws) (left_in l) (left_in new) runs n) c.in-End.is (subst (λ (d : ℕ). StepsRuns d (left_in l) (left_in new) runs c.in_ok-push_next.field-0) len steps) in
+    let ends = subst (λ (n : Next). StepsRuns (length ws) (left_in l) (left_in new) runs n) c.in-End.is
+    (subst (λ (d : ℕ). StepsRuns d (left_in l) (left_in new) runs c.in_ok-push_next.field-0) len steps) in
     (runs, goes_outward ws l c.requires c.pop.new.self.items c.in-Some.outer runs c.in-Some.ensures.items ends, put)
 
 pub returns-in-Element-clause-goes : goal.returns-in-Element-clause-goes
