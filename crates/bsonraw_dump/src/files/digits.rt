@@ -87,9 +87,9 @@ impl<R: Read> Read for Digits<R> {
             if len == 0 && self.first.is_some() {
                 return Err(self.error("the second hex digit of a byte is missing", self.at));
             }
-            let len_of_bytes = self.put(&room[..len.min(ROOM)], buf);
-            if len == 0 || len_of_bytes > 0 {
-                return Ok(len_of_bytes);
+            let count = self.put(&room[..len.min(ROOM)], &mut *buf).min(most);
+            if len == 0 || count > 0 {
+                return Ok(count);
             }
         }
         Ok(0)
