@@ -22,7 +22,6 @@ WANTED: List[Tuple[str, Set[str]]] = [
     ("split --pa", {"--parts"}),
     ("json --c", {"--canonical", "--color"}),
     ("pick --pr", {"--pretty"}),
-    ("pick --w", {"--without"}),
     ("pick --cs", {"--csv"}),
     ("check --c", {"--color"}),
     ("list --color ", {"auto", "always", "never"}),
