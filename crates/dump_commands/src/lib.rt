@@ -2,7 +2,8 @@
 //!
 //! - `command` has the groups of commands, and says how one is added; `job` has what is asked of one.
 //! - `reporting` has the commands that print lines of documents, and the lines that others print of what they leave out; `finding` says what is
-//!   found in a document, and `summary` tells what was counted. `elements` lists the elements, and picks those at paths.
+//!   found in a document, and `summary` tells what was counted. `elements` lists the elements, shows their bytes, and picks those at
+//!   paths.
 //! - `gathering` has the commands that gather something of all documents.
 //! - `making` has the commands that write the document, its canonical form, or its JSON; `picking` says what is picked of it, `texts` keeps a
 //!   damaged one, with its texts replaced, and `writing` writes it.
