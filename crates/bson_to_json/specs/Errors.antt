@@ -1,5 +1,5 @@
 -- Why a document isn't printed, or not all of it. The bytes b of a document have an envelope.
-use Rattle.std.specs.Prelude.{◌≡◌, ◌⊎◌, ◌≤◌, ℕ, List, length, Option, Some}
+use Rattle.std.specs.Prelude.{◌≡◌, ◌⊎◌, ◌≤◌, ℕ, Bool, true, List, length, Option, Some}
 use Rattle.bson_model.specs.Tree.{Tree}
 use Rattle.raw_tree.specs.Barriers.{TellsBarrier}
 use Rattle.raw_tree.specs.WithinLimits.{ReadsWithin}
@@ -23,3 +23,9 @@ abbrev pub TellsWriteError : Limits → Style → List ℕ → Option (List ℕ)
 TellsWriteError limits style b old new (write.Barrier answer) = TellsBarrier limits b (Some answer) × (new ≡ old)
 TellsWriteError limits style b old new write.OutOfMemory = (length b ≤ limits.bytes) × ((new ≡ old) ⊎ WroteFront style b old new)
 TellsWriteError limits style b old new (write.Writing e) = (t : Tree) × ReadsWithin limits b t × WroteFront style b old new
+
+-- Whether a write failed, before and now, after this error. The writer's own error is returned only where a write failed. Any other error leaves
+-- it as it was.
+abbrev pub IsCaused : (old new : Bool) → WriteJsonError → Type 0
+IsCaused old new (write.Writing e) = new ≡ true
+IsCaused old new _ = new ≡ old

@@ -6,6 +6,8 @@ pub mod Measured
 pub mod Json
 pub mod ShortTexts
 pub mod Written
+pub mod Guarding
+pub mod Causes
 pub mod Errors
 pub mod Levels
 pub mod Passing

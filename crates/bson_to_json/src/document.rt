@@ -8,12 +8,14 @@ ghost use Rattle.bson_model.specs.Tree.{Tree};
 ghost use Rattle.raw_tree.specs.WithinLimits.{ReadsWithin};
 ghost use Rattle.raw_tree.specs.declared.reader.limits.Limits.{Limits};
 ghost use Rattle.raw_view.specs.Document.{bytes_of};
-ghost use Rattle.bson_to_json.specs.Errors.{TellsJsonError, TellsWriteError};
+ghost use Rattle.bson_to_json.specs.Errors.{IsCaused, TellsJsonError, TellsWriteError};
+ghost use Rattle.bson_to_json.specs.Guarding.{failed_of, inner_of};
 ghost use Rattle.bson_to_json.specs.Json.{IsJson};
 ghost use Rattle.bson_to_json.specs.Measured.{Measures};
 ghost use Rattle.bson_to_json.specs.Passing.{TellsBriefly};
 
 use crate::error::{ToJsonError, WriteJsonError};
+use crate::guarded::Guarded;
 use crate::print::{PrintError, print};
 use crate::sink::{Counted, Failure, Measured};
 use crate::style::Style;
@@ -25,29 +27,31 @@ use std::io::Write;
 /// Writes a document within limits as MongoDB Extended JSON v2. Each element is written as it is: repeated keys in
 /// order, an array without its keys. If the error is the first barrier, as `first_fault_within` returns it,
 /// nothing was written. If it is the error of the writer, or out of memory, a prefix of the text may have been
-/// written. BSON 1.1, `document`.
+/// written. It is the error of the writer only if a write failed, which `has_failed` says then. BSON 1.1, `document`.
 ///
 /// Not in the contract: memory is taken for the levels, for the text of one value, and for 4 KiB, which are
 /// written in one call. No depth fills the stack.
 /// ```
 /// let document = RawDocument::from_bytes(b"\x0C\0\0\0\x10a\0\x01\0\0\0\0")?;
 /// let style = Style { format: Format::Canonical, layout: Layout::OneLine };
-/// let mut out = Vec::new(alloc);
+/// let mut out = Guarded::new(Vec::new(alloc));
 /// assert!(rt; write_json(alloc, document, style, Limits { bytes: 1000, depth: 10 }, &mut out).is_ok());
-/// assert_eq!(rt; out.as_slice(), b"{\"a\":{\"$numberInt\":\"1\"}}".as_slice());
+/// assert_eq!(rt; out.into_inner().as_slice(), b"{\"a\":{\"$numberInt\":\"1\"}}".as_slice());
 /// ```
 pub fn write_json<'a, W: Write>(
     alloc: Global,
     document: RawDocument<'a>,
     style: Style,
     limits: Limits,
-    out: &mut W,
+    out: &mut Guarded<W>,
 ) -> Result<(), WriteJsonError<'a>>
     ensures text { OnOk result ((text : List ℕ) × IsJson style (bytes_of document.entry) text
-        × Appends (W.contents out.old) (W.contents out.new) text) }
+        × Appends (W.contents (inner_of out.old)) (W.contents (inner_of out.new)) text) }
     ensures within { OnOk result ((t : Tree) × ReadsWithin limits (bytes_of document.entry) t) }
+    ensures same { OnOk result (failed_of out.new ≡ failed_of out.old) }
     ensures err { IfErr result
-        (TellsWriteError limits style (bytes_of document.entry) (W.contents out.old) (W.contents out.new)) }
+        (TellsWriteError limits style (bytes_of document.entry) (W.contents (inner_of out.old)) (W.contents (inner_of out.new))) }
+    ensures caused { IfErr result (IsCaused (failed_of out.old) (failed_of out.new)) }
 {
     match print(alloc, document, style, limits, true, out) {
         Ok(()) => Ok(()),

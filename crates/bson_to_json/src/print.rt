@@ -5,6 +5,7 @@ ghost use Rattle.std.specs.Prelude.{◌≡◌, ℕ, List, true, IfErr, IfOk, OnO
 ghost use Rattle.bson_model.specs.Tree.{Tree};
 ghost use Rattle.raw_tree.specs.WithinLimits.{ReadsWithin};
 ghost use Rattle.raw_view.specs.Document.{bytes_of};
+ghost use Rattle.bson_to_json.specs.Causes.{EndsAs};
 ghost use Rattle.bson_to_json.specs.Json.{IsJson};
 ghost use Rattle.bson_to_json.specs.Levels.{PutsEvent, Suits};
 ghost use Rattle.bson_to_json.specs.Passing.{Guards, IsSeen, TellsLookError, TellsPassError, TellsPrintError};
@@ -115,6 +116,8 @@ fn pass_on<'a, S: Sink>(
         → Guards limits (bytes_of document.entry) still before out.new) }
     ensures told { IfErr result
         (TellsPassError S.has limits (bytes_of document.entry) unseen out.old out.new block.old.items) }
+    ensures same { OnOk result (S.has_failed out.new ≡ S.has_failed out.old) }
+    ensures caused { IfErr result (EndsAs (S.has_failed out.old) (S.has_failed out.new)) }
 {
     if block.len() < FULL {
         return Ok(unseen);
@@ -183,6 +186,8 @@ pub(crate) fn print<'a, S: Sink>(
     ensures within { OnOk result ((t : Tree) × ReadsWithin limits (bytes_of document.entry) t) }
     ensures told { IfErr result
         (TellsPrintError S.has style limits (bytes_of document.entry) careful out.old out.new) }
+    ensures same { OnOk result (S.has_failed out.new ≡ S.has_failed out.old) }
+    ensures caused { IfErr result (EndsAs (S.has_failed out.old) (S.has_failed out.new)) }
 {
     let (mut walk, mut level) = Walk::within(alloc, document, limits)?;
     let mut sorts: Vec<Sort> = Vec::new(alloc);

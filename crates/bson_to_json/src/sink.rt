@@ -1,10 +1,11 @@
 //! What takes a text block by block.
 #![tactic(auto)]
 
-ghost use Rattle.std.specs.Prelude.{◌≡◌, ◌≤◌, ℕ, List, [], length, Some, OnErr, OnOk};
+ghost use Rattle.std.specs.Prelude.{◌≡◌, ◌≤◌, ℕ, Bool, List, [], false, length, Some, IfErr, OnErr, OnOk};
+ghost use Rattle.bson_to_json.specs.Causes.{FailsAs};
 ghost use Rattle.bson_to_json.specs.Written.{Grows, GrowsFront};
 
-use crate::put::put_all;
+use crate::guarded::Guarded;
 use std::alloc::Global;
 use std::io;
 use std::io::Write;
@@ -21,19 +22,39 @@ pub(crate) trait Sink {
     // it keeps texts of at most this many bytes, and was given this text
     ghost has: { Self → ℕ → List ℕ → Type 0 };
 
+    // whether writing to it failed
+    ghost has_failed: { Self → Bool };
+
     /// Takes a block. If it fails, it has taken a prefix of the block.
     fn accept(&mut self, block: &[u8]) -> Result<(), Failure>
         ensures taken { OnOk result (Grows has self.old self.new block.now) }
-        ensures front { OnErr result (GrowsFront has self.old self.new block.now) };
+        ensures front { OnErr result (GrowsFront has self.old self.new block.now) }
+        ensures same { OnOk result (has_failed self.new ≡ has_failed self.old) }
+        ensures caused { IfErr result (FailsAs (has_failed self.old) (has_failed self.new)) };
 }
 
-impl<W: Write> Sink for W {
-    ghost has = { λ w _ text. W.contents w ≡ Some text };
+impl<W: Write> Sink for Guarded<W> {
+    ghost has = { λ w _ text. W.contents w.inner ≡ Some text };
+
+    ghost has_failed = { λ w. w.failed };
 
     fn accept(&mut self, block: &[u8]) -> Result<(), Failure> {
-        match put_all(self, block) {
+        match self.put_all(block) {
             Ok(()) => Ok(()),
             Err(error) => Err(Failure::Writing(error)),
+        }
+    }
+}
+
+impl Sink for Vec<u8> {
+    ghost has = { λ bytes _ text. bytes.items ≡ text };
+
+    ghost has_failed = { λ _. false };
+
+    fn accept(&mut self, block: &[u8]) -> Result<(), Failure> {
+        match self.extend_from_slice(block) {
+            Ok(()) => Ok(()),
+            Err(_) => Err(Failure::OutOfMemory),
         }
     }
 }
@@ -70,6 +91,8 @@ impl Counted {
 
 impl Sink for Counted {
     ghost has = { λ c most text. (c.most ≡ most) × (c.len ≡ length text) × (length text ≤ most → c.text.items ≡ text) };
+
+    ghost has_failed = { λ _. false };
 
     fn accept(&mut self, block: &[u8]) -> Result<(), Failure> {
         let Some(len) = self.len.checked_add(block.len()) else {

@@ -15,6 +15,7 @@ ghost use Rattle.dump_io.specs.lines.Failing.{IsReading};
 ghost use Rattle.dump_commands.specs.Making as says;
 ghost use Rattle.raw_tree.specs.CanonicalForm.{IsCanonicalForm};
 ghost use Rattle.raw_view.specs.Frame.Envelope.{IsEnvelope};
+ghost use Rattle.bson_to_json.specs.Guarding.{inner_of};
 ghost use Rattle.bson_to_json.specs.Json.{IsJson};
 ghost use Rattle.dump_commands.specs.declared.command.Command.TheVariants.{Writes};
 
@@ -23,7 +24,7 @@ use crate::picking::{Picking, put_picked};
 use crate::state::kept::Kept;
 use crate::texts::{Texts, put_kept};
 use crate::writing::{put_document, put_one};
-use bson_to_json::{Style as JsonStyle, WriteJsonError, write_json};
+use bson_to_json::{Guarded, Style as JsonStyle, WriteJsonError, write_json};
 use dump_io::lines::failure::Failure;
 use dump_io::lines::find::Finding;
 use dump_io::lines::origin::Origin;
@@ -123,13 +124,13 @@ pub fn emit<'a, D: Write>(
     origin: Origin<'a>,
     finding: Finding,
     bytes: &[u8],
-    out: &mut D,
+    out: &mut Guarded<D>,
     kept: &mut Kept<'a>,
 ) -> Result<Option<Origin<'a>>, Failure>
     requires { (told : Option Account) × FindsFor limits command bytes.now finding told }
     ensures written { IfOk result
-        (Emits command.entry origin.entry bytes.now finding (D.contents out.old) (D.contents out.new) kept.old kept.new) }
-    ensures front { OnErr result (WritesFront (IsMade command.entry bytes.now finding kept.old) (D.contents out.old) (D.contents out.new)) }
+        (Emits command.entry origin.entry bytes.now finding (D.contents (inner_of out.old)) (D.contents (inner_of out.new)) kept.old kept.new) }
+    ensures front { OnErr result (WritesFront (IsMade command.entry bytes.now finding kept.old) (D.contents (inner_of out.old)) (D.contents (inner_of out.new))) }
     ensures table { KeepsCounted kept.old kept.new }
     ensures failed { IfErr result (λ failure. ¬ IsReading failure) }
 {
@@ -149,13 +150,13 @@ fn put_made<'a, D: Write>(
     origin: Origin<'a>,
     finding: Finding,
     bytes: &[u8],
-    out: &mut D,
+    out: &mut Guarded<D>,
     kept: &mut Kept<'a>,
 ) -> Result<Option<Origin<'a>>, Failure>
     requires { (told : Option Account) × FindsFor limits (Writes making) bytes.now finding told }
     ensures written { IfOk result
-        (Emits (Writes making.entry) origin.entry bytes.now finding (D.contents out.old) (D.contents out.new) kept.old kept.new) }
-    ensures front { OnErr result (WritesFront (IsMade (Writes making.entry) bytes.now finding kept.old) (D.contents out.old) (D.contents out.new)) }
+        (Emits (Writes making.entry) origin.entry bytes.now finding (D.contents (inner_of out.old)) (D.contents (inner_of out.new)) kept.old kept.new) }
+    ensures front { OnErr result (WritesFront (IsMade (Writes making.entry) bytes.now finding kept.old) (D.contents (inner_of out.old)) (D.contents (inner_of out.new))) }
     ensures table { KeepsCounted kept.old kept.new }
     ensures failed { IfErr result (λ failure. ¬ IsReading failure) }
 {
@@ -235,14 +236,14 @@ pub(crate) fn put_json<D: Write>(
     style: JsonStyle,
     limits: Limits,
     bytes: &[u8],
-    out: &mut D,
+    out: &mut Guarded<D>,
     kept: &mut Kept<'_>,
 ) -> Result<(), Failure>
     requires { IsEnvelope bytes.now }
     ensures written { OnOk result ((text : List ℕ) × IsJson style bytes.now text
-        × Appends (D.contents out.old) (D.contents out.new) (text ++ codes "\n") × CountsOne kept.old kept.new) }
+        × Appends (D.contents (inner_of out.old)) (D.contents (inner_of out.new)) (text ++ codes "\n") × CountsOne kept.old kept.new) }
     ensures front { OnErr result (WritesFront
-        (λ line. (text : List ℕ) × IsJson style bytes.now text × (line ≡ text ++ codes "\n")) (D.contents out.old) (D.contents out.new)) }
+        (λ line. (text : List ℕ) × IsJson style bytes.now text × (line ≡ text ++ codes "\n")) (D.contents (inner_of out.old)) (D.contents (inner_of out.new))) }
     ensures table { KeepsCounted kept.old kept.new }
     ensures failed { IfErr result (λ failure. ¬ IsReading failure) }
 {

@@ -4,6 +4,7 @@
 ghost use Rattle.std.specs.Prelude.{◌≡◌, List, ℕ, IfErr, OnErr, OnOk};
 ghost use Rattle.std.specs.Io.KnownBytes.{Appends};
 ghost use Rattle.raw_view.specs.Frame.Envelope.{IsEnvelope};
+ghost use Rattle.bson_to_json.specs.Guarding.{inner_of};
 ghost use Rattle.dump_io.specs.lines.Failing.{IsReading};
 ghost use Rattle.dump_io.specs.lines.Fronts.{WritesFront};
 ghost use Rattle.dump_commands.specs.Picking.{IsPickedAs, header_of, is_dump};
@@ -15,7 +16,7 @@ use crate::elements::row::{header, row};
 use crate::making::put_json;
 use crate::state::kept::Kept;
 use crate::writing::put_one;
-use bson_to_json::Style;
+use bson_to_json::{Guarded, Style};
 use dump_io::lines::failure::Failure;
 use dump_io::lines::write::put;
 use raw_tree::Limits;
@@ -79,13 +80,13 @@ pub(crate) fn put_picked<D: Write>(
     picking: Picking<'_>,
     limits: Limits,
     bytes: &[u8],
-    out: &mut D,
+    out: &mut Guarded<D>,
     kept: &mut Kept<'_>,
 ) -> Result<(), Failure>
     requires { IsEnvelope bytes.now }
     ensures written { OnOk result ((made : List ℕ) × IsPickedAs picking.entry bytes.now made
-        × Appends (D.contents out.old) (D.contents out.new) made × CountsOne kept.old kept.new) }
-    ensures front { OnErr result (WritesFront (IsPickedAs picking.entry bytes.now) (D.contents out.old) (D.contents out.new)) }
+        × Appends (D.contents (inner_of out.old)) (D.contents (inner_of out.new)) made × CountsOne kept.old kept.new) }
+    ensures front { OnErr result (WritesFront (IsPickedAs picking.entry bytes.now) (D.contents (inner_of out.old)) (D.contents (inner_of out.new))) }
     ensures table { KeepsCounted kept.old kept.new }
     ensures failed { IfErr result (λ failure. ¬ IsReading failure) }
 {

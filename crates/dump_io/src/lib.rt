@@ -10,6 +10,5 @@
 //! what may be passed over of a damaged dump. No file is opened here, and no command is known.
 #![tactic(auto)]
 
-pub mod guarded;
 pub mod input;
 pub mod lines;

@@ -5,9 +5,9 @@ ghost use Rattle.std.specs.Prelude.{◌≡◌, ◌||◌, false};
 ghost use Rattle.dump_io.specs.lines.Failing.{IsCaused, IsReading};
 ghost use Rattle.dump_runs.specs.Plays.{Written};
 
+use bson_to_json::Guarded;
 use dump_commands::counts::Counts;
 use dump_commands::state::kept::Kept;
-use dump_io::guarded::Guarded;
 use dump_io::lines::failure::Failure;
 use std::io::Write;
 use std::marker::Model;

@@ -1,7 +1,7 @@
 //! Documents that are printed with memory that may run out.
 
 use bson_to_json::{
-    Format, Layout, Measured, Style, ToJsonError, WriteJsonError, measured_json, to_json,
+    Format, Guarded, Layout, Measured, Style, ToJsonError, WriteJsonError, measured_json, to_json,
     write_json,
 };
 use raw_bson::Limits;
@@ -51,8 +51,10 @@ fn is_measured(alloc: Global, document: RawDocument<'_>, most: usize) -> bool {
 /// Whether the document's text is written, or a prefix of it if memory ran out for the levels or for what is
 /// written.
 fn is_written(alloc: Global, document: RawDocument<'_>) -> bool {
-    let mut out = Vec::new(alloc);
-    match write_json(alloc, document, INDENTED, LIMITS, &mut out) {
+    let mut out = Guarded::new(Vec::new(alloc));
+    let written = write_json(alloc, document, INDENTED, LIMITS, &mut out);
+    let out = out.into_inner();
+    match written {
         Ok(()) => out.as_slice() == NESTED_TEXT.as_bytes(),
         Err(WriteJsonError::Barrier(_)) => false,
         Err(_) => NESTED_TEXT.as_bytes().starts_with(out.as_slice()),

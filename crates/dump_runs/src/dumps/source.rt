@@ -10,7 +10,7 @@ ghost use Rattle.dump_io.specs.lines.Origins.{origin_of};
 ghost use Rattle.dump_runs.specs.dumps.Steps.{Begins, IsLeft, IsPassed, PassesAllFront, PassesSomeFront, Place, end_of, place_of, reach_of};
 ghost use Rattle.raw_resync.specs.Seeking.{IsWork};
 
-use dump_io::guarded::Guarded;
+use bson_to_json::Guarded;
 use dump_io::input::ending::Ending;
 use dump_io::input::portion::Portion;
 use dump_io::input::resync::{Skip, is_doubted, pass_over, stands_alone};

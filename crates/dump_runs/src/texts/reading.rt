@@ -16,7 +16,7 @@ use crate::reading::TextJob;
 use crate::texts::cursor::{Cursor, NextText};
 use crate::texts::piece::{TextInput, Went, pass_next};
 use crate::writers::{Tally, Writers};
-use dump_io::guarded::Guarded;
+use bson_to_json::Guarded;
 use dump_io::lines::failure::{Failure, ReadFailure, in_range};
 use std::alloc::Global;
 use std::io::{Read, Write};

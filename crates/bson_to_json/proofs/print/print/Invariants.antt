@@ -8,6 +8,7 @@ abbrev pub invariant-events : goal.invariant-events
 invariant-events g l =
     (told : List ℕ) × IsGoing l.fn.style l.fn.limits l.fn.document l.walk l.level l.sorts.items l.sort told
     × IsHeld g.S.Sink.has l.fn.out l.out l.block.items (123 ∷ told) × (l.fn.careful ≡ true → Guards l.fn.limits (bytes_of l.fn.document) l.unseen l.fn.out l.out)
+    × (g.S.Sink.has_failed l.out ≡ g.S.Sink.has_failed l.fn.out)
 
 -- the bytes after the offset
 abbrev pub decreases-events : goal.decreases-events

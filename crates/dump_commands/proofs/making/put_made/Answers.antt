@@ -13,7 +13,7 @@ pub returns-in_ok-put_json-in-Json-Canonical-clause-written : goal.returns-in_ok
 returns-in_ok-put_json-in-Json-Canonical-clause-written g c =
     let x = c.in-Json-Canonical.style in
     let clean : IsClean c.args.finding = search rules in
-    rw c.in-Json-Canonical.is-0 (json_emitted x c.args.origin c.args.bytes.now c.args.finding (g.D.Write.contents c.args.out.now) (g.D.Write.contents c.put_json.new.out)
+    rw c.in-Json-Canonical.is-0 (json_emitted x c.args.origin c.args.bytes.now c.args.finding (g.D.Write.contents c.args.out.now.inner) (g.D.Write.contents c.put_json.new.out.inner)
     c.args.kept.now c.put_json.new.kept clean c.in_ok-put_json-in-Json-Canonical.ensures.written)
 
 pub returns-in_err-put_json-in-Json-Canonical-clause-front : goal.returns-in_err-put_json-in-Json-Canonical-clause-front
@@ -21,47 +21,48 @@ returns-in_err-put_json-in-Json-Canonical-clause-front g c =
     let x = c.in-Json-Canonical.style in
     let clean : IsClean c.args.finding = search rules in
     rw c.in-Json-Canonical.is-0 (on_any _ _ (text_front (making.Json x) refl (IsJsonLine x c.args.bytes.now) c.args.bytes.now c.args.finding (λ made is. is) clean
-    (g.D.Write.contents c.args.out.now) (g.D.Write.contents c.put_json.new.out) c.args.kept.now c.in_err-put_json-in-Json-Canonical.ensures.front))
+    (g.D.Write.contents c.args.out.now.inner) (g.D.Write.contents c.put_json.new.out.inner) c.args.kept.now c.in_err-put_json-in-Json-Canonical.ensures.front))
 
 pub returns-in_ok-put_picked-in-Pick-Canonical-clause-written : goal.returns-in_ok-put_picked-in-Pick-Canonical-clause-written
 returns-in_ok-put_picked-in-Pick-Canonical-clause-written g c =
     let x = c.in-Pick-Canonical.picking in
     let clean : IsClean c.args.finding = search rules in
     rw c.in-Pick-Canonical.is-0 (text_emitted (making.Pick x) refl (IsPickedAs x c.args.bytes.now) c.args.bytes.now c.args.finding (λ made is. is) clean
-    (g.D.Write.contents c.args.out.now) (g.D.Write.contents c.put_picked.new.out) c.args.origin (c.args.kept.now, c.put_picked.new.kept) c.in_ok-put_picked-in-Pick-Canonical.ensures.written)
+    (g.D.Write.contents c.args.out.now.inner) (g.D.Write.contents c.put_picked.new.out.inner) c.args.origin (c.args.kept.now, c.put_picked.new.kept)
+    c.in_ok-put_picked-in-Pick-Canonical.ensures.written)
 
 pub returns-in_err-put_picked-in-Pick-Canonical-clause-front : goal.returns-in_err-put_picked-in-Pick-Canonical-clause-front
 returns-in_err-put_picked-in-Pick-Canonical-clause-front g c =
     let x = c.in-Pick-Canonical.picking in
     let clean : IsClean c.args.finding = search rules in
     rw c.in-Pick-Canonical.is-0 (on_any _ _ (text_front (making.Pick x) refl (IsPickedAs x c.args.bytes.now) c.args.bytes.now c.args.finding (λ made is. is) clean
-    (g.D.Write.contents c.args.out.now) (g.D.Write.contents c.put_picked.new.out) c.args.kept.now c.in_err-put_picked-in-Pick-Canonical.ensures.front))
+    (g.D.Write.contents c.args.out.now.inner) (g.D.Write.contents c.put_picked.new.out.inner) c.args.kept.now c.in_err-put_picked-in-Pick-Canonical.ensures.front))
 
 pub returns-in-Canon-Breached-clause-front : goal.returns-in-Canon-Breached-clause-front
 returns-in-Canon-Breached-clause-front g c =
     on_err c.put_form.result _ _
-    (λ front. form_front c.args.making c.args.bytes.now c.args.finding c.args.kept.now (g.D.Write.contents c.args.out.now) (g.D.Write.contents c.put_form.new.out)
+    (λ front. form_front c.args.making c.args.bytes.now c.args.finding c.args.kept.now (g.D.Write.contents c.args.out.now.inner) (g.D.Write.contents c.put_form.new.out.inner)
     (inl c.in-Canon-Breached.is-0) c.in-Canon-Breached.is-1 front)
     c.put_form.ensures.front
 
 pub returns-in-Canon-Breached-clause-written : goal.returns-in-Canon-Breached-clause-written
 returns-in-Canon-Breached-clause-written g c =
     IfOk-weaker c.put_form.result _ _
-    (λ first h. form_emitted c.args.making c.args.origin c.args.bytes.now c.args.finding (g.D.Write.contents c.args.out.now) (g.D.Write.contents c.put_form.new.out)
+    (λ first h. form_emitted c.args.making c.args.origin c.args.bytes.now c.args.finding (g.D.Write.contents c.args.out.now.inner) (g.D.Write.contents c.put_form.new.out.inner)
     c.args.kept.now c.put_form.new.kept first (inl c.in-Canon-Breached.is-0) c.in-Canon-Breached.is-1 h)
     c.put_form.ensures.written
 
 pub returns-in-Unique-Breached-clause-front : goal.returns-in-Unique-Breached-clause-front
 returns-in-Unique-Breached-clause-front g c =
     on_err c.put_form-in-Unique-Breached.result _ _
-    (λ front. form_front c.args.making c.args.bytes.now c.args.finding c.args.kept.now (g.D.Write.contents c.args.out.now)
-    (g.D.Write.contents c.put_form-in-Unique-Breached.new.out) (inr (_, c.in-Unique-Breached.is-0)) c.in-Unique-Breached.is-1 front)
+    (λ front. form_front c.args.making c.args.bytes.now c.args.finding c.args.kept.now (g.D.Write.contents c.args.out.now.inner)
+    (g.D.Write.contents c.put_form-in-Unique-Breached.new.out.inner) (inr (_, c.in-Unique-Breached.is-0)) c.in-Unique-Breached.is-1 front)
     c.put_form-in-Unique-Breached.ensures.front
 
 pub returns-in-Unique-Breached-clause-written : goal.returns-in-Unique-Breached-clause-written
 returns-in-Unique-Breached-clause-written g c =
     IfOk-weaker c.put_form-in-Unique-Breached.result _ _
-    (λ first h. form_emitted c.args.making c.args.origin c.args.bytes.now c.args.finding (g.D.Write.contents c.args.out.now) (g.D.Write.contents c.put_form-in-Unique-Breached.new.out)
+    (λ first h. form_emitted c.args.making c.args.origin c.args.bytes.now c.args.finding (g.D.Write.contents c.args.out.now.inner) (g.D.Write.contents c.put_form-in-Unique-Breached.new.out.inner)
     c.args.kept.now c.put_form-in-Unique-Breached.new.kept first (inr (_, c.in-Unique-Breached.is-0)) c.in-Unique-Breached.is-1 h)
     c.put_form-in-Unique-Breached.ensures.written
 
@@ -74,4 +75,4 @@ returns-in_default-Damaged-clause-written g c =
       | in_default-Damaged-via-in-Json+in-Damaged-1 w ↦ search rules
       | in_default-Damaged-via-in-Pick+in-Damaged-1 w ↦ search rules
     ] in
-    nothing_emitted (Writes c.args.making) c.args.origin c.args.bytes.now c.args.finding (g.D.Write.contents c.args.out.now) c.args.kept.now nothing
+    nothing_emitted (Writes c.args.making) c.args.origin c.args.bytes.now c.args.finding (g.D.Write.contents c.args.out.now.inner) c.args.kept.now nothing
