@@ -4,3 +4,4 @@ pub mod Errors
 pub mod Endings
 pub mod Findings
 pub mod Writers
+pub mod Headers

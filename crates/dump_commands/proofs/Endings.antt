@@ -8,7 +8,7 @@ use Rattle.raw_view.proofs.Face.{document_framed}
 use Rattle.dump_commands.specs.Binary.{MakesBson, MakesNoBson}
 use Rattle.dump_commands.specs.elements.Chosen.{IsChosen}
 use Rattle.dump_commands.specs.elements.Pick.{comma, parts}
-use Rattle.dump_commands.specs.elements.Row.{IsRow, separator_byte, written}
+use Rattle.dump_commands.specs.elements.Row.{IsRow, cells, filled}
 use Rattle.dump_commands.specs.Making.{is_bson}
 use Rattle.dump_commands.specs.Picking.{IsPickedAs, IsPickedIn, is_dump}
 use Rattle.dump_commands.specs.declared.picking.Form.{Form}
@@ -59,13 +59,7 @@ dump_ends choice b text made is = let (elements, framed_is) = chosen_framed choi
 
 -- a row ends with a line feed
 row_ends : (s : Separator) (b : List ℕ) (paths : List (List ℕ)) (row : List ℕ) → IsRow s b paths row → (x : List ℕ) × (row ≡ x ++ 10 ∷ [])
-row_ends s b [] row is = absurd is
-row_ends s b (path ∷ []) row (goal, text, leads, cell, is) = (written s text, is)
-row_ends s b (path ∷ next ∷ paths) row (goal, text, others, leads, cell, rows, is) =
-    let (x, ends) = row_ends s b (next ∷ paths) others rows in (
-      written s text ++ separator_byte s ∷ x,
-      is ∙ ap (λ (y : List ℕ). written s text ++ separator_byte s ∷ y) ends ∙ sym (append_assoc (written s text) (separator_byte s ∷ x) (10 ∷ [])),
-    )
+row_ends s b paths row (texts, are, is) = (filled s (cells s texts), is)
 
 -- what isn't a dump doesn't end with a 0
 no_dump_ends : (f : Form) (choice : Choice) (b text made d : List ℕ) → is_dump f ≡ false → IsPickedIn f choice b text made → ¬ (made ≡ d ++ 0 ∷ [])

@@ -3,7 +3,7 @@ use Rattle.std.specs.Prelude.{◌≡◌, Bool, true, false, ℕ, List, [], ◌++
 use Rattle.bson_to_json.specs.Json.{IsJson}
 use Rattle.dump_commands.specs.elements.Chosen.{IsChosen}
 use Rattle.dump_commands.specs.elements.Pick.{comma, parts}
-use Rattle.dump_commands.specs.elements.Row.{IsRow, header}
+use Rattle.dump_commands.specs.elements.Row.{IsRow, row_of}
 use Rattle.dump_commands.specs.declared.picking.Choice.{Choice}
 use Rattle.dump_commands.specs.declared.picking.Form.{Form}
 use Rattle.dump_commands.specs.declared.picking.Form.TheVariants as form
@@ -23,11 +23,11 @@ IsPickedIn (form.Json style) choice b text made =
     (document json : List ℕ) × IsChosen choice b text document × IsJson style document json × (made ≡ json ++ codes "\n")
 IsPickedIn (form.Row separator) choice b text made = IsRow separator b (parts comma text) made
 
--- what is written before all that is picked: of rows the header
+-- what is written before all that is picked: of rows the header, a row of the paths
 abbrev pub header_in : Form → (text : List ℕ) → List ℕ
 header_in form.Dump text = []
 header_in (form.Json style) text = []
-header_in (form.Row separator) text = header separator (parts comma text)
+header_in (form.Row separator) text = row_of separator (parts comma text)
 
 abbrev pub header_of : Picking → List ℕ
 header_of picking = header_in picking.form picking.paths.now

@@ -6,7 +6,7 @@ ghost use Rattle.std.specs.Io.KnownBytes.{Appends};
 ghost use Rattle.raw_view.specs.Frame.Envelope.{IsEnvelope};
 ghost use Rattle.bson_to_json.specs.Guarding.{inner_of};
 ghost use Rattle.dump_io.specs.lines.Failing.{IsReading};
-ghost use Rattle.dump_io.specs.lines.Fronts.{WritesFront};
+ghost use Rattle.dump_io.specs.lines.Fronts.{AppendsFront, WritesFront};
 ghost use Rattle.dump_commands.specs.Picking.{IsPickedAs, header_of, is_dump};
 ghost use Rattle.dump_commands.specs.state.Forms.{CountsOne};
 ghost use Rattle.dump_commands.specs.state.Gathered.{KeepsCounted};
@@ -114,6 +114,7 @@ pub(crate) fn put_picked<D: Write>(
 /// Writes what comes before all that is picked: of rows the header.
 pub fn put_header<D: Write>(alloc: Global, picking: Picking<'_>, out: &mut D) -> Result<(), Failure>
     ensures written { OnOk result (Appends (D.contents out.old) (D.contents out.new) (header_of picking.entry)) }
+    ensures front { OnErr result (AppendsFront (D.contents out.old) (D.contents out.new) (header_of picking.entry)) }
     ensures failed { IfErr result (λ failure. ¬ IsReading failure) }
 {
     match picking.form {

@@ -26,22 +26,24 @@ pub(super) fn documents_as_json<'a>(alloc: Global) -> CommandBuilder<'a> {
     )
 }
 
+/// How JSON is printed, of which a table has no choice.
+const NOT_OF_TABLES: &[&str] = &["canonical", "indent"];
+
 /// The command that writes the elements of some paths.
 pub(super) fn picks<'a>(alloc: Global) -> CommandBuilder<'a> {
     let paths = Arg::new(alloc, "PATHS")
         .help("Keys with dots between them, as items.0.name, and commas between the paths")
         .required(true)
         .action(ArgAction::Set);
-    let csv =
-        "Writes a header, and the values at PATHS as rows with commas between them, as mongoexport";
-    let tsv = "The same with tabs between them";
+    let csv = "Writes a header, and for each document a row of the values at PATHS, with commas";
+    let tsv = "The same with tabs";
     let without = "Writes each document without these elements, in place of them";
     let about = "Writes these elements of each document without damage, as json does";
     let command = CommandBuilder::new(alloc, "pick", about)
         .arg(switch(alloc, "without", without))
         .arg(switch(alloc, "bson", "Writes them as a dump"))
-        .arg(switch(alloc, "csv", csv))
-        .arg(switch(alloc, "tsv", tsv))
+        .arg_or_none(switch(alloc, "csv", csv).conflicts_with_all(NOT_OF_TABLES))
+        .arg_or_none(switch(alloc, "tsv", tsv).conflicts_with_all(NOT_OF_TABLES))
         .arg(paths);
     writing(alloc, printing(alloc, command))
 }

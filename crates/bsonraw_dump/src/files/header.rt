@@ -1,6 +1,11 @@
 //! What is written before the documents of all inputs.
 #![tactic(auto)]
 
+ghost use Rattle.std.specs.Prelude.{◌≡◌, MatchOption, None, Some, OnErr, OnOk};
+ghost use Rattle.std.specs.Io.KnownBytes.{Appends};
+ghost use Rattle.dump_io.specs.lines.Fronts.{AppendsFront};
+ghost use Rattle.bsonraw_dump.specs.files.Headers.{header_for, picking_in};
+
 use dump_commands::command::Command;
 use dump_commands::picking::{Picking, put_header};
 use dump_io::input::done::{Done, Lack};
@@ -10,7 +15,10 @@ use dump_runs::Reading;
 use std::io::Write;
 
 /// Writes what comes before the documents of all inputs: the header of rows.
-pub fn begin<D: Write>(rt: &HostRuntime, reading: Reading<'_>, out: &mut D) -> Result<(), Failure> {
+pub fn begin<D: Write>(rt: &HostRuntime, reading: Reading<'_>, out: &mut D) -> Result<(), Failure>
+    ensures written { OnOk result (Appends (D.contents out.old) (D.contents out.new) (header_for reading.entry)) }
+    ensures front { OnErr result (AppendsFront (D.contents out.old) (D.contents out.new) (header_for reading.entry)) }
+{
     match picking_of(reading) {
         Some(picking) => put_header(rt.alloc(), picking, out),
         None => Ok(()),
@@ -18,7 +26,9 @@ pub fn begin<D: Write>(rt: &HostRuntime, reading: Reading<'_>, out: &mut D) -> R
 }
 
 /// Which elements are picked.
-pub fn picking_of<'a>(reading: Reading<'a>) -> Option<Picking<'a>> {
+pub fn picking_of<'a>(reading: Reading<'a>) -> Option<Picking<'a>>
+    ensures { MatchOption result (picking_in reading.entry ≡ None) (λ picking. picking_in reading.entry ≡ Some picking) }
+{
     match reading.command() {
         Some(Command::Writes(making)) => making.picking(),
         Some(Command::Prints(_) | Command::Gathers(_)) | None => None,

@@ -1,11 +1,12 @@
 -- The values of a document at paths as a row of a table, in which commas or tabs are between the cells.
-use Rattle.std.specs.Prelude.{◌≡◌, ◌-◌, ℕ, List, [], ◌∷◌, ◌++◌, Bool, true, Option, None, Some, bytes_eq, codes, cond, drop, flat_map, length, nat_eq, take}
+use Rattle.std.specs.Prelude.{◌≡◌, ◌⊎◌, ◌-◌, ℕ, ℤ, List, [], ◌∷◌, ◌++◌, Bool, true, Option, None, Some, bytes_eq, codes, cond, drop, flat_map, length, nat_eq, take}
 use Rattle.std.specs.List.{list_any}
+use Rattle.bson_to_json.specs.Dates.{HasInstantText, IsInstantText}
 use Rattle.bson_to_json.specs.Json.{IsJson}
 use Rattle.bson_to_json.specs.declared.style.Format.TheVariants.{Relaxed}
 use Rattle.bson_to_json.specs.declared.style.Layout.TheVariants.{OneLine}
 use Rattle.bson_to_json.specs.declared.style.Style.{Style}
-use Rattle.bson_model.specs.Leaf.{string}
+use Rattle.bson_model.specs.Leaf.{date_time, string}
 use Rattle.raw_view.specs.Frame.{Frame}
 use Rattle.raw_view.specs.Frame.Format.{element_of, framed}
 use Rattle.raw_view.specs.Meaning.{Means, value}
@@ -26,36 +27,51 @@ row_style = record { format = Relaxed; layout = OneLine }
 abbrev pub IsValueText : Frame → List ℕ → Type 0
 IsValueText f text = IsJson row_style (framed (element_of f.kind [] f.payload)) (codes "{\"\":" ++ (text ++ codes "}"))
 
--- what is before the text in quotes with which an object says a value of this kind; of most kinds there is none
-abbrev pub wrapper_of : ElementType → List ℕ
-wrapper_of kind.ObjectId = codes "{\"$oid\":\""
-wrapper_of kind.DateTime = codes "{\"$date\":\""
-wrapper_of kind.Decimal128 = codes "{\"$numberDecimal\":\""
-wrapper_of kind.Double = codes "{\"$numberDouble\":\""
-wrapper_of k = codes "{\"$\":\""
+-- The Extended JSON of an ObjectId, of a Decimal128, and of a Double that isn't finite is an object of one text in quotes, which comes after these bytes.
+-- No value of another kind has such an object in a cell.
+abbrev pub wrapper_of : ElementType → Option (List ℕ)
+wrapper_of kind.ObjectId = Some (codes "{\"$oid\":\"")
+wrapper_of kind.Decimal128 = Some (codes "{\"$numberDecimal\":\"")
+wrapper_of kind.Double = Some (codes "{\"$numberDouble\":\"")
+wrapper_of k = None
 
--- the text in quotes, if that is before it
-abbrev pub unwrapped : (wrapper text : List ℕ) → List ℕ
-unwrapped wrapper text =
+-- the text between the quotes, if these bytes come first; otherwise all
+abbrev pub unwrapped : (wrapper : Option (List ℕ)) → (text : List ℕ) → List ℕ
+unwrapped None text = text
+unwrapped (Some wrapper) text =
     let rest = drop (length wrapper) text in
     cond (bytes_eq (take (length wrapper) text) wrapper) (take (length rest - 2) rest) text
 
--- what a cell has of a value of this kind: nothing of null; a string's own text; of others Extended JSON
+-- what a cell has of a value of this kind: nothing of null; a string's own text; a time; of others Extended JSON
 abbrev pub content_of : ElementType → Content
 content_of kind.Null = content.Nothing
 content_of kind.String = content.Own
+content_of kind.DateTime = content.Time
 content_of k = content.Json
 
--- The text of a value in a row; the Extended JSON without the object around an ObjectId, a time or a number.
+-- The text of a value in a row: a time in ISO 8601, if it is in the years 0 to 9999; the Extended JSON without the object around one text.
 abbrev pub IsCell : Content → Frame → List ℕ → Type 0
 IsCell content.Nothing f text = text ≡ []
 IsCell content.Own f text = Means f (value (raw.single (string text)))
+IsCell content.Time f text =
+    (millis : ℤ) × Means f (value (raw.single (date_time millis))) × (IsInstantText millis text ⊎ ((¬ HasInstantText millis) × IsValueText f text))
 IsCell content.Json f text = (json : List ℕ) × IsValueText f json × (text ≡ unwrapped (wrapper_of f.kind) json)
 
 -- the same of what is found; nothing where nothing is
 abbrev pub IsCellOf : Option Frame → List ℕ → Type 0
 IsCellOf None text = text ≡ []
 IsCellOf (Some f) text = IsCell (content_of f.kind) f text
+
+-- the text of the value to which a path leads in the document b
+abbrev pub IsCellAt : (b path text : List ℕ) → Type 0
+IsCellAt b path text = (goal : Option Frame) × LeadsTo b (parts dot path) goal × IsCellOf goal text
+
+-- the texts of the values to which these paths lead, in their order
+abbrev pub AreCells : (b : List ℕ) → (paths texts : List (List ℕ)) → Type 0
+AreCells b [] [] = Unit {0}
+AreCells b [] (text ∷ texts) = ⊥
+AreCells b (path ∷ paths) [] = ⊥
+AreCells b (path ∷ paths) (text ∷ texts) = IsCellAt b path text × AreCells b paths texts
 
 -- whether a cell with this byte has quotes around it: a comma, a quote, a line feed or a carriage return (RFC 4180)
 abbrev pub needs_quotes : ℕ → Bool
@@ -79,16 +95,22 @@ abbrev pub separator_byte : Separator → ℕ
 separator_byte separator.Comma = 44
 separator_byte separator.Tab = 9
 
+-- cells with these texts, and what is between them
+abbrev pub cells : Separator → (texts : List (List ℕ)) → List ℕ
+cells s [] = []
+cells s (text ∷ []) = written s text
+cells s (text ∷ next ∷ texts) = written s text ++ separator_byte s ∷ cells s (next ∷ texts)
+
+-- With commas no line is empty: an empty cell alone is in quotes, since readers pass over empty lines.
+abbrev pub filled : Separator → (line : List ℕ) → List ℕ
+filled separator.Comma [] = 34 ∷ 34 ∷ []
+filled separator.Comma (byte ∷ line) = byte ∷ line
+filled separator.Tab line = line
+
+-- the row of cells with these texts
+abbrev pub row_of : Separator → (texts : List (List ℕ)) → List ℕ
+row_of s texts = filled s (cells s texts) ++ 10 ∷ []
+
 -- the row of the values to which these paths lead in the document b
 abbrev pub IsRow : Separator → List ℕ → (paths : List (List ℕ)) → (row : List ℕ) → Type 0
-IsRow s b [] row = ⊥
-IsRow s b (path ∷ []) row = (goal : Option Frame) × (text : List ℕ) × LeadsTo b (parts dot path) goal × IsCellOf goal text × (row ≡ written s text ++ 10 ∷ [])
-IsRow s b (path ∷ next ∷ paths) row =
-    (goal : Option Frame) × (text others : List ℕ) × LeadsTo b (parts dot path) goal × IsCellOf goal text × IsRow s b (next ∷ paths) others
-    × (row ≡ written s text ++ separator_byte s ∷ others)
-
--- the row of these paths themselves
-abbrev pub header : Separator → (paths : List (List ℕ)) → List ℕ
-header s [] = []
-header s (path ∷ []) = written s path ++ 10 ∷ []
-header s (path ∷ next ∷ paths) = written s path ++ separator_byte s ∷ header s (next ∷ paths)
+IsRow s b paths row = (texts : List (List ℕ)) × AreCells b paths texts × (row ≡ row_of s texts)

@@ -1,18 +1,19 @@
 //! The text of a value in a row of a table.
 #![tactic(auto)]
 
-ghost use Rattle.std.specs.Prelude.{◌≡◌, ◌++◌, Some, [], codes, string_bytes, IfOk};
+ghost use Rattle.std.specs.Prelude.{◌≡◌, ◌++◌, MatchOption, None, Some, [], codes, string_bytes, IfOk};
 ghost use Rattle.bson_to_json.specs.Json.{IsJson};
 ghost use Rattle.raw_view.specs.Frame.ElementSteps.{frame_of};
 ghost use Rattle.raw_view.specs.Frame.Format.{element_of};
-ghost use Rattle.bson_model.specs.Leaf.{string};
+ghost use Rattle.bson_model.specs.Leaf.{date_time, string};
 ghost use Rattle.raw_view.specs.Meaning.{Means, value};
 ghost use Rattle.raw_view.specs.Meaning as raw;
-ghost use Rattle.dump_commands.specs.elements.Row.{IsCellOf, IsValueText, content_of, row_style, wrapper_of};
+ghost use Rattle.dump_commands.specs.declared.elements.cell.Content.TheVariants as content;
+ghost use Rattle.dump_commands.specs.elements.Row.{IsCell, IsCellOf, IsValueText, content_of, row_style, wrapper_of};
 ghost use Rattle.dump_commands.specs.elements.Row as says;
 
 use crate::elements::pick::document_of;
-use bson_to_json::{Format, Layout, Style, to_json};
+use bson_to_json::{Format, Layout, Style, time_text, to_json};
 use raw_tree::Limits;
 use raw_view::{ElementType, RawBsonRef, RawDocument, RawElement};
 use std::alloc::{AllocError, Global};
@@ -23,6 +24,8 @@ enum Content {
     Nothing,
     /// its own text
     Own,
+    /// a time
+    Time,
     /// Extended JSON
     Json,
 }
@@ -34,10 +37,13 @@ pub fn cell(alloc: Global, element: RawElement<'_>, depth: usize) -> Result<Vec<
     match content_for(element.element_type()) {
         Content::Nothing => Ok(Vec::new(alloc)),
         Content::Own => own_text(alloc, element),
+        Content::Time => time(alloc, element, depth),
         Content::Json => {
             let json = value_text(alloc, element, depth)?;
-            let text = unwrapped(wrapper(element.element_type()), &json);
-            Vec::from_slice(alloc, text)
+            match wrapper(element.element_type()) {
+                Some(wrapper) => Vec::from_slice(alloc, unwrapped(wrapper, &json)),
+                None => Ok(json),
+            }
         }
     }
 }
@@ -49,6 +55,7 @@ fn content_for(kind: ElementType) -> Content
     match kind {
         ElementType::Null => Content::Nothing,
         ElementType::String => Content::Own,
+        ElementType::DateTime => Content::Time,
         _ => Content::Json,
     }
 }
@@ -59,6 +66,27 @@ fn own_text(alloc: Global, element: RawElement<'_>) -> Result<Vec<u8>, AllocErro
 {
     match element.resolve() {
         Ok(RawBsonRef::String(text)) => Vec::from_slice(alloc, text.as_bytes()),
+        _ => Err(AllocError),
+    }
+}
+
+/// A time in ISO 8601, if it is in the years 0 to 9999; otherwise as Extended JSON.
+fn time(alloc: Global, element: RawElement<'_>, depth: usize) -> Result<Vec<u8>, AllocError>
+    ensures { IfOk result (λ text. IsCell content.Time (frame_of element.entry) text.items) }
+{
+    let millis = millis_of(element)?;
+    match time_text(millis) {
+        Some(text) => Vec::from_slice(alloc, text.as_bytes()),
+        None => value_text(alloc, element, depth),
+    }
+}
+
+/// The milliseconds of a time.
+fn millis_of(element: RawElement<'_>) -> Result<i64, AllocError>
+    ensures { IfOk result (λ millis. Means (frame_of element.entry) (value (raw.single (date_time millis)))) }
+{
+    match element.resolve() {
+        Ok(RawBsonRef::DateTime(time)) => Ok(time.timestamp_millis()),
         _ => Err(AllocError),
     }
 }
@@ -116,22 +144,21 @@ fn inside(alloc: Global, text: &[u8]) -> Result<Vec<u8>, AllocError>
     }
 }
 
-/// What is before the text in quotes with which an object says a value of this kind.
-fn wrapper(kind: ElementType) -> &'static [u8]
-    ensures { result.now ≡ wrapper_of kind }
+/// What is before the text in quotes where the Extended JSON of a value of this kind is an object of one text.
+fn wrapper(kind: ElementType) -> Option<&'static [u8]>
+    ensures { MatchOption result (wrapper_of kind ≡ None) (λ wrapper. wrapper_of kind ≡ Some wrapper.now) }
 {
     match kind {
-        ElementType::ObjectId => b"{\"$oid\":\"",
-        ElementType::DateTime => b"{\"$date\":\"",
-        ElementType::Decimal128 => b"{\"$numberDecimal\":\"",
-        ElementType::Double => b"{\"$numberDouble\":\"",
-        _ => b"{\"$\":\"",
+        ElementType::ObjectId => Some(b"{\"$oid\":\""),
+        ElementType::Decimal128 => Some(b"{\"$numberDecimal\":\""),
+        ElementType::Double => Some(b"{\"$numberDouble\":\""),
+        _ => None,
     }
 }
 
 /// The text in quotes, if that is before it; otherwise all.
 fn unwrapped<'a>(wrapper: &[u8], text: &'a [u8]) -> &'a [u8]
-    ensures { result.now ≡ says.unwrapped wrapper.now text.now }
+    ensures { result.now ≡ says.unwrapped (Some wrapper.now) text.now }
 {
     let (front, rest) = text.split_at(wrapper.len().min(text.len()));
     if front == wrapper {

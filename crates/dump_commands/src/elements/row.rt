@@ -1,13 +1,11 @@
 //! The values of a document at paths, as a row of a table.
 #![tactic(auto)]
 
-ghost use Rattle.std.specs.Prelude.{◌≡◌, ◌++◌, ◌∷◌, List, Option, [], ℕ, flat_map, IfOk, OnOk};
+ghost use Rattle.std.specs.Prelude.{◌≡◌, ◌++◌, ◌∷◌, [], flat_map, IfOk, OnOk};
 ghost use Rattle.std.specs.List.{list_any};
 ghost use Rattle.raw_view.specs.Document.{bytes_of};
-ghost use Rattle.raw_view.specs.Frame.{Frame};
-ghost use Rattle.dump_commands.specs.elements.Pick.{LeadsTo, comma, dot, parts};
-ghost use Rattle.dump_commands.specs.elements.Row.{IsCellOf, IsRow, doubled, escaped, needs_quotes, separator_byte, written};
-ghost use Rattle.dump_commands.specs.elements.Row as says;
+ghost use Rattle.dump_commands.specs.elements.Pick.{comma, parts};
+ghost use Rattle.dump_commands.specs.elements.Row.{IsCellAt, IsRow, doubled, escaped, filled, needs_quotes, row_of, separator_byte, written};
 
 use crate::elements::cell::cell;
 use crate::elements::pick::element_at;
@@ -35,13 +33,13 @@ pub fn row(
     }
     let text = cell_at(alloc, document, rest, depth)?;
     push_cell(&mut row, separator, &text)?;
-    row.push(b'\n')?;
+    end(&mut row, separator)?;
     Ok(row)
 }
 
 /// The row of these paths themselves.
 pub fn header(alloc: Global, paths: &str, separator: Separator) -> Result<Vec<u8>, AllocError>
-    ensures { IfOk result (λ row. row.items ≡ says.header separator (parts comma paths.now)) }
+    ensures { IfOk result (λ row. row.items ≡ row_of separator (parts comma paths.now)) }
 {
     let mut row = Vec::new(alloc);
     let mut rest = paths;
@@ -51,8 +49,19 @@ pub fn header(alloc: Global, paths: &str, separator: Separator) -> Result<Vec<u8
         rest = more;
     }
     push_cell(&mut row, separator, rest.as_bytes())?;
-    row.push(b'\n')?;
+    end(&mut row, separator)?;
     Ok(row)
+}
+
+/// Ends a row. With commas no line is empty: an empty cell alone is in quotes, since readers pass over empty lines.
+fn end(row: &mut Vec<u8>, separator: Separator) -> Result<(), AllocError>
+    ensures { OnOk result (row.new.items ≡ filled separator row.old.items ++ 10 ∷ []) }
+{
+    if row.is_empty() && matches!(separator, Separator::Comma) {
+        row.extend_from_slice(b"\"\"")?;
+    }
+    row.push(b'\n')?;
+    Ok(())
 }
 
 /// What is between two cells.
@@ -147,7 +156,7 @@ fn cell_at(
     path: &str,
     depth: usize,
 ) -> Result<Vec<u8>, AllocError>
-    ensures { IfOk result (λ text. (goal : Option Frame) × LeadsTo (bytes_of document.entry) (parts dot path.now) goal × IsCellOf goal text.items) }
+    ensures { IfOk result (λ text. IsCellAt (bytes_of document.entry) path.now text.items) }
 {
     match element_at(document, path) {
         Some(element) => cell(alloc, element, depth),

@@ -1,8 +1,8 @@
-use Rattle.std.proofs.Common.{arith, refl, rules, subst, sym}
+use Rattle.std.proofs.Common.{◌++◌, ◌∙◌, List, ap, arith, rules, ℕ}
 use Rattle.std.proofs.lemmas.Str.Pattern.{split_parts}
 use Rattle.raw_view.specs.Document.{bytes_of}
-use Rattle.dump_commands.specs.elements.Pick.{comma, parts}
-use Rattle.dump_commands.specs.elements.Row.{IsRow, separator_byte}
+use Rattle.dump_commands.specs.elements.Pick.{comma}
+use Rattle.dump_commands.specs.elements.Row.{written}
 use Rattle.dump_commands.proofs.elements.Rowed.{put_cell, row_last, row_more, row_same, with_cell}
 use Rattle.dump_commands.proofs.elements.row.row.Goals as goal
 
@@ -13,9 +13,9 @@ paths-preserved c =
     let b = bytes_of c.args.document in
     let cell = c.in_ok-text.text.items in
     let cut = rw c.in-Some.is at (split_parts comma l.rest.now c.split_once.result c.split_once.ensures.cases (omega arith)) in
-    let put = put_cell s l.row.items c.push_cell.new.row.items c.push.new.self.items cell c.deref.result.now (separator_byte s) c.byte_of.result
+    let put = put_cell s l.row.items c.push_cell.new.row.items c.push.new.self.items cell c.deref.result.now c.byte_of.result
     c.in_ok-push_cell.ensures c.deref.ensures.value c.in_ok-push.ensures.items c.byte_of.ensures in (
-      row_same s b c.args.paths.now (with_cell s l.row.items cell (separator_byte s)) c.push.new.self.items c.in-Some.more.now put
+      row_same s b c.args.paths.now (with_cell s l.row.items cell) c.push.new.self.items c.in-Some.more.now put
           (row_more s b c.args.paths.now l.row.items l.rest.now c.in-Some.path.now c.in-Some.more.now cell l.invariant.0 cut.0 cut.1 c.in_ok-text.ensures),
       search rules,
     )
@@ -24,9 +24,7 @@ pub returns : goal.returns
 returns c =
     let l = c.paths in
     let s = c.args.separator in
-    let b = bytes_of c.args.document in
-    let cell = c.in_ok-text-2.text.items in
     let last = rw c.in_default.is at (split_parts comma l.rest.now c.split_once.result c.split_once.ensures.cases (omega arith)) in
-    let put = put_cell s l.row.items c.push_cell-2.new.row.items c.push-2.new.self.items cell c.deref-2.result.now 10 10
-    c.in_ok-push_cell-2.ensures c.deref-2.ensures.value c.in_ok-push-2.ensures.items refl in
-    subst (IsRow s b (parts comma c.args.paths.now)) (sym put) (row_last s b c.args.paths.now l.row.items l.rest.now cell l.invariant.0 last c.in_ok-text-2.ensures)
+    row_last s (bytes_of c.args.document) c.args.paths.now l.row.items c.push_cell-2.new.row.items l.rest.now c.in_ok-text-2.text.items c.end.new.row.items
+    l.invariant.0 last c.in_ok-text-2.ensures
+    (c.in_ok-push_cell-2.ensures ∙ ap (λ (x : List ℕ). l.row.items ++ written s x) c.deref-2.ensures.value) c.in_ok-end.ensures
