@@ -6,7 +6,7 @@ use crate::command_line::builder::CommandBuilder;
 use bson_to_json::{Format, Layout, Style as JsonStyle};
 use clap::{Arg, ArgAction, ArgMatches};
 use dump_commands::picking::{Choice, Form, Picking, Separator};
-use std::alloc::Global;
+use std::alloc::{AllocError, Global};
 
 /// A command that prints documents as Extended JSON.
 fn printing<'a>(alloc: Global, command: CommandBuilder<'a>) -> CommandBuilder<'a> {
@@ -26,8 +26,19 @@ pub(super) fn documents_as_json<'a>(alloc: Global) -> CommandBuilder<'a> {
     )
 }
 
-/// How JSON is printed, of which a table has no choice.
-const NOT_OF_TABLES: &[&str] = &["canonical", "indent"];
+/// An option for a table, beside which there is no other form.
+fn table<'a>(
+    alloc: Global,
+    name: &'a str,
+    help: &'a str,
+    other: &'a str,
+) -> Result<Arg<'a>, AllocError> {
+    switch(alloc, name, help)
+        .conflicts_with(other)?
+        .conflicts_with("bson")?
+        .conflicts_with("canonical")?
+        .conflicts_with("indent")
+}
 
 /// The command that writes the elements of some paths.
 pub(super) fn picks<'a>(alloc: Global) -> CommandBuilder<'a> {
@@ -36,14 +47,13 @@ pub(super) fn picks<'a>(alloc: Global) -> CommandBuilder<'a> {
         .required(true)
         .action(ArgAction::Set);
     let csv = "Writes a header, and for each document a row of the values at PATHS, with commas";
-    let tsv = "The same with tabs";
     let without = "Writes each document without these elements, in place of them";
     let about = "Writes these elements of each document without damage, as json does";
     let command = CommandBuilder::new(alloc, "pick", about)
         .arg(switch(alloc, "without", without))
         .arg(switch(alloc, "bson", "Writes them as a dump"))
-        .arg_or_none(switch(alloc, "csv", csv).conflicts_with_all(NOT_OF_TABLES))
-        .arg_or_none(switch(alloc, "tsv", tsv).conflicts_with_all(NOT_OF_TABLES))
+        .arg_or_none(table(alloc, "csv", csv, "tsv"))
+        .arg_or_none(table(alloc, "tsv", "The same with tabs", "csv"))
         .arg(paths);
     writing(alloc, printing(alloc, command))
 }

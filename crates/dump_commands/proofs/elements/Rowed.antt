@@ -39,12 +39,15 @@ row_more s b text done rest path more cell on split lacks is texts others =
 pub row_same : (s : Separator) (b text done done' rest : List ℕ) → done' ≡ done → RowOn s b text done rest → RowOn s b text done' rest
 row_same s b text done done' rest same on = subst (λ (x : List ℕ). RowOn s b text x rest) (sym same) on
 
--- the last cell was written, and the end of the row
-pub row_last : (s : Separator) (b text done done' rest cell row : List ℕ) → RowOn s b text done rest → LacksByte comma rest → IsCellAt b rest cell
-    → done' ≡ done ++ written s cell → row ≡ filled s done' ++ 10 ∷ [] → IsRow s b (parts comma text) row
-row_last s b text done done' rest cell row on lacks is put ended =
+-- the row with its last cell
+abbrev pub with_last : Separator → (done cell : List ℕ) → List ℕ
+with_last s done cell = filled s (done ++ written s cell) ++ 10 ∷ []
+
+pub row_last : (s : Separator) (b text done rest cell : List ℕ) → RowOn s b text done rest → LacksByte comma rest → IsCellAt b rest cell
+    → IsRow s b (parts comma text) (with_last s done cell)
+row_last s b text done rest cell on lacks is =
     let (all, whole, same) = on (cell ∷ []) (subst (λ (xs : List (List ℕ)). AreCells b xs (cell ∷ [])) (sym (parts_last comma rest lacks)) (is, tt)) in
-    (all, whole, ended ∙ ap (λ (x : List ℕ). filled s x ++ 10 ∷ []) (put ∙ sym same))
+    (all, whole, ap (λ (x : List ℕ). filled s x ++ 10 ∷ []) (sym same))
 
 pub header_more : (s : Separator) (text done rest path more : List ℕ) → done ++ cells s (parts comma rest) ≡ cells s (parts comma text)
     → rest ≡ path ++ comma ∷ more → LacksByte comma path → with_cell s done path ++ cells s (parts comma more) ≡ cells s (parts comma text)
@@ -54,11 +57,10 @@ header_more s text done rest path more all split lacks =
     ap (λ (xs : List (List ℕ)). with_cell s done path ++ cells s xs) shape
     ∙ sym (put_on s done path (cells s (next ∷ ends))) ∙ ap (λ (xs : List (List ℕ)). done ++ cells s xs) (sym cut) ∙ all
 
-pub header_last : (s : Separator) (text done done' rest row : List ℕ) → done ++ cells s (parts comma rest) ≡ cells s (parts comma text) → LacksByte comma rest
-    → done' ≡ done ++ written s rest → row ≡ filled s done' ++ 10 ∷ [] → row ≡ row_of s (parts comma text)
-header_last s text done done' rest row all lacks put ended =
-    ended ∙ ap (λ (x : List ℕ). filled s x ++ 10 ∷ [])
-    (put ∙ ap (λ (xs : List (List ℕ)). done ++ cells s xs) (sym (parts_last comma rest lacks)) ∙ all)
+pub header_last : (s : Separator) (text done rest : List ℕ) → done ++ cells s (parts comma rest) ≡ cells s (parts comma text) → LacksByte comma rest
+    → with_last s done rest ≡ row_of s (parts comma text)
+header_last s text done rest all lacks =
+    ap (λ (x : List ℕ). filled s x ++ 10 ∷ []) (ap (λ (xs : List (List ℕ)). done ++ cells s xs) (sym (parts_last comma rest lacks)) ∙ all)
 
 -- the same of what the code wrote
 pub put_cell : (s : Separator) (done done' done'' cell cell' : List ℕ) (byte : ℕ) → done' ≡ done ++ written s cell' → cell' ≡ cell → done'' ≡ done' ++ byte ∷ []
@@ -66,3 +68,8 @@ pub put_cell : (s : Separator) (done done' done'' cell cell' : List ℕ) (byte :
 put_cell s done done' done'' cell cell' byte first same second is =
     second ∙ ap (λ (x : List ℕ). x ++ byte ∷ []) (first ∙ ap (λ (x : List ℕ). done ++ written s x) same)
     ∙ ap (λ (x : ℕ). (done ++ written s cell) ++ x ∷ []) is
+
+-- the same of the last cell
+pub put_last : (s : Separator) (done done' row cell cell' : List ℕ) → done' ≡ done ++ written s cell' → cell' ≡ cell → row ≡ filled s done' ++ 10 ∷ []
+    → row ≡ with_last s done cell
+put_last s done done' row cell cell' put same ended = ended ∙ ap (λ (x : List ℕ). filled s x ++ 10 ∷ []) (put ∙ ap (λ (x : List ℕ). done ++ written s x) same)

@@ -1,8 +1,8 @@
 use Rattle.std.proofs.Common.{◌++◌, ◌∙◌, List, ap, arith, rules, ℕ}
 use Rattle.std.proofs.lemmas.Str.Pattern.{split_parts}
 use Rattle.dump_commands.specs.elements.Pick.{comma, parts}
-use Rattle.dump_commands.specs.elements.Row.{cells, written}
-use Rattle.dump_commands.proofs.elements.Rowed.{header_last, header_more, put_cell}
+use Rattle.dump_commands.specs.elements.Row.{cells}
+use Rattle.dump_commands.proofs.elements.Rowed.{header_last, header_more, put_cell, put_last}
 use Rattle.dump_commands.proofs.elements.row.header.Goals as goal
 
 pub paths-preserved : goal.paths-preserved
@@ -22,5 +22,6 @@ returns c =
     let l = c.paths in
     let s = c.args.separator in
     let last = rw c.in_default.is at (split_parts comma l.rest.now c.split_once.result c.split_once.ensures.cases (omega arith)) in
-    header_last s c.args.paths.now l.row.items c.push_cell-2.new.row.items l.rest.now c.end.new.row.items l.invariant.0 last
-    (c.in_ok-push_cell-2.ensures ∙ ap (λ (x : List ℕ). l.row.items ++ written s x) c.as_bytes-2.ensures.value) c.in_ok-end.ensures
+    put_last s l.row.items c.push_cell-2.new.row.items c.end.new.row.items l.rest.now c.as_bytes-2.result.now c.in_ok-push_cell-2.ensures
+    c.as_bytes-2.ensures.value c.in_ok-end.ensures
+    ∙ header_last s c.args.paths.now l.row.items l.rest.now l.invariant.0 last

@@ -1,9 +1,9 @@
-use Rattle.std.proofs.Common.{◌++◌, ◌∙◌, List, ap, arith, rules, ℕ}
+use Rattle.std.proofs.Common.{arith, rules, subst, sym}
 use Rattle.std.proofs.lemmas.Str.Pattern.{split_parts}
 use Rattle.raw_view.specs.Document.{bytes_of}
-use Rattle.dump_commands.specs.elements.Pick.{comma}
-use Rattle.dump_commands.specs.elements.Row.{written}
-use Rattle.dump_commands.proofs.elements.Rowed.{put_cell, row_last, row_more, row_same, with_cell}
+use Rattle.dump_commands.specs.elements.Pick.{comma, parts}
+use Rattle.dump_commands.specs.elements.Row.{IsRow}
+use Rattle.dump_commands.proofs.elements.Rowed.{put_cell, put_last, row_last, row_more, row_same, with_cell}
 use Rattle.dump_commands.proofs.elements.row.row.Goals as goal
 
 pub paths-preserved : goal.paths-preserved
@@ -25,6 +25,8 @@ returns c =
     let l = c.paths in
     let s = c.args.separator in
     let last = rw c.in_default.is at (split_parts comma l.rest.now c.split_once.result c.split_once.ensures.cases (omega arith)) in
-    row_last s (bytes_of c.args.document) c.args.paths.now l.row.items c.push_cell-2.new.row.items l.rest.now c.in_ok-text-2.text.items c.end.new.row.items
-    l.invariant.0 last c.in_ok-text-2.ensures
-    (c.in_ok-push_cell-2.ensures ∙ ap (λ (x : List ℕ). l.row.items ++ written s x) c.deref-2.ensures.value) c.in_ok-end.ensures
+    let b = bytes_of c.args.document in
+    let cell = c.in_ok-text-2.text.items in
+    let put = put_last s l.row.items c.push_cell-2.new.row.items c.end.new.row.items cell c.deref-2.result.now c.in_ok-push_cell-2.ensures c.deref-2.ensures.value
+    c.in_ok-end.ensures in
+    subst (IsRow s b (parts comma c.args.paths.now)) (sym put) (row_last s b c.args.paths.now l.row.items l.rest.now cell l.invariant.0 last c.in_ok-text-2.ensures)
