@@ -15,11 +15,11 @@ from checks.programs import skip
 
 # The words before the cursor, and what is completed.
 WANTED: List[Tuple[str, Set[str]]] = [
-    ("", {"check", "list", "show", "count", "sizes", "largest", "split", "fields", "canon", "sound", "unique", "json", "pick", "bson", "help"}),
+    ("", {"check", "list", "show", "count", "sizes", "largest", "split", "fields", "diff", "canon", "sound", "unique", "json", "pick", "bson", "help"}),
     ("c", {"check", "count", "canon"}),
     ("sou", {"sound"}),
     ("largest --mo", {"--most"}),
-    ("split --pa", {"--parts"}),
+    ("diff --b", {"--by"}),
     ("json --c", {"--canonical", "--color"}),
     ("pick --pr", {"--pretty"}),
     ("pick --cs", {"--csv"}),

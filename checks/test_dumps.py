@@ -67,8 +67,7 @@ def made_files() -> Dict[str, bytes]:
     made.update({"most": of_bytes(MOST), "over.most": of_bytes(MOST + 1)})
     made["over.most.json"] = b'{"b":{"$binary":{"base64":"' + b64encode(bytes(MOST - 12)) + b'","subType":"00"}}}'
     made["named"] = document(b"\x0a" + b"k" * 4096 + b"\0", b"\x0a" + b"l" * 4097 + b"\0", b"\x03" + b"m" * 4095 + b"\0" + made["keyless"])
-    lengths = range(5 + 8 * 2097151, 5, -8)
-    made["deep"] = b"".join(it.to_bytes(4, "little") + b"\x03d\0" for it in lengths) + made["empty"] + bytes(2097151)
+    made["deep"] = b"".join(it.to_bytes(4, "little") + b"\x03d\0" for it in range(5 + 8 * 2097151, 5, -8)) + made["empty"] + bytes(2097151)
     made["deep.json"] = b'{"d":' * 2097151 + b"{}" + b"}" * 2097151 + b"\n"
     made["levels500.json"] = b'{"d":' * 499 + b"{}" + b"}" * 499 + b"\n"
     made.update({"levels600": many_levels(599, made["empty"]), "levels600.json": b'{"d":' * 599 + b"{}" + b"}" * 599 + b"\n"})

@@ -1,6 +1,6 @@
 """What bsonraw-dump takes of memory and of work, where its pages say how much: one document in memory at a time, with --resync three; 100 bytes a
-form of `unique`, with --repeats 170; 400 bytes a path of `fields`, of as many as --paths says; and of places that are checked no more than
-eight times the bytes of the input."""
+form of `unique`, with --repeats 170; 280 bytes a document of `diff`; 400 bytes a path of `fields`, of as many as --paths says; and of places
+that are checked no more than eight times the bytes of the input."""
 
 import os
 import subprocess
@@ -46,12 +46,13 @@ class Memory(Case):
             self.assertLessEqual((peak - self.least) / MIB, most)
 
     def test_one_document_at_a_time(self) -> None:
-        """Of 32 MiB of small ones, and of five of the greatest, 80 MiB. Of json a text has a block of its own."""
+        """Of 32 MiB of small ones, and of five of the greatest, 80 MiB. Of json a text has a block of its own, of diff a form."""
         for command in "check", "list", "count", "sizes", "fields", "canon", "sound", "unique", "json":
             self.within(8, 0, command, "small")
         for command in "check", "list", "count", "sizes", "canon", "sound":
             self.within(24, 0, command, "great")
         self.within(48, 0, "json", "great")
+        self.within(56, 1, "diff", "great", "/dev/null")
         # of fields 28 bytes for each 8 of a document beside it
         self.within(24 + 56 + 4, 0, "fields", "great")
 
@@ -67,11 +68,11 @@ class Memory(Case):
         return (self.peak(*many)[1] - self.peak(*few)[1]) / count
 
     def test_forms_and_paths(self) -> None:
-        """A form takes at most 100 bytes, whatever it has, and 170 with the place of the first document that has it; a path its bytes and up to
-        400 more; of those over --paths none is kept."""
-        for options, least, most in ([], 32, 100), (["--repeats"], 56, 170):
-            form = self.more(600_000, ["unique", *options, "distinct"], ["unique", *options, "more"])
-            self.assertTrue(least <= form <= most, (options, form))
+        """A form takes at most 100 bytes, whatever it has, and 170 with the place of the first document that has it; a document of `diff` 280, most
+        where NEW alone has it; a path its bytes and up to 400 more; of those over --paths none is kept."""
+        for words, least, most in (["unique"], 32, 100), (["unique", "--repeats"], 56, 170), (["diff", "-q", "/dev/null"], 160, 280):
+            form = self.more(600_000, [*words, "distinct"], [*words, "more"])
+            self.assertTrue(least <= form <= most, (words, form))
         path = self.more(600_000, ["fields", "--paths", "400000", "paths"], ["fields", "--paths", "1000000", "paths"])
         self.assertTrue(200 <= path <= 400, path)
         self.within(8 + 4, 0, "fields", "paths")

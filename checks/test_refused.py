@@ -65,12 +65,12 @@ class Refusals(Case):
             if row.command == command:
                 self.of_program(command, row.text, row.output, row.status)
 
-    def try_dump(self, command: str, name: str) -> None:
+    def try_dump(self, command: str, name: str, *others: str) -> None:
         data = hexed((ROOT / "examples" / f"{name}.hex").read_bytes())
         with open(self.put(f"{command}-{name}", data if command != "bson" else run(DUMP, "json", "-", input=data).out)) as given:
-            ample = run(DUMP, command, given.name)
+            ample = run(DUMP, command, given.name, *others)
             statuses = set()
-            for ran, is_refused in self.refused(DUMP, command, given.name):
+            for ran, is_refused in self.refused(DUMP, command, given.name, *others):
                 statuses.add(ran.status)
                 if ran[:2] != ample[:2]:
                     self.assertTrue(is_refused)

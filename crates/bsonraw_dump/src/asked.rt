@@ -1,9 +1,10 @@
 //! What is asked, as far as the files that are there decide it.
 #![tactic(auto)]
 
-use crate::command_line::Task;
+use crate::command_line::{Task, leads_to_items};
 use crate::files::inputs::{is_there, node_of, size_of};
 use dump_commands::command::Command;
+use dump_commands::diff::sides::Comparing;
 use dump_commands::gathering::Gathering;
 use dump_commands::job::Job;
 use dump_commands::picking::{Choice, Form, Picking};
@@ -21,6 +22,7 @@ pub fn wrong_with(rt: &HostRuntime, task: &Task<'_>) -> Option<&'static str> {
             if !may_be_divided(rt, &task.inputs) => {
             Some("not one FILE: split divides a file, and no pipe, folder or several files")
         }
+        Command::Gathers(Gathering::Differences(comparing)) => wrong_keys(comparing.by),
         Command::Prints(_) | Command::Gathers(_) => None,
     }
 }
@@ -36,6 +38,15 @@ fn wrong_paths(rt: &HostRuntime, task: &Task<'_>, picking: Picking<'_>) -> Optio
         Some("--csv and --tsv take PATHS without [], and no --without")
     } else if has_long_path(picking) {
         Some("PATHS has a path of more than 500 steps")
+    } else {
+        None
+    }
+}
+
+/// What is wrong with the paths by which documents are compared.
+fn wrong_keys(by: &str) -> Option<&'static str> {
+    if leads_to_items(by) || by.split(',').any(|path| path.is_empty()) {
+        Some("--by takes PATHS without [], and none that is empty")
     } else {
         None
     }
@@ -90,6 +101,42 @@ pub fn divided<'a>(rt: &HostRuntime, task: &Task<'a>) -> Reading<'a> {
     let stretch = size.div_ceil(parts.max(1)).max(1);
     Reading::Dumps(Job {
         command: Command::Gathers(Gathering::Measure(Measure::Parts(stretch))),
+        ..job
+    })
+}
+
+/// How two inputs are compared, if they are.
+fn comparing_of<'a>(reading: Reading<'a>) -> Option<Comparing<'a>> {
+    match reading {
+        Reading::Dumps(job) => job.command.comparing(),
+        Reading::Texts(_) => None,
+    }
+}
+
+/// What is wrong with these inputs, which the words of a task name, where two are compared. Each word names one: a folder may have more.
+pub fn wrong_inputs(task: &Task<'_>, inputs: &[&str]) -> Option<&'static str> {
+    comparing_of(task.reading)?;
+    match inputs {
+        [old, new] if *old == *new => Some("OLD and NEW are the same FILE"),
+        [_, _] if task.inputs.len() == 2 => None,
+        _ => Some("not two FILEs: diff compares OLD with NEW, and no folder of several dumps"),
+    }
+}
+
+/// What is asked of the inputs, with the name of the first, where two are compared.
+pub fn compared<'a>(reading: Reading<'a>, inputs: &[&'a str]) -> Reading<'a> {
+    let Reading::Dumps(job) = reading else {
+        return reading;
+    };
+    let (Some(comparing), [old, ..]) = (job.command.comparing(), inputs) else {
+        return reading;
+    };
+    let comparing = Comparing {
+        old: *old,
+        ..comparing
+    };
+    Reading::Dumps(Job {
+        command: Command::Gathers(Gathering::Differences(comparing)),
         ..job
     })
 }

@@ -14,6 +14,7 @@ mod words;
 
 pub use commands::Printing;
 pub use folders::listing;
-pub use names::{copied, expanded};
+pub use names::{Names, copied, expanded};
+pub use picks::leads_to_items;
 pub use task::{Task, parsed, refusal};
 pub use words::{Words, given_words};

@@ -1,8 +1,10 @@
 //! Runs a command over files.
 #![tactic(auto)]
 
-use crate::asked::{divided, wrong_with};
-use crate::command_line::{Printing, Task, Words, copied, expanded, given_words, parsed, refusal};
+use crate::asked::{compared, divided, wrong_inputs, wrong_with};
+use crate::command_line::{
+    Names, Printing, Task, Words, copied, expanded, given_words, parsed, refusal,
+};
 use crate::files::alone::{Alone, failed};
 use crate::files::browser::Browser;
 use crate::files::colors::{Colors, When, are_colored};
@@ -109,11 +111,16 @@ fn with_words(rt: &HostRuntime, task: &Task<'_>, words: &Words) -> Status {
     with_names(rt, task, words).unwrap_or(Status::Memory)
 }
 
-/// The command that was given, as it is typed.
-fn typed(alloc: Global, words: &Words) -> Result<String, AllocError> {
+/// The command that was given, as it is typed to read standard input in place of what isn't read.
+fn typed(alloc: Global, words: &Words, names: &Names) -> Result<String, AllocError> {
     let command = words.words.get(1).map_or("..", |word| word.as_str());
-    let paths = if command == "pick" { " PATHS" } else { "" };
-    format!(in alloc; "bsonraw-dump {command}{paths}")
+    let others = match command {
+        "pick" => " PATHS",
+        "diff" if names.first_is_read() => " OLD -",
+        "diff" => " - NEW",
+        _ => "",
+    };
+    format!(in alloc; "bsonraw-dump {command}{others}")
 }
 
 /// How a file is read whose name isn't UTF-8.
@@ -140,7 +147,7 @@ fn with_names(rt: &HostRuntime, task: &Task<'_>, words: &Words) -> Result<Status
         Reading::Dumps(_) => expanded(rt, &task.inputs)?,
         Reading::Texts(_) => copied(rt, &task.inputs)?,
     };
-    let typed = typed(rt.alloc(), words)?;
+    let typed = typed(rt.alloc(), words, &names)?;
     let way = way_of(rt.alloc(), typed.as_str())?;
     let way_of_packed = way_of_packed(rt.alloc(), typed.as_str(), names.packed.len())?;
     let mut inputs = Vec::new(rt.alloc());
@@ -150,10 +157,14 @@ fn with_names(rt: &HostRuntime, task: &Task<'_>, words: &Words) -> Result<Status
     if inputs.is_empty() {
         inputs.push("-")?;
     }
+    if let Some(wrong) = wrong_inputs(task, &inputs) {
+        let error = refusal(rt.alloc(), VERSION, wrong);
+        return Ok(printed(rt, &error, Status::Usage));
+    }
     Ok(start(
         rt,
         &Run {
-            reading: divided(rt, task),
+            reading: compared(divided(rt, task), &inputs),
             printing: task.printing,
             output: task.output,
             alone: task.alone,

@@ -5,3 +5,7 @@ mod Rowing
 mod Gathers
 mod Endings
 pub mod Face
+mod Rereading
+mod Pairing
+mod Twinning
+mod Telling

@@ -5,3 +5,10 @@ pub mod Picked
 mod Cutting
 mod Had
 mod Rowed
+mod Lacking
+mod Numbering
+mod Leaving
+mod Bridging
+mod Transferring
+mod Enclosing
+mod Joining

@@ -1,4 +1,4 @@
-mod Digesting
+pub mod Digesting
 mod Missing
 mod Ranking
 mod Sharing

@@ -1,12 +1,13 @@
 -- What is so of a command, whatever it finds, and the line that tells what it counted.
-use Rattle.std.specs.Prelude.{ℕ, List, ◌∷◌, ◌++◌, Bool, true, false, Option, codes}
-use Rattle.dump_commands.specs.Gathering.{gathering_profile}
+use Rattle.std.specs.Prelude.{ℕ, List, ◌∷◌, ◌++◌, Bool, true, false, Option, None, codes}
+use Rattle.dump_commands.specs.Gathering.{comparing_of, gathering_profile}
 use Rattle.dump_commands.specs.Making.{making_profile}
 use Rattle.dump_commands.specs.Reporting.{report_profile}
 use Rattle.dump_commands.specs.Summary.{Count, breached_counts, damaged_counts, hidden_counts, left_counts, left_out_counts, line_of}
 use Rattle.dump_commands.specs.declared.command.Command.{Command}
 use Rattle.dump_commands.specs.declared.command.Command.TheVariants as command
 use Rattle.dump_commands.specs.declared.command.Profile.{Profile}
+use Rattle.dump_commands.specs.declared.diff.sides.Comparing.{Comparing}
 use Rattle.dump_commands.specs.declared.counts.Counts.{Counts}
 use Rattle.dump_io.specs.declared.lines.style.Style.{Style}
 
@@ -14,6 +15,12 @@ abbrev pub profile_of : Command → Profile
 profile_of (command.Prints r) = report_profile r
 profile_of (command.Gathers g) = gathering_profile g
 profile_of (command.Writes m) = making_profile m
+
+-- how two inputs are compared, if they are
+abbrev pub compares : Command → Option Comparing
+compares (command.Prints r) = None
+compares (command.Gathers g) = comparing_of g
+compares (command.Writes m) = None
 
 -- whether it keeps documents
 abbrev pub keeps : Command → Bool

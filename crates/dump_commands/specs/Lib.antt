@@ -12,3 +12,4 @@ pub mod Reporting
 pub mod Binary
 pub mod elements
 pub mod state
+pub mod diff

@@ -8,3 +8,5 @@ pub mod Listing
 pub mod Runs
 pub mod Showing
 pub mod ShownLevels
+pub mod Changes
+pub mod Numbered

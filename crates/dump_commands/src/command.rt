@@ -20,6 +20,7 @@ ghost use Rattle.std.specs.Prelude.{◌≡◌, MatchBool};
 ghost use Rattle.dump_commands.specs.Binary.{MakesBson, MakesNoBson};
 ghost use Rattle.dump_commands.specs.Commands as says;
 
+use crate::diff::sides::Comparing;
 use crate::gathering::Gathering;
 use crate::making::Making;
 use crate::reporting::Report;
@@ -63,12 +64,12 @@ pub enum Command<'a> {
     /// lines of each
     Prints(Report),
     /// what is gathered of all, in lines at the end
-    Gathers(Gathering),
+    Gathers(Gathering<'a>),
     /// documents or texts that are made of each
     Writes(Making<'a>),
 }
 
-impl Command<'_> {
+impl<'a> Command<'a> {
     /// What is so of it.
     pub fn profile(self) -> Profile
         ensures { says.profile_of self.entry ≡ result }
@@ -77,6 +78,16 @@ impl Command<'_> {
             Command::Prints(report) => report.profile(),
             Command::Gathers(gathering) => gathering.profile(),
             Command::Writes(making) => making.profile(),
+        }
+    }
+
+    /// How two inputs are compared, if they are.
+    pub fn comparing(self) -> Option<Comparing<'a>>
+        ensures { result ≡ says.compares self.entry }
+    {
+        match self {
+            Command::Gathers(gathering) => gathering.comparing(),
+            Command::Prints(_) | Command::Writes(_) => None,
         }
     }
 

@@ -2,6 +2,7 @@
 #![tactic(auto)]
 
 pub mod cell;
+pub mod changes;
 pub mod chosen;
 pub mod cut;
 pub mod having;

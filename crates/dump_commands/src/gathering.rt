@@ -9,6 +9,7 @@ ghost use Rattle.dump_io.specs.lines.Failing.{IsReading};
 ghost use Rattle.dump_io.specs.lines.Origins.{origin_of};
 
 use crate::command::{Breaches, Command, Profile, Summaries};
+use crate::diff::sides::{Comparing, side_at};
 use crate::elements::having::had_in;
 use crate::making::Making;
 use crate::state::gathered::{Gathered, Measure};
@@ -24,26 +25,38 @@ use std::alloc::Global;
 
 /// A command that gathers something of all documents.
 #[derive(Clone, Copy)]
-pub enum Gathering {
+pub enum Gathering<'a> {
     /// what their elements have under each path
     Fields,
     /// what their lengths show, each by its length alone
     Measure(Measure),
+    /// how those of two inputs differ
+    Differences(Comparing<'a>),
 }
 
-impl Gathering {
+impl<'a> Gathering<'a> {
     /// What is so of it, whatever it finds.
     pub fn profile(self) -> Profile
-        ensures { result ≡ says.gathering_profile self }
+        ensures { result ≡ says.gathering_profile self.entry }
     {
         let (looks, summaries) = match self {
-            Gathering::Fields => (true, Summaries::Last),
+            Gathering::Fields | Gathering::Differences(_) => (true, Summaries::Last),
             Gathering::Measure(measure) => (false, measure.summaries()),
         };
         Profile {
             looks,
             breaches: Breaches::Ignored,
             summaries,
+        }
+    }
+
+    /// How two inputs are compared, if they are.
+    pub fn comparing(self) -> Option<Comparing<'a>>
+        ensures { result ≡ says.comparing_of self.entry }
+    {
+        match self {
+            Gathering::Differences(comparing) => Some(comparing),
+            Gathering::Fields | Gathering::Measure(_) => None,
         }
     }
 }
@@ -74,14 +87,14 @@ pub fn count_fields<'a>(
 /// Gathers what such a command gathers of a document in which this was found.
 fn gather<'a>(
     alloc: Global,
-    gathering: Gathering,
+    gathering: Gathering<'_>,
     limits: Limits,
     finding: Finding,
     origin: Origin<'a>,
     bytes: &[u8],
     kept: &mut Kept<'a>,
 ) -> Result<(), Failure>
-    ensures counted { OnOk result (Gathers limits gathering (origin_of origin.entry) bytes.now finding kept.old kept.new) }
+    ensures counted { OnOk result (Gathers limits gathering.entry (origin_of origin.entry) bytes.now finding kept.old kept.new) }
     ensures written { KeepsWritten kept.old kept.new }
     ensures failed { IfErr result (λ failure. ¬ IsReading failure) }
 {
@@ -90,7 +103,14 @@ fn gather<'a>(
             let tokens = tokens_of(alloc, bytes, limits)?;
             kept.add_document(alloc, origin, bytes, &tokens)
         }
-        (Gathering::Fields, Finding::Damaged | Finding::TooDeep | Finding::Unvalidated) => Ok(()),
+        (Gathering::Differences(comparing), Finding::Canonical | Finding::Breached) => {
+            let side = side_at(alloc, limits, comparing.by, origin, bytes)?;
+            kept.add_side(comparing.is_old(origin), side)
+        }
+        (
+            Gathering::Fields | Gathering::Differences(_),
+            Finding::Damaged | Finding::TooDeep | Finding::Unvalidated,
+        ) => Ok(()),
         (Gathering::Measure(measure), _) => kept.measure(alloc, measure, origin, bytes),
     }
 }
@@ -132,6 +152,7 @@ pub fn lines_of(
         Command::Gathers(Gathering::Measure(measure)) => {
             gathered.measure_lines(alloc, style, measure)
         }
+        Command::Gathers(Gathering::Differences(_)) => Ok(Vec::new(alloc)),
         Command::Writes(making) => match making.picking() {
             Some(picking) => Ok(missing_lines(alloc, style, picking.paths, &gathered.seen)?),
             None => Ok(Vec::new(alloc)),

@@ -16,6 +16,7 @@
 
 pub mod command;
 pub mod counts;
+pub mod diff;
 mod elements;
 pub mod finding;
 pub mod gathering;

@@ -9,3 +9,4 @@ pub mod Texts
 pub mod Between
 pub mod Places
 pub mod Scans
+pub mod Again

@@ -1,2 +1,3 @@
 mod Plays
 mod Summing
+mod Telling

@@ -1,11 +1,10 @@
 -- How what came of inputs grows by one more.
-use Rattle.std.proofs.Common.{◌≡◌, ◌+◌, ◌<◌, ◌≤◌, ℕ, List, [], ◌∷◌, ◌++◌, IsSomeAnd, MatchOption, None, Option, Some, option_map, Result, Ok, Err, IfOk, OnErr, add-zero, drop, get_or, inl, inr, length, map, refl, sym, subst, ap, ◌∙◌, take}
+use Rattle.std.proofs.Common.{◌≡◌, ◌+◌, ◌<◌, ◌≤◌, ℕ, List, [], ◌∷◌, ◌++◌, Bool, false, IsSomeAnd, MatchOption, None, Option, Some, option_map, Result, Ok, Err, IfErr, IfOk, OnErr, add-zero, drop, get_or, inl, inr, length, map, refl, sym, subst, ap, ◌∙◌, take}
 use Rattle.std.proofs.lemmas.List.{drop_all, drop_more, map-append, map_more, take-append-drop, take_all}
 use Rattle.std.specs.Io.KnownBytes.{Keeps}
 use Rattle.dump_io.specs.lines.Failing.{IsCaused}
-use Rattle.dump_io.specs.lines.Fronts.{AppendsFront}
 use Rattle.dump_runs.specs.Asked.{asked_after}
-use Rattle.dump_runs.specs.Batch.{CountsAnother, CountsMore, EndsAll, EndsInput, HaltsInput, RunsAll, RunsFront, RunsOver, State, HaltsBefore, HaltsWithin, next_of, start_of, state_of}
+use Rattle.dump_runs.specs.Batch.{CountsAnother, CountsMore, EndsAll, EndsInput, HaltsInput, RunsAll, RunsFront, RunsOver, State, HaltsBefore, HaltsWithin, next_of, start_of, state_of, sum_in}
 use Rattle.dump_runs.specs.Plays.{Held, Written, held}
 use Rattle.dump_runs.specs.declared.writers.Tally.{Tally}
 use Rattle.dump_runs.proofs.dumps.Ending.{halts_first}
@@ -13,7 +12,8 @@ use Rattle.dump_runs.proofs.texts.Passing.{texts_first}
 use Rattle.dump_io.specs.input.Done.{cut_of}
 use Rattle.dump_commands.specs.Counting.{no_counts, plus}
 use Rattle.dump_runs.specs.Status.{IsFailureStatus, IsStatus, goes_on}
-use Rattle.dump_runs.specs.Sums.{line_of_all, line_of_input}
+use Rattle.dump_runs.specs.Summed.{IsKnown}
+use Rattle.dump_runs.specs.Sums.{WritesAllFront, differs_by, line_of_input}
 use Rattle.dump_io.specs.declared.input.done.Cut.{Cut}
 use Rattle.dump_runs.specs.declared.ends.Ended.{Ended}
 use Rattle.dump_runs.specs.declared.reading.Reading.{Reading}
@@ -23,6 +23,7 @@ use Rattle.dump_io.specs.declared.input.done.Lack.TheVariants as lack
 use Rattle.dump_runs.specs.declared.batch.Totals.{Totals}
 use Rattle.dump_commands.specs.declared.counts.Counts.{Counts}
 use Rattle.dump_io.specs.declared.lines.failure.Failure.{Failure}
+use Rattle.dump_io.specs.declared.lines.failure.Failure.TheVariants.{Memory}
 use Rattle.dump_io.specs.declared.input.status.Status.{Status}
 use Rattle.dump_io.proofs.Face.{front_none}
 
@@ -46,9 +47,9 @@ module _ (asked : Reading) (bytes_of : List ℕ → Option (List ℕ)) where
   runs_whole f names i first last all runs = subst (λ (xs : List (List ℕ)). RunsOver asked bytes_of xs first last) (ap (map f) (take_all i names all)) runs
 
   -- a failure comes after the first of these
-  pub runs_front : {A : Type 0} (f : A → List ℕ) (names : List A) (i : ℕ) (first last : State) (w : Written) (n : Counts) → RunsOver asked bytes_of (map f (take i names)) first last
-      → HaltsBefore asked bytes_of (map f (drop i names)) last w n → RunsFront asked bytes_of (map f names) first w n
-  runs_front f names i first last w n runs halts = record {
+  pub runs_front : {A : Type 0} (f : A → List ℕ) (names : List A) (i : ℕ) (first last : State) (w : Written) (n : Counts) (d : Bool) → RunsOver asked bytes_of (map f (take i names)) first last
+      → HaltsBefore asked bytes_of (map f (drop i names)) last w n d → RunsFront asked bytes_of (map f names) first w n d
+  runs_front f names i first last w n d runs halts = record {
     passed = map f (take i names);
     others = map f (drop i names);
     in_order = ap (map f) (sym (take-append-drop i names)) ∙ map-append f (take i names) (drop i names);
@@ -58,17 +59,17 @@ module _ (asked : Reading) (bytes_of : List ℕ → Option (List ℕ)) where
   }
 
   -- in the next one
-  pub halts_next : {A : Type 0} (f : A → List ℕ) (names : List A) (i : ℕ) (x : A) (last : State) (w : Written) (n : Counts) → i < length names
-      → HaltsWithin asked (f (get_or names i x)) (bytes_of (f (get_or names i x))) last w n → HaltsBefore asked bytes_of (map f (drop i names)) last w n
-  halts_next f names i x last w n there stops =
-      subst (λ xs. HaltsBefore asked bytes_of (map f xs) last w n) (sym (drop_more names i x there)) stops
+  pub halts_next : {A : Type 0} (f : A → List ℕ) (names : List A) (i : ℕ) (x : A) (last : State) (w : Written) (n : Counts) (d : Bool) → i < length names
+      → HaltsWithin asked (f (get_or names i x)) (bytes_of (f (get_or names i x))) last w n × (d ≡ false) → HaltsBefore asked bytes_of (map f (drop i names)) last w n d
+  halts_next f names i x last w n d there stops =
+      subst (λ xs. HaltsBefore asked bytes_of (map f xs) last w n d) (sym (drop_more names i x there)) stops
 
   -- after all of them
   pub halts_behind : {A : Type 0} (f : A → List ℕ) (names : List A) (i : ℕ) (last : State) (w : Written) → length names ≤ i
-      → Keeps last.out w.out → Keeps last.alone w.alone → AppendsFront last.report w.report (line_of_all asked last.counts last.kept)
-      → HaltsBefore asked bytes_of (map f (drop i names)) last w last.counts
-  halts_behind f names i last w all kept apart front =
-      subst (λ xs. HaltsBefore asked bytes_of (map f xs) last w last.counts) (sym (drop_all i names all)) (kept, apart, front, refl)
+      → Keeps last.out w.out × Keeps last.alone w.alone × WritesAllFront asked bytes_of (sum_in last) last.report w.report
+      → HaltsBefore asked bytes_of (map f (drop i names)) last w last.counts (differs_by asked (sum_in last))
+  halts_behind f names i last w all (kept, apart, front) =
+      subst (λ xs. HaltsBefore asked bytes_of (map f xs) last w last.counts (differs_by asked (sum_in last))) (sym (drop_all i names all)) (kept, apart, front, refl, refl)
 
 -- nothing more is counted
 pub plus_none : (n : Counts) → plus n no_counts ≡ n
@@ -124,11 +125,33 @@ pub if_oks : {A E : Type 0} (r : Result A E) (P Q R : A → Type 0) → ((x : A)
 if_oks (Ok x) P Q R is p q = is x p q
 if_oks (Err e) P Q R is p q = tt
 
+-- of each failure
+pub if_any : {A E : Type 0} (r : Result A E) (P : E → Type 0) → ((e : E) → P e) → IfErr r P
+if_any (Ok x) P is = tt
+if_any (Err e) P is = is e
+
+-- of a failure of which both are so
+pub if_errs : {A E : Type 0} (r : Result A E) (P : Type 0) (Q R : E → Type 0) → ((e : E) → P → Q e → R e) → OnErr r P → IfErr r Q → IfErr r R
+if_errs (Ok x) P Q R is p q = tt
+if_errs (Err e) P Q R is p q = is e p q
+
 -- what lacks where an input wasn't read to its end
 pub lack_of : (cut : Option Cut) (l : Option Lack) → MatchOption cut (l ≡ None) (λ x. IsSomeAnd l (λ y. y ≡ lack.Cut x)) → l ≡ option_map lack.Cut cut
 lack_of None l none = none
 lack_of (Some x) None one = absurd one
 lack_of (Some x) (Some y) one = ap Some one
+
+-- what is told of a failure leaves it to be one of memory
+pub still_known : (is known : Bool) (failure told : Failure) → (failure ≡ Memory → told ≡ Memory) → IsKnown is known failure → IsKnown is known told
+still_known is known failure told same (inl short) = inl (same short)
+still_known is known failure told same (inr so) = inr so
+
+-- the status is the same where it is known whether documents differ, and where memory ran out
+status_known : (asked : Reading) (n : Counts) (is known : Bool) (failure : Failure) (ended : Status) → IsKnown is known failure → IsFailureStatus asked n known failure ended
+    → IsFailureStatus asked n is failure ended
+status_known asked n is known failure ended (inl short) status =
+    subst (λ (f : Failure). IsFailureStatus asked n is f ended) (sym short) (subst (λ (f : Failure). IsFailureStatus asked n known f ended) short status)
+status_known asked n is known failure ended (inr same) status = subst (λ (d : Bool). IsFailureStatus asked n d failure ended) same status
 
 module _ (old : Written) (totals : Totals) where
   -- nothing was counted before
@@ -138,26 +161,16 @@ module _ (old : Written) (totals : Totals) where
 module _ {asked : Reading} {bytes_of : List ℕ → Option (List ℕ)} {names : List (List ℕ)} (old : Written) (totals : Totals) where
   -- all inputs were run over
   module _ {last : State} {w : Written} where
-    pub ends_whole : (n : Counts) (cut : Option Cut) (ended : Status) → totals.counts ≡ no_counts → totals.cut ≡ None
-        → RunsAll asked bytes_of names (state_of old totals) last w → last.counts ≡ n → last.cut ≡ option_map cut_of cut → IsStatus asked n ended
+    pub ends_whole : (cut : Option Cut) (ended : Status) → totals.counts ≡ no_counts → totals.cut ≡ None → RunsAll asked bytes_of names (state_of old totals) last w
+        → last.cut ≡ option_map cut_of cut → IsStatus asked last.counts (differs_by asked (sum_in last)) ended
         → EndsAll asked bytes_of names (start_of old totals.tally.kept) w (option_map lack.Cut cut) ended
-    ends_whole n None ended none uncut runs counted same status = (
-      last,
-      subst (λ (s : State). RunsAll asked bytes_of names s last w) (start old totals none uncut) runs,
-      same,
-      subst (λ (m : Counts). IsStatus asked m ended) (sym counted) status,
-    )
-    ends_whole n (Some x) ended none uncut runs counted same status = (
-      last,
-      subst (λ (s : State). RunsAll asked bytes_of names s last w) (start old totals none uncut) runs,
-      same,
-      subst (λ (m : Counts). IsStatus asked m ended) (sym counted) status,
-    )
+    ends_whole None ended none uncut runs same status = (last, subst (λ (s : State). RunsAll asked bytes_of names s last w) (start old totals none uncut) runs, same, status)
+    ends_whole (Some x) ended none uncut runs same status = (last, subst (λ (s : State). RunsAll asked bytes_of names s last w) (start old totals none uncut) runs, same, status)
 
   -- a failure came
   module _ {w : Written} {n : Counts} where
-    pub ends_front : (failure : Failure) (ended : Status) → totals.counts ≡ no_counts → totals.cut ≡ None
-        → RunsFront asked bytes_of names (state_of old totals) w n → IsFailureStatus asked n failure ended
+    pub ends_front : (known : Bool) (failure : Failure) (ended : Status) → totals.counts ≡ no_counts → totals.cut ≡ None
+        → (is : Bool) × RunsFront asked bytes_of names (state_of old totals) w n is × IsKnown is known failure → IsFailureStatus asked n known failure ended
         → IsCaused w.has_failed failure → EndsAll asked bytes_of names (start_of old totals.tally.kept) w (Some (lack.Failed failure)) ended
-    ends_front failure ended none uncut front status caused =
-        (n, subst (λ (s : State). RunsFront asked bytes_of names s w n) (start old totals none uncut) front, status, caused)
+    ends_front known failure ended none uncut (is, front, so) status caused =
+        (n, is, subst (λ (s : State). RunsFront asked bytes_of names s w n is) (start old totals none uncut) front, status_known asked n is known failure ended so status, caused)

@@ -17,7 +17,7 @@ use Rattle.dump_commands.specs.declared.state.kept.Kept.{Kept}
 use Rattle.dump_runs.specs.Asked.{asked_after}
 use Rattle.dump_runs.specs.Plays.{Held, Written, held}
 use Rattle.dump_runs.specs.Status.{IsFailureStatus, IsStatus, goes_on}
-use Rattle.dump_runs.specs.Sums.{line_of_all, line_of_input}
+use Rattle.dump_runs.specs.Sums.{Sum, WritesAll, WritesAllFront, differs_by, line_of_input}
 use Rattle.dump_runs.specs.dumps.Ends.{EndsRun}
 use Rattle.dump_runs.specs.dumps.Halting.{Halts}
 use Rattle.dump_runs.specs.texts.Run.{HaltsTexts, ReadsTexts}
@@ -113,12 +113,16 @@ abbrev pub RunsOver : Reading → (bytes_of : List ℕ → Option (List ℕ)) �
 RunsOver r bytes_of [] old new = new ≡ old
 RunsOver r bytes_of (name ∷ names) old new = (between : State) × CountsAnother r (bytes_of name) name old between × RunsOver r bytes_of names between new
 
--- The inputs of these names were run over, from this state on, and the line of all was written after what they gave.
+-- what came of all of them
+abbrev pub sum_in : State → Sum
+sum_in state = record { cut = state.cut; counts = state.counts; kept = state.kept }
+
+-- the inputs of these names were run over, from this state on, and what is told of all was written after what they gave
 pub record RunsAll (r : Reading) (bytes_of : List ℕ → Option (List ℕ)) (names : List (List ℕ)) (first last : State) (written : Written) : Type 0 where
   pub runs : RunsOver r bytes_of names first last
   pub out : Keeps last.out written.out
   pub alone : Keeps last.alone written.alone
-  pub report : Appends last.report written.report (line_of_all r last.counts last.kept)
+  pub report : WritesAll r bytes_of (sum_in last) last.report written.report
 
 -- this is counted as well; nothing where a sum would be over the range of a count
 abbrev pub CountsMore : (counts_old counts counts_new : Counts) → Type 0
@@ -147,29 +151,32 @@ pub record HaltsAfter (r : Reading) (name : List ℕ) (input : Option (List ℕ)
 abbrev pub HaltsWithin : Reading → List ℕ → (input : Option (List ℕ)) → (before : State) → Written → Counts → Type 0
 HaltsWithin r name input before written counts = HaltsInside r name input before written counts ⊎ HaltsAfter r name input before written counts
 
--- What is written of the first of these inputs, which isn't done with. Where none is left, a front of the line of all.
-abbrev pub HaltsBefore : Reading → (bytes_of : List ℕ → Option (List ℕ)) → List (List ℕ) → State → Written → Counts → Type 0
-HaltsBefore r bytes_of [] last written counts =
-    Keeps last.out written.out × Keeps last.alone written.alone × AppendsFront last.report written.report (line_of_all r last.counts last.kept) × (counts ≡ last.counts)
-HaltsBefore r bytes_of (name ∷ names) last written counts = HaltsWithin r name (bytes_of name) last written counts
+-- What is written of the first of these inputs, which isn't done with. Where none is left, a front of what is told of all; then it is known whether
+-- documents of two that are compared differ.
+abbrev pub HaltsBefore : Reading → (bytes_of : List ℕ → Option (List ℕ)) → List (List ℕ) → State → Written → Counts → (differs : Bool) → Type 0
+HaltsBefore r bytes_of [] last written counts differs =
+    Keeps last.out written.out × Keeps last.alone written.alone × WritesAllFront r bytes_of (sum_in last) last.report written.report × (counts ≡ last.counts)
+    × (differs ≡ differs_by r (sum_in last))
+HaltsBefore r bytes_of (name ∷ names) last written counts differs = HaltsWithin r name (bytes_of name) last written counts × (differs ≡ false)
 
 -- Some of the inputs of these names were run over, from this state on, in order; and then a failure came, in the next, or after all.
-pub record RunsFront (r : Reading) (bytes_of : List ℕ → Option (List ℕ)) (names : List (List ℕ)) (first : State) (written : Written) (counts : Counts) : Type 0 where
+pub record RunsFront (r : Reading) (bytes_of : List ℕ → Option (List ℕ)) (names : List (List ℕ)) (first : State) (written : Written) (counts : Counts) (differs : Bool) : Type 0 where
   pub passed : List (List ℕ)
   pub others : List (List ℕ)
   pub in_order : names ≡ passed ++ others
   pub last : State
   pub runs : RunsOver r bytes_of passed first last
-  pub halts : HaltsBefore r bytes_of others last written counts
+  pub halts : HaltsBefore r bytes_of others last written counts differs
 
 -- how a run over the inputs of these names ends from this state on
 abbrev pub EndsAll : Reading → (bytes_of : List ℕ → Option (List ℕ)) → List (List ℕ) → State → Written → Option Lack → Status → Type 0
 EndsAll r bytes_of names first written None ended =
-    (last : State) × RunsAll r bytes_of names first last written × (last.cut ≡ None) × IsStatus r last.counts ended
+    (last : State) × RunsAll r bytes_of names first last written × (last.cut ≡ None) × IsStatus r last.counts (differs_by r (sum_in last)) ended
 EndsAll r bytes_of names first written (Some (lack.Cut cut)) ended =
-    (last : State) × RunsAll r bytes_of names first last written × (last.cut ≡ Some (cut_of cut)) × IsStatus r last.counts ended
+    (last : State) × RunsAll r bytes_of names first last written × (last.cut ≡ Some (cut_of cut)) × IsStatus r last.counts (differs_by r (sum_in last)) ended
 EndsAll r bytes_of names first written (Some (lack.Failed failure)) ended =
-    (counts : Counts) × RunsFront r bytes_of names first written counts × IsFailureStatus r counts failure ended × IsCaused written.has_failed failure
+    (counts : Counts) × (differs : Bool) × RunsFront r bytes_of names first written counts differs × IsFailureStatus r counts differs failure ended
+    × IsCaused written.has_failed failure
 
 -- How a run over the inputs of these names ends, where nothing was kept before. Nothing lacks where each was read to its end. A failure
 -- gives the status, but for a pipe that has no reader; a failure of writing is told only where a write failed.

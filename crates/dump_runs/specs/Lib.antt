@@ -4,5 +4,6 @@ pub mod Limits
 pub mod Plays
 pub mod Status
 pub mod Sums
+pub mod Summed
 pub mod dumps
 pub mod texts

@@ -40,21 +40,25 @@ abbrev pub HasDamage : Reading → Counts → Type 0
 HasDamage (reading.Dumps job) n = FindsDamage job.command n
 HasDamage (reading.Texts job) n = 0 < n.damaged
 
+-- that, or documents of two inputs are known to differ
+abbrev pub HasFindings : Reading → Counts → (differs : Bool) → Type 0
+HasFindings r n differs = (differs ≡ true) ⊎ HasDamage r n
+
 -- how a run ends with these counts, unless memory ran out or writing failed
-abbrev pub IsStatus : Reading → Counts → Status → Type 0
-IsStatus r n status.Done = (¬ IsCut n) × (¬ HasDamage r n)
-IsStatus r n status.Damage = (¬ IsCut n) × HasDamage r n
-IsStatus r n status.Input = IsCut n
-IsStatus r n _ = ⊥
+abbrev pub IsStatus : Reading → Counts → (differs : Bool) → Status → Type 0
+IsStatus r n differs status.Done = (¬ IsCut n) × (¬ HasFindings r n differs)
+IsStatus r n differs status.Damage = (¬ IsCut n) × HasFindings r n differs
+IsStatus r n differs status.Input = IsCut n
+IsStatus r n differs _ = ⊥
 
 -- How a run ends where writing failed with this error, after these counts: as without it where a pipe has no reader any more.
-abbrev pub IsWritingStatus : Reading → Counts → Error → Status → Type 0
-IsWritingStatus r n e ended = ((error_kind e ≡ BrokenPipe) × IsStatus r n ended) ⊎ ((error_kind e ≢ BrokenPipe) × (ended ≡ status.Output))
+abbrev pub IsWritingStatus : Reading → Counts → (differs : Bool) → Error → Status → Type 0
+IsWritingStatus r n differs e ended = ((error_kind e ≡ BrokenPipe) × IsStatus r n differs ended) ⊎ ((error_kind e ≢ BrokenPipe) × (ended ≡ status.Output))
 
 -- How a run over all inputs ends that fails, after these counts. It never fails by reading, which ends one input alone (`Ended`): the last
 -- case doesn't come.
-abbrev pub IsFailureStatus : Reading → Counts → Failure → Status → Type 0
-IsFailureStatus r n failure.Memory ended = ended ≡ status.Memory
-IsFailureStatus r n failure.TooLarge ended = ended ≡ status.Output
-IsFailureStatus r n (failure.Writing e) ended = IsWritingStatus r n e ended
-IsFailureStatus r n (failure.Reading e) ended = IsWritingStatus r n e ended
+abbrev pub IsFailureStatus : Reading → Counts → (differs : Bool) → Failure → Status → Type 0
+IsFailureStatus r n differs failure.Memory ended = ended ≡ status.Memory
+IsFailureStatus r n differs failure.TooLarge ended = ended ≡ status.Output
+IsFailureStatus r n differs (failure.Writing e) ended = IsWritingStatus r n differs e ended
+IsFailureStatus r n differs (failure.Reading e) ended = IsWritingStatus r n differs e ended

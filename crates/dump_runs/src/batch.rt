@@ -1,23 +1,23 @@
 //! Runs over inputs, one after the other, and says how that ended.
 #![tactic(auto)]
 
-ghost use Rattle.std.specs.Prelude.{◌≡◌, None, map, IfErr, IfOk, OnErr, OnOk};
-ghost use Rattle.std.specs.Io.KnownBytes.{Appends, Keeps};
+ghost use Rattle.std.specs.Prelude.{◌≡◌, Bool, None, false, map, IfErr, IfOk, OnErr, OnOk};
+ghost use Rattle.std.specs.Io.KnownBytes.{Keeps};
 ghost use Rattle.std.specs.Option.{option_map};
 ghost use Rattle.dump_commands.specs.Counting.{AreInRange, no_counts, plus};
 ghost use Rattle.dump_io.specs.input.Done.{cut_of};
 ghost use Rattle.dump_io.specs.lines.Failing.{IsReading};
-ghost use Rattle.dump_io.specs.lines.Fronts.{AppendsFront};
-ghost use Rattle.dump_runs.specs.Batch.{CountsAnother, CountsInput, CountsRun, EndsInput, HaltsInput, HaltsWithin, IsDone, KeepsNothing, RunsAll, RunsFront, State, first_cut, state_of};
+ghost use Rattle.dump_runs.specs.Batch.{CountsAnother, CountsInput, CountsRun, EndsInput, HaltsInput, HaltsWithin, IsDone, KeepsNothing, RunsAll, RunsFront, State, first_cut, state_of, sum_in};
 ghost use Rattle.dump_runs.specs.Plays.{held};
 ghost use Rattle.dump_runs.specs.Status.{goes_on};
-ghost use Rattle.dump_runs.specs.Sums.{line_of_all};
+ghost use Rattle.dump_runs.specs.Summed.{IsKnown, sum_of};
+ghost use Rattle.dump_runs.specs.Sums.{WritesAll, WritesAllFront, differs_by};
 
 use crate::dumps::run::run;
 use crate::dumps::source::Source;
 use crate::ends::{Ended, status_of, status_of_failure};
 use crate::reading::Reading;
-use crate::sums::{put_all_counts, put_counts};
+use crate::sums::{compare_all, differ, put_all_counts, put_counts};
 use crate::texts::read_texts;
 use crate::writers::{Tally, Writers};
 use bson_to_json::Guarded;
@@ -37,7 +37,7 @@ pub struct Totals<'a> {
     /// what came of that one
     pub tally: Tally<'a>,
     /// the first input that wasn't read to its end
-    cut: Option<Cut<'a>>,
+    pub cut: Option<Cut<'a>>,
 }
 
 impl<'a> Totals<'a> {
@@ -89,15 +89,24 @@ pub fn run_all<'a, I: Inputs, D: Write + Drop, A: Write + Drop, W: Write + Drop>
     ensures { IsDone reading.entry (I.bytes_of inputs.now) (map (λ name. name.now) names.now) writers.old writers.new result }
 {
     let mut totals = Totals::new(alloc, reading);
-    match run_each(alloc, reading, inputs, names, writers, &mut totals) {
+    let mut differs = false;
+    match run_each(
+        alloc,
+        reading,
+        inputs,
+        names,
+        writers,
+        &mut totals,
+        &mut differs,
+    ) {
         Ok(()) => Done {
-            status: status_of(reading, totals.counts),
+            status: status_of(reading, totals.counts, differs),
             lack: totals.cut.map(Lack::Cut),
         },
         Err(failure) => {
             let failure = writers.cause_of(failure);
             Done {
-                status: status_of_failure(reading, totals.counts, &failure),
+                status: status_of_failure(reading, totals.counts, differs, &failure),
                 lack: Some(Lack::Failed(failure)),
             }
         }
@@ -112,35 +121,53 @@ fn run_each<'a, I: Inputs, D: Write + Drop, A: Write + Drop, W: Write + Drop>(
     names: &[&'a str],
     writers: &mut Writers<D, A, W>,
     totals: &mut Totals<'a>,
+    differs: &mut bool,
 ) -> Result<(), Failure>
+    requires { differs.old ≡ false }
     ensures runs { OnOk result ((last : State) × RunsAll reading.entry (I.bytes_of inputs.now) (map (λ name. name.now) names.now)
-        (state_of writers.old totals.old) last writers.new × (last.counts ≡ totals.new.counts) × (last.cut ≡ option_map cut_of totals.new.cut)) }
-    ensures fails { OnErr result (RunsFront reading.entry (I.bytes_of inputs.now) (map (λ name. name.now) names.now)
-        (state_of writers.old totals.old) writers.new totals.new.counts) }
+        (state_of writers.old totals.old) last writers.new × (last.counts ≡ totals.new.counts) × (last.cut ≡ option_map cut_of totals.new.cut)
+        × (differs.new ≡ differs_by reading.entry (sum_in last))) }
+    ensures fails { IfErr result (λ failure. (is : Bool) × RunsFront reading.entry (I.bytes_of inputs.now) (map (λ name. name.now) names.now)
+        (state_of writers.old totals.old) writers.new totals.new.counts is × IsKnown is differs.new failure) }
     ensures failed { IfErr result (λ failure. ¬ IsReading failure) }
 {
     for name in names {
         run_one(alloc, reading, inputs, name, writers, totals)?;
     }
-    finish(alloc, reading, totals, writers)
+    finish(alloc, reading, inputs, totals, differs, writers)
 }
 
-/// Writes what was counted of all inputs. What is written is flushed.
-fn finish<D: Write + Drop, A: Write + Drop, W: Write + Drop>(
+/// Writes what is told of all inputs, once it is known whether documents of two that are compared differ. What is written is flushed.
+fn finish<I: Inputs, D: Write + Drop, A: Write + Drop, W: Write + Drop>(
     alloc: Global,
     reading: Reading<'_>,
+    inputs: &I,
     totals: &Totals<'_>,
+    differs: &mut bool,
     writers: &mut Writers<D, A, W>,
 ) -> Result<(), Failure>
     ensures written { OnOk result (Keeps writers.old.out writers.new.out × Keeps writers.old.alone writers.new.alone
-        × Appends writers.old.report writers.new.report (line_of_all reading.entry totals.now.counts totals.now.tally.kept)) }
+        × WritesAll reading.entry (I.bytes_of inputs.now) (sum_of totals.now) writers.old.report writers.new.report) }
+    ensures differs { OnOk result (differs.new ≡ differs_by reading.entry (sum_of totals.now)) }
     ensures front { OnErr result (Keeps writers.old.out writers.new.out × Keeps writers.old.alone writers.new.alone
-        × AppendsFront writers.old.report writers.new.report (line_of_all reading.entry totals.now.counts totals.now.tally.kept)) }
+        × WritesAllFront reading.entry (I.bytes_of inputs.now) (sum_of totals.now) writers.old.report writers.new.report) }
+    ensures known { IfErr result (IsKnown (differs_by reading.entry (sum_of totals.now)) differs.new) }
     ensures failed { IfErr result (λ failure. ¬ IsReading failure) }
 {
+    let Ok(compared) = compare_all(alloc, reading, totals) else {
+        return Err(Failure::Memory);
+    };
+    *differs = differ(&compared);
     flush(&mut writers.out)?;
     flush(&mut writers.alone)?;
-    put_all_counts(alloc, reading, totals, &mut writers.report)?;
+    put_all_counts(
+        alloc,
+        reading,
+        inputs,
+        totals,
+        &compared,
+        &mut writers.report,
+    )?;
     flush(&mut writers.report)
 }
 

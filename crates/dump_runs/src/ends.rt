@@ -38,15 +38,20 @@ impl Ended {
 
 /// How a run over all inputs ends that fails, after these counts. A pipe whose reader is gone changes nothing. Reading that fails doesn't come
 /// here: it ends one input alone (`Ended::Failed`).
-pub fn status_of_failure(reading: Reading<'_>, counts: Counts, failure: &Failure) -> Status
-    ensures { IsFailureStatus reading.entry counts failure.now result }
+pub fn status_of_failure(
+    reading: Reading<'_>,
+    counts: Counts,
+    differs: bool,
+    failure: &Failure,
+) -> Status
+    ensures { IsFailureStatus reading.entry counts differs failure.now result }
 {
     match failure {
         Failure::Memory => Status::Memory,
         Failure::TooLarge => Status::Output,
         Failure::Writing(error) | Failure::Reading(error) => {
             if error.kind() == ErrorKind::BrokenPipe {
-                status_of(reading, counts)
+                status_of(reading, counts, differs)
             } else {
                 Status::Output
             }
@@ -55,12 +60,12 @@ pub fn status_of_failure(reading: Reading<'_>, counts: Counts, failure: &Failure
 }
 
 /// How a run ends with these counts.
-pub fn status_of(reading: Reading<'_>, counts: Counts) -> Status
-    ensures { IsStatus reading.entry counts result }
+pub fn status_of(reading: Reading<'_>, counts: Counts, differs: bool) -> Status
+    ensures { IsStatus reading.entry counts differs result }
 {
     if counts.files > 0 || counts.passed_over > 0 {
         Status::Input
-    } else if is_damage(reading, counts) {
+    } else if differs || is_damage(reading, counts) {
         Status::Damage
     } else {
         Status::Done

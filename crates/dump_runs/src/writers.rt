@@ -2,6 +2,7 @@
 #![tactic(auto)]
 
 ghost use Rattle.std.specs.Prelude.{◌≡◌, ◌||◌, false};
+ghost use Rattle.dump_io.specs.declared.lines.failure.Failure.TheVariants.{Memory};
 ghost use Rattle.dump_io.specs.lines.Failing.{IsCaused, IsReading};
 ghost use Rattle.dump_runs.specs.Plays.{Written};
 
@@ -57,6 +58,7 @@ impl<D: Write + Drop, A: Write + Drop, W: Write + Drop> Writers<D, A, W> {
     /// Why a call failed that wrote to these. It isn't told that writing failed where no write did: of memory alone nothing is promised.
     pub fn cause_of(&self, failure: Failure) -> Failure
         ensures caused { IsCaused self.now.has_failed result }
+        ensures memory { failure ≡ Memory → result ≡ Memory }
         ensures failed { ¬ IsReading result }
     {
         match failure {

@@ -25,22 +25,26 @@ pub(super) fn output<'a>(alloc: Global) -> Arg<'a> {
         .action(ArgAction::Set)
 }
 
-/// How findings are printed, with the short form of one of the ways, or that they aren't.
+/// How findings are printed, with the short form of one of the ways, or that they aren't; and how many.
 pub(super) fn findings<'a>(alloc: Global, command: CommandBuilder<'a>) -> CommandBuilder<'a> {
+    let limit = "Prints the first N findings only; the last line says how many others there are";
+    shown(alloc, command).arg(number(alloc, "limit", "N", 0, u64::MAX, limit))
+}
+
+/// How findings are printed.
+pub(super) fn shown<'a>(alloc: Global, command: CommandBuilder<'a>) -> CommandBuilder<'a> {
     let form = Arg::new(alloc, "findings")
         .long("findings")
         .value_name("FORM")
         .value_parser(FORMS)
         .help("Prints what is found as words, or as objects of JSON, a line each")
         .action(ArgAction::Set);
-    let limit = "Prints the first N findings only; the last line says how many others there are";
     let quiet = "Prints no findings and no counts; the exit status says what was found";
     command
         .arg(form)
         .arg(switch(alloc, "json", "As --findings=json"))
         .arg(switch(alloc, "quiet", quiet).short('q'))
         .arg(color(alloc))
-        .arg(number(alloc, "limit", "N", 0, u64::MAX, limit))
 }
 
 pub(super) fn switch<'a>(alloc: Global, name: &'a str, help: &'a str) -> Arg<'a> {
@@ -126,11 +130,21 @@ pub(super) fn reading_few<'a>(
     command: CommandBuilder<'a>,
     take: &'a str,
 ) -> CommandBuilder<'a> {
-    let help = "Continues after an unsound length, at the next document that counts";
+    let help = "Dumps; nothing or -: standard input";
+    wholes(alloc, portion(alloc, command, take), help)
+}
+
+/// A command that reads FILEs, of which the help says this, from their beginnings on.
+pub(super) fn wholes<'a>(
+    alloc: Global,
+    command: CommandBuilder<'a>,
+    help: &'a str,
+) -> CommandBuilder<'a> {
+    let resync = "Continues after an unsound length, at the next document that counts";
     let bytes = "A length over N bytes is unsound; 16793600 if it isn't given";
-    limits(alloc, portion(alloc, command, take), bytes)
-        .arg(switch(alloc, "resync", help))
-        .arg(files(alloc, "Dumps; nothing or -: standard input"))
+    limits(alloc, command, bytes)
+        .arg(switch(alloc, "resync", resync))
+        .arg(files(alloc, help))
 }
 
 /// Where documents go that stand alone.

@@ -3,14 +3,16 @@
 #![tactic(auto)]
 
 use crate::command_line::args::{
-    LARGEST, color, files, findings, limits, number, output, reading, switch, writing,
+    LARGEST, color, files, findings, limits, number, output, reading, shown, switch, wholes,
+    writing,
 };
 use crate::command_line::builder::CommandBuilder;
 use crate::command_line::picks::{documents_as_json, json_style_of, picking_of, picks};
 use crate::command_line::shows::{show_of, shows};
 use crate::command_line::task::limits_of;
-use clap::ArgMatches;
+use clap::{Arg, ArgAction, ArgMatches};
 use dump_commands::command::Command;
+use dump_commands::diff::sides::Comparing;
 use dump_commands::gathering::Gathering;
 use dump_commands::making::{Making, Spelling};
 use dump_commands::reporting::Report;
@@ -43,6 +45,10 @@ pub fn asked_by<'a>(name: &str, matches: &ArgMatches<'a>) -> Option<(Command<'a>
         "largest" => gathers(Gathering::Measure(largest_of(matches))),
         "split" => gathers(Gathering::Measure(parts_of(matches))),
         "fields" => gathers(Gathering::Fields),
+        "diff" => Some((
+            Command::Gathers(Gathering::Differences(comparing_of(matches))),
+            Printing::Lines,
+        )),
         "canon" => writes(Making::Canon),
         "sound" => writes(Making::Sound(texts_of(matches))),
         "unique" => writes(Making::Unique(spelling_of(matches))),
@@ -56,7 +62,7 @@ fn prints<'a>(report: Report, printing: Printing) -> Option<(Command<'a>, Printi
     Some((Command::Prints(report), printing))
 }
 
-fn gathers<'a>(gathering: Gathering) -> Option<(Command<'a>, Printing)> {
+fn gathers<'a>(gathering: Gathering<'a>) -> Option<(Command<'a>, Printing)> {
     Some((Command::Gathers(gathering), Printing::Soon))
 }
 
@@ -81,6 +87,7 @@ fn with_reports<'a>(alloc: Global, line: CommandBuilder<'a>) -> CommandBuilder<'
         .subcommand(largest(alloc))
         .subcommand(splits(alloc))
         .subcommand(fields(alloc))
+        .subcommand(differences(alloc))
 }
 
 /// A command line with the commands that write documents anew, as BSON.
@@ -184,6 +191,32 @@ fn fields<'a>(alloc: Global) -> CommandBuilder<'a> {
         alloc,
         command.arg(number(alloc, "paths", "N", 0, LARGEST, paths)),
     )
+}
+
+/// The command that compares two dumps.
+fn differences<'a>(alloc: Global) -> CommandBuilder<'a> {
+    let about =
+        "Names documents that were removed, changed or added; takes 280 bytes of memory a document at most";
+    let by = Arg::new(alloc, "by")
+        .long("by")
+        .value_name("PATHS")
+        .help("Compares documents with the same values at PATHS; _id if it isn't given")
+        .action(ArgAction::Set);
+    let command = CommandBuilder::new(alloc, "diff", about).arg(by);
+    let help =
+        "OLD and NEW; of one that is a pipe or -, standard input, neither keys nor paths are shown";
+    wholes(alloc, shown(alloc, command), help)
+}
+
+/// The paths by which documents are compared where none are given.
+const ID: &str = "_id";
+
+/// How two inputs are compared; the name of OLD is put in later.
+fn comparing_of<'a>(matches: &ArgMatches<'a>) -> Comparing<'a> {
+    Comparing {
+        by: matches.get_str("by").unwrap_or(ID),
+        old: "",
+    }
 }
 
 /// The command that writes canonical forms.

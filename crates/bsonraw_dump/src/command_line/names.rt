@@ -3,6 +3,7 @@
 
 use crate::command_line::folders::{Found, found_in};
 use crate::command_line::words::stand_in;
+use crate::files::inputs::has;
 use std::alloc::{AllocError, Global};
 
 /// The names of what is read.
@@ -14,6 +15,16 @@ pub struct Names {
     pub unread: Vec<String>,
     /// those of them that end in .bson.gz and are in a folder, in order
     pub packed: Vec<String>,
+}
+
+impl Names {
+    /// Whether the first is read.
+    pub fn first_is_read(&self) -> bool {
+        match self.names.first() {
+            Some(first) => !has(&self.unread, first.as_str()) && !has(&self.packed, first.as_str()),
+            None => true,
+        }
+    }
 }
 
 /// A name of what is read.

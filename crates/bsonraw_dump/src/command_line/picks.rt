@@ -74,7 +74,7 @@ pub(super) fn json_style_of(matches: &ArgMatches<'_>) -> JsonStyle {
 }
 
 /// Whether one of these paths has a step that stands for all items of an array.
-fn leads_to_items(paths: &str) -> bool {
+pub fn leads_to_items(paths: &str) -> bool {
     paths
         .split(',')
         .any(|path| path.split('.').any(|step| step == "[]"))

@@ -7,9 +7,10 @@ use crate::files::tell::{tell, tell_text};
 use crate::files::watch::{About, Progress, Watched};
 use dump_io::input::inputs::Inputs;
 use dump_io::lines::style::Style;
+use std::alloc::{AllocError, Global};
 use std::fs::File;
 use std::io::{Read, Stdin};
-use std::os::unix::fs::MetadataExt;
+use std::os::unix::fs::{FileExt, MetadataExt};
 use std::{fs, io};
 
 /// A file, or standard input.
@@ -69,7 +70,8 @@ impl<'a> Unread<'a> {
     }
 }
 
-fn has(names: &[String], name: &str) -> bool {
+/// Whether this is one of these names.
+pub fn has(names: &[String], name: &str) -> bool {
     names.iter().any(|other| other.as_str() == name)
 }
 
@@ -168,6 +170,26 @@ impl<'a, 'b> Inputs for Files<'a, 'b> {
 
     fn open(&self, name: &str) -> io::Result<Digits<Source<'a, 'b>>> {
         Ok(Digits::new(self.rt.alloc(), self.source(name)?, self.hex))
+    }
+
+    fn again(
+        &self,
+        alloc: Global,
+        name: &str,
+        offset: u64,
+        len: usize,
+    ) -> Result<Option<Vec<u8>>, AllocError> {
+        if self.hex || node_of(self.rt, name).is_none() {
+            return Ok(None);
+        }
+        let Ok(file) = File::open(self.rt, name) else {
+            return Ok(None);
+        };
+        let mut bytes = vec![in alloc; 0; len]?;
+        match file.read_exact_at(&mut bytes, offset) {
+            Ok(()) => Ok(Some(bytes)),
+            Err(_) => Ok(None),
+        }
     }
 
     fn tell(&self, name: &str, at: Option<u64>, error: &io::Error) {

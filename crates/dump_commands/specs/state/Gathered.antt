@@ -2,6 +2,7 @@
 use Rattle.std.specs.Prelude.{◌≡◌, ℕ, List, [], Bool, flat_map, length}
 use Rattle.dump_io.specs.lines.Origins.{Origin}
 use Rattle.dump_io.specs.declared.lines.style.Style.{Style}
+use Rattle.dump_commands.specs.diff.Sides.{Side, Sides, sides_of, with_side}
 use Rattle.dump_commands.specs.elements.Id.{ShowsId}
 use Rattle.dump_commands.specs.state.Fields.{Field, Table, no_table, table_of, with_fields}
 use Rattle.dump_commands.specs.state.Measures.{IsInRange, Measured, Ranked, measures_of, no_measures, range_lines, ranked_line, share_line, with_length, with_ranked, with_share}
@@ -14,23 +15,26 @@ use Rattle.dump_commands.specs.declared.state.gathered.Gathered as code
 use Rattle.dump_commands.specs.declared.state.kept.Kept.{Kept}
 
 -- what is gathered of one document: its elements, and where it begins; the range of its length; its length and _id, and how many documents are kept;
--- its place, and how long a stretch is; or which paths lead to an element in it
+-- its place, and how long a stretch is; which paths lead to an element in it; or whether it is in the first of two inputs, and what it is compared by
 pub data Document : Type 0 where
   of_fields : Origin → List Field → Document
   of_length : (range : ℕ) → Document
   of_rank : (most : ℕ) → Ranked → Document
   of_place : (stretch : ℕ) → Origin → Document
   of_seen : List Bool → Document
+  of_side : (of_old : Bool) → Side → Document
 
--- what was gathered of all: what was counted of paths, the lengths, and which paths lead to an element in some document
+-- what was gathered of all: what was counted of paths, the lengths, which paths lead to an element in some document, and the documents that are
+-- compared
 pub record Gathered : Type 0 where
   pub table : Table
   pub measures : Measured
   pub seen : List Bool
+  pub sides : Sides
 
 -- nothing was gathered
 abbrev pub nothing : (paths : ℕ) → Gathered
-nothing paths = record { table = no_table paths; measures = no_measures; seen = [] }
+nothing paths = record { table = no_table paths; measures = no_measures; seen = []; sides = record { olds = []; news = [] } }
 
 -- a document more
 abbrev pub with_document : Gathered → Document → Gathered
@@ -39,6 +43,7 @@ with_document g (of_length range) = record g { measures = with_length range g.me
 with_document g (of_rank most r) = record g { measures = with_ranked most r g.measures }
 with_document g (of_place stretch place) = record g { measures = with_share stretch place g.measures }
 with_document g (of_seen flags) = record g { seen = either flags g.seen }
+with_document g (of_side of_old s) = record g { sides = with_side g.sides of_old s }
 
 -- what is gathered of the length of the document b, which begins there
 abbrev pub IsMeasured : Measure → Origin → (b : List ℕ) → Document → Type 0
@@ -60,7 +65,7 @@ measure_lines style (measure.Parts stretch) m = flat_map share_line m.shares
 
 -- what the code gathered
 abbrev pub gathered_of : code.Gathered → Gathered
-gathered_of g = record { table = table_of g.paths; measures = measures_of g.measures; seen = g.seen.items }
+gathered_of g = record { table = table_of g.paths; measures = measures_of g.measures; seen = g.seen.items; sides = sides_of g.sides }
 
 abbrev pub tabled : Kept → Gathered
 tabled kept = gathered_of kept.gathered

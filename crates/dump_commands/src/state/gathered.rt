@@ -2,11 +2,13 @@
 #![tactic(auto)]
 
 ghost use Rattle.std.specs.Prelude.{◌≡◌, IfErr, IfOk, OnOk};
-ghost use Rattle.dump_commands.specs.state.Gathered.{Document, IsMeasured, gathered_of, measure_lines, nothing, of_seen, summaries_of, with_document};
+ghost use Rattle.dump_commands.specs.state.Gathered.{Document, IsMeasured, gathered_of, measure_lines, nothing, of_seen, of_side, summaries_of, with_document};
+ghost use Rattle.dump_commands.specs.diff.Sides.{side_of};
 ghost use Rattle.dump_io.specs.lines.Failing.{IsReading};
 ghost use Rattle.dump_io.specs.lines.Origins.{origin_of};
 
 use crate::command::Summaries;
+use crate::diff::sides::{Side, Sides};
 use crate::elements::id::shown_id;
 use crate::state::measure_lines::{largest_lines, range_lines, share_lines};
 use crate::state::measures::{Measures, Ranked, range_of};
@@ -50,6 +52,8 @@ pub struct Gathered<'a> {
     pub measures: Measures<'a>,
     /// of each path that picks elements whether it leads to one in some document
     pub seen: Vec<bool>,
+    /// documents that are compared
+    pub sides: Sides<'a>,
 }
 
 impl<'a> Gathered<'a> {
@@ -61,6 +65,7 @@ impl<'a> Gathered<'a> {
             paths: Paths::new(alloc, paths),
             measures: Measures::new(alloc),
             seen: Vec::new(alloc),
+            sides: Sides::new(alloc),
         }
     }
 
@@ -94,6 +99,13 @@ impl<'a> Gathered<'a> {
     {
         self.seen = joined(alloc, flags, &self.seen)?;
         Ok(())
+    }
+
+    /// Puts a document that is compared to those that were gathered.
+    pub fn add_side(&mut self, of_old: bool, side: Side<'a>) -> Result<(), AllocError>
+        ensures added { OnOk result (gathered_of self.new ≡ with_document (gathered_of self.old) (of_side of_old (side_of side.entry))) }
+    {
+        self.sides.add(of_old, side)
     }
 
     /// The lines that tell what was gathered of lengths.

@@ -7,6 +7,7 @@ ghost use Rattle.dump_io.specs.lines.Origins.{origin_of};
 ghost use Rattle.dump_commands.specs.declared.state.kept.Forms.TheVariants.{Digests, Firsts};
 
 use crate::command::Command;
+use crate::diff::sides::{Side, Sides};
 use crate::gathering::lines_of;
 use crate::state::fields::add_tokens;
 use crate::state::gathered::{Gathered, Measure};
@@ -47,8 +48,9 @@ pub struct Kept<'a> {
 impl<'a> Kept<'a> {
     ghost use Rattle.std.specs.Prelude.{◌≡◌, ◌∷◌, [], ℕ, List, false, not, IfErr, IfOk, OnOk};
     ghost use Rattle.dump_commands.specs.state.Fields.{fields_of, outermost};
-    ghost use Rattle.dump_commands.specs.state.Gathered.{Document, IsMeasured, KeepsCounted, KeepsWritten, nothing, of_fields, of_seen, tabled, with_document};
+    ghost use Rattle.dump_commands.specs.state.Gathered.{Document, IsMeasured, KeepsCounted, KeepsWritten, nothing, of_fields, of_seen, of_side, tabled, with_document};
     ghost use Rattle.dump_commands.specs.Gathering as says;
+    ghost use Rattle.dump_commands.specs.diff.Sides.{side_of, sides_of};
     ghost use Rattle.dump_io.specs.lines.Failing.{IsReading};
     ghost use Rattle.dump_commands.specs.state.Forms.{CountsOne, written_count, digest_of, first_at, first_of, firsts_of, is_new, knows, no_firsts, placed, with_first, with_form};
     ghost use Rattle.dump_io.specs.lines.Origins.{origin_of};
@@ -113,6 +115,23 @@ impl<'a> Kept<'a> {
     {
         self.gathered.see(alloc, flags)?;
         Ok(())
+    }
+
+    /// Puts a document that is compared to those that were gathered.
+    pub fn add_side(&mut self, of_old: bool, side: Side<'a>) -> Result<(), Failure>
+        ensures added { OnOk result (tabled self.new ≡ with_document (tabled self.old) (of_side of_old (side_of side.entry))) }
+        ensures written { KeepsWritten self.old self.new }
+        ensures failed { IfErr result (λ failure. ¬ IsReading failure) }
+    {
+        self.gathered.add_side(of_old, side)?;
+        Ok(())
+    }
+
+    /// The documents that are compared.
+    pub fn sides(&self) -> &Sides<'a>
+        ensures { sides_of result.now ≡ (tabled self.now).sides }
+    {
+        &self.gathered.sides
     }
 
     /// Puts the length of a document with these bytes, which begins there, to those that were gathered.

@@ -1,7 +1,7 @@
-use Rattle.std.proofs.Common.{List, ℕ, Bor, refl}
-use Rattle.dump_runs.specs.Batch.{state_of}
-use Rattle.dump_io.proofs.Face.{on_any, on_err, on_ok}
-use Rattle.dump_runs.proofs.Summing.{runs_front, runs_next, runs_whole, halts_behind, halts_next}
+use Rattle.std.proofs.Common.{List, ℕ, Bor, inr, refl}
+use Rattle.dump_runs.specs.Batch.{state_of, sum_in}
+use Rattle.dump_runs.specs.Sums.{differs_by}
+use Rattle.dump_runs.proofs.Summing.{halts_behind, halts_next, if_any, if_errs, if_oks, runs_front, runs_next, runs_whole}
 use Rattle.dump_runs.proofs.batch.run_each.Goals as goal
 
 pub loop-name-preserved : goal.loop-name-preserved
@@ -17,7 +17,7 @@ returns-clause-runs g c =
     let asked = c.args.reading in
     let first = state_of c.args.writers.now c.args.totals.now in
     let last = state_of c.loop-name.writers c.loop-name.totals in
-    on_ok c.finish.result _ _ (λ (out, alone, report). (
+    if_oks c.finish.result _ _ _ (λ done (out, alone, report) differs. (
       last,
       record {
         runs = runs_whole asked (g.I.Inputs.bytes_of c.args.inputs.now) (λ (name : Bor (List ℕ)). name.now) c.args.names.now c.loop-name.name-index first last
@@ -28,7 +28,8 @@ returns-clause-runs g c =
       },
       refl,
       refl,
-    )) c.finish.ensures.written
+      differs,
+    )) c.finish.ensures.written c.finish.ensures.differs
 
 pub returns-in_err-run_one-clause-fails : goal.returns-in_err-run_one-clause-fails
 returns-in_err-run_one-clause-fails g c =
@@ -36,11 +37,16 @@ returns-in_err-run_one-clause-fails g c =
     let bytes_of = g.I.Inputs.bytes_of c.args.inputs.now in
     let f = λ (name : Bor (List ℕ)). name.now in
     let w = c.run_one.new.writers in
+    let d = c.args.differs.now in
     let first = state_of c.args.writers.now c.args.totals.now in
     let last = state_of c.loop-name.writers c.loop-name.totals in
-    on_any c.from_residual.result _
-    (runs_front asked bytes_of f c.args.names.now c.loop-name.name-index first last w c.run_one.new.totals.counts c.loop-name.invariant
-    (halts_next asked bytes_of f c.args.names.now c.loop-name.name-index _ last w c.run_one.new.totals.counts c.loop-name-test.true c.in_err-run_one.ensures.halts))
+    if_any c.from_residual.result _ (λ failure. (
+      d,
+      runs_front asked bytes_of f c.args.names.now c.loop-name.name-index first last w c.run_one.new.totals.counts d c.loop-name.invariant
+          (halts_next asked bytes_of f c.args.names.now c.loop-name.name-index _ last w c.run_one.new.totals.counts d c.loop-name-test.true
+          (c.in_err-run_one.ensures.halts, c.requires)),
+      inr refl,
+    ))
 
 pub returns-clause-fails : goal.returns-clause-fails
 returns-clause-fails g c =
@@ -50,6 +56,9 @@ returns-clause-fails g c =
     let w = c.finish.new.writers in
     let first = state_of c.args.writers.now c.args.totals.now in
     let last = state_of c.loop-name.writers c.loop-name.totals in
-    on_err c.finish.result _ _
-    (λ (out, alone, report). runs_front asked bytes_of f c.args.names.now c.loop-name.name-index first last w c.loop-name.totals.counts c.loop-name.invariant
-    (halts_behind asked bytes_of f c.args.names.now c.loop-name.name-index last w c.loop-name-test.false out alone report)) c.finish.ensures.front
+    if_errs c.finish.result _ _ _ (λ failure front known. (
+      differs_by asked (sum_in last),
+      runs_front asked bytes_of f c.args.names.now c.loop-name.name-index first last w c.loop-name.totals.counts (differs_by asked (sum_in last)) c.loop-name.invariant
+          (halts_behind asked bytes_of f c.args.names.now c.loop-name.name-index last w c.loop-name-test.false front),
+      known,
+    )) c.finish.ensures.front c.finish.ensures.known
