@@ -2,7 +2,7 @@
 #![tactic(auto)]
 
 use crate::command_line::{Task, leads_to_items};
-use crate::files::inputs::{is_there, node_of, size_of};
+use crate::files::inputs::{are_one_pipe, is_there, node_of, size_of};
 use dump_commands::command::Command;
 use dump_commands::diff::sides::Comparing;
 use dump_commands::gathering::Gathering;
@@ -114,10 +114,12 @@ fn comparing_of<'a>(reading: Reading<'a>) -> Option<Comparing<'a>> {
 }
 
 /// What is wrong with these inputs, which the words of a task name, where two are compared. Each word names one: a folder may have more.
-pub fn wrong_inputs(task: &Task<'_>, inputs: &[&str]) -> Option<&'static str> {
+pub fn wrong_inputs(rt: &HostRuntime, task: &Task<'_>, inputs: &[&str]) -> Option<&'static str> {
     comparing_of(task.reading)?;
     match inputs {
-        [old, new] if *old == *new => Some("OLD and NEW are the same FILE"),
+        [old, new] if *old == *new || are_one_pipe(rt, *old, *new) => {
+            Some("OLD and NEW are the same FILE")
+        }
         [_, _] if task.inputs.len() == 2 => None,
         _ => Some("not two FILEs: diff compares OLD with NEW, and no folder of several dumps"),
     }

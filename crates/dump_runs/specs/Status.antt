@@ -55,8 +55,7 @@ IsStatus r n differs _ = ⊥
 abbrev pub IsWritingStatus : Reading → Counts → (differs : Bool) → Error → Status → Type 0
 IsWritingStatus r n differs e ended = ((error_kind e ≡ BrokenPipe) × IsStatus r n differs ended) ⊎ ((error_kind e ≢ BrokenPipe) × (ended ≡ status.Output))
 
--- How a run over all inputs ends that fails, after these counts. It never fails by reading, which ends one input alone (`Ended`): the last
--- case doesn't come.
+-- How a run over all inputs ends that fails, after these counts. Only the cases of memory and of writing come (`IsCaused`).
 abbrev pub IsFailureStatus : Reading → Counts → (differs : Bool) → Failure → Status → Type 0
 IsFailureStatus r n differs failure.Memory ended = ended ≡ status.Memory
 IsFailureStatus r n differs failure.TooLarge ended = ended ≡ status.Output

@@ -1,7 +1,7 @@
 //! What a run writes to, and what came of it so far.
 #![tactic(auto)]
 
-ghost use Rattle.std.specs.Prelude.{◌≡◌, ◌||◌, false};
+ghost use Rattle.std.specs.Prelude.{◌≡◌, ◌⊎◌, ◌||◌, false};
 ghost use Rattle.dump_io.specs.declared.lines.failure.Failure.TheVariants.{Memory};
 ghost use Rattle.dump_io.specs.lines.Failing.{IsCaused, IsReading};
 ghost use Rattle.dump_runs.specs.Plays.{Written};
@@ -55,16 +55,19 @@ impl<D: Write + Drop, A: Write + Drop, W: Write + Drop> Writers<D, A, W> {
         self.out.has_failed() || self.alone.has_failed() || self.report.has_failed()
     }
 
-    /// Why a call failed that wrote to these. It isn't told that writing failed where no write did: of memory alone nothing is promised.
+    /// Why a call failed that wrote to these. It isn't told that writing failed where no write did: of memory alone nothing is promised. A number
+    /// over its range counts as out of memory, too.
     pub fn cause_of(&self, failure: Failure) -> Failure
         ensures caused { IsCaused self.now.has_failed result }
+        ensures given { (result ≡ Memory) ⊎ (result ≡ failure) }
         ensures memory { failure ≡ Memory → result ≡ Memory }
         ensures failed { ¬ IsReading result }
     {
         match failure {
             Failure::Writing(error) if self.has_failed() => Failure::Writing(error),
-            Failure::TooLarge => Failure::TooLarge,
-            Failure::Memory | Failure::Writing(_) | Failure::Reading(_) => Failure::Memory,
+            Failure::Memory | Failure::TooLarge | Failure::Writing(_) | Failure::Reading(_) => {
+                Failure::Memory
+            }
         }
     }
 }

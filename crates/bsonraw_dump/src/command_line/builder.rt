@@ -33,6 +33,16 @@ impl<'a> CommandBuilder<'a> {
         }
     }
 
+    /// The same, with this line of usage in place of that of its arguments.
+    pub(crate) fn usage(self, text: &'a str) -> CommandBuilder<'a> {
+        CommandBuilder {
+            command: match self.command {
+                Ok(command) => Ok(command.override_usage(text)),
+                Err(error) => Err(error),
+            },
+        }
+    }
+
     pub(crate) fn arg(self, arg: Arg<'a>) -> CommandBuilder<'a> {
         CommandBuilder {
             command: match self.command {

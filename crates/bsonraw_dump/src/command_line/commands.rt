@@ -202,9 +202,11 @@ fn differences<'a>(alloc: Global) -> CommandBuilder<'a> {
         .value_name("PATHS")
         .help("Compares documents with the same values at PATHS; _id if it isn't given")
         .action(ArgAction::Set);
-    let command = CommandBuilder::new(alloc, "diff", about).arg(by);
+    let command = CommandBuilder::new(alloc, "diff", about)
+        .usage("bsonraw-dump diff [OPTIONS] OLD NEW")
+        .arg(by);
     let help =
-        "OLD and NEW; of one that is a pipe or -, standard input, neither keys nor paths are shown";
+        "OLD and NEW; if one is a pipe or -, standard input, no paths are shown, and no keys of what it alone has";
     wholes(alloc, shown(alloc, command), help)
 }
 

@@ -4,7 +4,8 @@
 ghost use Rattle.std.specs.Prelude.{◌≡◌, MatchOption, None, Some, OnErr, OnOk};
 ghost use Rattle.std.specs.Io.KnownBytes.{Appends};
 ghost use Rattle.dump_io.specs.lines.Fronts.{AppendsFront};
-ghost use Rattle.bsonraw_dump.specs.files.Headers.{header_for, picking_in};
+ghost use Rattle.dump_io.specs.declared.input.done.Lack.TheVariants.{Failed};
+ghost use Rattle.bsonraw_dump.specs.files.Headers.{EndsUnread, header_for, picking_in};
 
 use dump_commands::command::Command;
 use dump_commands::picking::{Picking, put_header};
@@ -12,7 +13,7 @@ use dump_io::input::done::{Done, Lack};
 use dump_io::input::status::Status;
 use dump_io::lines::failure::Failure;
 use dump_runs::Reading;
-use std::io::Write;
+use std::io::{ErrorKind, Write};
 
 /// Writes what comes before the documents of all inputs: the header of rows.
 pub fn begin<D: Write>(rt: &HostRuntime, reading: Reading<'_>, out: &mut D) -> Result<(), Failure>
@@ -35,13 +36,30 @@ pub fn picking_of<'a>(reading: Reading<'a>) -> Option<Picking<'a>>
     }
 }
 
-/// How a run ends that fails before its first input.
-pub fn ended_by<'a>(failure: Failure) -> Done<'a> {
+/// How a run ends that fails before its first input, when nothing is found yet.
+pub fn ended_by<'a>(failure: Failure) -> Done<'a>
+    ensures status { EndsUnread failure result.status }
+    ensures lack { result.lack ≡ Some (Failed failure) }
+{
     Done {
-        status: match failure {
-            Failure::Memory => Status::Memory,
-            Failure::TooLarge | Failure::Reading(_) | Failure::Writing(_) => Status::Output,
-        },
+        status: status_unread(&failure),
         lack: Some(Lack::Failed(failure)),
+    }
+}
+
+/// The status of a run that fails before its first input. A pipe whose reader is gone ends it quietly.
+fn status_unread(failure: &Failure) -> Status
+    ensures { EndsUnread failure.now result }
+{
+    match failure {
+        Failure::Memory => Status::Memory,
+        Failure::TooLarge => Status::Output,
+        Failure::Writing(error) | Failure::Reading(error) => {
+            if error.kind() == ErrorKind::BrokenPipe {
+                Status::Done
+            } else {
+                Status::Output
+            }
+        }
     }
 }

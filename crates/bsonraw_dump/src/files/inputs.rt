@@ -135,6 +135,12 @@ pub fn are_one(rt: &HostRuntime, name: &str, other: &str) -> bool {
     }
 }
 
+/// Whether these are names of one pipe or device, which can't be read twice; `-` is standard input.
+pub fn are_one_pipe(rt: &HostRuntime, name: &str, other: &str) -> bool {
+    let (name, other) = (place_of(name), place_of(other));
+    node_of(rt, name).is_none() && are_one(rt, name, other)
+}
+
 impl Files<'_, '_> {
     fn about(&self, name: &str) -> About {
         About {

@@ -1,4 +1,4 @@
--- Whether reading fails, and whether a failure of writing has its cause.
+-- Whether reading fails, and whether a failure of a run has its cause.
 use Rattle.std.specs.Prelude.{◌≡◌, Bool, true}
 use Rattle.dump_io.specs.declared.lines.failure.Failure.{Failure}
 use Rattle.dump_io.specs.declared.lines.failure.Failure.TheVariants as failure
@@ -8,7 +8,8 @@ abbrev pub IsReading : Failure → Type 0
 IsReading (failure.Reading e) = Unit {0}
 IsReading _ = ⊥
 
--- a failure of writing is told only where a write failed
+-- A run fails only where a write failed, or memory ran out; a number over its range counts as out of memory. Reading that fails ends one input alone.
 abbrev pub IsCaused : (has_failed : Bool) → Failure → Type 0
 IsCaused has_failed (failure.Writing e) = has_failed ≡ true
-IsCaused has_failed _ = Unit {0}
+IsCaused has_failed failure.Memory = Unit {0}
+IsCaused has_failed _ = ⊥

@@ -37,7 +37,7 @@ pub struct ReadFailure {
     pub error: io::Error,
 }
 
-/// A number. One that is over its range fails as writing does.
+/// A number, unless it is over its range.
 pub fn in_range<T: Copy>(number: Option<T>) -> Result<T, Failure>
     ensures same { IfOk result (λ n. number ≡ Some n) }
     ensures none { OnErr result (IsNone number) }

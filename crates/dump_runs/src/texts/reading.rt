@@ -17,7 +17,7 @@ use crate::texts::cursor::{Cursor, NextText};
 use crate::texts::piece::{TextInput, Went, pass_next};
 use crate::writers::{Tally, Writers};
 use bson_to_json::Guarded;
-use dump_io::lines::failure::{Failure, ReadFailure, in_range};
+use dump_io::lines::failure::{Failure, ReadFailure};
 use std::alloc::Global;
 use std::io::{Read, Write};
 
@@ -45,7 +45,10 @@ pub fn read_texts<R: Read + Drop, D: Write + Drop, A: Write + Drop, W: Write + D
             if !reader.has_failed() {
                 return Err(Failure::Memory);
             }
-            tally.counts = in_range(tally.counts.with_left(0))?;
+            let Some(counts) = tally.counts.with_left(0) else {
+                return Err(Failure::Memory);
+            };
+            tally.counts = counts;
             Ok(Ended::Failed(failure))
         }
         Ok(ended) => Ok(ended),

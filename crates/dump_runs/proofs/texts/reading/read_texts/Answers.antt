@@ -1,7 +1,6 @@
 use Rattle.std.proofs.Common.{List, None, Option, Some, IfSome, [], inl, refl, ℕ}
 use Rattle.dump_io.specs.lines.Fronts.{HasFront}
 use Rattle.dump_io.specs.declared.lines.failure.ReadFailure.{ReadFailure}
-use Rattle.dump_io.proofs.Face.{on_any}
 use Rattle.dump_runs.specs.Plays.{Held}
 use Rattle.dump_runs.specs.texts.Run.{EndsTexts, HaltsTexts, TextPart, bytes_of_texts}
 use Rattle.dump_runs.specs.texts.Steps.{PassesTexts}
@@ -29,5 +28,5 @@ halts_failed {input = input} {left = left} {f = f} q = record {
 pub returns-then-not-has_failed-clause-halts : goal.returns-then-not-has_failed-clause-halts
 returns-then-not-has_failed-clause-halts g c = halts_failed (rw c.in-Ok-Failed.field-0-is at c.in-Ok-Failed.ensures.passed)
 
-pub returns-in_err-tally-in-Ok-Failed-clause-halts : goal.returns-in_err-tally-in-Ok-Failed-clause-halts
-returns-in_err-tally-in-Ok-Failed-clause-halts g c = on_any _ _ (halts_failed (rw c.in-Ok-Failed.field-0-is at c.in-Ok-Failed.ensures.passed))
+pub returns-in_default-clause-halts : goal.returns-in_default-clause-halts
+returns-in_default-clause-halts g c = halts_failed (rw c.in-Ok-Failed.field-0-is at c.in-Ok-Failed.ensures.passed)
